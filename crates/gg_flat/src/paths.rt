@@ -84,6 +84,7 @@ impl Paths {
     pub fn add(&mut self, path: Name) -> Result<(), AddError>
         requires { length self.old < 2 ^ 32 - 1 }
         ensures ok { OnOk result (self.new ≡ self.old ++ path ∷ []) }
+        ensures fresh { OnOk result (¬ Contains self.old path) }
         ensures doubled { (result ≡ Err Doubled) ↔ Contains self.old path }
         ensures err { OnErr result (self.new ≡ self.old) }
     {
