@@ -1,1 +1,4 @@
 pub mod PathLemmas
+pub mod AgreeLemmas
+pub mod OrderLemmas
+pub mod UniqueLemmas

@@ -28,34 +28,47 @@ op_at nodes i = slice_index_or (map (λ node. node.op) nodes) i (Ref 0)
 
 -- ---- types
 
--- An operation has the shape `to`, where the signals have the shapes `signals` and the nodes of its line the shapes
--- `shapes`: a reference has its signal's, a literal fits, an operation on the nodes before place k has its result type.
-abbrev pub HasShape : List Shape → List Shape → ℕ → Shape → Op → Type 0
-HasShape signals shapes k to (Ref s) = (s < length signals) × (shape_at signals s ≡ to)
-HasShape signals shapes k to (Literal value) = Fits to value.0
-HasShape signals shapes k to (One op i) = (i < k) × (type1 op (shape_at shapes i) ≡ Ok to)
-HasShape signals shapes k to (Two op i j) = (i < k) × (j < k) × (type2 op (shape_at shapes i) (shape_at shapes j) ≡ Ok to)
-HasShape signals shapes k to (Fix op i n m) = (i < k) × (type_const op (shape_at shapes i) n m ≡ Ok to)
-HasShape signals shapes k to (Mux c i j) = (c < k) × (i < k) × (j < k) × (type_mux (shape_at shapes c) (shape_at shapes i) (shape_at shapes j) ≡ Ok to)
+-- An operation has the shape `to`. Named says of a signal and a shape that a reference to the signal has that shape. A
+-- literal fits; an operation on nodes before place k, which have the shapes `shapes`, has its result type.
+abbrev pub HasShape : (ℕ → Shape → Type 0) → List Shape → ℕ → Shape → Op → Type 0
+HasShape Named shapes k to (Ref s) = Named s to
+HasShape Named shapes k to (Literal value) = Fits to value.0
+HasShape Named shapes k to (One op i) = (i < k) × (type1 op (shape_at shapes i) ≡ Ok to)
+HasShape Named shapes k to (Two op i j) = (i < k) × (j < k) × (type2 op (shape_at shapes i) (shape_at shapes j) ≡ Ok to)
+HasShape Named shapes k to (Fix op i n m) = (i < k) × (type_const op (shape_at shapes i) n m ≡ Ok to)
+HasShape Named shapes k to (Mux c i j) = (c < k) × (i < k) × (j < k) × (type_mux (shape_at shapes c) (shape_at shapes i) (shape_at shapes j) ≡ Ok to)
 
--- A line over signals of these shapes: it has a node, and each node has its shape.
-pub record IsLine (signals : List Shape) (nodes : List Node) : Type 0 where
+-- A line: it has a node, and each node has its shape.
+pub record IsLine (Named : ℕ → Shape → Type 0) (nodes : List Node) : Type 0 where
   pub some : 0 < length nodes
-  pub typed : (k : ℕ) → k < length nodes → HasShape signals (shapes_of nodes) k (shape_at (shapes_of nodes) k) (op_at nodes k)
+  pub typed : (k : ℕ) → k < length nodes → HasShape Named (shapes_of nodes) k (shape_at (shapes_of nodes) k) (op_at nodes k)
+
+-- signal s is one of these, of the shape `to`
+abbrev pub HasType : List Shape → ℕ → Shape → Type 0
+HasType signals s to = (s < length signals) × (shape_at signals s ≡ to)
+
+-- signal s has a value among these, of the shape `to`
+abbrev pub HasValue : List ℕ → ℕ → Shape → Type 0
+HasValue signals s to = (s < length signals) × Fits to (value_at signals s)
+
+-- There is a value for each of the shapes, and it is of that shape.
+pub record AreTyped (shapes : List Shape) (values : List ℕ) : Type 0 where
+  pub count : length values ≡ length shapes
+  pub fits : (i : ℕ) → i < length shapes → Fits (shape_at shapes i) (value_at values i)
 
 -- the shape of a line's result, which is its last node's
 abbrev pub line_shape : List Node → Shape
 line_shape nodes = shape_at (shapes_of nodes) (length nodes - 1)
 
 -- A line that may be connected to a sink of this shape: of the same kind, and no wider ("Connects").
-pub record IsSource (signals : List Shape) (sink : Shape) (nodes : List Node) : Type 0 where
-  pub line : IsLine signals nodes
+pub record IsSource (Named : ℕ → Shape → Type 0) (sink : Shape) (nodes : List Node) : Type 0 where
+  pub line : IsLine Named nodes
   pub kind : (line_shape nodes).kind ≡ sink.kind
   pub width : (line_shape nodes).width ≤ sink.width
 
 -- A line that may be a condition: its result is one unsigned bit.
-pub record IsCondition (signals : List Shape) (nodes : List Node) : Type 0 where
-  pub line : IsLine signals nodes
+pub record IsCondition (Named : ℕ → Shape → Type 0) (nodes : List Node) : Type 0 where
+  pub line : IsLine Named nodes
   pub bit : line_shape nodes ≡ uint 1
 
 -- ---- values

@@ -1,11 +1,11 @@
 -- A settled cycle: what values the signals have together.
 -- Source: FIRRTL Specification, "Connects", "Nodes", "Wires", "Registers"; the meaning of a cycle without a combinational
 -- loop. It is a relation on whole assignments, with no order of evaluation.
-use Rattle.std.specs.Prelude.{◌≡◌, ℕ, ◌<◌, List, [], length, slice_index_or}
-use Rattle.gg_bits.specs.Shape.{Shape, Fits}
+use Rattle.std.specs.Prelude.{◌≡◌, ℕ, ◌<◌, List, [], length, map, slice_index_or}
+use Rattle.gg_bits.specs.Shape.{Shape}
 use Rattle.gg_flat.specs.declared.piece.Driver.{Driver}
 use Rattle.gg_flat.specs.declared.piece.Driver.TheVariants.{Input, Held, Read, Computed}
-use Rattle.gg_flat.specs.Line.{shape_at, value_at, connected_value}
+use Rattle.gg_flat.specs.Line.{shape_at, value_at, AreTyped, connected_value}
 use Rattle.gg_flat.specs.Circuit.{FlatCircuit, signal_shapes, driver_at}
 use Rattle.gg_flat.specs.State.{State}
 
@@ -17,13 +17,15 @@ driver_value state inputs signals sink (Held register) = value_at state.register
 driver_value state inputs signals sink (Read memory port) = value_at (slice_index_or state.reads memory []) port
 driver_value state inputs signals sink (Computed line) = connected_value signals sink line
 
--- The values `signals` are settled: there is one for each signal, it fits the signal's type, and it is its driver's.
+-- The values `signals` are settled: there is one for each signal, of its type, and it is its driver's.
 pub record Settled (circuit : FlatCircuit) (state : State) (inputs signals : List ℕ) : Type 0 where
-  pub count : length signals ≡ length circuit.signals
-  pub fits : (s : ℕ) → s < length circuit.signals → Fits (shape_at (signal_shapes circuit) s) (value_at signals s)
+  pub typed : AreTyped (signal_shapes circuit) signals
   pub driven : (s : ℕ) → s < length circuit.signals → value_at signals s ≡ driver_value state inputs signals (shape_at (signal_shapes circuit) s) (driver_at circuit s)
 
+-- the shapes of the in-signals
+abbrev pub in_shapes : FlatCircuit → List Shape
+in_shapes circuit = map (shape_at (signal_shapes circuit)) circuit.ins
+
 -- inputs that the circuit can get in a cycle, by their count and types
-pub record IsInputs (circuit : FlatCircuit) (inputs : List ℕ) : Type 0 where
-  pub count : length inputs ≡ length circuit.ins
-  pub fits : (place : ℕ) → place < length circuit.ins → Fits (shape_at (signal_shapes circuit) (value_at circuit.ins place)) (value_at inputs place)
+abbrev pub IsInputs : FlatCircuit → List ℕ → Type 0
+IsInputs circuit inputs = AreTyped (in_shapes circuit) inputs

@@ -1,12 +1,12 @@
 -- The state of a flat circuit, and the state after a cycle.
 -- Source: FIRRTL Specification, "Registers" and "Memories". Registers and words start at 0; a register that is never
 -- connected keeps its value: this program's profile.
-use Rattle.std.specs.Prelude.{◌≡◌, ℕ, ◌<◌, List, [], ◌∷◌, Option, Some, None, length, map, replicate, ◌==◌, if◌then◌else◌}
-use Rattle.gg_bits.specs.Shape.{Shape, shape, Fits}
+use Rattle.std.specs.Prelude.{ℕ, List, [], ◌∷◌, Option, Some, None, length, map, replicate, ◌==◌, if◌then◌else◌}
+use Rattle.gg_bits.specs.Shape.{Shape, shape}
 use Rattle.gg_flat.specs.declared.line.Node.{Node}
 use Rattle.gg_flat.specs.declared.piece.Register.{Register}
 use Rattle.gg_flat.specs.declared.piece.Reset.{Reset}
-use Rattle.gg_flat.specs.Line.{shape_at, value_at, line_value, connected_value}
+use Rattle.gg_flat.specs.Line.{AreTyped, line_value, connected_value}
 use Rattle.gg_flat.specs.Circuit.{FlatCircuit, Memory, register_shapes}
 
 -- a state: the registers' values, the words of each memory, and the read registers of each memory
@@ -54,6 +54,5 @@ next_state circuit state signals =
     }
 
 -- a state that the circuit can be in, by its counts and types
-pub record IsState (circuit : FlatCircuit) (state : State) : Type 0 where
-  pub count : length state.registers ≡ length circuit.registers
-  pub fits : (r : ℕ) → r < length circuit.registers → Fits (shape_at (register_shapes circuit) r) (value_at state.registers r)
+abbrev pub IsState : FlatCircuit → State → Type 0
+IsState circuit state = AreTyped (register_shapes circuit) state.registers

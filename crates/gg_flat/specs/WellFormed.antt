@@ -6,7 +6,7 @@ use Rattle.gg_flat.specs.declared.piece.Register.{Register}
 use Rattle.gg_flat.specs.declared.piece.Reset.{Reset}
 use Rattle.gg_flat.specs.declared.piece.Driver.{Driver}
 use Rattle.gg_flat.specs.declared.piece.Driver.TheVariants.{Input, Held, Read, Computed}
-use Rattle.gg_flat.specs.Line.{shape_at, value_at, IsSource, IsCondition}
+use Rattle.gg_flat.specs.Line.{shape_at, value_at, HasType, IsSource, IsCondition}
 use Rattle.gg_flat.specs.Circuit.{FlatCircuit, signal_shapes, register_shapes, driver_at}
 
 -- The driver of signal s is one that it may have: an in-signal names its own place in the list of in-signals, a
@@ -15,17 +15,17 @@ abbrev pub MayDrive : FlatCircuit → ℕ → Driver → Type 0
 MayDrive circuit s (Input place) = (place < length circuit.ins) × (value_at circuit.ins place ≡ s)
 MayDrive circuit s (Held register) = (register < length circuit.registers) × (shape_at (register_shapes circuit) register ≡ shape_at (signal_shapes circuit) s)
 MayDrive circuit s (Read memory port) = ⊥
-MayDrive circuit s (Computed line) = IsSource (signal_shapes circuit) (shape_at (signal_shapes circuit) s) line
+MayDrive circuit s (Computed line) = IsSource (HasType (signal_shapes circuit)) (shape_at (signal_shapes circuit) s) line
 
 -- The reset's condition is one bit, and its init may be connected to the register.
 pub record IsReset (signals : List Shape) (sink : Shape) (reset : Reset) : Type 0 where
-  pub condition : IsCondition signals reset.condition
-  pub init : IsSource signals sink reset.init
+  pub condition : IsCondition (HasType signals) reset.condition
+  pub init : IsSource (HasType signals) sink reset.init
 
 -- The lines of a register may be connected to it.
 pub record IsRegister (signals : List Shape) (register : Register) : Type 0 where
   pub reset : MatchOption register.reset ⊤ (IsReset signals (shape register.ty))
-  pub next : MatchOption register.next ⊤ (IsSource signals (shape register.ty))
+  pub next : MatchOption register.next ⊤ (IsSource (HasType signals) (shape register.ty))
 
 -- A flat circuit is well formed: each signal has a path, and no two have the same; the in-signals are just the signals
 -- without a driver of their own, each listed once; every name is one of the circuit's; types agree.
