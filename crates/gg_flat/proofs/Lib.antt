@@ -2,3 +2,5 @@ pub mod PathLemmas
 pub mod AgreeLemmas
 pub mod OrderLemmas
 pub mod UniqueLemmas
+pub mod TypedLemmas
+pub mod SettleLemmas

@@ -13,11 +13,13 @@
 //! `Piece::check`, `Piece::settle` and `State::advance` take no memory.
 #![tactic(auto)]
 
+mod laws;
 mod line;
 mod paths;
 mod piece;
 mod ports;
 
+pub use laws::{no_loop, run_once, settled_once};
 pub use line::{Line, Node, Op};
 pub use paths::{AddError, Paths};
 pub use piece::{Driver, Piece, Register, Reset, Signal};

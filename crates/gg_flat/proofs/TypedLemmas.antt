@@ -1,0 +1,67 @@
+-- Lists of typed values, and why a driver of a well-formed circuit can be evaluated on them.
+use Rattle.std.proofs.Common.{◌≡◌, ◌≢◌, ℕ, zero, suc, ◌<◌, ◌≤◌, ◌+◌, ◌-◌, ◌%◌, ◌^◌, ℤ, pos, negsuc, List, [], ◌∷◌, length, map, set, refl, sym, ◌∙◌, ap, subst, arith}
+use Rattle.std.proofs.lemmas.List.{get_or-set_same, get_or-set_other, length-map, length-set, get_or-map}
+use Rattle.std.proofs.lemmas.Nat.{pow_pos}
+use Rattle.gg_bits.specs.Value.{pattern_of}
+use Rattle.gg_bits.specs.Shape.{Shape, shape, uint, Fits}
+use Rattle.gg_bits.specs.Meaning.{extended}
+use Rattle.gg_flat.specs.declared.line.Node.{Node}
+use Rattle.gg_flat.specs.declared.line.Op.{Op}
+use Rattle.gg_flat.specs.declared.line.Op.TheVariants.{Ref, Literal, One, Two, Fix, Mux}
+use Rattle.gg_flat.specs.declared.piece.Driver.{Driver}
+use Rattle.gg_flat.specs.declared.piece.Driver.TheVariants.{Input, Held, Read, Computed}
+use Rattle.gg_flat.specs.Line.{shape_at, value_at, shapes_of, op_at, AreTyped, HasShape, HasType, HasValue, IsLine, IsSource, IsCondition}
+use Rattle.gg_flat.specs.Circuit.{FlatCircuit, signal_shapes, register_shapes, driver_at}
+use Rattle.gg_flat.specs.WellFormed.{IsWellFormed, MayDrive}
+use Rattle.gg_flat.specs.State.{State, IsState}
+use Rattle.gg_flat.specs.Settled.{IsInputs, in_shapes, HasSource, driver_value}
+
+-- a pattern of w bits is below 2 ^ w
+pub pattern_of-lt : (w : ℕ) (z : ℤ) → pattern_of w z < 2 ^ w
+pattern_of-lt w (pos a) = omega (arith, pow_pos w)
+pattern_of-lt w (negsuc a) = omega (arith, pow_pos w)
+
+-- one value is written over
+pub AreTyped-set : (shapes : List Shape) (values : List ℕ) (i value : ℕ) → AreTyped shapes values → i < length shapes → Fits (shape_at shapes i) value → AreTyped shapes (set values i value)
+AreTyped-set shapes values i value typed within fits = ?
+
+-- where references have a type, they have a value of that type
+pub HasShape-value : (shapes : List Shape) (values : List ℕ) (nodes : List Shape) (k : ℕ) (to : Shape) (op : Op) → AreTyped shapes values → HasShape (HasType shapes) nodes k to op → HasShape (HasValue values) nodes k to op
+HasShape-value shapes values nodes k to (Ref s) typed is = (omega (arith, is.0, typed.count), subst (λ x. Fits x (value_at values s)) is.1 (typed.fits s is.0))
+HasShape-value shapes values nodes k to (Literal value) typed is = is
+HasShape-value shapes values nodes k to (One op i) typed is = is
+HasShape-value shapes values nodes k to (Two op i j) typed is = is
+HasShape-value shapes values nodes k to (Fix op i n m) typed is = is
+HasShape-value shapes values nodes k to (Mux c i j) typed is = is
+
+pub IsLine-value : (shapes : List Shape) (values : List ℕ) (nodes : List Node) → AreTyped shapes values → IsLine (HasType shapes) nodes → IsLine (HasValue values) nodes
+IsLine-value shapes values nodes typed line =
+    record { some = line.some; typed = λ k within. HasShape-value shapes values (shapes_of nodes) k (shape_at (shapes_of nodes) k) (op_at nodes k) typed (line.typed k within) }
+
+pub IsSource-value : (shapes : List Shape) (values : List ℕ) (sink : Shape) (nodes : List Node) → AreTyped shapes values → IsSource (HasType shapes) sink nodes → IsSource (HasValue values) sink nodes
+IsSource-value shapes values sink nodes typed source = record { line = IsLine-value shapes values nodes typed source.line; kind = source.kind; width = source.width }
+
+pub IsCondition-value : (shapes : List Shape) (values : List ℕ) (nodes : List Node) → AreTyped shapes values → IsCondition (HasType shapes) nodes → IsCondition (HasValue values) nodes
+IsCondition-value shapes values nodes typed condition = record { line = IsLine-value shapes values nodes typed condition.line; bit = condition.bit }
+
+-- the shape of the in-signal at a place
+pub shape_at-in_shapes : (circuit : FlatCircuit) (place : ℕ) → place < length circuit.ins → shape_at (in_shapes circuit) place ≡ shape_at (signal_shapes circuit) (value_at circuit.ins place)
+shape_at-in_shapes circuit place within = get_or-map (shape_at (signal_shapes circuit)) circuit.ins place 0 (uint 0) within
+
+-- the drivers of a well-formed circuit can be evaluated on typed values
+pub HasSource-from : (circuit : FlatCircuit) (state : State) (inputs signals : List ℕ) (s : ℕ) (driver : Driver) → IsState circuit state → IsInputs circuit inputs → AreTyped (signal_shapes circuit) signals → MayDrive circuit s driver → HasSource state inputs signals (shape_at (signal_shapes circuit) s) driver
+HasSource-from circuit state inputs signals s (Input place) st ins typed may =
+    let known : place < length (in_shapes circuit) = omega (arith, may.0, length-map circuit.ins (shape_at (signal_shapes circuit))) in
+    (omega (arith, known, ins.count), subst (λ x. Fits x (value_at inputs place)) (shape_at-in_shapes circuit place may.0 ∙ ap (shape_at (signal_shapes circuit)) may.1) (ins.fits place known))
+HasSource-from circuit state inputs signals s (Held register) st ins typed may =
+    let known : register < length (register_shapes circuit) = omega (arith, may.0, length-map circuit.registers (λ register. shape register.ty)) in
+    (omega (arith, known, st.count), subst (λ x. Fits x (value_at state.registers register)) may.1 (st.fits register known))
+HasSource-from circuit state inputs signals s (Read memory port) st ins typed may = may
+HasSource-from circuit state inputs signals s (Computed line) st ins typed may = IsSource-value (signal_shapes circuit) signals (shape_at (signal_shapes circuit) s) line typed may
+
+-- what a driver that can be evaluated gives is of the signal's type
+pub driver_value-fits : (state : State) (inputs signals : List ℕ) (sink : Shape) (driver : Driver) → HasSource state inputs signals sink driver → Fits sink (driver_value state inputs signals sink driver)
+driver_value-fits state inputs signals sink (Input place) has = has.1
+driver_value-fits state inputs signals sink (Held register) has = has.1
+driver_value-fits state inputs signals sink (Read memory port) has = absurd has
+driver_value-fits state inputs signals sink (Computed line) has = pattern_of-lt sink.width _
