@@ -1,5 +1,6 @@
 -- Lists of typed values, and why a driver of a well-formed circuit can be evaluated on them.
-use Rattle.std.proofs.Common.{◌≡◌, ◌≢◌, ℕ, zero, suc, ◌<◌, ◌≤◌, ◌+◌, ◌-◌, ◌%◌, ◌^◌, ℤ, pos, negsuc, List, [], ◌∷◌, length, map, set, refl, sym, ◌∙◌, ap, subst, arith}
+use Rattle.std.proofs.Common.{◌≡◌, ◌≢◌, ℕ, zero, suc, ◌<◌, ◌≤◌, ◌+◌, ◌-◌, ◌%◌, ◌^◌, ℤ, pos, negsuc, List, [], ◌∷◌, length, map, set, refl, sym, ◌∙◌, ap, subst, arith, nat_eq, Bool, true, false, true≢false}
+use Rattle.std.proofs.lemmas.Bool.Decides.{Decides-eqb}
 use Rattle.std.proofs.lemmas.List.{get_or-set_same, get_or-set_other, length-map, length-set, get_or-map}
 use Rattle.std.proofs.lemmas.Nat.{pow_pos}
 use Rattle.gg_bits.specs.Value.{pattern_of}
@@ -23,7 +24,19 @@ pattern_of-lt w (negsuc a) = omega (arith, pow_pos w)
 
 -- one value is written over
 pub AreTyped-set : (shapes : List Shape) (values : List ℕ) (i value : ℕ) → AreTyped shapes values → i < length shapes → Fits (shape_at shapes i) value → AreTyped shapes (set values i value)
-AreTyped-set shapes values i value typed within fits = ?
+AreTyped-set shapes values i value typed within fits =
+    record {
+      count = length-set values i value ∙ typed.count;
+      fits = λ k known. by k known (nat_eq k i) refl;
+    }
+  where
+    by : (k : ℕ) → k < length shapes → (b : Bool) → nat_eq k i ≡ b → Fits (shape_at shapes k) (value_at (set values i value) k)
+    by k known true e =
+        let same : k ≡ i = (Decides-eqb k i).0 e in
+        subst (λ x. Fits (shape_at shapes x) (value_at (set values i value) x)) (sym same) (subst (λ x. Fits (shape_at shapes i) x) (sym (get_or-set_same values i value 0 (omega (arith, within, typed.count)))) fits)
+    by k known false e =
+        let other : k ≢ i = λ same. true≢false (sym ((Decides-eqb k i).1 same) ∙ e) in
+        subst (λ x. Fits (shape_at shapes k) x) (sym (get_or-set_other values i k value 0 other)) (typed.fits k known)
 
 -- where references have a type, they have a value of that type
 pub HasShape-value : (shapes : List Shape) (values : List ℕ) (nodes : List Shape) (k : ℕ) (to : Shape) (op : Op) → AreTyped shapes values → HasShape (HasType shapes) nodes k to op → HasShape (HasValue values) nodes k to op
