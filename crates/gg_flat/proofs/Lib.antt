@@ -4,3 +4,5 @@ pub mod OrderLemmas
 pub mod UniqueLemmas
 pub mod TypedLemmas
 pub mod SettleLemmas
+pub mod LineLemmas
+pub mod AdvanceLemmas

@@ -1,7 +1,7 @@
 -- Lists of typed values, and why a driver of a well-formed circuit can be evaluated on them.
-use Rattle.std.proofs.Common.{◌≡◌, ◌≢◌, ℕ, zero, suc, ◌<◌, ◌≤◌, ◌+◌, ◌-◌, ◌%◌, ◌^◌, ℤ, pos, negsuc, List, [], ◌∷◌, length, map, set, refl, sym, ◌∙◌, ap, subst, arith, nat_eq, Bool, true, false, true≢false}
+use Rattle.std.proofs.Common.{◌≡◌, ◌≢◌, ℕ, zero, suc, ◌<◌, ◌≤◌, ◌+◌, ◌-◌, ◌%◌, ◌^◌, ℤ, pos, negsuc, List, [], ◌∷◌, length, map, set, get_or, replicate, refl, sym, ◌∙◌, ap, subst, arith, nat_eq, Bool, true, false, true≢false}
 use Rattle.std.proofs.lemmas.Bool.Decides.{Decides-eqb}
-use Rattle.std.proofs.lemmas.List.{get_or-set_same, get_or-set_other, length-map, length-set, get_or-map}
+use Rattle.std.proofs.lemmas.List.{get_or-set_same, get_or-set_other, length-map, length-set, get_or-map, length-replicate, get_or-replicate}
 use Rattle.std.proofs.lemmas.Nat.{pow_pos}
 use Rattle.gg_bits.specs.Value.{pattern_of}
 use Rattle.gg_bits.specs.Shape.{Shape, shape, uint, Fits}
@@ -9,6 +9,7 @@ use Rattle.gg_bits.specs.Meaning.{extended}
 use Rattle.gg_flat.specs.declared.line.Node.{Node}
 use Rattle.gg_flat.specs.declared.line.Op.{Op}
 use Rattle.gg_flat.specs.declared.line.Op.TheVariants.{Ref, Literal, One, Two, Fix, Mux}
+use Rattle.gg_flat.specs.declared.piece.Signal.{Signal}
 use Rattle.gg_flat.specs.declared.piece.Driver.{Driver}
 use Rattle.gg_flat.specs.declared.piece.Driver.TheVariants.{Input, Held, Read, Computed}
 use Rattle.gg_flat.specs.Line.{shape_at, value_at, shapes_of, op_at, AreTyped, HasShape, HasType, HasValue, IsLine, IsSource, IsCondition}
@@ -78,3 +79,27 @@ driver_value-fits state inputs signals sink (Input place) has = has.1
 driver_value-fits state inputs signals sink (Held register) has = has.1
 driver_value-fits state inputs signals sink (Read memory port) has = absurd has
 driver_value-fits state inputs signals sink (Computed line) has = pattern_of-lt sink.width _
+
+-- zeros are of every shape
+pub AreTyped-zeros : (shapes : List Shape) (n : ℕ) → n ≡ length shapes → AreTyped shapes (replicate n 0)
+AreTyped-zeros shapes n count =
+    record {
+      count = length-replicate n 0 ∙ count;
+      fits = λ i known. subst (Fits (shape_at shapes i)) (sym (get_or-replicate n i 0 0 (omega (arith, known, count)))) (pow_pos (shape_at shapes i).width);
+    }
+
+-- what the definitions say of a signal that was read from the list
+pub record IsSignal (circuit : FlatCircuit) (s : ℕ) (signal : Signal) : Type 0 where
+  pub shape_is : shape_at (signal_shapes circuit) s ≡ shape signal.ty
+  pub driver_is : driver_at circuit s ≡ signal.driver
+
+pub IsSignal-read : (circuit : FlatCircuit) (s : ℕ) (signal : Signal) → s < length circuit.signals → signal ≡ get_or circuit.signals s signal → IsSignal circuit s signal
+IsSignal-read circuit s signal known read =
+    record {
+      shape_is = get_or-map (λ (x : Signal). shape x.ty) circuit.signals s signal (uint 0) known ∙ ap (λ (x : Signal). shape x.ty) (sym read);
+      driver_is = get_or-map (λ (x : Signal). x.driver) circuit.signals s signal (Input 0) known ∙ ap (λ (x : Signal). x.driver) (sym read);
+    }
+
+pub HasSource-signal : (circuit : FlatCircuit) (state : State) (inputs signals : List ℕ) (s : ℕ) (signal : Signal) → IsWellFormed circuit → IsState circuit state → IsInputs circuit inputs → AreTyped (signal_shapes circuit) signals → s < length circuit.signals → IsSignal circuit s signal → HasSource state inputs signals (shape signal.ty) signal.driver
+HasSource-signal circuit state inputs signals s signal formed st ins typed known is =
+    subst (λ sink. HasSource state inputs signals sink signal.driver) is.shape_is (subst (HasSource state inputs signals (shape_at (signal_shapes circuit) s)) is.driver_is (HasSource-from circuit state inputs signals s (driver_at circuit s) st ins typed (formed.drivers s known)))

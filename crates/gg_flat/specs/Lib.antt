@@ -6,3 +6,4 @@ pub mod State
 pub mod Settled
 pub mod Run
 pub mod Order
+pub mod Room

@@ -18,14 +18,14 @@ MayDrive circuit s (Read memory port) = ⊥
 MayDrive circuit s (Computed line) = IsSource (HasType (signal_shapes circuit)) (shape_at (signal_shapes circuit) s) line
 
 -- The reset's condition is one bit, and its init may be connected to the register.
-pub record IsReset (signals : List Shape) (sink : Shape) (reset : Reset) : Type 0 where
-  pub condition : IsCondition (HasType signals) reset.condition
-  pub init : IsSource (HasType signals) sink reset.init
+pub record IsReset (Named : ℕ → Shape → Type 0) (sink : Shape) (reset : Reset) : Type 0 where
+  pub condition : IsCondition Named reset.condition
+  pub init : IsSource Named sink reset.init
 
 -- The lines of a register may be connected to it.
-pub record IsRegister (signals : List Shape) (register : Register) : Type 0 where
-  pub reset : MatchOption register.reset ⊤ (IsReset signals (shape register.ty))
-  pub next : MatchOption register.next ⊤ (IsSource (HasType signals) (shape register.ty))
+pub record IsRegister (Named : ℕ → Shape → Type 0) (register : Register) : Type 0 where
+  pub reset : MatchOption register.reset ⊤ (IsReset Named (shape register.ty))
+  pub next : MatchOption register.next ⊤ (IsSource Named (shape register.ty))
 
 -- A flat circuit is well formed: each signal has a path, and no two have the same; the in-signals are just the signals
 -- without a driver of their own, each listed once; every name is one of the circuit's; types agree.
@@ -35,5 +35,5 @@ pub record IsWellFormed (circuit : FlatCircuit) : Type 0 where
   pub drivers : (s : ℕ) → s < length circuit.signals → MayDrive circuit s (driver_at circuit s)
   pub ins : (place : ℕ) → place < length circuit.ins → (value_at circuit.ins place < length circuit.signals) × (driver_at circuit (value_at circuit.ins place) ≡ Input place)
   pub outs : (place : ℕ) → place < length circuit.outs → value_at circuit.outs place < length circuit.signals
-  pub registers : All (IsRegister (signal_shapes circuit)) circuit.registers
+  pub registers : All (IsRegister (HasType (signal_shapes circuit))) circuit.registers
   pub memories : circuit.memories ≡ []

@@ -19,9 +19,12 @@ mod line;
 mod paths;
 mod piece;
 mod ports;
+mod run;
+mod state;
 
 pub use laws::{no_loop, run_once, settled_once};
 pub use line::{Line, Node, Op};
 pub use paths::{AddError, Paths};
 pub use piece::{Driver, Piece, Register, Reset, Signal};
 pub use ports::{Port, Ports};
+pub use state::State;
