@@ -13,15 +13,15 @@ use crate::state::State;
 use gg_bits::{Ty, Val, apply_const, apply1, apply2, extend, mux};
 
 // The type of a node.
-fn type_of(nodes: &[Node], i: u32) -> Ty
+pub(crate) fn type_of(nodes: &[Node], i: usize) -> Ty
     requires { i < length nodes.now }
     ensures { shape result ≡ shape_at (shapes_of nodes.now) i }
 {
-    nodes[i as usize].ty
+    nodes[i].ty
 }
 
 // The operation of a node.
-fn op_of(nodes: &[Node], k: usize) -> Op
+pub(crate) fn op_of(nodes: &[Node], k: usize) -> Op
     requires { k < length nodes.now }
     ensures { result ≡ op_at nodes.now k }
 {
@@ -40,16 +40,16 @@ fn node_value(nodes: &[Node], k: usize, signals: &[u128], before: &[u128]) -> u1
     match op_of(nodes, k) {
         Op::Ref(signal) => signals[signal as usize],
         Op::Literal(value) => value.0,
-        Op::One(op, i) => apply1(op, type_of(nodes, i), Val(before[i as usize])).0,
+        Op::One(op, i) => apply1(op, type_of(nodes, i as usize), Val(before[i as usize])).0,
         Op::Two(op, i, j) => {
-            let first = type_of(nodes, i);
-            let second = type_of(nodes, j);
+            let first = type_of(nodes, i as usize);
+            let second = type_of(nodes, j as usize);
             apply2(op, first, Val(before[i as usize]), second, Val(before[j as usize])).0
         }
-        Op::Fix(op, i, n, m) => apply_const(op, type_of(nodes, i), Val(before[i as usize]), n, m).0,
+        Op::Fix(op, i, n, m) => apply_const(op, type_of(nodes, i as usize), Val(before[i as usize]), n, m).0,
         Op::Mux(c, i, j) => {
-            let first = type_of(nodes, i);
-            let second = type_of(nodes, j);
+            let first = type_of(nodes, i as usize);
+            let second = type_of(nodes, j as usize);
             let condition = Val(before[c as usize]);
             mux(condition, first, Val(before[i as usize]), second, Val(before[j as usize])).0
         }

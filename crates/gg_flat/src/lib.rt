@@ -13,6 +13,7 @@
 //! `Piece::check`, `Piece::settle` and `State::advance` take no memory.
 #![tactic(auto)]
 
+mod check;
 mod evaluate;
 mod laws;
 mod line;
