@@ -94,7 +94,7 @@ impl Line {
     }
 
     // The type of the result.
-    fn ty(&self) -> Ty
+    pub(crate) fn ty(&self) -> Ty
         requires { 0 < length self.now }
         ensures { shape result ≡ line_shape self.now }
     {

@@ -20,8 +20,10 @@ mod line;
 mod paths;
 mod piece;
 mod ports;
+mod room;
 mod run;
 mod state;
+mod table;
 
 pub use laws::{no_loop, run_once, settled_once};
 pub use line::{Line, Node, Op};
@@ -29,3 +31,4 @@ pub use paths::{AddError, Paths};
 pub use piece::{Driver, Piece, Register, Reset, Signal};
 pub use ports::{Port, Ports};
 pub use state::State;
+pub use table::{Row, Table};

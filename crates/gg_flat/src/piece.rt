@@ -115,12 +115,13 @@ impl Piece {
         self.outs.as_slice()
     }
 
-    /// How many signals there are, which is how many paths there are.
+    /// How many signals there are, which is how many paths there are. No piece has a memory yet.
     pub fn len(&self) -> usize
         ensures count { result ≡ length self.now.signals }
         ensures paths { length self.now.paths ≡ length self.now.signals }
         ensures named { length self.now.signals < 2 ^ 32 }
         ensures distinct { AllPairs (λ a b. a ≢ b) self.now.paths }
+        ensures memories { self.now.memories ≡ [] }
     {
         let _ = self.paths.len();
         self.signals.len()
