@@ -6,3 +6,4 @@ pub mod TypedLemmas
 pub mod SettleLemmas
 pub mod LineLemmas
 pub mod AdvanceLemmas
+pub mod RunLemmas

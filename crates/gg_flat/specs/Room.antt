@@ -1,11 +1,11 @@
 -- How much scratch space the lines of a circuit want: a place for each node of the longest.
-use Rattle.std.specs.Prelude.{◌≡◌, ℕ, ◌<◌, ◌≤◌, max, List, Option, Some, None, length, All}
+use Rattle.std.specs.Prelude.{ℕ, ◌≤◌, max, List, Option, Some, None, length, All}
 use Rattle.gg_flat.specs.declared.line.Node.{Node}
 use Rattle.gg_flat.specs.declared.piece.Register.{Register}
 use Rattle.gg_flat.specs.declared.piece.Reset.{Reset}
 use Rattle.gg_flat.specs.declared.piece.Driver.{Driver}
 use Rattle.gg_flat.specs.declared.piece.Driver.TheVariants.{Input, Held, Read, Computed}
-use Rattle.gg_flat.specs.Circuit.{FlatCircuit, driver_at}
+use Rattle.gg_flat.specs.Circuit.{FlatCircuit}
 
 -- how many nodes a driver has
 abbrev pub line_length : Driver → ℕ
@@ -30,5 +30,5 @@ register_length register = max (reset_length register.reset) (next_length regist
 
 -- this many places are room for each line of the circuit
 pub record HasRoom (circuit : FlatCircuit) (places : ℕ) : Type 0 where
-  pub drivers : (s : ℕ) → s < length circuit.signals → line_length (driver_at circuit s) ≤ places
+  pub drivers : All (λ signal. line_length signal.driver ≤ places) circuit.signals
   pub registers : All (λ register. register_length register ≤ places) circuit.registers

@@ -74,6 +74,7 @@ impl Piece {
     pub fn zeros(&self, alloc: Global) -> Result<Vec<u128>, AllocError>
         ensures { IfOk result (λ values. AreTyped (signal_shapes self.now) values.items) }
     {
-        zeros(alloc, self.signals().len())
+        let values = zeros(alloc, self.signals().len())?;
+        Ok(values)
     }
 }
