@@ -1,5 +1,5 @@
 -- A driver's value depends on the signals that the driver names, and on no other.
-use Rattle.std.proofs.Common.{◌≡◌, ℕ, zero, suc, ◌<◌, ◌+◌, ◌-◌, List, [], ◌∷◌, ◌++◌, length, map, refl, sym, ◌∙◌, ap, arith}
+use Rattle.std.proofs.Common.{◌≡◌, ℕ, suc, ◌-◌, List, [], ◌∷◌, ◌++◌, length, refl, ◌∙◌, ap, arith}
 use Rattle.std.specs.Prelude.{fold}
 use Rattle.gg_bits.specs.Shape.{Shape}
 use Rattle.gg_bits.specs.Meaning.{extended}

@@ -7,3 +7,5 @@ pub mod SettleLemmas
 pub mod LineLemmas
 pub mod AdvanceLemmas
 pub mod RunLemmas
+pub mod AlongLemmas
+pub mod WorkedRows

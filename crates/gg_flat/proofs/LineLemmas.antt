@@ -1,5 +1,5 @@
 -- The values of a line's nodes, node by node.
-use Rattle.std.proofs.Common.{◌≡◌, ◌≢◌, ℕ, ◌<◌, ◌≤◌, ◌+◌, List, [], ◌∷◌, ◌++◌, length, map, take, set, get_or, refl, sym, ◌∙◌, ap, subst, arith, below_more}
+use Rattle.std.proofs.Common.{◌≡◌, ◌≢◌, ℕ, ◌<◌, ◌≤◌, ◌+◌, List, [], ◌∷◌, ◌++◌, length, take, set, get_or, refl, sym, ◌∙◌, ap, subst, arith, below_more}
 use Rattle.std.specs.Prelude.{fold}
 use Rattle.std.proofs.lemmas.List.{get_or-take, take_more_set, get_or-map, get_or-set_same, get_or-set_other, length-set}
 use Rattle.std.proofs.lemmas.List.Sums.{fold_more}
@@ -36,20 +36,20 @@ HoldsNodes-more nodes signals k scratch value within has holds is fits =
     let room : k < length scratch = omega (arith, within, holds.room) in
     let op : op_at nodes k ≡ (get_or nodes k some).op = get_or-map (λ node. node.op) nodes k some (Ref 0) within in
     let now : value ≡ op_value signals (shapes_of nodes) (take k scratch) (get_or nodes k some).op =
-            is
-            ∙ op_value-take signals (shapes_of nodes) scratch k (shape_at (shapes_of nodes) k) (op_at nodes k) has
-            ∙ ap (op_value signals (shapes_of nodes) (take k scratch)) op in
+    is
+    ∙ op_value-take signals (shapes_of nodes) scratch k (shape_at (shapes_of nodes) k) (op_at nodes k) has
+    ∙ ap (op_value signals (shapes_of nodes) (take k scratch)) op in
     record {
       room = rw length-set holds.room;
       values =
-        take_more_set scratch k value room
-        ∙ ap (λ v. take k scratch ++ v ∷ []) now
-        ∙ ap (λ before. before ++ op_value signals (shapes_of nodes) before (get_or nodes k some).op ∷ []) holds.values
-        ∙ sym (fold_more (with_node signals (shapes_of nodes)) [] nodes k some within);
+          take_more_set scratch k value room
+          ∙ ap (λ v. take k scratch ++ v ∷ []) now
+          ∙ ap (λ before. before ++ op_value signals (shapes_of nodes) before (get_or nodes k some).op ∷ []) holds.values
+          ∙ sym (fold_more (with_node signals (shapes_of nodes)) [] nodes k some within);
       fits =
-        below_more (λ i. Fits (shape_at (shapes_of nodes) i) (value_at (set scratch k value) i)) k
-        (λ i before.
-            let other : i ≢ k = omega arith in
-            subst (Fits (shape_at (shapes_of nodes) i)) (sym (get_or-set_other scratch k i value 0 other)) (holds.fits i before))
-        (subst (Fits (shape_at (shapes_of nodes) k)) (sym (get_or-set_same scratch k value 0 room)) fits);
+          below_more (λ i. Fits (shape_at (shapes_of nodes) i) (value_at (set scratch k value) i)) k
+          (λ i before.
+          let other : i ≢ k = omega arith in
+          subst (Fits (shape_at (shapes_of nodes) i)) (sym (get_or-set_other scratch k i value 0 other)) (holds.fits i before))
+          (subst (Fits (shape_at (shapes_of nodes) k)) (sym (get_or-set_same scratch k value 0 room)) fits);
     }

@@ -3,7 +3,7 @@ use Rattle.std.proofs.Common.{◌≡◌, ℕ, zero, suc, ◌<◌, ◌≤◌, ◌
 use Rattle.std.proofs.lemmas.List.{get_or_append_left, length-append}
 use Rattle.std.proofs.Math.Seq.{get_or-append_seam}
 use Rattle.gg_flat.specs.Circuit.{FlatCircuit}
-use Rattle.gg_flat.specs.State.{State, IsState, next_state, opening}
+use Rattle.gg_flat.specs.State.{State, IsState, next_state}
 use Rattle.gg_flat.specs.Settled.{Settled}
 use Rattle.gg_flat.specs.Run.{IsRun, state_at, row_at, inputs_at}
 use Rattle.gg_flat.specs.Room.{HasRoom}
@@ -36,13 +36,13 @@ IsRun-push circuit columns t rows row run settled =
     record {
       count = omega (arith, length-append rows (row ∷ []), run.count);
       settled =
-        below_more (λ n. Settled circuit (state_at circuit (rows ++ row ∷ []) n) (inputs_at columns n) (row_at (rows ++ row ∷ []) n)) t
-        (λ n lt.
-            let within : n < length rows = omega (arith, lt, run.count) in
-            subst (λ state. Settled circuit state (inputs_at columns n) (row_at (rows ++ row ∷ []) n)) (sym (state_at-push circuit rows row n (omega arith)))
-            (subst (Settled circuit (state_at circuit rows n) (inputs_at columns n)) (sym (get_or_append_left rows (row ∷ []) [] n within)) (run.settled n lt)))
-        (subst (λ state. Settled circuit state (inputs_at columns t) (row_at (rows ++ row ∷ []) t)) (sym (state_at-push circuit rows row t (omega (arith, run.count))))
-            (subst (Settled circuit (state_at circuit rows t) (inputs_at columns t)) (sym (row_at-push rows row t run.count)) settled));
+          below_more (λ n. Settled circuit (state_at circuit (rows ++ row ∷ []) n) (inputs_at columns n) (row_at (rows ++ row ∷ []) n)) t
+          (λ n lt.
+          let within : n < length rows = omega (arith, lt, run.count) in
+          subst (λ state. Settled circuit state (inputs_at columns n) (row_at (rows ++ row ∷ []) n)) (sym (state_at-push circuit rows row n (omega arith)))
+          (subst (Settled circuit (state_at circuit rows n) (inputs_at columns n)) (sym (get_or_append_left rows (row ∷ []) [] n within)) (run.settled n lt)))
+          (subst (λ state. Settled circuit state (inputs_at columns t) (row_at (rows ++ row ∷ []) t)) (sym (state_at-push circuit rows row t (omega (arith, run.count))))
+          (subst (Settled circuit (state_at circuit rows t) (inputs_at columns t)) (sym (row_at-push rows row t run.count)) settled));
     }
 
 -- the state after the row that was pushed
@@ -57,9 +57,9 @@ pub RunsTo-more : (circuit : FlatCircuit) (columns : List (List ℕ)) (t : ℕ) 
 RunsTo-more circuit columns t state rows scratch inputs row next more left before ins settled is typed pushed long =
     record {
       run =
-        subst (IsRun circuit columns (t + 1)) (sym pushed)
-        (IsRun-push circuit columns t rows row before.run
-            (subst (λ s. Settled circuit s (inputs_at columns t) row) before.state_is (subst (λ i. Settled circuit state i row) ins settled)));
+          subst (IsRun circuit columns (t + 1)) (sym pushed)
+          (IsRun-push circuit columns t rows row before.run
+          (subst (λ s. Settled circuit s (inputs_at columns t) row) before.state_is (subst (λ i. Settled circuit state i row) ins settled)));
       state_is = is ∙ state_at-next circuit columns t rows row state before.run before.state_is ∙ ap (λ r. state_at circuit r (t + 1)) (sym pushed);
       typed = typed;
       room = subst (HasRoom circuit) (sym long) before.room;

@@ -1,16 +1,15 @@
 -- Writing each signal's driver's value along an order makes a settled row.
-use Rattle.std.proofs.Common.{◌≡◌, ◌≢◌, ℕ, zero, suc, ◌<◌, ◌≤◌, ◌+◌, List, [], ◌∷◌, length, set, replicate, refl, sym, ◌∙◌, ap, subst, arith, below_more}
+use Rattle.std.proofs.Common.{◌≡◌, ◌≢◌, ℕ, ◌<◌, ◌≤◌, ◌+◌, List, length, set, refl, sym, ◌∙◌, subst, arith, below_more}
 use Rattle.std.proofs.lemmas.List.{get_or-set_same, get_or-set_other, length-map}
-use Rattle.gg_bits.specs.Shape.{Shape, shape, Fits}
+use Rattle.gg_bits.specs.Shape.{shape, Fits}
 use Rattle.gg_flat.specs.Line.{shape_at, value_at, AreTyped}
 use Rattle.gg_flat.specs.Circuit.{FlatCircuit, signal_shapes, driver_at}
-use Rattle.gg_flat.specs.WellFormed.{IsWellFormed}
-use Rattle.gg_flat.specs.State.{State, IsState}
-use Rattle.gg_flat.specs.Settled.{Settled, IsInputs, driver_value}
+use Rattle.gg_flat.specs.State.{State}
+use Rattle.gg_flat.specs.Settled.{Settled, driver_value}
 use Rattle.gg_flat.specs.Order.{IsOrder}
 use Rattle.gg_flat.proofs.AgreeLemmas.{driver_value-agree}
 use Rattle.gg_flat.proofs.OrderLemmas.{read-before, place-of}
-use Rattle.gg_flat.proofs.TypedLemmas.{AreTyped-set, HasSource-from, driver_value-fits}
+use Rattle.gg_flat.proofs.TypedLemmas.{AreTyped-set}
 
 -- signal a has its driver's value
 abbrev pub IsDriven : FlatCircuit → State → List ℕ → List ℕ → ℕ → Type 0
@@ -29,22 +28,22 @@ still-driven : (circuit : FlatCircuit) (order : List ℕ) (state : State) (input
 still-driven circuit order state inputs signals i j value o lt le =
     let within : j < length order = omega arith in
     driver_value-agree state inputs signals (set signals (value_at order i) value) (shape_at (signal_shapes circuit) (value_at order j)) (driver_at circuit (value_at order j)) (λ t named.
-        let at = read-before circuit order j (value_at order j) t o within refl (record { signal = o.signals j within; names = named }) in
-        let other : t ≢ value_at order i = λ same. o.once at.place i 0 (omega (arith, at.before, le)) lt (at.is ∙ same) in
-        sym (get_or-set_other signals (value_at order i) t value 0 other))
+    let at = read-before circuit order j (value_at order j) t o within refl (record { signal = o.signals j within; names = named }) in
+    let other : t ≢ value_at order i = λ same. o.once at.place i 0 (omega (arith, at.before, le)) lt (at.is ∙ same) in
+    sym (get_or-set_other signals (value_at order i) t value 0 other))
 
 -- the signal at place i gets its driver's value
 pub Partly-more : (circuit : FlatCircuit) (state : State) (inputs order : List ℕ) (i : ℕ) (signals : List ℕ) (value : ℕ) → IsOrder circuit order → i < length order → Partly circuit state inputs order i signals → value ≡ driver_value state inputs signals (shape_at (signal_shapes circuit) (value_at order i)) (driver_at circuit (value_at order i)) → Fits (shape_at (signal_shapes circuit) (value_at order i)) value → Partly circuit state inputs order (i + 1) (set signals (value_at order i) value)
 Partly-more circuit state inputs order i signals value o lt partly is fits =
     let known : value_at order i < length (signal_shapes circuit) = omega (arith, o.signals i lt, length-map circuit.signals (λ signal. shape signal.ty)) in
     let below : (j : ℕ) → j < i → IsDriven circuit state inputs (set signals (value_at order i) value) (value_at order j) = λ j before.
-            get_or-set_other signals (value_at order i) (value_at order j) value 0 (o.once j i 0 before lt)
-            ∙ partly.driven j before
-            ∙ still-driven circuit order state inputs signals i j value o lt (omega arith) in
+    get_or-set_other signals (value_at order i) (value_at order j) value 0 (o.once j i 0 before lt)
+    ∙ partly.driven j before
+    ∙ still-driven circuit order state inputs signals i j value o lt (omega arith) in
     let here : IsDriven circuit state inputs (set signals (value_at order i) value) (value_at order i) =
-            get_or-set_same signals (value_at order i) value 0 (omega (arith, known, partly.typed.count))
-            ∙ is
-            ∙ still-driven circuit order state inputs signals i i value o lt (omega arith) in
+    get_or-set_same signals (value_at order i) value 0 (omega (arith, known, partly.typed.count))
+    ∙ is
+    ∙ still-driven circuit order state inputs signals i i value o lt (omega arith) in
     record {
       typed = AreTyped-set (signal_shapes circuit) signals (value_at order i) value partly.typed known fits;
       driven = below_more (λ j. IsDriven circuit state inputs (set signals (value_at order i) value) (value_at order j)) i below here;

@@ -1,11 +1,10 @@
 -- Lists of typed values, and why a driver of a well-formed circuit can be evaluated on them.
-use Rattle.std.proofs.Common.{◌≡◌, ◌≢◌, ℕ, zero, suc, ◌<◌, ◌≤◌, ◌+◌, ◌-◌, ◌%◌, ◌^◌, ℤ, pos, negsuc, List, [], ◌∷◌, length, map, set, get_or, replicate, refl, sym, ◌∙◌, ap, subst, arith, nat_eq, Bool, true, false, true≢false}
+use Rattle.std.proofs.Common.{◌≡◌, ◌≢◌, ℕ, ◌<◌, ◌^◌, ℤ, pos, negsuc, List, length, set, get_or, replicate, refl, sym, ◌∙◌, ap, subst, arith, nat_eq, Bool, true, false, true≢false}
 use Rattle.std.proofs.lemmas.Bool.Decides.{Decides-eqb}
 use Rattle.std.proofs.lemmas.List.{get_or-set_same, get_or-set_other, length-map, length-set, get_or-map, length-replicate, get_or-replicate}
 use Rattle.std.proofs.lemmas.Nat.{pow_pos}
 use Rattle.gg_bits.specs.Value.{pattern_of}
 use Rattle.gg_bits.specs.Shape.{Shape, shape, uint, Fits}
-use Rattle.gg_bits.specs.Meaning.{extended}
 use Rattle.gg_flat.specs.declared.line.Node.{Node}
 use Rattle.gg_flat.specs.declared.line.Op.{Op}
 use Rattle.gg_flat.specs.declared.line.Op.TheVariants.{Ref, Literal, One, Two, Fix, Mux}

@@ -1,7 +1,7 @@
 -- The flat circuit: what a contract sees of a piece.
 -- Source: FIRRTL Specification, "Circuit Definitions", "Statements" (wires, nodes, registers, memories, connects). All
 -- instances are inlined; signals of type Clock are left out.
-use Rattle.std.specs.Prelude.{ℕ, List, [], ◌∷◌, map, slice_index_or}
+use Rattle.std.specs.Prelude.{ℕ, List, [], map, slice_index_or}
 use Rattle.gg_bits.specs.Shape.{Shape, shape}
 use Rattle.gg_flat.specs.declared.piece.Signal.{Signal}
 use Rattle.gg_flat.specs.declared.piece.Register.{Register}

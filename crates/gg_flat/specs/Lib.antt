@@ -7,3 +7,4 @@ pub mod Settled
 pub mod Run
 pub mod Order
 pub mod Room
+pub mod Along

@@ -1,5 +1,5 @@
 -- An order of evaluation: every signal once, each after all that it reads. No definition of a cycle or a run rests on it.
-use Rattle.std.specs.Prelude.{◌≡◌, ◌≢◌, ℕ, ◌<◌, List, length, take, Contains, AllPairs}
+use Rattle.std.specs.Prelude.{◌≢◌, ℕ, ◌<◌, List, length, take, Contains, AllPairs}
 use Rattle.gg_flat.specs.Line.{value_at}
 use Rattle.gg_flat.specs.Circuit.{FlatCircuit}
 use Rattle.gg_flat.specs.Reads.{Reads}

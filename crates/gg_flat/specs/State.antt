@@ -7,7 +7,7 @@ use Rattle.gg_flat.specs.declared.line.Node.{Node}
 use Rattle.gg_flat.specs.declared.piece.Register.{Register}
 use Rattle.gg_flat.specs.declared.piece.Reset.{Reset}
 use Rattle.gg_flat.specs.Line.{AreTyped, line_value, connected_value}
-use Rattle.gg_flat.specs.Circuit.{FlatCircuit, Memory, register_shapes}
+use Rattle.gg_flat.specs.Circuit.{FlatCircuit, register_shapes}
 
 -- a state: the registers' values, the words of each memory, and the read registers of each memory
 pub record State : Type 0 where

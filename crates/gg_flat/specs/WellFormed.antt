@@ -1,6 +1,6 @@
 -- When a flat circuit is well formed.
 -- Source: FIRRTL Specification, "Connects", "Registers", "Type equivalence" and, for the names, "Namespaces".
-use Rattle.std.specs.Prelude.{◌≡◌, ◌≢◌, ℕ, ◌<◌, List, [], length, MatchOption, All, AllPairs, ⊤}
+use Rattle.std.specs.Prelude.{◌≡◌, ◌≢◌, ℕ, ◌<◌, [], length, MatchOption, All, AllPairs, ⊤}
 use Rattle.gg_bits.specs.Shape.{Shape, shape}
 use Rattle.gg_flat.specs.declared.piece.Register.{Register}
 use Rattle.gg_flat.specs.declared.piece.Reset.{Reset}

@@ -48,11 +48,15 @@ fn is_node(signals: &[Signal], nodes: &[Node], k: usize) -> bool
     match op_of(nodes, k) {
         Op::Ref(signal) => is_typed(signals, signal, ty),
         Op::Literal(value) => fits(value, ty),
-        Op::One(op, i) => (i as usize) < k && results_in(result1(op, type_of(nodes, i as usize)), ty),
+        Op::One(op, i) => (i as usize) < k
+            && results_in(result1(op, type_of(nodes, i as usize)), ty),
         Op::Two(op, i, j) => {
             (i as usize) < k
                 && (j as usize) < k
-                && results_in(result2(op, type_of(nodes, i as usize), type_of(nodes, j as usize)), ty)
+                && results_in(
+                    result2(op, type_of(nodes, i as usize), type_of(nodes, j as usize)),
+                    ty,
+                )
         }
         Op::Fix(op, i, n, m) => {
             (i as usize) < k && results_in(result_const(op, type_of(nodes, i as usize), n, m), ty)
@@ -160,7 +164,8 @@ impl Piece {
             }
             Driver::Held(register) => {
                 let register = *register as usize;
-                register < self.registers().len() && same_type(self.registers()[register].ty, signal.ty)
+                register < self.registers().len()
+                    && same_type(self.registers()[register].ty, signal.ty)
             }
             Driver::Read(_, _) => false,
             Driver::Computed(line) => is_source(self.signals(), signal.ty, line),

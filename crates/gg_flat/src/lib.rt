@@ -25,7 +25,7 @@ mod run;
 mod state;
 mod table;
 
-pub use laws::{no_loop, run_once, settled_once};
+pub use laws::{no_loop, run_once, runs_along, settled_once, settles_along, states_typed};
 pub use line::{Line, Node, Op};
 pub use paths::{AddError, Paths};
 pub use piece::{Driver, Piece, Register, Reset, Signal};

@@ -1,5 +1,5 @@
 //! `Piece`: a flat circuit, built signal by signal.
-ghost use Rattle.std.specs.Prelude.{◌≡◌, ◌≢◌, ◌<◌, ◌-◌, ◌^◌, [], ◌∷◌, ◌++◌, length, Err, OnOk, OnErr, IfSome, IfNone, Some, slice_get, AllPairs, Contains, option_copied};
+ghost use Rattle.std.specs.Prelude.{◌≡◌, ◌≢◌, ◌<◌, ◌-◌, ◌^◌, [], ◌∷◌, ◌++◌, length, Err, OnOk, OnErr, IfSome, IfNone, Some, slice_get, slice_set, AllPairs, Contains, option_copied};
 ghost use Rattle.gg_flat.specs.declared.paths.AddError.TheVariants.{Doubled};
 ghost use Rattle.gg_flat.specs.Circuit.{no_circuit};
 
@@ -187,5 +187,21 @@ impl Piece {
     {
         self.outs.push(signal)?;
         Ok(())
+    }
+
+    /// Puts a signal in the place of another. Its path stays.
+    pub fn set_signal(&mut self, number: u32, signal: Signal)
+        requires { number < length self.old.signals }
+        ensures { self.new ≡ record self.old { signals = slice_set self.old.signals number signal } }
+    {
+        self.signals[number as usize] = signal;
+    }
+
+    /// Puts a register in the place of another.
+    pub fn set_register(&mut self, number: u32, register: Register)
+        requires { number < length self.old.registers }
+        ensures { self.new ≡ record self.old { registers = slice_set self.old.registers number register } }
+    {
+        self.registers[number as usize] = register;
     }
 }

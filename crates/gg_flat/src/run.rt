@@ -35,7 +35,9 @@ impl Piece {
         ensures fits { Fits (shape_at (signal_shapes self.now) signal) result }
     {
         let signal = &self.signals()[signal as usize];
-        signal.driver.value(signal.ty, state, inputs, signals, scratch)
+        signal
+            .driver
+            .value(signal.ty, state, inputs, signals, scratch)
     }
 
     /// Makes the values of all signals settled, in this state and with these inputs: each signal of the order in turn

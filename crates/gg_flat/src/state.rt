@@ -67,7 +67,12 @@ impl State {
 }
 
 // Puts the value after the cycle in the place of each register's own.
-fn advance_registers(registers: &[Register], own: &mut [u128], signals: &[u128], scratch: &mut [u128])
+fn advance_registers(
+    registers: &[Register],
+    own: &mut [u128],
+    signals: &[u128],
+    scratch: &mut [u128],
+)
     requires lines { All (IsRegister (HasValue signals.now)) registers.now }
     requires typed { AreTyped (map (λ register. shape register.ty) registers.now) own.old }
     requires room { All (λ register. register_length register ≤ length scratch.old) registers.now }

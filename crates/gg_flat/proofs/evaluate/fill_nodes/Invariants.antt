@@ -1,6 +1,3 @@
-use Rattle.std.proofs.Common.{◌≡◌, ℕ, ◌<◌, length, take}
-use Rattle.gg_bits.specs.Shape.{Fits}
-use Rattle.gg_flat.specs.Line.{shape_at, value_at, shapes_of, node_values}
 use Rattle.gg_flat.proofs.LineLemmas.{HoldsNodes}
 use Rattle.gg_flat.proofs.evaluate.fill_nodes.Given as goal
 

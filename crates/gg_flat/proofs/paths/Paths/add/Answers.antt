@@ -9,6 +9,7 @@ returns-then-contains-clause-doubled c =
 
 pub returns-clause-doubled : goal.returns-clause-doubled
 returns-clause-doubled c =
-    rw (← c.self.view_is)
-    (elim c.match-insert.branch [ in-Ok w ↦ λ e. absurd (cc) | in-Err w ↦ λ e. absurd (cc) ],
-        λ member. absurd (missing-path _ _ (sym c.contains.ensures ∙ c.if-contains.false) member))
+    rw (← c.self.view_is) (
+      elim c.match-insert.branch [ in-Ok w ↦ λ e. absurd (cc) | in-Err w ↦ λ e. absurd (cc) ],
+      λ member. absurd (missing-path _ _ (sym c.contains.ensures ∙ c.if-contains.false) member),
+    )
