@@ -37,7 +37,7 @@ pub fn apply2(op: Op2, ta: Ty, a: Val, tb: Ty, b: Val) -> Val
     requires first { Fits (shape ta) a.0 }
     requires second { Fits (shape tb) b.0 }
     ensures value { result.0 ≡ value2 op (shape ta) a.0 (shape tb) b.0 }
-    ensures typed { Fits (shape2 op (shape ta) (shape tb)) result.0 }
+    ensures typed { IfOk (type2 op (shape ta) (shape tb)) (λ s. Fits s result.0) }
 {
     let (_, width) = kind_and_width2(op, ta, tb);
     Val(fit(wide2(op, ta, a, tb, b), width))

@@ -18,6 +18,8 @@ mod ops;
 mod parametric;
 mod patterns;
 mod shifts;
+#[cfg(test)]
+mod tests;
 mod types;
 mod unary;
 

@@ -33,7 +33,7 @@ pub fn apply_const(op: OpN, ty: Ty, v: Val, n: u32, m: u32) -> Val
     requires accepted { IsOk (type_const op (shape ty) n m) }
     requires typed { Fits (shape ty) v.0 }
     ensures value { result.0 ≡ value_const op (shape ty) v.0 n m }
-    ensures typed { Fits (shape_const op (shape ty) n m) result.0 }
+    ensures typed { IfOk (type_const op (shape ty) n m) (λ s. Fits s result.0) }
 {
     let (_, width) = kind_and_width_const(op, ty, n, m);
     Val(fit(wide_const(op, ty, v, n, m), width))

@@ -28,7 +28,7 @@ pub fn apply1(op: Op1, ty: Ty, v: Val) -> Val
     requires accepted { IsOk (type1 op (shape ty)) }
     requires typed { Fits (shape ty) v.0 }
     ensures value { result.0 ≡ value1 op (shape ty) v.0 }
-    ensures typed { Fits (shape1 op (shape ty)) result.0 }
+    ensures typed { IfOk (type1 op (shape ty)) (λ s. Fits s result.0) }
 {
     let (_, width) = kind_and_width1(op, ty);
     Val(fit(wide1(op, ty, v), width))
