@@ -221,7 +221,7 @@ impl Piece {
     pub fn check(&self) -> bool
         ensures { IsTrue result ↔ IsWellFormed self.now }
     {
-        let _ = self.len();
+        let _ = self.signal_count();
         if !self.are_ins() {
             return false;
         }

@@ -32,3 +32,6 @@ pub use piece::{Driver, Piece, Register, Reset, Signal};
 pub use ports::{Port, Ports};
 pub use state::State;
 pub use table::{Row, Table};
+
+#[cfg(test)]
+mod tests;

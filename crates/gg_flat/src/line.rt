@@ -36,7 +36,7 @@ pub struct Node {
 
 /// An expression as a straight list of nodes, each of which names earlier ones; the last is the result.
 ///
-/// A contract sees it as the list of its nodes.
+/// A contract sees it as the list of its nodes. It is made of a `Vec` and gives it back without taking memory.
 #[derive(Debug, Drop)]
 pub struct Line {
     nodes: Vec<Node>,
@@ -89,5 +89,21 @@ impl Line {
         ensures { result.now ≡ self.now }
     {
         self.nodes.as_slice()
+    }
+
+    /// Gives the `Vec` back.
+    pub fn into_vec(self) -> Vec<Node>
+        ensures { result.items ≡ self }
+    {
+        let Line { nodes } = self;
+        nodes
+    }
+}
+
+impl From<Vec<Node>> for Line {
+    ghost from_gives = { λ nodes line. line ≡ nodes.items };
+
+    fn from(nodes: Vec<Node>) -> Line {
+        Line { nodes }
     }
 }

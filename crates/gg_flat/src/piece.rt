@@ -116,7 +116,7 @@ impl Piece {
     }
 
     /// How many signals there are, which is how many paths there are. No piece has a memory yet.
-    pub fn len(&self) -> usize
+    pub fn signal_count(&self) -> usize
         ensures count { result ≡ length self.now.signals }
         ensures paths { length self.now.paths ≡ length self.now.signals }
         ensures named { length self.now.signals < 2 ^ 32 }

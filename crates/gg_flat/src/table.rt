@@ -46,6 +46,8 @@ impl From<Vec<u128>> for Row {
 }
 
 /// A list of rows, or of columns. A contract sees it as a list of lists.
+///
+/// It is made of a `Vec` and gives it back without taking memory.
 #[derive(Debug, Drop)]
 pub struct Table {
     rows: Vec<Row>,
@@ -83,5 +85,21 @@ impl Table {
         ensures { result.now ≡ self.now }
     {
         self.rows.as_slice()
+    }
+
+    /// Gives the `Vec` back.
+    pub fn into_vec(self) -> Vec<Row>
+        ensures { result.items ≡ self }
+    {
+        let Table { rows } = self;
+        rows
+    }
+}
+
+impl From<Vec<Row>> for Table {
+    ghost from_gives = { λ rows table. table ≡ rows.items };
+
+    fn from(rows: Vec<Row>) -> Table {
+        Table { rows }
     }
 }
