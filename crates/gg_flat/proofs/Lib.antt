@@ -9,3 +9,4 @@ pub mod AdvanceLemmas
 pub mod RunLemmas
 pub mod AlongLemmas
 pub mod WorkedRows
+pub mod TestLemmas
