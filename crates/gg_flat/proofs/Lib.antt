@@ -9,4 +9,3 @@ pub mod AdvanceLemmas
 pub mod RunLemmas
 pub mod AlongLemmas
 pub mod WorkedRows
-pub mod TestLemmas
