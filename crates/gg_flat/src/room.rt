@@ -1,5 +1,5 @@
 //! How much room a piece wants for its signals' values and for its lines.
-ghost use Rattle.std.specs.Prelude.{◌≡◌, ℕ, ◌≤◌, All, IfOk};
+ghost use Rattle.std.specs.Prelude.{◌≡◌, ℕ, ◌≤◌, length, replicate, All, IfOk};
 ghost use Rattle.gg_flat.specs.Line.{AreTyped};
 ghost use Rattle.gg_flat.specs.Circuit.{signal_shapes};
 ghost use Rattle.gg_flat.specs.Room.{line_length, register_length, HasRoom};
@@ -72,7 +72,8 @@ impl Piece {
 
     /// A zero for each signal.
     pub fn zeros(&self, alloc: Global) -> Result<Vec<u128>, AllocError>
-        ensures { IfOk result (λ values. AreTyped (signal_shapes self.now) values.items) }
+        ensures zeros { IfOk result (λ values. values.items ≡ replicate (length self.now.signals) 0) }
+        ensures typed { IfOk result (λ values. AreTyped (signal_shapes self.now) values.items) }
     {
         let values = zeros(alloc, self.signals().len())?;
         Ok(values)
