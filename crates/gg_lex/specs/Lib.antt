@@ -1,3 +1,4 @@
 pub mod Bytes
 pub mod Shapes
+pub mod Fronts
 pub mod Lines

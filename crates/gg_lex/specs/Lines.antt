@@ -1,6 +1,7 @@
 -- The tokens of a line, what may stand at its end, and the first place where a line begins no token (FIRRTL
 -- Specification, "Notes on Syntax", "Comments" and "Info").
-use Rattle.std.specs.Prelude.{◌≡◌, ◌≢◌, ℕ, zero, suc, ◌+◌, ◌<◌, ◌≤◌, List, [], ◌∷◌, length, drop, take, if◌then◌else◌, Option, Some, None, slice_get}
+use Rattle.std.specs.Prelude.{◌≡◌, ◌≢◌, ℕ, zero, suc, ◌+◌, ◌<◌, ◌≤◌, List, [], ◌∷◌, length, drop, take, Option, Some, None, slice_get}
+use Rattle.std.specs.List.{prefix_len}
 use Rattle.gg_lex.specs.Bytes.{is_blank}
 use Rattle.gg_lex.specs.Shapes.{IsFirst, BeginsNoToken, token_of}
 use Rattle.gg_lex.specs.declared.token.Shape.{Shape}
@@ -10,8 +11,7 @@ use Rattle.gg_lex.specs.declared.token.LexFault.TheVariants.{At, NoMemory}
 
 -- the bytes without the blanks at their front
 abbrev pub after_blanks : List ℕ → List ℕ
-after_blanks [] = []
-after_blanks (b ∷ bs) = if is_blank b then after_blanks bs else (b ∷ bs)
+after_blanks bs = drop (prefix_len is_blank bs) bs
 
 -- behind place k stands a `]`, and at k no backslash
 abbrev pub ClosesBehind : List ℕ → ℕ → Type 0

@@ -4,6 +4,10 @@
 //! token. `lex` answers the tokens before that place too, which a reader looks at to name the line's fault.
 #![tactic(auto)]
 
+mod bytes;
+mod fronts;
+mod longest;
+mod symbols;
 mod token;
 
 pub use token::{LexFault, Lexed, Shape, Symbol, Tok};
