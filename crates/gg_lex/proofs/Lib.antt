@@ -2,3 +2,5 @@ pub mod Runs
 pub mod Words
 pub mod Numbers
 pub mod Quotes
+pub mod Leads
+pub mod LineEnds

@@ -13,6 +13,10 @@ is_blank b = b == 32 || b == 9
 abbrev pub starts_word : ℕ → Bool
 starts_word b = is_ascii_alphabetic b || b == 95
 
+-- `-` or a digit, with which a number begins
+abbrev pub begins_number : ℕ → Bool
+begins_number b = b == 45 || is_ascii_digit b
+
 -- a letter, a digit, `_` or `$`, which stand in a word
 abbrev pub is_word_byte : ℕ → Bool
 is_word_byte b = is_ascii_alphanumeric b || b == 95 || b == 36

@@ -1,7 +1,8 @@
 -- The longest front of some bytes that has a property, as being a word.
-use Rattle.std.specs.Prelude.{◌≡◌, ℕ, ◌≤◌, List, length, take, slice_get, Option, Some, None}
+use Rattle.std.specs.Prelude.{◌≡◌, ◌≢◌, ◌<◌, ℕ, IsFalse, slice_index, ◌≤◌, List, length, take, slice_get, Option, Some, None}
+use Rattle.gg_lex.specs.Bytes.{starts_word, begins_number}
 use Rattle.gg_lex.specs.Shapes.{IsFirst, BeginsNoToken, IsQuoted, spelling}
-use Rattle.gg_lex.specs.declared.fronts.Front.{Front}
+use Rattle.gg_lex.specs.declared.token.Front.{Front}
 use Rattle.gg_lex.specs.declared.token.Symbol.{Symbol}
 
 -- the first n bytes have the property, and no longer front has it
@@ -33,6 +34,13 @@ abbrev pub FindsQuote : List ℕ → Option ℕ → Type 0
 FindsQuote bs None = (n : ℕ) → EndsQuoted bs n → ⊥
 FindsQuote bs (Some n) = EndsQuoted bs n × ((m : ℕ) → EndsQuoted bs m → m ≡ n)
 
--- the bytes are a symbol
-abbrev pub IsSymbol : List ℕ → Type 0
-IsSymbol bs = (symbol : Symbol) × (bs ≡ spelling symbol)
+-- the first two bytes are this symbol
+abbrev pub IsFrontOfTwo : List ℕ → Symbol → Type 0
+IsFrontOfTwo bs symbol = (2 ≤ length bs) × (take 2 bs ≡ spelling symbol)
+
+-- a byte is first with which no other token than a symbol may begin
+pub record LeadsSymbol (bs : List ℕ) : Type 0 where
+  pub nonempty : 0 < length bs
+  pub no_word : IsFalse (starts_word (slice_index bs 0))
+  pub no_number : IsFalse (begins_number (slice_index bs 0))
+  pub no_text : slice_index bs 0 ≢ 34

@@ -13,14 +13,17 @@ use Rattle.gg_lex.specs.declared.token.LexFault.TheVariants.{At, NoMemory}
 abbrev pub after_blanks : List ℕ → List ℕ
 after_blanks bs = drop (prefix_len is_blank bs) bs
 
+-- file information opens here
+abbrev pub OpensInfo : List ℕ → Type 0
+OpensInfo bs = (slice_get bs 0 ≡ Some 64) × (slice_get bs 1 ≡ Some 91)
+
 -- behind place k stands a `]`, and at k no backslash
 abbrev pub ClosesBehind : List ℕ → ℕ → Type 0
 ClosesBehind bs k = (slice_get bs (k + 1) ≡ Some 93) × (slice_get bs k ≢ Some 92)
 
 -- the first n bytes are one file information: `@[` up to the first `]` that has no backslash before it
 pub record IsInfo (bs : List ℕ) (n : ℕ) : Type 0 where
-  pub at_sign : slice_get bs 0 ≡ Some 64
-  pub bracket : slice_get bs 1 ≡ Some 91
+  pub opens : OpensInfo bs
   pub last : (k : ℕ) × (1 ≤ k) × (n ≡ k + 2) × ClosesBehind bs k
   pub first : (k : ℕ) → 1 ≤ k → k + 2 < n → ClosesBehind bs k → ⊥
 
@@ -68,3 +71,8 @@ Lexes line ts (Some place) = FailsAt ts line place
 abbrev pub HasCause : LexFault → List ℕ → Type 0
 HasCause (At place) line = (ts : List Tok) × FailsAt ts line place
 HasCause NoMemory line = Unit {0}
+
+-- the fault is that the line fails at this place, or memory ran out
+abbrev pub IsFaultAt : LexFault → ℕ → Type 0
+IsFaultAt (At place) expected = place ≡ expected
+IsFaultAt NoMemory expected = Unit {0}

@@ -1,7 +1,7 @@
 //! Classes of bytes, and the run of one class at the front of some bytes.
 ghost use Rattle.std.specs.Prelude.{◌≡◌, ◌≤◌, length};
 ghost use Rattle.std.specs.List.{prefix_len};
-ghost use Rattle.gg_lex.specs.Bytes.{is_in_class, starts_word};
+ghost use Rattle.gg_lex.specs.Bytes.{is_in_class, starts_word, begins_number};
 
 /// A class of bytes of which a run is made.
 #[derive(Clone, Copy, Debug, PartialEq, Eq)]
@@ -34,6 +34,13 @@ pub(crate) fn starts_word(byte: u8) -> bool
     ensures { result ≡ starts_word byte }
 {
     byte.is_ascii_alphabetic() || byte == b'_'
+}
+
+/// Whether a number may begin with this byte.
+pub(crate) fn begins_number(byte: u8) -> bool
+    ensures { result ≡ begins_number byte }
+{
+    byte == b'-' || byte.is_ascii_digit()
 }
 
 /// How many bytes at the front are of this class.

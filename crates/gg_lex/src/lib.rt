@@ -5,9 +5,12 @@
 #![tactic(auto)]
 
 mod bytes;
+mod ends;
 mod fronts;
+mod line;
 mod longest;
 mod symbols;
 mod token;
 
+pub use line::{lex, one_reading, tokens};
 pub use token::{LexFault, Lexed, Shape, Symbol, Tok};

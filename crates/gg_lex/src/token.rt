@@ -59,6 +59,22 @@ pub enum Shape {
     Symbol(Symbol),
 }
 
+/// A token at the front of some bytes.
+#[derive(Clone, Copy, Debug)]
+pub(crate) struct Front {
+    pub(crate) shape: Shape,
+    /// How many bytes it has.
+    pub(crate) length: usize,
+}
+
+/// A token's bytes in a line, and what stands behind them.
+#[derive(Clone, Copy, Debug)]
+pub(crate) struct Piece<'a> {
+    pub(crate) shape: Shape,
+    pub(crate) text: &'a str,
+    pub(crate) after: &'a str,
+}
+
 /// The tokens of a line, and the first byte that begins none, if there is one: the tokens are those before it.
 #[derive(Debug, Drop)]
 pub struct Lexed {
