@@ -1,11 +1,10 @@
 -- By its first byte a token is of one shape alone.
-use Rattle.std.proofs.Common.{◌≡◌, ◌≢◌, ℕ, zero, suc, ◌+◌, ◌<◌, ◌≤◌, ◌⊎◌, Bool, true, false, eqb, List, [], ◌∷◌, ◌++◌, length, get_or, take, drop, sym, ap, ◌∙◌, subst, inl, inr, ⊎_elim, refl, arith, length-take-le}
+use Rattle.std.proofs.Common.{◌≡◌, ℕ, zero, suc, ◌<◌, ◌≤◌, true, false, eqb, List, [], ◌∷◌, length, get_or, take, sym, ap, ◌∙◌, subst, ⊎_elim, refl, arith, length-take-le}
 use Rattle.std.specs.Char.{is_ascii_digit}
-use Rattle.std.specs.List.{AllPass}
-use Rattle.std.proofs.lemmas.Bool.{false≢true, eqb-true, both_ways, or_right, or_left, eq-eqb, cases_eq, cases_lt, MatchBool-at_true, MatchBool-at_false, ne_eqb}
+use Rattle.std.proofs.lemmas.Bool.{false≢true, both_ways, or_right, or_left, eq-eqb, cases_eq, cases_lt, MatchBool-at_false, ne_eqb}
 use Rattle.std.proofs.lemmas.Bool.Decides.{nat_tests}
 use Rattle.gg_lex.specs.Bytes.{starts_word, begins_number}
-use Rattle.gg_lex.specs.Shapes.{IsToken, IsFirst, BeginsNoToken, IsWord, IsNumber, IsText, IsDigits, spelling}
+use Rattle.gg_lex.specs.Shapes.{IsToken, IsFirst, BeginsNoToken, IsNumber, spelling}
 use Rattle.gg_lex.specs.Fronts.{IsLongest, HasNoFront, LeadsSymbol, IsFrontOfTwo}
 use Rattle.gg_lex.specs.declared.token.Shape.{Shape}
 use Rattle.gg_lex.specs.declared.token.Shape.TheVariants as shape
@@ -35,7 +34,7 @@ leads shape.Text b bs (quoted, spelt, is_quoted) = cc
 leads (shape.Symbol symbol) b bs spelt = sym (ap (λ (l : List ℕ). get_or l 0 0) spelt)
 
 -- no token is empty
-no_empty : (kind : Shape) → IsToken kind [] → ⊥
+pub no_empty : (kind : Shape) → IsToken kind [] → ⊥
 no_empty shape.Word (first, body, tail, spelt, starts, all, all_tail) = cc
 no_empty shape.Number number = number
 no_empty shape.Text (quoted, spelt, is_quoted) = cc

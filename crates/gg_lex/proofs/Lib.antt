@@ -4,3 +4,5 @@ pub mod Numbers
 pub mod Quotes
 pub mod Leads
 pub mod LineEnds
+pub mod Cuts
+pub mod Readings

@@ -73,8 +73,10 @@ module _ (bs : List ℕ) (at : ℕ) (within : at < length bs) (before : QuotedBe
     where
       next : (m : ℕ) → m < at + 2 → at < m → m ≡ at + 1
       next m less more = omega arith
+
       alone : EndsQuoted bs (at + 1) → ⊥
       alone ends = (subst (λ (b : ℕ). IsQuoted (b ∷ [])) here (beyond 0 ends.1)).1 refl
+
       two : at + 2 ≤ length bs → take (at + 2) bs ≡ take at bs ++ (92 ∷ get_or bs (at + 1) 0 ∷ [])
       two room = take-add at 2 bs ∙ ap (λ (l : List ℕ). take at bs ++ take 2 l) (drop_more bs at 0 within) ∙ ap (λ (l : List ℕ). take at bs ++ (get_or bs at 0 ∷ take 1 l)) (drop_more bs (at + 1) 0 (omega arith)) ∙ ap (λ (b : ℕ). take at bs ++ (b ∷ get_or bs (at + 1) 0 ∷ [])) here
 
@@ -107,8 +109,10 @@ longest_after_quote bs at found = record {
   where
     inside : at < length bs
     inside = slice_get_within bs at 34 found.0.0
+
     spelt : take (suc at) bs ≡ take at bs ++ 34 ∷ []
     spelt = let counted : suc at ≡ at + 1 = omega arith in ap (λ (n : ℕ). take n bs) counted ∙ take_more bs at 0 inside ∙ ap (λ (b : ℕ). take at bs ++ b ∷ []) (get_or_from_slice_get bs at 34 0 found.0.0)
+
     longest : (m : ℕ) → m ≤ length (34 ∷ bs) → IsText (take m (34 ∷ bs)) → m ≤ suc (suc at)
     longest zero within text = omega arith
     longest (suc m) within (quoted, same, is_quoted) =

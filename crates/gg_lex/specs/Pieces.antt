@@ -1,5 +1,5 @@
 -- What one step over a line gives: the first token, and what is left behind it.
-use Rattle.std.specs.Prelude.{◌≡◌, ◌≢◌, ℕ, ◌+◌, List, take, drop, length, Option, Some, None}
+use Rattle.std.specs.Prelude.{◌≡◌, ℕ, ◌+◌, List, take, drop, length, Option, Some, None}
 use Rattle.gg_lex.specs.Shapes.{IsFirst}
 use Rattle.gg_lex.specs.Lines.{after_blanks, IsEnd}
 use Rattle.gg_lex.specs.declared.token.Piece.{Piece}

@@ -53,8 +53,7 @@ pub fn lex(alloc: Global, line: &str) -> Result<Lexed, AllocError>
 /// A line is read in one way at most: it has one list of tokens, or fails at one place.
 pub fn one_reading()
     ensures { (line : List ℕ) (ts us : List Tok) (bad other : Option ℕ) → Lexes line ts bad → Lexes line us other → (ts ≡ us) × (bad ≡ other) }
-{
-}
+{}
 
 /// The first token behind the blanks, if there is one.
 fn next_piece<'a>(rest: &'a str) -> Option<Piece<'a>>
