@@ -1,5 +1,7 @@
 //! `Names` and `Ids`: lists that contracts see as lists.
-ghost use Rattle.std.specs.Prelude.{◌≡◌, length, vec_len};
+ghost use Rattle.std.specs.Prelude.{◌≡◌, nat_eq};
+ghost use Rattle.std.specs.Cmp.{partial_equiv_from_equiv};
+ghost use Rattle.std.specs.Cmp.Lexicographic.{pointwise, lists_equiv, nat_list_eq_equiv};
 
 use crate::name::Name;
 use std::alloc::AllocError;
@@ -36,6 +38,30 @@ impl Names {
         let Names { items } = self;
         items
     }
+}
+
+impl Clone for Names {
+    ghost is_clone = { λ names copy. copy ≡ names };
+
+    fn clone(&self) -> Result<Names, AllocError> {
+        Ok(Names {
+            items: self.items.clone()?,
+        })
+    }
+}
+
+impl PartialEq for Names {
+    ghost eq = { pointwise (pointwise nat_eq) };
+
+    ghost laws = { partial_equiv_from_equiv (lists_equiv nat_list_eq_equiv) };
+
+    fn eq(&self, other: &Names) -> bool {
+        self.items == other.items
+    }
+}
+
+impl Eq for Names {
+    ghost laws = { lists_equiv nat_list_eq_equiv };
 }
 
 impl From<Vec<Name>> for Names {
@@ -77,6 +103,30 @@ impl Ids {
         let Ids { items } = self;
         items
     }
+}
+
+impl Clone for Ids {
+    ghost is_clone = { λ ids copy. copy ≡ ids };
+
+    fn clone(&self) -> Result<Ids, AllocError> {
+        Ok(Ids {
+            items: self.items.clone()?,
+        })
+    }
+}
+
+impl PartialEq for Ids {
+    ghost eq = { pointwise nat_eq };
+
+    ghost laws = { partial_equiv_from_equiv nat_list_eq_equiv };
+
+    fn eq(&self, other: &Ids) -> bool {
+        self.items == other.items
+    }
+}
+
+impl Eq for Ids {
+    ghost laws = { nat_list_eq_equiv };
 }
 
 impl From<Vec<u32>> for Ids {
