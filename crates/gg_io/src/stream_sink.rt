@@ -1,0 +1,66 @@
+//! The streams of the system.
+ghost use Rattle.std.specs.Prelude.{◌≡◌, ℕ, ◌-◌, ◌+◌, ◌^◌, ◌<◌, ◌≤◌, None, length, take, OnOk, OnErr, IfErr};
+ghost use Rattle.std.specs.Io.KnownBytes.{Appends};
+ghost use Rattle.gg_io.specs.PutFail.{HasPutCause, faults_after_put};
+
+use crate::counts::raise;
+use crate::output::{PutFail, Sink};
+use std::io::Write;
+
+/// A stream of the system, as standard output. It tells nothing of what was written.
+#[derive(Drop)]
+pub struct StreamSink<W: Write + Drop> {
+    stream: W,
+    pub faults: u64,
+}
+
+impl<W: Write + Drop> StreamSink<W> {
+    /// A sink to this stream, to which nothing was put yet.
+    pub fn new(stream: W) -> StreamSink<W>
+        ensures { result.faults ≡ 0 }
+    {
+        StreamSink { stream, faults: 0 }
+    }
+}
+
+// Writes all of the bytes, or a front part of them. A stream that takes nothing has failed.
+fn write_whole<W: Write>(stream: &mut W, bytes: &[u8]) -> Result<(), PutFail>
+    ensures whole { OnOk result (Appends (W.contents stream.old) (W.contents stream.new) bytes.now) }
+    ensures failed { IfErr result (λ e. e ≡ PutFail.Failed) }
+    ensures front { OnErr result ((n : ℕ) × (n ≤ length bytes.now)
+        × Appends (W.contents stream.old) (W.contents stream.new) (take n bytes.now)) }
+{
+    let mut done = 0;
+    while done < bytes.len() {
+        let Ok(n) = stream.write(&bytes[done..]) else {
+            return Err(PutFail::Failed);
+        };
+        if n == 0 {
+            return Err(PutFail::Failed);
+        }
+        done += n;
+    }
+    Ok(())
+}
+
+impl<W: Write + Drop> Sink for StreamSink<W> {
+    ghost written = { λ _. None };
+
+    ghost faults = { λ s. s.faults };
+
+    ghost refused = { λ _. 0 };
+
+    /// Its faults rise at each `Failed`. It never answers `NoMemory`.
+    fn put(&mut self, bytes: &[u8]) -> Result<(), PutFail>
+        ensures caused { IfErr result (HasPutCause self.old.faults self.new.faults 0 0) }
+        ensures faults_stay_or_rise { self.old.faults ≤ self.new.faults }
+
+        ensures faults { self.new.faults ≡ faults_after_put result self.old.faults }
+    {
+        if write_whole(&mut self.stream, bytes).is_err() {
+            raise(&mut self.faults);
+            return Err(PutFail::Failed);
+        }
+        Ok(())
+    }
+}
