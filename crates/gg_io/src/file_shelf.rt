@@ -125,3 +125,70 @@ impl<R: Files + Drop> Shelf for FileShelf<R> {
         }
     }
 }
+
+#[cfg(test)]
+mod tests {
+    use super::*;
+    use std::io;
+    use std::test::Fail;
+
+    // A file whose reads give `left` bytes, three at a time, and then fail or are at the end.
+    #[derive(Drop)]
+    struct Trickle {
+        left: usize,
+        is_broken: bool,
+    }
+
+    impl Read for Trickle {
+        fn read(&mut self, buf: &mut [u8]) -> io::Result<usize> {
+            if self.left == 0 && self.is_broken {
+                return Err(io::Error::from(io::ErrorKind::Other));
+            }
+            let count = self.left.min(3).min(buf.len());
+            for byte in &mut buf[..count] {
+                *byte = b'x';
+            }
+            self.left -= count;
+            Ok(count)
+        }
+    }
+
+    // The file is longer than one part.
+    #[test]
+    fn shelf_reads_files_of_the_system(rt: HostRuntime) -> Result<(), Fail> {
+        let alloc = rt.alloc();
+        let mut text = Vec::new(alloc);
+        for i in 0..10_000u32 {
+            text.push((i % 251) as u8)?;
+        }
+        fs::write(&rt, "long.txt", text.as_slice())?;
+        let mut shelf = FileShelf::new(rt);
+        let whole = shelf.load(alloc, "long.txt", 10_000)?;
+        let cut = shelf.load(alloc, "long.txt", 9_999).err();
+        let missing = shelf.load(alloc, "none.txt", 10_000).err();
+        fs::remove_file(&rt, "long.txt")?;
+        assert_eq!(rt; whole.as_slice(), text.as_slice());
+        assert_eq!(rt; cut, Some(LoadFail::TooLong { taken: 10_000 }));
+        assert_eq!(rt; missing, Some(LoadFail::Failed));
+        assert_eq!(rt; (shelf.faults, shelf.cuts), (1, 1));
+        Ok(())
+    }
+
+    #[test]
+    fn reads_go_on_to_the_end_or_a_fault(rt: HostRuntime) -> Result<(), Fail> {
+        let alloc = rt.alloc();
+        for (left, is_broken, want) in [
+            (0, false, Ok(0)),
+            (7, false, Ok(7)),
+            (8, false, Ok(8)),
+            (9, false, Err(LoadFail::TooLong { taken: 9 })),
+            (20, true, Err(LoadFail::TooLong { taken: 9 })),
+            (8, true, Err(LoadFail::Failed)),
+        ] {
+            let mut file = Trickle { left, is_broken };
+            let got = read_within(alloc, &mut file, 8).map(|bytes| bytes.len());
+            assert_eq!(rt; got, want, "{left} bytes");
+        }
+        Ok(())
+    }
+}

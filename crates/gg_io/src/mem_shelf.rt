@@ -131,3 +131,56 @@ impl Shelf for SureShelf {
         }
     }
 }
+
+#[cfg(test)]
+mod tests {
+    use super::*;
+    use crate::mem_files::hold;
+    use std::collections::BTreeMap;
+    use std::test::Fail;
+
+    // The second load is listed as failing.
+    #[test]
+    fn shelf_fails_where_listed_or_missing(rt: HostRuntime) -> Result<(), Fail> {
+        let alloc = rt.alloc();
+        let mut files = BTreeMap::new(alloc);
+        hold(&mut files, alloc, "a", b"old")?;
+        hold(&mut files, alloc, "b", b"")?;
+        hold(&mut files, alloc, "a", b"hello")?;
+        let mut shelf = MemShelf::new(files, vec![in alloc; 1]?);
+        assert_eq!(rt; shelf.load(alloc, "a", 5)?.as_slice(), b"hello".as_slice());
+        assert_eq!(rt;
+            shelf.load(alloc, "a", 5).err(),
+            Some(LoadFail::Failed),
+            "listed"
+        );
+        assert_eq!(rt;
+            shelf.load(alloc, "c", 5).err(),
+            Some(LoadFail::Failed),
+            "missing"
+        );
+        assert_eq!(rt;
+            shelf.load(alloc, "a", 4).err(),
+            Some(LoadFail::TooLong { taken: 5 })
+        );
+        assert!(rt; shelf.load(alloc, "b", 0)?.is_empty());
+        assert_eq!(rt; (shelf.loads, shelf.faults, shelf.cuts), (5, 2, 1));
+        Ok(())
+    }
+
+    #[test]
+    fn sure_shelf_holds_every_name(rt: HostRuntime) -> Result<(), Fail> {
+        let alloc = rt.alloc();
+        let mut files = BTreeMap::new(alloc);
+        hold(&mut files, alloc, "a", b"hello")?;
+        let mut shelf = SureShelf::new(files);
+        assert_eq!(rt; shelf.load(alloc, "a", 5)?.as_slice(), b"hello".as_slice());
+        assert!(rt; shelf.load(alloc, "c", 0)?.is_empty(), "no file is empty");
+        assert_eq!(rt;
+            shelf.load(alloc, "a", 0).err(),
+            Some(LoadFail::TooLong { taken: 1 })
+        );
+        assert_eq!(rt; shelf.cuts, 1);
+        Ok(())
+    }
+}

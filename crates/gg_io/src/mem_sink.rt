@@ -143,3 +143,43 @@ impl Sink for SureSink {
         append(&mut self.bytes, bytes, &mut self.refused)
     }
 }
+
+#[cfg(test)]
+mod tests {
+    use super::*;
+    use std::test::Fail;
+
+    // The second put takes 3 bytes and fails, the third takes all of its 2 and fails.
+    #[test]
+    fn sink_fails_where_listed(rt: HostRuntime) -> Result<(), Fail> {
+        let alloc = rt.alloc();
+        let second = FailingPut {
+            number: 1,
+            takes: 3,
+        };
+        let third = FailingPut {
+            number: 2,
+            takes: u64::MAX,
+        };
+        let mut sink = MemSink::new(alloc, vec![in alloc; second, third]?);
+        sink.put(b"first ")?;
+        assert_eq!(rt; sink.put(b"second").err(), Some(PutFail::Failed));
+        assert_eq!(rt; sink.bytes.as_slice(), b"first sec".as_slice());
+        assert_eq!(rt; sink.put(b"on").err(), Some(PutFail::Failed));
+        sink.put(b".")?;
+        assert_eq!(rt; sink.bytes.as_slice(), b"first secon.".as_slice());
+        assert_eq!(rt; (sink.puts, sink.faults, sink.refused), (4, 2, 0));
+        Ok(())
+    }
+
+    #[test]
+    fn sure_sink_takes_every_piece(rt: HostRuntime) -> Result<(), Fail> {
+        let mut sink = SureSink::new(rt.alloc());
+        sink.put(b"one ")?;
+        sink.put(b"")?;
+        sink.put(b"two")?;
+        assert_eq!(rt; sink.bytes.as_slice(), b"one two".as_slice());
+        assert_eq!(rt; sink.refused, 0);
+        Ok(())
+    }
+}

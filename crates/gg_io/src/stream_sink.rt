@@ -64,3 +64,50 @@ impl<W: Write + Drop> Sink for StreamSink<W> {
         Ok(())
     }
 }
+
+#[cfg(test)]
+mod tests {
+    use super::*;
+    use std::io;
+    use std::test::Fail;
+
+    // A stream that takes two bytes a write and, once its room is taken, nothing or an error.
+    #[derive(Drop)]
+    struct Narrow {
+        room: usize,
+        is_broken: bool,
+    }
+
+    impl Write for Narrow {
+        fn write(&mut self, buf: &[u8]) -> io::Result<usize> {
+            if self.room == 0 && self.is_broken {
+                return Err(io::Error::from(io::ErrorKind::Other));
+            }
+            let count = self.room.min(2).min(buf.len());
+            self.room -= count;
+            Ok(count)
+        }
+
+        fn flush(&mut self) -> io::Result<()> {
+            Ok(())
+        }
+    }
+
+    #[test]
+    fn sink_writes_whole_pieces_or_fails(rt: HostRuntime) -> Result<(), Fail> {
+        StreamSink::new(rt.stdout()).put(b"written to standard output\n")?;
+        StreamSink::new(rt.stderr()).put(b"written to standard error\n")?;
+        for (room, is_broken, want) in [
+            (5, true, Ok(())),
+            (5, false, Ok(())),
+            (4, true, Err(PutFail::Failed)),
+            (4, false, Err(PutFail::Failed)),
+        ] {
+            let mut sink = StreamSink::new(Narrow { room, is_broken });
+            assert_eq!(rt; sink.put(b""), Ok(()), "an empty piece");
+            assert_eq!(rt; sink.put(b"12345"), want, "room for {room}");
+            assert_eq!(rt; sink.faults == 1, want.is_err());
+        }
+        Ok(())
+    }
+}
