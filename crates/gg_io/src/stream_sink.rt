@@ -7,17 +7,17 @@ use crate::counts::raise;
 use crate::output::{PutFail, Sink};
 use std::io::Write;
 
-/// A stream of the system, as standard output. It tells nothing of what was written.
+/// A stream of the system, as standard output. As a sink it tells nothing of what was written.
 #[derive(Drop)]
 pub struct StreamSink<W: Write + Drop> {
-    stream: W,
+    pub stream: W,
     pub faults: u64,
 }
 
 impl<W: Write + Drop> StreamSink<W> {
     /// A sink to this stream, to which nothing was put yet.
     pub fn new(stream: W) -> StreamSink<W>
-        ensures { result.faults ≡ 0 }
+        ensures { result ≡ record { stream = stream; faults = 0 } }
     {
         StreamSink { stream, faults: 0 }
     }
@@ -50,11 +50,16 @@ impl<W: Write + Drop> Sink for StreamSink<W> {
 
     ghost refused = { λ _. 0 };
 
-    /// Its faults rise at each `Failed`. It never answers `NoMemory`.
+    /// Its faults rise at each `Failed`. It never answers `NoMemory`. Where the stream's own bytes are known, they
+    /// grow by the piece, or by a front part of it where the put failed.
     fn put(&mut self, bytes: &[u8]) -> Result<(), PutFail>
         ensures caused { IfErr result (HasPutCause self.old.faults self.new.faults 0 0) }
         ensures faults_stay_or_rise { self.old.faults ≤ self.new.faults }
 
+        ensures stream_took_all { OnOk result
+            (Appends (W.contents self.old.stream) (W.contents self.new.stream) bytes.now) }
+        ensures stream_took_front { OnErr result ((n : ℕ) × (n ≤ length bytes.now)
+            × Appends (W.contents self.old.stream) (W.contents self.new.stream) (take n bytes.now)) }
         ensures faults { self.new.faults ≡ faults_after_put result self.old.faults }
     {
         if write_whole(&mut self.stream, bytes).is_err() {
