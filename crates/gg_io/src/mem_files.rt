@@ -1,7 +1,6 @@
 //! Files in memory.
 ghost use Rattle.std.specs.Prelude.{◌≡◌, ◌≢◌, ℕ, List, Some, OnOk, OnErr};
 ghost use Rattle.gg_io.specs.Memory.{bytes_under};
-ghost use Rattle.gg_io.specs.LoadFail.{faults_after_load, cuts_after_load};
 
 use std::alloc::{AllocError, Global};
 use std::collections::BTreeMap;

@@ -1,7 +1,7 @@
 //! Shelves in memory.
-ghost use Rattle.std.specs.Prelude.{◌≡◌, ℕ, ◌-◌, ◌+◌, ◌^◌, ◌<◌, ◌≤◌, ◌↔◌, ◌⊎◌, List, length, IfOk, IfErr, IsErrOf, Contains};
+ghost use Rattle.std.specs.Prelude.{◌≡◌, ◌-◌, ◌^◌, ◌<◌, ◌≤◌, ◌↔◌, ◌⊎◌, length, IfOk, IfErr, IsErrOf, Contains};
 ghost use Rattle.gg_io.specs.Count.{risen};
-ghost use Rattle.gg_io.specs.Told.{Told, CanHold, Missing, Holds};
+ghost use Rattle.gg_io.specs.Told.{CanHold, Missing, Holds};
 ghost use Rattle.gg_io.specs.LoadFail.{HasLoadCause, faults_after_load, cuts_after_load};
 ghost use Rattle.gg_io.specs.Memory.{bytes_under, told_of, told_or_empty};
 

@@ -1,7 +1,6 @@
 //! Sinks in memory.
-ghost use Rattle.std.specs.Prelude.{◌≡◌, ℕ, [], ◌-◌, ◌+◌, ◌^◌, ◌≤◌, ◌++◌, ◌==◌, min, Some, OnOk, IfErr, IsErrOf, IsNone, IsSomeAnd, take, find};
+ghost use Rattle.std.specs.Prelude.{◌≡◌, [], ◌≤◌, ◌++◌, Some, OnOk, IfErr, IsErrOf, IsNone, IsSomeAnd, take};
 ghost use Rattle.std.specs.Io.KnownBytes.{append_known};
-ghost use Rattle.std.specs.Option.{option_map};
 ghost use Rattle.gg_io.specs.Count.{risen};
 ghost use Rattle.gg_io.specs.PutFail.{HasPutCause, LeavesFront, faults_after_put, refused_after_put};
 ghost use Rattle.gg_io.specs.Memory.{taken_before_failure};
