@@ -1,0 +1,2 @@
+mod PatternLaws
+mod WorkedRows
