@@ -1,1 +1,2 @@
+pub mod LastModule
 pub mod NamePlaces

@@ -1,11 +1,16 @@
 -- Laws of the place of a name in a list of names.
-use Rattle.std.proofs.Common.{◌≡◌, ◌≢◌, ℕ, zero, suc, ◌+◌, ◌<◌, List, [], ◌∷◌, ◌++◌, length, Option, None, Some, Bool, true, false, refl, sym, ap, ◌∙◌, subst, arith, add-one, length-append}
-use Rattle.std.specs.Prelude.{slice_get, option_map, if◌then◌else◌}
+use Rattle.std.proofs.Common.{◌≡◌, ◌≢◌, ℕ, zero, suc, ◌+◌, ◌<◌, List, [], ◌∷◌, ◌++◌, length, Option, None, Some, Bool, true, false, refl, sym, ap, ◌∙◌, subst, arith}
+use Rattle.std.specs.Prelude.{slice_get, option_map, is_some, if◌then◌else◌, String}
+use Rattle.std.specs.HashMap.{HashMap, get_by_text}
+use Rattle.std.specs.Map.{update}
+use Rattle.std.specs.declared.alloc.Global.{Global}
+use Rattle.std.specs.declared.hash.FoldHasher.{FoldHasher}
+use Rattle.std.specs.declared.hash.BuildHasherDefault.{BuildHasherDefault}
 use Rattle.std.specs.Bool.{Decides}
 use Rattle.std.specs.Str.{bytes_eq}
 use Rattle.std.proofs.lemmas.Slice.Eq.{bytes_eq-Decides}
 use Rattle.std.proofs.lemmas.Option.{slice_get_within}
-use Rattle.gg_ast.specs.Places.{IsFirstOf, Lacks, place_of}
+use Rattle.gg_ast.specs.Places.{IsFirstOf, Lacks, place_of, TellsPlaces}
 
 -- where the head differs, the first place in the tail is one place further in the whole
 first_further : (name n : List ℕ) (ns : List (List ℕ)) (j : ℕ) → (name ≡ n → ⊥) → IsFirstOf ns name j → IsFirstOf (n ∷ ns) name (suc j)
@@ -70,3 +75,32 @@ place_of-append name (n ∷ ns) new =
 -- a place is below the length
 pub place_of-below : (name : List ℕ) (names : List (List ℕ)) (i : ℕ) → place_of name names ≡ Some i → i < length names
 place_of-below name names i e = slice_get_within names i name (place_of-first name names i e).named
+
+-- a name that is there already changes no place
+present_at : (q name : List ℕ) (b : Bool) (o p : Option ℕ) (n : ℕ) → Decides b (q ≡ name) → (q ≡ name → o ≡ p) → is_some p ≡ true → place_after o b n ≡ o
+present_at q name b (Some i) p n d same there = refl
+present_at q name false None p n d same there = refl
+present_at q name true None p n d same there =
+    let e : None ≡ p = same (d.0 refl) in
+    let no : false ≡ true = ap (λ x. is_some x) e ∙ there in
+    absurd (cc)
+
+pub tells-present : (names : List (List ℕ)) (name : List ℕ) (places : HashMap (String Global) ℕ (BuildHasherDefault FoldHasher)) → TellsPlaces names places → is_some (place_of name names) ≡ true → TellsPlaces (names ++ name ∷ []) places
+tells-present names name places tells there = λ q.
+    tells q ∙ sym (place_of-append q names name ∙ present_at q name (bytes_eq q name) (place_of q names) (place_of name names) (length names) (bytes_eq-Decides q name) (λ e. ap (λ x. place_of x names) e) there)
+
+-- a new name has the next place
+new_at : (q name : List ℕ) (b e : Bool) (o p : Option ℕ) (n : ℕ) → Decides b (q ≡ name) → Decides e (name ≡ q) → (q ≡ name → o ≡ p) → is_some p ≡ false → (if e then Some n else o) ≡ place_after o b n
+new_at q name false true o p n d d2 same gone = let no : false ≡ true = d.1 (sym (d2.0 refl)) in absurd (cc)
+new_at q name true false o p n d d2 same gone = let no : false ≡ true = d2.1 (sym (d.0 refl)) in absurd (cc)
+new_at q name false false (Some i) p n d d2 same gone = refl
+new_at q name false false None p n d d2 same gone = refl
+new_at q name true true None p n d d2 same gone = refl
+new_at q name true true (Some i) p n d d2 same gone =
+    let e : Some i ≡ p = same (d.0 refl) in
+    let no : true ≡ false = ap (λ x. is_some x) e ∙ gone in
+    absurd (cc)
+
+pub tells-new : (names : List (List ℕ)) (name : List ℕ) (places new : HashMap (String Global) ℕ (BuildHasherDefault FoldHasher)) → TellsPlaces names places → is_some (place_of name names) ≡ false → ((q : List ℕ) → get_by_text new q ≡ update bytes_eq (get_by_text places) name (Some (length names)) q) → TellsPlaces (names ++ name ∷ []) new
+tells-new names name places new tells gone sets = λ q.
+    sets q ∙ ap (λ o. if bytes_eq name q then Some (length names) else o) (tells q) ∙ new_at q name (bytes_eq q name) (bytes_eq name q) (place_of q names) (place_of name names) (length names) (bytes_eq-Decides q name) (bytes_eq-Decides name q) (λ e. ap (λ x. place_of x names) e) gone ∙ sym (place_of-append q names name)

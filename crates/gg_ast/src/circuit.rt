@@ -1,7 +1,7 @@
 //! The circuit and its table of modules.
-ghost use Rattle.std.specs.Prelude.{◌≡◌, ◌≢◌, ℕ, ◌+◌, ◌<◌, ◌≤◌, ◌^◌, [], ◌∷◌, ◌++◌, length, is_ok, if◌then◌else◌, OnOk, IfSome, IfNone};
+ghost use Rattle.std.specs.Prelude.{◌≡◌, ◌≢◌, ℕ, ◌+◌, ◌<◌, ◌≤◌, ◌^◌, [], ◌∷◌, ◌++◌, length, is_ok, if◌then◌else◌, OnOk, OnErr, List, IfSome, IfNone};
 ghost use Rattle.gg_ast.specs.Tree.{empty_circuit, empty_module, module_names, add_module, add_port, add_statement, IsOpenToPorts};
-ghost use Rattle.gg_ast.specs.Places.{place_of, IsFirstOf, Lacks};
+ghost use Rattle.gg_ast.specs.Places.{place_of, IsFirstOf, Lacks, TellsPlaces};
 ghost use Rattle.gg_ast.specs.Row.{numbered, ModuleRow};
 ghost use Rattle.gg_ast.specs.Rows.{rows_of, port_row, statement_rows};
 
@@ -92,14 +92,11 @@ impl Circuit {
     pub fn push_module(&mut self, alloc: Global, line: u64, name: Name) -> Result<(), AllocError>
         ensures value { self.new ≡ (if is_ok result then add_module self.old (empty_module line name) else self.old) }
         ensures rows { OnOk result (rows_of self.new ≡ rows_of self.old ++ numbered line (ModuleRow name) ∷ []) }
-        ensures open { OnOk result (IsOpenToPorts self.new.modules) }
+        ensures ports { OnOk result (IsOpenToPorts self.new.modules) }
         ensures some { OnOk result (0 < length self.new.modules) }
     {
         self.modules.reserve(1)?;
-        if !self.places.contains_key(name.as_str()) {
-            let key = String::from_str(alloc, name.as_str())?;
-            self.places.insert(key, self.modules.len())?;
-        }
+        note_place(&mut self.places, alloc, name.as_str(), self.modules.len())?;
         self.modules.push_reserved(Module::new(alloc, line, name));
         Ok(())
     }
@@ -109,7 +106,7 @@ impl Circuit {
         requires { 0 < length self.old.modules }
         ensures value { self.new ≡ (if is_ok result then add_port self.old port else self.old) }
         ensures rows { IsOpenToPorts self.old.modules → OnOk result (rows_of self.new ≡ rows_of self.old ++ port_row port ∷ []) }
-        ensures open { IsOpenToPorts self.old.modules → IsOpenToPorts self.new.modules }
+        ensures ports { IsOpenToPorts self.old.modules → IsOpenToPorts self.new.modules }
         ensures some { length self.new.modules ≡ length self.old.modules }
     {
         let last = self.modules.len() - 1;
@@ -126,4 +123,22 @@ impl Circuit {
         let last = self.modules.len() - 1;
         self.modules[last].push_statement(statement)
     }
+}
+
+/// Notes that the name stands at this place of a list, unless it stands at an earlier one.
+fn note_place(
+    places: &mut IndexMap<String, usize>,
+    alloc: Global,
+    name: &str,
+    place: usize,
+) -> Result<(), AllocError>
+    ensures ok { OnOk result ((names : List (List ℕ)) → TellsPlaces names places.old → place ≡ length names → TellsPlaces (names ++ name.now ∷ []) places.new) }
+    ensures err { OnErr result ((names : List (List ℕ)) → TellsPlaces names places.old → TellsPlaces names places.new) }
+{
+    if places.contains_key(name) {
+        return Ok(());
+    }
+    let key = String::from_str(alloc, name)?;
+    places.insert(key, place)?;
+    Ok(())
 }

@@ -16,25 +16,56 @@ pub struct Stmt {
 #[derive(Drop)]
 pub enum StmtKind {
     /// `wire NAME : TYPE`.
-    Wire { name: Name, ty: GroundType },
+    Wire {
+        name: Name,
+        ty: GroundType,
+    },
     /// `node NAME = EXPR`.
-    Node { name: Name, value: Expr },
+    Node {
+        name: Name,
+        value: Expr,
+    },
     /// `reg NAME : TYPE, CLOCK`, maybe with a reset.
-    Register { name: Name, ty: GroundType, clock: Expr, reset: Option<Reset> },
+    Register {
+        name: Name,
+        ty: GroundType,
+        clock: Expr,
+        reset: Option<Reset>,
+    },
     /// `inst NAME of MODULE`.
-    Instance { name: Name, module: Name },
+    Instance {
+        name: Name,
+        module: Name,
+    },
     /// `mem NAME :` and its fields, one on each of the lines after it.
-    Memory { name: Name, fields: Vec<Field> },
+    Memory {
+        name: Name,
+        fields: Vec<Field>,
+    },
     /// `SINK <= SOURCE`.
-    Connect { sink: Reference, source: Expr },
+    Connect {
+        sink: Reference,
+        source: Expr,
+    },
     /// `SINK is invalid`.
-    Invalid { sink: Reference },
+    Invalid {
+        sink: Reference,
+    },
     /// `skip`.
     Skip,
     /// `stop(CLOCK, CONDITION, CODE)`, maybe with a name, which is in no namespace.
-    Stop { clock: Expr, condition: Expr, code: u32, label: Option<Name> },
+    Stop {
+        clock: Expr,
+        condition: Expr,
+        code: u32,
+        label: Option<Name>,
+    },
     /// `printf(..)`, `assert(..)`, `assume(..)` or `cover(..)`, maybe with a name, which is in no namespace.
-    Report { word: Report, arguments: Vec<Argument>, label: Option<Name> },
+    Report {
+        word: Report,
+        arguments: Vec<Argument>,
+        label: Option<Name>,
+    },
 }
 
 /// A register's reset: where the condition is 1 the register takes the initial value.
