@@ -30,10 +30,10 @@ fn port(alloc: Global, line: u64) -> Result<Port, AllocError> {
     })
 }
 
-fn register(alloc: Global, line: u64) -> Result<Stmt, AllocError> {
+fn register(alloc: Global, line: u64, reset_line: u64) -> Result<Stmt, AllocError> {
     let clock = Expr::Named(Reference::One(name(alloc, "clock")?));
     let reset = Reset {
-        line: line + 1,
+        line: reset_line,
         condition: zero(alloc)?,
         init: Expr::Named(Reference::One(name(alloc, "c")?)),
     };
@@ -53,10 +53,14 @@ fn a_circuit_is_built(rt: HostRuntime) -> Result<(), Fail> {
     let alloc = rt.alloc();
     let mut circuit = Circuit::new(alloc, 1, name(alloc, "Counter")?);
     assert_eq!(rt; circuit.module("Counter"), None);
-    for (line, text) in [(2, "Cell"), (5, "Counter"), (8, "Counter")] {
+    for (line, below, text) in [
+        (2, [3, 4, 5], "Cell"),
+        (5, [6, 7, 7], "Counter"),
+        (8, [9, 10, 11], "Counter"),
+    ] {
         circuit.push_module(alloc, line, name(alloc, text)?)?;
-        circuit.push_port(port(alloc, line + 1)?)?;
-        circuit.push_statement(register(alloc, line + 2)?)?;
+        circuit.push_port(port(alloc, below[0])?)?;
+        circuit.push_statement(register(alloc, below[1], below[2])?)?;
     }
     assert_eq!(rt; circuit.line(), 1);
     assert_eq!(rt; circuit.name().as_str(), "Counter");
