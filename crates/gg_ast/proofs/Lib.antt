@@ -1,0 +1,2 @@
+pub mod LastModule
+pub mod NamePlaces

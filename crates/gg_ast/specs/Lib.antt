@@ -1,0 +1,5 @@
+pub mod Term
+pub mod Row
+pub mod Tree
+pub mod Rows
+pub mod Places

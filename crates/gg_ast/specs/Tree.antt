@@ -1,0 +1,65 @@
+-- What a contract sees of a circuit: a record of plain lists, in the order of the file (FIRRTL Specification,
+-- "Circuits and Modules").
+use Rattle.std.specs.Prelude.{◌≡◌, ℕ, List, [], ◌∷◌, ◌++◌, map}
+use Rattle.gg_ast.specs.declared.module.Port.{Port}
+use Rattle.gg_ast.specs.declared.statement.Stmt.{Stmt}
+
+-- a module: the line on which it begins, its name, its ports and its statements
+pub record ModuleTree : Type 0 where
+  pub line : ℕ
+  pub name : List ℕ
+  pub ports : List Port
+  pub statements : List Stmt
+
+-- a circuit: the line of its header, its name and its modules
+pub record CircuitTree : Type 0 where
+  pub line : ℕ
+  pub name : List ℕ
+  pub modules : List ModuleTree
+
+-- a module without ports and statements
+abbrev pub empty_module : ℕ → List ℕ → ModuleTree
+empty_module line name = record { line = line; name = name; ports = []; statements = [] }
+
+-- a circuit without modules
+abbrev pub empty_circuit : ℕ → List ℕ → CircuitTree
+empty_circuit line name = record { line = line; name = name; modules = [] }
+
+-- the modules' names
+abbrev pub names_of : List ModuleTree → List (List ℕ)
+names_of modules = map (λ m. m.name) modules
+
+abbrev pub module_names : CircuitTree → List (List ℕ)
+module_names circuit = names_of circuit.modules
+
+-- a module with one more port
+abbrev pub with_port : Port → ModuleTree → ModuleTree
+with_port port m = record m { ports = m.ports ++ port ∷ [] }
+
+-- a module with one more statement
+abbrev pub with_statement : Stmt → ModuleTree → ModuleTree
+with_statement statement m = record m { statements = m.statements ++ statement ∷ [] }
+
+-- the modules, with the last one changed
+abbrev pub on_last : (ModuleTree → ModuleTree) → List ModuleTree → List ModuleTree
+on_last f [] = []
+on_last f (m ∷ []) = f m ∷ []
+on_last f (m ∷ (n ∷ ms)) = m ∷ on_last f (n ∷ ms)
+
+-- a circuit with one more module
+abbrev pub add_module : CircuitTree → ModuleTree → CircuitTree
+add_module circuit m = record circuit { modules = circuit.modules ++ m ∷ [] }
+
+-- a circuit whose last module has one more port
+abbrev pub add_port : CircuitTree → Port → CircuitTree
+add_port circuit port = record circuit { modules = on_last (with_port port) circuit.modules }
+
+-- a circuit whose last module has one more statement
+abbrev pub add_statement : CircuitTree → Stmt → CircuitTree
+add_statement circuit statement = record circuit { modules = on_last (with_statement statement) circuit.modules }
+
+-- the last module has no statements yet, so a port may follow
+abbrev pub IsOpenToPorts : List ModuleTree → Type 0
+IsOpenToPorts [] = ⊥
+IsOpenToPorts (m ∷ []) = m.statements ≡ []
+IsOpenToPorts (m ∷ (n ∷ ms)) = IsOpenToPorts (n ∷ ms)

@@ -1,0 +1,144 @@
+//! The circuit and its table of modules.
+ghost use Rattle.std.specs.Prelude.{◌≡◌, ◌≢◌, ℕ, ◌+◌, ◌<◌, ◌≤◌, ◌^◌, [], ◌∷◌, ◌++◌, length, is_ok, if◌then◌else◌, OnOk, OnErr, List, IfSome, IfNone};
+ghost use Rattle.gg_ast.specs.Tree.{empty_circuit, empty_module, module_names, add_module, add_port, add_statement, IsOpenToPorts};
+ghost use Rattle.gg_ast.specs.Places.{place_of, IsFirstOf, Lacks, TellsPlaces};
+ghost use Rattle.gg_ast.specs.Row.{numbered, ModuleRow};
+ghost use Rattle.gg_ast.specs.Rows.{rows_of, port_row, statement_rows};
+
+use crate::module::{Module, Port};
+use crate::statement::Stmt;
+use gg_bits::Name;
+use indexmap::IndexMap;
+use std::alloc::{AllocError, Global};
+use std::marker::Model;
+
+/// A circuit: its name and its modules in the order of the file. A contract sees it as a `CircuitTree`.
+///
+/// It is built row by row, from the header on. Where a call that adds something is refused memory the circuit stays
+/// as it was.
+#[derive(Drop)]
+pub struct Circuit {
+    line: u64,
+    name: Name,
+    modules: Vec<Module>,
+    // Each name of a module, and the place of the first module that has it.
+    places: IndexMap<String, usize>,
+}
+
+impl Model for Circuit {
+    ghost use Rattle.std.specs.Prelude.{ℕ};
+    ghost use Rattle.gg_ast.specs.Tree.{CircuitTree, names_of};
+    ghost use Rattle.gg_ast.specs.Places.{TellsPlaces};
+    ghost use Rattle.gg_ast.specs.contracts.expression.Expr as expression;
+    ghost use Rattle.std.specs.Coded.{codes};
+
+    ghost Value = { CircuitTree };
+
+    ghost coded = { Prim.hlevel (codes, expression.the_row.coded) };
+
+    ghost view = { λ c. record { line = c.line; name = c.name; modules = c.modules.items } };
+
+    ghost invariant = { λ c. TellsPlaces (names_of c.modules.items) c.places };
+}
+
+impl Circuit {
+    /// A circuit without modules, whose header stands on this line.
+    pub fn new(alloc: Global, line: u64, name: Name) -> Circuit
+        ensures value { result ≡ empty_circuit line name }
+    {
+        Circuit {
+            line,
+            name,
+            modules: Vec::new(alloc),
+            places: IndexMap::new(alloc),
+        }
+    }
+
+    /// The line of the circuit's header, counted from 1.
+    pub fn line(&self) -> u64
+        ensures { result ≡ self.now.line }
+    {
+        self.line
+    }
+
+    /// The circuit's name.
+    pub fn name(&self) -> &Name
+        ensures { result.now ≡ self.now.name }
+    {
+        &self.name
+    }
+
+    /// The modules, in order.
+    pub fn modules(&self) -> &[Module]
+        ensures { result.now ≡ self.now.modules }
+    {
+        self.modules.as_slice()
+    }
+
+    /// The place of the first module of that name, or none exactly where no module has it.
+    pub fn module(&self, name: &str) -> Option<u32>
+        requires { length self.now.modules ≤ 2 ^ 32 }
+        ensures value { result ≡ place_of name.now (module_names self.now) }
+        ensures found { IfSome result (IsFirstOf (module_names self.now) name.now) }
+        ensures missing { IfNone result (Lacks (module_names self.now) name.now) }
+    {
+        match self.places.get(name) {
+            Some(place) => Some(*place as u32),
+            None => None,
+        }
+    }
+
+    /// Adds a module without ports and statements behind the others.
+    pub fn push_module(&mut self, alloc: Global, line: u64, name: Name) -> Result<(), AllocError>
+        ensures value { self.new ≡ (if is_ok result then add_module self.old (empty_module line name) else self.old) }
+        ensures rows { OnOk result (rows_of self.new ≡ rows_of self.old ++ numbered line (ModuleRow name) ∷ []) }
+        ensures ports { OnOk result (IsOpenToPorts self.new.modules) }
+        ensures some { OnOk result (0 < length self.new.modules) }
+    {
+        self.modules.reserve(1)?;
+        note_place(&mut self.places, alloc, name.as_str(), self.modules.len())?;
+        self.modules.push_reserved(Module::new(alloc, line, name));
+        Ok(())
+    }
+
+    /// Adds a port behind the others of the last module.
+    pub fn push_port(&mut self, port: Port) -> Result<(), AllocError>
+        requires { 0 < length self.old.modules }
+        ensures value { self.new ≡ (if is_ok result then add_port self.old port else self.old) }
+        ensures rows { IsOpenToPorts self.old.modules → OnOk result (rows_of self.new ≡ rows_of self.old ++ port_row port ∷ []) }
+        ensures ports { IsOpenToPorts self.old.modules → IsOpenToPorts self.new.modules }
+        ensures some { length self.new.modules ≡ length self.old.modules }
+    {
+        let last = self.modules.len() - 1;
+        self.modules[last].push_port(port)
+    }
+
+    /// Adds a statement behind the others of the last module.
+    pub fn push_statement(&mut self, statement: Stmt) -> Result<(), AllocError>
+        requires { 0 < length self.old.modules }
+        ensures value { self.new ≡ (if is_ok result then add_statement self.old statement else self.old) }
+        ensures rows { OnOk result (rows_of self.new ≡ rows_of self.old ++ statement_rows statement) }
+        ensures some { length self.new.modules ≡ length self.old.modules }
+    {
+        let last = self.modules.len() - 1;
+        self.modules[last].push_statement(statement)
+    }
+}
+
+/// Notes that the name stands at this place of a list, unless it stands at an earlier one.
+fn note_place(
+    places: &mut IndexMap<String, usize>,
+    alloc: Global,
+    name: &str,
+    place: usize,
+) -> Result<(), AllocError>
+    ensures ok { OnOk result ((names : List (List ℕ)) → TellsPlaces names places.old → place ≡ length names → TellsPlaces (names ++ name.now ∷ []) places.new) }
+    ensures err { OnErr result ((names : List (List ℕ)) → TellsPlaces names places.old → TellsPlaces names places.new) }
+{
+    if places.contains_key(name) {
+        return Ok(());
+    }
+    let key = String::from_str(alloc, name)?;
+    places.insert(key, place)?;
+    Ok(())
+}

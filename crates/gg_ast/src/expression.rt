@@ -1,0 +1,58 @@
+//! Expressions, references and literals (FIRRTL Specification, "Expressions").
+use gg_bits::{Kind, Name, Op1, Op2, OpN};
+
+/// A reference, of one to three names with dots between them (FIRRTL Specification, "References", "Sub-fields").
+#[derive(Debug, Drop)]
+pub enum Reference {
+    /// `x`: a port, wire, register or node of the module.
+    One(Name),
+    /// `i.p`: the port `p` of the instance `i`.
+    Two(Name, Name),
+    /// `m.r.addr`: the field `addr` of the port `r` of the memory `m`.
+    Three(Name, Name, Name),
+}
+
+/// In which digits a literal is written.
+#[derive(Clone, Copy, Debug, PartialEq, Eq)]
+pub enum Radix {
+    /// A text that begins with `b`.
+    Binary,
+    /// A text that begins with `o`.
+    Octal,
+    /// A number, without quotation marks.
+    Decimal,
+    /// A text that begins with `h`; its digits may be of either case.
+    Hexadecimal,
+}
+
+/// A literal as it is written: `UInt<8>("h-3")` or `SInt<4>(-3)`. Whether its value fits is not judged here.
+#[derive(Debug, Drop)]
+pub struct Literal {
+    /// Whether it is a `UInt` or an `SInt`.
+    pub kind: Kind,
+    /// The width as written, which may be out of range.
+    pub width: u32,
+    /// The digits' radix.
+    pub radix: Radix,
+    /// Whether a `-` stands before the digits.
+    pub negative: bool,
+    /// The digits, at least one, as written: leading zeros and the letters' case are kept.
+    pub digits: Name,
+}
+
+/// An expression. It stands on the line of its statement, or of the reset of which it is a part.
+#[derive(Drop)]
+pub enum Expr {
+    /// A reference to a named signal.
+    Named(Reference),
+    /// A literal.
+    Constant(Literal),
+    /// An operation on one value.
+    Unary(Op1, Box<Expr>),
+    /// An operation on two values; the condition of `validif` is its first.
+    Binary(Op2, Box<Expr>, Box<Expr>),
+    /// An operation on one value with the parameters `n` and `m`; `m` is 0 where the operation takes one parameter.
+    Fixed(OpN, Box<Expr>, u32, u32),
+    /// `mux(c, a, b)`: `a` where `c` is 1, else `b`.
+    Mux(Box<Expr>, Box<Expr>, Box<Expr>),
+}

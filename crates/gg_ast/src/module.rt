@@ -1,0 +1,120 @@
+//! Modules and ports (FIRRTL Specification, "Circuits and Modules").
+ghost use Rattle.std.specs.Prelude.{◌≡◌, is_ok, if◌then◌else◌};
+ghost use Rattle.gg_ast.specs.Tree.{empty_module, with_port, with_statement};
+
+use crate::statement::Stmt;
+use gg_bits::Name;
+use std::alloc::{AllocError, Global};
+use std::marker::Model;
+
+/// The direction of a port.
+#[derive(Clone, Copy, Debug, PartialEq, Eq)]
+pub enum Direction {
+    /// `input`.
+    Input,
+    /// `output`.
+    Output,
+}
+
+/// A type as it is written (FIRRTL Specification, "Ground Types"): any width that a `u32` holds.
+#[derive(Clone, Copy, Debug, PartialEq, Eq)]
+pub enum GroundType {
+    /// `UInt<WIDTH>`.
+    UInt(u32),
+    /// `SInt<WIDTH>`.
+    SInt(u32),
+    /// `Clock`.
+    Clock,
+}
+
+/// A port, with its line.
+#[derive(Debug, Drop)]
+pub struct Port {
+    /// The line on which the port stands, counted from 1.
+    pub line: u64,
+    /// Its name.
+    pub name: Name,
+    /// Whether the port is an input or an output.
+    pub direction: Direction,
+    /// Its type.
+    pub ty: GroundType,
+}
+
+/// A module: its name, its ports and its statements in the order of the file. A contract sees it as a `ModuleTree`.
+#[derive(Drop)]
+pub struct Module {
+    line: u64,
+    name: Name,
+    ports: Vec<Port>,
+    statements: Vec<Stmt>,
+}
+
+impl Model for Module {
+    ghost use Rattle.gg_ast.specs.Tree.{ModuleTree};
+    ghost use Rattle.gg_ast.specs.contracts.expression.Expr as expression;
+    ghost use Rattle.std.specs.Coded.{codes};
+
+    ghost Value = { ModuleTree };
+
+    ghost coded = { Prim.hlevel (codes, expression.the_row.coded) };
+
+    ghost view = { λ m. record { line = m.line; name = m.name; ports = m.ports.items; statements = m.statements.items } };
+}
+
+impl Module {
+    /// A module without ports and statements.
+    pub fn new(alloc: Global, line: u64, name: Name) -> Module
+        ensures { result ≡ empty_module line name }
+    {
+        Module {
+            line,
+            name,
+            ports: Vec::new(alloc),
+            statements: Vec::new(alloc),
+        }
+    }
+
+    /// The line on which the module begins, counted from 1.
+    pub fn line(&self) -> u64
+        ensures { result ≡ self.now.line }
+    {
+        self.line
+    }
+
+    /// The module's name.
+    pub fn name(&self) -> &Name
+        ensures { result.now ≡ self.now.name }
+    {
+        &self.name
+    }
+
+    /// The ports, in order.
+    pub fn ports(&self) -> &[Port]
+        ensures { result.now ≡ self.now.ports }
+    {
+        self.ports.as_slice()
+    }
+
+    /// The statements, in order.
+    pub fn statements(&self) -> &[Stmt]
+        ensures { result.now ≡ self.now.statements }
+    {
+        self.statements.as_slice()
+    }
+
+    /// Adds a port behind the others. Where memory is refused the module stays as it was.
+    pub fn push_port(&mut self, port: Port) -> Result<(), AllocError>
+        ensures { self.new ≡ (if is_ok result then with_port port self.old else self.old) }
+    {
+        self.ports.push(port)?;
+        Ok(())
+    }
+
+    /// Adds a statement behind the others. Where memory is refused the module stays as it was.
+    pub fn push_statement(&mut self, statement: Stmt) -> Result<(), AllocError>
+        ensures { self.new ≡ (if is_ok result then with_statement statement self.old else self.old) }
+    {
+        self.statements.push(statement)?;
+        Ok(())
+    }
+}

@@ -1,0 +1,141 @@
+//! Statements (FIRRTL Specification, "Statements", "Memories").
+use crate::expression::{Expr, Reference};
+use crate::module::GroundType;
+use gg_bits::{Name, Names};
+
+/// A statement, with the line on which it begins, counted from 1.
+#[derive(Drop)]
+pub struct Stmt {
+    /// The line on which the statement begins.
+    pub line: u64,
+    /// What it says.
+    pub kind: StmtKind,
+}
+
+/// What a statement says.
+#[derive(Drop)]
+pub enum StmtKind {
+    /// `wire NAME : TYPE`.
+    Wire {
+        name: Name,
+        ty: GroundType,
+    },
+    /// `node NAME = EXPR`.
+    Node {
+        name: Name,
+        value: Expr,
+    },
+    /// `reg NAME : TYPE, CLOCK`, maybe with a reset.
+    Register {
+        name: Name,
+        ty: GroundType,
+        clock: Expr,
+        reset: Option<Reset>,
+    },
+    /// `inst NAME of MODULE`.
+    Instance {
+        name: Name,
+        module: Name,
+    },
+    /// `mem NAME :` and its fields, one on each of the lines after it.
+    Memory {
+        name: Name,
+        fields: Vec<Field>,
+    },
+    /// `SINK <= SOURCE`.
+    Connect {
+        sink: Reference,
+        source: Expr,
+    },
+    /// `SINK is invalid`.
+    Invalid {
+        sink: Reference,
+    },
+    /// `skip`.
+    Skip,
+    /// `stop(CLOCK, CONDITION, CODE)`, maybe with a name, which is in no namespace.
+    Stop {
+        clock: Expr,
+        condition: Expr,
+        code: u32,
+        label: Option<Name>,
+    },
+    /// `printf(..)`, `assert(..)`, `assume(..)` or `cover(..)`, maybe with a name, which is in no namespace.
+    Report {
+        word: Report,
+        arguments: Vec<Argument>,
+        label: Option<Name>,
+    },
+}
+
+/// A register's reset: where the condition is 1 the register takes the initial value.
+#[derive(Drop)]
+pub struct Reset {
+    /// The line on which the reset stands: the register's own, or a later one where it has a line of its own.
+    pub line: u64,
+    /// The condition.
+    pub condition: Expr,
+    /// The initial value.
+    pub init: Expr,
+}
+
+/// A field of a memory, with its line.
+#[derive(Drop)]
+pub struct Field {
+    /// The line on which the field stands.
+    pub line: u64,
+    /// What it says.
+    pub kind: MemoryField,
+}
+
+/// What a field of a memory says.
+#[derive(Drop)]
+pub enum MemoryField {
+    /// `data-type => TYPE`.
+    DataType(GroundType),
+    /// `depth => N`.
+    Depth(u32),
+    /// `read-latency => N`.
+    ReadLatency(u32),
+    /// `write-latency => N`.
+    WriteLatency(u32),
+    /// `reader => NAME ..`.
+    Readers(Names),
+    /// `writer => NAME ..`.
+    Writers(Names),
+    /// `read-under-write => old`, `new` or `undefined`.
+    ReadUnderWrite(ReadUnderWrite),
+}
+
+/// What a reader of latency 1 gives where a writer writes its word in the same cycle.
+#[derive(Clone, Copy, Debug, PartialEq, Eq)]
+pub enum ReadUnderWrite {
+    /// The word before the write.
+    Old,
+    /// The word after the write.
+    New,
+    /// Left open.
+    Undefined,
+}
+
+/// The statements that have no effect here (FIRRTL Specification, "Formatted Prints", "Verification").
+#[derive(Clone, Copy, Debug, PartialEq, Eq)]
+pub enum Report {
+    /// `printf`.
+    Printf,
+    /// `assert`.
+    Assert,
+    /// `assume`.
+    Assume,
+    /// `cover`.
+    Cover,
+}
+
+/// An argument of such a statement.
+#[derive(Drop)]
+pub enum Argument {
+    /// An expression.
+    Value(Expr),
+    /// A text, as it stands between its quotation marks.
+    Text(Name),
+}

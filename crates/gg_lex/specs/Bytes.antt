@@ -1,0 +1,33 @@
+-- The classes of bytes that the tokens of a FIRRTL line are made of (FIRRTL Specification, "Notes on Syntax":
+-- identifiers, integer and string literals, comments).
+use Rattle.std.specs.Prelude.{ℕ, Bool, ◌||◌, ◌==◌}
+use Rattle.std.specs.Char.{is_ascii_alphabetic, is_ascii_alphanumeric, is_ascii_digit}
+use Rattle.gg_lex.specs.declared.bytes.Class.{Class}
+use Rattle.gg_lex.specs.declared.bytes.Class.TheVariants.{Blank, WordByte, TailByte, Digit}
+
+-- a space or a tab
+abbrev pub is_blank : ℕ → Bool
+is_blank b = b == 32 || b == 9
+
+-- a letter or `_`, with which a word begins
+abbrev pub starts_word : ℕ → Bool
+starts_word b = is_ascii_alphabetic b || b == 95
+
+-- `-` or a digit, with which a number begins
+abbrev pub begins_number : ℕ → Bool
+begins_number b = b == 45 || is_ascii_digit b
+
+-- a letter, a digit, `_` or `$`, which stand in a word
+abbrev pub is_word_byte : ℕ → Bool
+is_word_byte b = is_ascii_alphanumeric b || b == 95 || b == 36
+
+-- a letter or `-`, which stand in a word's tail, as in `read-under-write`
+abbrev pub is_tail_byte : ℕ → Bool
+is_tail_byte b = is_ascii_alphabetic b || b == 45
+
+-- what a run of bytes is made of, by its class
+abbrev pub is_in_class : Class → ℕ → Bool
+is_in_class Blank = is_blank
+is_in_class WordByte = is_word_byte
+is_in_class TailByte = is_tail_byte
+is_in_class Digit = is_ascii_digit

@@ -1,0 +1,46 @@
+-- The longest front of some bytes that has a property, as being a word.
+use Rattle.std.specs.Prelude.{◌≡◌, ◌≢◌, ◌<◌, ℕ, IsFalse, slice_index, ◌≤◌, List, length, take, slice_get, Option, Some, None}
+use Rattle.gg_lex.specs.Bytes.{starts_word, begins_number}
+use Rattle.gg_lex.specs.Shapes.{IsFirst, BeginsNoToken, IsQuoted, spelling}
+use Rattle.gg_lex.specs.declared.token.Front.{Front}
+use Rattle.gg_lex.specs.declared.token.Symbol.{Symbol}
+
+-- the first n bytes have the property, and no longer front has it
+pub record IsLongest (Has : List ℕ → Type 0) (bs : List ℕ) (n : ℕ) : Type 0 where
+  pub within : n ≤ length bs
+  pub has : Has (take n bs)
+  pub longest : (m : ℕ) → m ≤ length bs → Has (take m bs) → m ≤ n
+
+-- no front has the property
+abbrev pub HasNoFront : (List ℕ → Type 0) → List ℕ → Type 0
+HasNoFront Has bs = (n : ℕ) → n ≤ length bs → Has (take n bs) → ⊥
+
+-- the longest front with the property has this length; there is none
+abbrev pub FindsFront : (List ℕ → Type 0) → List ℕ → Option ℕ → Type 0
+FindsFront Has bs None = HasNoFront Has bs
+FindsFront Has bs (Some n) = IsLongest Has bs n
+
+-- the first token has this shape and length; there is none
+abbrev pub FindsToken : List ℕ → Option Front → Type 0
+FindsToken bs None = BeginsNoToken bs
+FindsToken bs (Some front) = IsFirst front.shape bs front.length
+
+-- at this place stands a quote behind bytes that are quoted
+abbrev pub EndsQuoted : List ℕ → ℕ → Type 0
+EndsQuoted bs n = (slice_get bs n ≡ Some 34) × IsQuoted (take n bs)
+
+-- the only place of a quote that ends what is quoted; there is none
+abbrev pub FindsQuote : List ℕ → Option ℕ → Type 0
+FindsQuote bs None = (n : ℕ) → EndsQuoted bs n → ⊥
+FindsQuote bs (Some n) = EndsQuoted bs n × ((m : ℕ) → EndsQuoted bs m → m ≡ n)
+
+-- the first two bytes are this symbol
+abbrev pub IsFrontOfTwo : List ℕ → Symbol → Type 0
+IsFrontOfTwo bs symbol = (2 ≤ length bs) × (take 2 bs ≡ spelling symbol)
+
+-- a byte is first with which no other token than a symbol may begin
+pub record LeadsSymbol (bs : List ℕ) : Type 0 where
+  pub nonempty : 0 < length bs
+  pub no_word : IsFalse (starts_word (slice_index bs 0))
+  pub no_number : IsFalse (begins_number (slice_index bs 0))
+  pub no_text : slice_index bs 0 ≢ 34

@@ -1,0 +1,78 @@
+-- The tokens of a line, what may stand at its end, and the first place where a line begins no token (FIRRTL
+-- Specification, "Notes on Syntax", "Comments" and "Info").
+use Rattle.std.specs.Prelude.{◌≡◌, ◌≢◌, ℕ, zero, suc, ◌+◌, ◌<◌, ◌≤◌, List, [], ◌∷◌, length, drop, take, Option, Some, None, slice_get}
+use Rattle.std.specs.List.{prefix_len}
+use Rattle.gg_lex.specs.Bytes.{is_blank}
+use Rattle.gg_lex.specs.Shapes.{IsFirst, BeginsNoToken, token_of}
+use Rattle.gg_lex.specs.declared.token.Shape.{Shape}
+use Rattle.gg_lex.specs.declared.token.Tok.{Tok}
+use Rattle.gg_lex.specs.declared.token.LexFault.{LexFault}
+use Rattle.gg_lex.specs.declared.token.LexFault.TheVariants.{At, NoMemory}
+
+-- the bytes without the blanks at their front
+abbrev pub after_blanks : List ℕ → List ℕ
+after_blanks bs = drop (prefix_len is_blank bs) bs
+
+-- file information opens here
+abbrev pub OpensInfo : List ℕ → Type 0
+OpensInfo bs = (slice_get bs 0 ≡ Some 64) × (slice_get bs 1 ≡ Some 91)
+
+-- behind place k stands a `]`, and at k no backslash
+abbrev pub ClosesBehind : List ℕ → ℕ → Type 0
+ClosesBehind bs k = (slice_get bs (k + 1) ≡ Some 93) × (slice_get bs k ≢ Some 92)
+
+-- the first n bytes are one file information: `@[` up to the first `]` that has no backslash before it
+pub record IsInfo (bs : List ℕ) (n : ℕ) : Type 0 where
+  pub opens : OpensInfo bs
+  pub last : (k : ℕ) × (1 ≤ k) × (n ≡ k + 2) × ClosesBehind bs k
+  pub first : (k : ℕ) → 1 ≤ k → k + 2 < n → ClosesBehind bs k → ⊥
+
+-- nothing, or a comment, which `;` begins
+abbrev pub IsComment : List ℕ → Type 0
+IsComment [] = Unit {0}
+IsComment (b ∷ bs) = b ≡ 59
+
+-- so many pieces of file information, and then a comment or nothing; blanks may stand before each
+abbrev pub IsEndWith : ℕ → List ℕ → Type 0
+IsEndWith zero bs = IsComment (after_blanks bs)
+IsEndWith (suc infos) bs = (n : ℕ) × IsInfo (after_blanks bs) n × IsEndWith infos (drop n (after_blanks bs))
+
+-- what may stand behind the last token of a line
+abbrev pub IsEnd : List ℕ → Type 0
+IsEnd bs = (infos : ℕ) × IsEndWith infos bs
+
+-- the bytes begin with these tokens, each the first of what is left where it stands, blanks before it left out;
+-- behind them is the rest
+abbrev pub Begins : List Tok → List ℕ → List ℕ → Type 0
+Begins [] bs rest = rest ≡ bs
+Begins (t ∷ ts) bs rest =
+    (kind : Shape) × (n : ℕ) × IsFirst kind (after_blanks bs) n × (t ≡ token_of kind (take n (after_blanks bs))) × Begins ts (drop n (after_blanks bs)) rest
+
+-- these are the tokens of the line
+pub record AreTokens (ts : List Tok) (line : List ℕ) : Type 0 where
+  pub rest : List ℕ
+  pub before : Begins ts line rest
+  pub end : IsEnd rest
+
+-- behind these tokens the line's byte at this place begins no token, and the line doesn't end there
+pub record FailsAt (ts : List Tok) (line : List ℕ) (place : ℕ) : Type 0 where
+  pub rest : List ℕ
+  pub before : Begins ts line rest
+  pub no_token : BeginsNoToken (after_blanks rest)
+  pub no_end : IsEnd rest → ⊥
+  pub there : place + length (after_blanks rest) ≡ length line
+
+-- the tokens of a line with no bad place; else those up to its first bad place
+abbrev pub Lexes : List ℕ → List Tok → Option ℕ → Type 0
+Lexes line ts None = AreTokens ts line
+Lexes line ts (Some place) = FailsAt ts line place
+
+-- why a line has no tokens: it fails at the place that is answered. Want of memory has no cause in the line.
+abbrev pub HasCause : LexFault → List ℕ → Type 0
+HasCause (At place) line = (ts : List Tok) × FailsAt ts line place
+HasCause NoMemory line = Unit {0}
+
+-- the fault is that the line fails at this place, or memory ran out
+abbrev pub IsFaultAt : LexFault → ℕ → Type 0
+IsFaultAt (At place) expected = place ≡ expected
+IsFaultAt NoMemory expected = Unit {0}

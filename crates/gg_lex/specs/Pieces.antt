@@ -1,0 +1,17 @@
+-- What one step over a line gives: the first token, and what is left behind it.
+use Rattle.std.specs.Prelude.{◌≡◌, ℕ, ◌+◌, List, take, drop, length, Option, Some, None}
+use Rattle.gg_lex.specs.Shapes.{IsFirst}
+use Rattle.gg_lex.specs.Lines.{after_blanks, IsEnd}
+use Rattle.gg_lex.specs.declared.token.Piece.{Piece}
+
+-- the piece is the first token behind the blanks
+pub record IsPieceOf (bs : List ℕ) (piece : Piece) : Type 0 where
+  pub size : ℕ
+  pub first : IsFirst piece.shape (after_blanks bs) size
+  pub text : piece.text.now ≡ take size (after_blanks bs)
+  pub after : piece.after.now ≡ drop size (after_blanks bs)
+
+-- the line may end where this is left; else its byte behind the blanks is at this place
+abbrev pub EndsOrFails : List ℕ → List ℕ → Option ℕ → Type 0
+EndsOrFails line rest None = IsEnd rest
+EndsOrFails line rest (Some place) = (IsEnd rest → ⊥) × (place + length (after_blanks rest) ≡ length line)

@@ -1,0 +1,81 @@
+-- What the bytes of each token are, and which token a list of bytes begins with (FIRRTL Specification, "Notes on
+-- Syntax" and the grammar's terminals).
+use Rattle.std.specs.Prelude.{◌≡◌, ◌≢◌, ℕ, ◌-◌, ◌<◌, ◌≤◌, List, [], ◌∷◌, ◌++◌, length, take, drop, codes, IsTrue, ◌==◌}
+use Rattle.std.specs.Bool.{MatchBool}
+use Rattle.std.specs.List.{AllPass}
+use Rattle.std.specs.Char.{is_ascii_digit}
+use Rattle.gg_lex.specs.Bytes.{starts_word, is_word_byte, is_tail_byte}
+use Rattle.gg_lex.specs.declared.token.Symbol.{Symbol}
+use Rattle.gg_lex.specs.declared.token.Symbol.TheVariants.{Connect, Arrow, PartialConnect, Colon, Comma, Dot, OpenParen, CloseParen, Less, Greater, Equals, OpenBracket, CloseBracket, OpenBrace, CloseBrace, OpenAnnotations}
+use Rattle.gg_lex.specs.declared.token.Shape.{Shape}
+use Rattle.gg_lex.specs.declared.token.Shape.TheVariants as shape
+use Rattle.gg_lex.specs.declared.token.Tok.{Tok}
+use Rattle.gg_lex.specs.declared.token.Tok.TheVariants as tok
+
+-- how a symbol is written
+abbrev pub spelling : Symbol → List ℕ
+spelling Connect = codes "<="
+spelling Arrow = codes "=>"
+spelling PartialConnect = codes "<-"
+spelling Colon = codes ":"
+spelling Comma = codes ","
+spelling Dot = codes "."
+spelling OpenParen = codes "("
+spelling CloseParen = codes ")"
+spelling Less = codes "<"
+spelling Greater = codes ">"
+spelling Equals = codes "="
+spelling OpenBracket = codes "["
+spelling CloseBracket = codes "]"
+spelling OpenBrace = codes "{"
+spelling CloseBrace = codes "}"
+spelling OpenAnnotations = codes "%["
+
+-- a word: a letter or `_`, then letters, digits, `_` and `$`, then dashes and letters
+abbrev pub IsWord : List ℕ → Type 0
+IsWord bs =
+    (first : ℕ) × (body : List ℕ) × (tail : List ℕ) × (bs ≡ first ∷ (body ++ tail)) × IsTrue (starts_word first) × AllPass is_word_byte body × AllPass is_tail_byte tail
+
+-- decimal digits, at least one
+abbrev pub IsDigits : List ℕ → Type 0
+IsDigits bs = (0 < length bs) × AllPass is_ascii_digit bs
+
+-- a number: `-` or nothing, then digits
+abbrev pub IsNumber : List ℕ → Type 0
+IsNumber [] = ⊥
+IsNumber (b ∷ bs) = MatchBool (b == 45) (IsDigits bs) (IsDigits (b ∷ bs))
+
+-- what stands between the quotes of a text: no quote but behind a backslash, which takes the next character with it
+-- (the bytes behind the first of a character past ASCII are neither quotes nor backslashes)
+abbrev pub IsQuoted : List ℕ → Type 0
+IsQuoted [] = Unit {0}
+IsQuoted (b ∷ []) = (b ≢ 34) × (b ≢ 92)
+IsQuoted (b ∷ c ∷ bs) = MatchBool (b == 92) (IsQuoted bs) ((b ≢ 34) × IsQuoted (c ∷ bs))
+
+-- a text: a quote, what is quoted, a quote
+abbrev pub IsText : List ℕ → Type 0
+IsText bs = (quoted : List ℕ) × (bs ≡ 34 ∷ (quoted ++ 34 ∷ [])) × IsQuoted quoted
+
+-- the bytes are a token of this shape
+abbrev pub IsToken : Shape → List ℕ → Type 0
+IsToken shape.Word bs = IsWord bs
+IsToken shape.Number bs = IsNumber bs
+IsToken shape.Text bs = IsText bs
+IsToken (shape.Symbol symbol) bs = bs ≡ spelling symbol
+
+-- the token that bytes of this shape are: a text is kept without its quotes, its backslashes as they stand
+abbrev pub token_of : Shape → List ℕ → Tok
+token_of shape.Word bs = tok.Word bs
+token_of shape.Number bs = tok.Number bs
+token_of shape.Text bs = tok.Text (take (length bs - 2) (drop 1 bs))
+token_of (shape.Symbol symbol) bs = tok.Symbol symbol
+
+-- the first n bytes are a token of this shape, and no front of the bytes that is a token of any shape is longer
+pub record IsFirst (kind : Shape) (bs : List ℕ) (n : ℕ) : Type 0 where
+  pub within : n ≤ length bs
+  pub token : IsToken kind (take n bs)
+  pub longest : (other : Shape) (m : ℕ) → m ≤ length bs → IsToken other (take m bs) → m ≤ n
+
+-- no front of the bytes is a token
+abbrev pub BeginsNoToken : List ℕ → Type 0
+BeginsNoToken bs = (kind : Shape) (n : ℕ) → n ≤ length bs → IsToken kind (take n bs) → ⊥

@@ -1,0 +1,118 @@
+//! The tokens of a line.
+ghost use Rattle.std.specs.Prelude.{◌≡◌, ℕ, ◌-◌, ◌≤◌, List, take, drop, Option, length, IfOk, IfErr, IfSome, MatchOption, MatchResult};
+ghost use Rattle.gg_lex.specs.Shapes.{IsToken, IsText, token_of, BeginsNoToken};
+ghost use Rattle.gg_lex.specs.Lines.{Lexes, AreTokens, FailsAt, HasCause, IsFaultAt, after_blanks};
+ghost use Rattle.gg_lex.specs.Pieces.{IsPieceOf, EndsOrFails};
+
+use crate::bytes::{Class, run_len};
+use crate::ends::is_end;
+use crate::fronts::first_token;
+use crate::token::{LexFault, Lexed, Piece, Shape, Tok};
+use gg_bits::Name;
+use std::alloc::{AllocError, Global};
+
+/// The tokens of a line.
+///
+/// Else `At` the first byte that begins no token, or `NoMemory`.
+pub fn tokens(alloc: Global, line: &str) -> Result<Vec<Tok>, LexFault>
+    ensures tokens { IfOk result (λ tokens. AreTokens tokens.items line.now) }
+    ensures fault { IfErr result (λ fault. HasCause fault line.now) }
+
+    // a line with tokens has no other answer than these, nor one that fails another place
+    ensures only_tokens { (ts : List Tok) → AreTokens ts line.now → MatchResult result (λ tokens. tokens.items ≡ ts) (λ fault. fault ≡ LexFault.NoMemory) }
+    ensures only_fault { (ts : List Tok) (place : ℕ) → FailsAt ts line.now place → MatchResult result (λ _. ⊥) (λ fault. IsFaultAt fault place) }
+{
+    match lex(alloc, line) {
+        Ok(lexed) => {
+            let Lexed { tokens, bad } = lexed;
+            match bad {
+                None => Ok(tokens),
+                Some(place) => Err(LexFault::At(place)),
+            }
+        }
+        Err(_) => Err(LexFault::NoMemory),
+    }
+}
+
+/// The tokens of a line, and the first byte that begins none: then the tokens before it.
+pub fn lex(alloc: Global, line: &str) -> Result<Lexed, AllocError>
+    ensures answer { IfOk result (λ lexed. Lexes line.now lexed.tokens.items lexed.bad) }
+    ensures only { IfOk result (λ lexed. (ts : List Tok) (bad : Option ℕ) → Lexes line.now ts bad → (lexed.tokens.items ≡ ts) × (lexed.bad ≡ bad)) }
+{
+    let mut tokens = Vec::new(alloc);
+    let mut rest = line;
+    while let Some(piece) = next_piece(rest) {
+        let token = make_token(alloc, piece.shape, piece.text)?;
+        tokens.push(token)?;
+        rest = piece.after;
+    }
+    let bad = bad_place(line, rest);
+    Ok(Lexed { tokens, bad })
+}
+
+/// A line is read in one way at most: it has one list of tokens, or fails at one place.
+pub fn one_reading()
+    ensures { (line : List ℕ) (ts us : List Tok) (bad other : Option ℕ) → Lexes line ts bad → Lexes line us other → (ts ≡ us) × (bad ≡ other) }
+{}
+
+/// The first token behind the blanks, if there is one.
+fn next_piece<'a>(rest: &'a str) -> Option<Piece<'a>>
+    ensures { MatchOption result (BeginsNoToken (after_blanks rest.now)) (IsPieceOf rest.now) }
+{
+    let blanks = run_len(rest.as_bytes(), Class::Blank);
+    let (_, start) = rest.split_at(blanks);
+    match first_token(start.as_bytes()) {
+        None => None,
+        Some(front) => {
+            let (text, after) = start.split_at(front.length);
+            Some(Piece {
+                shape: front.shape,
+                text,
+                after,
+            })
+        }
+    }
+}
+
+/// The token that a text of this shape is.
+fn make_token(alloc: Global, shape: Shape, text: &str) -> Result<Tok, AllocError>
+    requires { IsToken shape text.now }
+    ensures { IfOk result (λ token. token ≡ token_of shape text.now) }
+{
+    match shape {
+        Shape::Word => Ok(Tok::Word(name(alloc, text)?)),
+        Shape::Number => Ok(Tok::Number(name(alloc, text)?)),
+        Shape::Text => Ok(Tok::Text(name(alloc, between_quotes(text))?)),
+        Shape::Symbol(symbol) => Ok(Tok::Symbol(symbol)),
+    }
+}
+
+/// What stands between the quotes of a text.
+fn between_quotes(text: &str) -> &str
+    requires { IsText text.now }
+    ensures { result.now ≡ take (length text.now - 2) (drop 1 text.now) }
+{
+    let (_, rest) = text.split_at(1);
+    let (quoted, _) = rest.split_at(rest.len() - 1);
+    quoted
+}
+
+/// A name of its own with this text.
+fn name(alloc: Global, text: &str) -> Result<Name, AllocError>
+    ensures { IfOk result (λ name. name ≡ text.now) }
+{
+    let owned = String::from_str(alloc, text)?;
+    Ok(Name::from(owned))
+}
+
+/// The place of the byte behind the blanks, unless the line may end where `rest` is left of it.
+fn bad_place(line: &str, rest: &str) -> Option<u64>
+    requires { length rest.now ≤ length line.now }
+    ensures { EndsOrFails line.now rest.now result }
+{
+    if is_end(rest.as_bytes()) {
+        return None;
+    }
+    let left = rest.len() - run_len(rest.as_bytes(), Class::Blank);
+    Some((line.len() - left) as u64)
+}

@@ -1,0 +1,93 @@
+//! Tokens, their shapes and symbols.
+use gg_bits::Name;
+
+/// A token of a line. Names, numbers and texts keep their spelling.
+#[derive(Clone, Debug, PartialEq, Eq, Drop)]
+pub enum Tok {
+    /// A letter or `_`, then letters, digits, `_` and `$`, then dashes and letters.
+    Word(Name),
+    /// `-` or nothing, then decimal digits.
+    Number(Name),
+    /// What stands between two quotes, its backslashes included.
+    Text(Name),
+    Symbol(Symbol),
+}
+
+/// A symbol of the grammar.
+#[derive(Clone, Copy, Debug, PartialEq, Eq)]
+pub enum Symbol {
+    /// `<=`
+    Connect,
+    /// `=>`
+    Arrow,
+    /// `<-`
+    PartialConnect,
+    /// `:`
+    Colon,
+    /// `,`
+    Comma,
+    /// `.`
+    Dot,
+    /// `(`
+    OpenParen,
+    /// `)`
+    CloseParen,
+    /// `<`
+    Less,
+    /// `>`
+    Greater,
+    /// `=`
+    Equals,
+    /// `[`
+    OpenBracket,
+    /// `]`
+    CloseBracket,
+    /// `{`
+    OpenBrace,
+    /// `}`
+    CloseBrace,
+    /// `%[`
+    OpenAnnotations,
+}
+
+/// Which kind of token some bytes are.
+#[derive(Clone, Copy, Debug, PartialEq, Eq)]
+pub enum Shape {
+    Word,
+    Number,
+    Text,
+    Symbol(Symbol),
+}
+
+/// A token at the front of some bytes.
+#[derive(Clone, Copy, Debug)]
+pub(crate) struct Front {
+    pub(crate) shape: Shape,
+    /// How many bytes it has.
+    pub(crate) length: usize,
+}
+
+/// A token's bytes in a line, and what stands behind them.
+#[derive(Clone, Copy, Debug)]
+pub(crate) struct Piece<'a> {
+    pub(crate) shape: Shape,
+    pub(crate) text: &'a str,
+    pub(crate) after: &'a str,
+}
+
+/// The tokens of a line, and the first byte that begins none, if there is one: the tokens are those before it.
+#[derive(Debug, Drop)]
+pub struct Lexed {
+    pub tokens: Vec<Tok>,
+    /// The place of that byte, counted from 0 in the line.
+    pub bad: Option<u64>,
+}
+
+/// Why a line has no tokens.
+#[derive(Clone, Copy, Debug, PartialEq, Eq)]
+pub enum LexFault {
+    /// The first byte that begins no token, counted from 0 in the line.
+    At(u64),
+    /// Memory ran out. The line says nothing of this.
+    NoMemory,
+}
