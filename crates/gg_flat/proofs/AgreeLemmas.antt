@@ -1,0 +1,37 @@
+-- A driver's value depends on the signals that the driver names, and on no other.
+use Rattle.std.proofs.Common.{◌≡◌, ℕ, suc, ◌-◌, List, [], ◌∷◌, ◌++◌, length, refl, ◌∙◌, ap, arith}
+use Rattle.std.specs.Prelude.{fold}
+use Rattle.gg_bits.specs.Shape.{Shape}
+use Rattle.gg_bits.specs.Meaning.{extended}
+use Rattle.gg_flat.specs.declared.line.Node.{Node}
+use Rattle.gg_flat.specs.declared.line.Op.{Op}
+use Rattle.gg_flat.specs.declared.line.Op.TheVariants.{Ref, Literal, One, Two, Fix, Mux}
+use Rattle.gg_flat.specs.declared.piece.Driver.{Driver}
+use Rattle.gg_flat.specs.declared.piece.Driver.TheVariants.{Input, Held, Read, Computed}
+use Rattle.gg_flat.specs.Line.{value_at, shapes_of, line_shape, op_value, with_node, line_value}
+use Rattle.gg_flat.specs.Reads.{Names, NamesSignal}
+use Rattle.gg_flat.specs.State.{State}
+use Rattle.gg_flat.specs.Settled.{driver_value}
+
+pub op_value-agree : (v w : List ℕ) (shapes : List Shape) (before : List ℕ) (op : Op) → ((s : ℕ) → op ≡ Ref s → value_at v s ≡ value_at w s) → op_value v shapes before op ≡ op_value w shapes before op
+op_value-agree v w shapes before (Ref s) same = same s refl
+op_value-agree v w shapes before (Literal value) same = refl
+op_value-agree v w shapes before (One op i) same = refl
+op_value-agree v w shapes before (Two op i j) same = refl
+op_value-agree v w shapes before (Fix op i n m) same = refl
+op_value-agree v w shapes before (Mux c i j) same = refl
+
+pub values-agree : (v w : List ℕ) (shapes : List Shape) (before : List ℕ) (nodes : List Node) → ((s : ℕ) → Names nodes s → value_at v s ≡ value_at w s) → fold (with_node v shapes) before nodes ≡ fold (with_node w shapes) before nodes
+values-agree v w shapes before [] same = refl
+values-agree v w shapes before (node ∷ nodes) same =
+    ap (λ more. fold (with_node v shapes) (before ++ more ∷ []) nodes) (op_value-agree v w shapes before node.op (λ s is. same s (0, omega arith, is)))
+    ∙ values-agree v w shapes (with_node w shapes before node) nodes (λ s named. same s (suc named.0, omega (arith, named.1), named.2))
+
+pub line_value-agree : (v w : List ℕ) (nodes : List Node) → ((s : ℕ) → Names nodes s → value_at v s ≡ value_at w s) → line_value v nodes ≡ line_value w nodes
+line_value-agree v w nodes same = ap (λ values. value_at values (length nodes - 1)) (values-agree v w (shapes_of nodes) [] nodes same)
+
+pub driver_value-agree : (state : State) (inputs v w : List ℕ) (sink : Shape) (driver : Driver) → ((s : ℕ) → NamesSignal driver s → value_at v s ≡ value_at w s) → driver_value state inputs v sink driver ≡ driver_value state inputs w sink driver
+driver_value-agree state inputs v w sink (Input place) same = refl
+driver_value-agree state inputs v w sink (Held register) same = refl
+driver_value-agree state inputs v w sink (Read memory port) same = refl
+driver_value-agree state inputs v w sink (Computed line) same = ap (λ value. extended (line_shape line) sink.width value) (line_value-agree v w line same)

@@ -1,0 +1,94 @@
+-- What is worked out along an order is settled, and a run.
+use Rattle.std.proofs.Common.{◌≡◌, ℕ, zero, suc, ◌<◌, ◌≤◌, ◌+◌, Bool, true, false, List, length, take, get_or, replicate, refl, sym, ◌∙◌, subst, arith, add-one}
+use Rattle.std.specs.Prelude.{fold, Option, Some, None, ◌==◌, if◌then◌else◌}
+use Rattle.std.proofs.lemmas.List.{length-map, get_or-map}
+use Rattle.std.proofs.lemmas.List.Sums.{fold_more}
+use Rattle.std.proofs.Math.Seq.{take-length}
+use Rattle.gg_bits.specs.Shape.{shape, uint, Fits}
+use Rattle.gg_flat.specs.declared.line.Node.{Node}
+use Rattle.gg_flat.specs.declared.piece.Register.{Register}
+use Rattle.gg_flat.specs.declared.piece.Reset.{Reset}
+use Rattle.gg_flat.specs.declared.piece.Signal.{Signal}
+use Rattle.gg_flat.specs.Line.{shape_at, value_at, line_value, connected_value, AreTyped}
+use Rattle.gg_flat.specs.Circuit.{FlatCircuit, signal_shapes, register_shapes, driver_at}
+use Rattle.gg_flat.specs.WellFormed.{IsWellFormed}
+use Rattle.gg_flat.specs.State.{State, IsState, opening, next_state, next_register, next_registers, connected_or, reset_or}
+use Rattle.gg_flat.specs.Settled.{Settled, IsInputs, driver_value}
+use Rattle.gg_flat.specs.Run.{IsRun, IsColumns, state_at, inputs_at}
+use Rattle.gg_flat.specs.Order.{IsOrder}
+use Rattle.gg_flat.specs.Along.{with_signal, settled_along, rows_along}
+use Rattle.gg_flat.proofs.TypedLemmas.{AreTyped-zeros, HasSource-from, driver_value-fits, pattern_of-lt}
+use Rattle.gg_flat.proofs.SettleLemmas.{Partly, Partly-none, Partly-more, Settled-from_Partly}
+use Rattle.gg_flat.proofs.AdvanceLemmas.{length-next_registers, next_registers-at, some-register}
+use Rattle.gg_flat.proofs.RunLemmas.{IsRun-none, IsRun-push}
+
+-- the front of the order, worked out
+Partly-along : (circuit : FlatCircuit) (order : List ℕ) (state : State) (inputs start : List ℕ) → IsWellFormed circuit → IsOrder circuit order → IsState circuit state → IsInputs circuit inputs → AreTyped (signal_shapes circuit) start → (i : ℕ) → i ≤ length order → Partly circuit state inputs order i (fold (with_signal circuit state inputs) start (take i order))
+Partly-along circuit order state inputs start formed o st ins typed zero le = Partly-none circuit state inputs order start typed
+Partly-along circuit order state inputs start formed o st ins typed (suc i) le =
+    let within : i < length order = omega arith in
+    let before = Partly-along circuit order state inputs start formed o st ins typed i (omega arith) in
+    let values = fold (with_signal circuit state inputs) start (take i order) in
+    let s = value_at order i in
+    let source = HasSource-from circuit state inputs values s (driver_at circuit s) st ins before.typed (formed.drivers s (o.signals i within)) in
+    let more = Partly-more circuit state inputs order i values (driver_value state inputs values (shape_at (signal_shapes circuit) s) (driver_at circuit s)) o within before refl (driver_value-fits state inputs values (shape_at (signal_shapes circuit) s) (driver_at circuit s) source) in
+    subst (λ n. Partly circuit state inputs order n (fold (with_signal circuit state inputs) start (take n order))) (add-one i)
+    (subst (Partly circuit state inputs order (i + 1)) (sym (fold_more (with_signal circuit state inputs) start order i 0 within)) more)
+
+-- what is worked out along an order is settled
+pub Settled-along : (circuit : FlatCircuit) (order : List ℕ) (state : State) (inputs : List ℕ) → IsWellFormed circuit → IsOrder circuit order → IsState circuit state → IsInputs circuit inputs → Settled circuit state inputs (settled_along circuit order state inputs)
+Settled-along circuit order state inputs formed o st ins =
+    let zeros = AreTyped-zeros (signal_shapes circuit) (length circuit.signals) (sym (length-map circuit.signals (λ (signal : Signal). shape signal.ty))) in
+    Settled-from_Partly circuit state inputs order (settled_along circuit order state inputs) o
+    (subst (λ done. Partly circuit state inputs order (length order) (fold (with_signal circuit state inputs) (replicate (length circuit.signals) 0) done)) (take-length order)
+    (Partly-along circuit order state inputs (replicate (length circuit.signals) 0) formed o st ins zeros (length order) (omega arith)))
+
+-- a register's next value is of its type
+next_register-fits : (signals : List ℕ) (register : Register) (own : ℕ) → Fits (shape register.ty) own → Fits (shape register.ty) (next_register signals register own)
+next_register-fits signals register own fits = after register.reset (before register.next)
+  where
+    choice : (b : Bool) (x y : ℕ) → Fits (shape register.ty) x → Fits (shape register.ty) y → Fits (shape register.ty) (if b then x else y)
+    choice true x y first second = first
+    choice false x y first second = second
+
+    before : (next : Option (List Node)) → Fits (shape register.ty) (connected_or signals (shape register.ty) next own)
+    before None = fits
+    before (Some line) = pattern_of-lt (shape register.ty).width _
+
+    after : {other : ℕ} (reset : Option Reset) → Fits (shape register.ty) other → Fits (shape register.ty) (reset_or signals (shape register.ty) reset other)
+    after None other = other
+    after {other} (Some reset) fit = choice (line_value signals reset.condition == 1) (connected_value signals (shape register.ty) reset.init) other (pattern_of-lt (shape register.ty).width _) fit
+
+-- the next state is a state of the circuit
+pub IsState-next : (circuit : FlatCircuit) (state : State) (signals : List ℕ) → IsState circuit state → IsState circuit (next_state circuit state signals)
+IsState-next circuit state signals st =
+    let long : length (register_shapes circuit) ≡ length circuit.registers = length-map circuit.registers (λ (register : Register). shape register.ty) in
+    let count : length state.registers ≡ length circuit.registers = st.count ∙ long in
+    record {
+      count = length-next_registers signals circuit.registers state.registers count ∙ sym long;
+      fits = λ i known.
+          let within : i < length circuit.registers = omega (arith, known, long) in
+          let some = some-register circuit.registers i within in
+          let shape_is : shape_at (register_shapes circuit) i ≡ shape (get_or circuit.registers i some).ty = get_or-map (λ (register : Register). shape register.ty) circuit.registers i some (uint 0) within in
+          let own = subst (λ s. Fits s (value_at state.registers i)) shape_is (st.fits i known) in
+          let next = next_register-fits signals (get_or circuit.registers i some) (value_at state.registers i) own in
+          subst (λ s. Fits s (value_at (next_registers signals circuit.registers state.registers) i)) (sym shape_is)
+          (subst (Fits (shape (get_or circuit.registers i some).ty)) (sym (next_registers-at signals circuit.registers state.registers i some count within)) next);
+    }
+
+pub IsState-opening : (circuit : FlatCircuit) → IsState circuit (opening circuit)
+IsState-opening circuit = AreTyped-zeros (register_shapes circuit) (length circuit.registers) (sym (length-map circuit.registers (λ (register : Register). shape register.ty)))
+
+-- the states of a run are states of the circuit
+pub IsState-at : (circuit : FlatCircuit) (rows : List (List ℕ)) (t : ℕ) → IsState circuit (state_at circuit rows t)
+IsState-at circuit rows zero = IsState-opening circuit
+IsState-at circuit rows (suc t) = IsState-next circuit (state_at circuit rows t) _ (IsState-at circuit rows t)
+
+-- the rows worked out along an order are a run
+pub IsRun-along : (circuit : FlatCircuit) (order : List ℕ) (columns : List (List ℕ)) (n : ℕ) → IsWellFormed circuit → IsOrder circuit order → IsColumns circuit n columns → IsRun circuit columns n (rows_along circuit order columns n)
+IsRun-along circuit order columns zero formed o typed = IsRun-none circuit columns
+IsRun-along circuit order columns (suc n) formed o typed =
+    subst (λ m. IsRun circuit columns m (rows_along circuit order columns (suc n))) (add-one n)
+    (IsRun-push circuit columns n (rows_along circuit order columns n) _
+    (IsRun-along circuit order columns n formed o (λ t lt. typed t (omega arith)))
+    (Settled-along circuit order (state_at circuit (rows_along circuit order columns n) n) (inputs_at columns n) formed o (IsState-at circuit (rows_along circuit order columns n) n) (typed n (omega arith))))

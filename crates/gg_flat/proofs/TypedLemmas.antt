@@ -1,0 +1,104 @@
+-- Lists of typed values, and why a driver of a well-formed circuit can be evaluated on them.
+use Rattle.std.proofs.Common.{◌≡◌, ◌≢◌, ℕ, ◌<◌, ◌^◌, ℤ, pos, negsuc, List, length, set, get_or, replicate, refl, sym, ◌∙◌, ap, subst, arith, nat_eq, Bool, true, false, true≢false}
+use Rattle.std.proofs.lemmas.Bool.Decides.{Decides-eqb}
+use Rattle.std.proofs.lemmas.List.{get_or-set_same, get_or-set_other, length-map, length-set, get_or-map, length-replicate, get_or-replicate}
+use Rattle.std.proofs.lemmas.Nat.{pow_pos}
+use Rattle.gg_bits.specs.Value.{pattern_of}
+use Rattle.gg_bits.specs.Shape.{Shape, shape, uint, Fits}
+use Rattle.gg_flat.specs.declared.line.Node.{Node}
+use Rattle.gg_flat.specs.declared.line.Op.{Op}
+use Rattle.gg_flat.specs.declared.line.Op.TheVariants.{Ref, Literal, One, Two, Fix, Mux}
+use Rattle.gg_flat.specs.declared.piece.Signal.{Signal}
+use Rattle.gg_flat.specs.declared.piece.Driver.{Driver}
+use Rattle.gg_flat.specs.declared.piece.Driver.TheVariants.{Input, Held, Read, Computed}
+use Rattle.gg_flat.specs.Line.{shape_at, value_at, shapes_of, op_at, AreTyped, HasShape, HasType, HasValue, IsLine, IsSource, IsCondition}
+use Rattle.gg_flat.specs.Circuit.{FlatCircuit, signal_shapes, register_shapes, driver_at}
+use Rattle.gg_flat.specs.WellFormed.{IsWellFormed, MayDrive}
+use Rattle.gg_flat.specs.State.{State, IsState}
+use Rattle.gg_flat.specs.Settled.{IsInputs, in_shapes, HasSource, driver_value}
+
+-- a pattern of w bits is below 2 ^ w
+pub pattern_of-lt : (w : ℕ) (z : ℤ) → pattern_of w z < 2 ^ w
+pattern_of-lt w (pos a) = omega (arith, pow_pos w)
+pattern_of-lt w (negsuc a) = omega (arith, pow_pos w)
+
+-- one value is written over
+pub AreTyped-set : (shapes : List Shape) (values : List ℕ) (i value : ℕ) → AreTyped shapes values → i < length shapes → Fits (shape_at shapes i) value → AreTyped shapes (set values i value)
+AreTyped-set shapes values i value typed within fits =
+    record {
+      count = length-set values i value ∙ typed.count;
+      fits = λ k known. by k known (nat_eq k i) refl;
+    }
+  where
+    by : (k : ℕ) → k < length shapes → (b : Bool) → nat_eq k i ≡ b → Fits (shape_at shapes k) (value_at (set values i value) k)
+    by k known true e =
+        let same : k ≡ i = (Decides-eqb k i).0 e in
+        subst (λ x. Fits (shape_at shapes x) (value_at (set values i value) x)) (sym same) (subst (λ x. Fits (shape_at shapes i) x) (sym (get_or-set_same values i value 0 (omega (arith, within, typed.count)))) fits)
+    by k known false e =
+        let other : k ≢ i = λ same. true≢false (sym ((Decides-eqb k i).1 same) ∙ e) in
+        subst (λ x. Fits (shape_at shapes k) x) (sym (get_or-set_other values i k value 0 other)) (typed.fits k known)
+
+-- where references have a type, they have a value of that type
+pub HasShape-value : (shapes : List Shape) (values : List ℕ) (nodes : List Shape) (k : ℕ) (to : Shape) (op : Op) → AreTyped shapes values → HasShape (HasType shapes) nodes k to op → HasShape (HasValue values) nodes k to op
+HasShape-value shapes values nodes k to (Ref s) typed is = (omega (arith, is.0, typed.count), subst (λ x. Fits x (value_at values s)) is.1 (typed.fits s is.0))
+HasShape-value shapes values nodes k to (Literal value) typed is = is
+HasShape-value shapes values nodes k to (One op i) typed is = is
+HasShape-value shapes values nodes k to (Two op i j) typed is = is
+HasShape-value shapes values nodes k to (Fix op i n m) typed is = is
+HasShape-value shapes values nodes k to (Mux c i j) typed is = is
+
+pub IsLine-value : (shapes : List Shape) (values : List ℕ) (nodes : List Node) → AreTyped shapes values → IsLine (HasType shapes) nodes → IsLine (HasValue values) nodes
+IsLine-value shapes values nodes typed line =
+    record { some = line.some; typed = λ k within. HasShape-value shapes values (shapes_of nodes) k (shape_at (shapes_of nodes) k) (op_at nodes k) typed (line.typed k within) }
+
+pub IsSource-value : (shapes : List Shape) (values : List ℕ) (sink : Shape) (nodes : List Node) → AreTyped shapes values → IsSource (HasType shapes) sink nodes → IsSource (HasValue values) sink nodes
+IsSource-value shapes values sink nodes typed source = record { line = IsLine-value shapes values nodes typed source.line; kind = source.kind; width = source.width }
+
+pub IsCondition-value : (shapes : List Shape) (values : List ℕ) (nodes : List Node) → AreTyped shapes values → IsCondition (HasType shapes) nodes → IsCondition (HasValue values) nodes
+IsCondition-value shapes values nodes typed condition = record { line = IsLine-value shapes values nodes typed condition.line; bit = condition.bit }
+
+-- the shape of the in-signal at a place
+pub shape_at-in_shapes : (circuit : FlatCircuit) (place : ℕ) → place < length circuit.ins → shape_at (in_shapes circuit) place ≡ shape_at (signal_shapes circuit) (value_at circuit.ins place)
+shape_at-in_shapes circuit place within = get_or-map (shape_at (signal_shapes circuit)) circuit.ins place 0 (uint 0) within
+
+-- the drivers of a well-formed circuit can be evaluated on typed values
+pub HasSource-from : (circuit : FlatCircuit) (state : State) (inputs signals : List ℕ) (s : ℕ) (driver : Driver) → IsState circuit state → IsInputs circuit inputs → AreTyped (signal_shapes circuit) signals → MayDrive circuit s driver → HasSource state inputs signals (shape_at (signal_shapes circuit) s) driver
+HasSource-from circuit state inputs signals s (Input place) st ins typed may =
+    let known : place < length (in_shapes circuit) = omega (arith, may.0, length-map circuit.ins (shape_at (signal_shapes circuit))) in
+    (omega (arith, known, ins.count), subst (λ x. Fits x (value_at inputs place)) (shape_at-in_shapes circuit place may.0 ∙ ap (shape_at (signal_shapes circuit)) may.1) (ins.fits place known))
+HasSource-from circuit state inputs signals s (Held register) st ins typed may =
+    let known : register < length (register_shapes circuit) = omega (arith, may.0, length-map circuit.registers (λ register. shape register.ty)) in
+    (omega (arith, known, st.count), subst (λ x. Fits x (value_at state.registers register)) may.1 (st.fits register known))
+HasSource-from circuit state inputs signals s (Read memory port) st ins typed may = may
+HasSource-from circuit state inputs signals s (Computed line) st ins typed may = IsSource-value (signal_shapes circuit) signals (shape_at (signal_shapes circuit) s) line typed may
+
+-- what a driver that can be evaluated gives is of the signal's type
+pub driver_value-fits : (state : State) (inputs signals : List ℕ) (sink : Shape) (driver : Driver) → HasSource state inputs signals sink driver → Fits sink (driver_value state inputs signals sink driver)
+driver_value-fits state inputs signals sink (Input place) has = has.1
+driver_value-fits state inputs signals sink (Held register) has = has.1
+driver_value-fits state inputs signals sink (Read memory port) has = absurd has
+driver_value-fits state inputs signals sink (Computed line) has = pattern_of-lt sink.width _
+
+-- zeros are of every shape
+pub AreTyped-zeros : (shapes : List Shape) (n : ℕ) → n ≡ length shapes → AreTyped shapes (replicate n 0)
+AreTyped-zeros shapes n count =
+    record {
+      count = length-replicate n 0 ∙ count;
+      fits = λ i known. subst (Fits (shape_at shapes i)) (sym (get_or-replicate n i 0 0 (omega (arith, known, count)))) (pow_pos (shape_at shapes i).width);
+    }
+
+-- what the definitions say of a signal that was read from the list
+pub record IsSignal (circuit : FlatCircuit) (s : ℕ) (signal : Signal) : Type 0 where
+  pub shape_is : shape_at (signal_shapes circuit) s ≡ shape signal.ty
+  pub driver_is : driver_at circuit s ≡ signal.driver
+
+pub IsSignal-read : (circuit : FlatCircuit) (s : ℕ) (signal : Signal) → s < length circuit.signals → signal ≡ get_or circuit.signals s signal → IsSignal circuit s signal
+IsSignal-read circuit s signal known read =
+    record {
+      shape_is = get_or-map (λ (x : Signal). shape x.ty) circuit.signals s signal (uint 0) known ∙ ap (λ (x : Signal). shape x.ty) (sym read);
+      driver_is = get_or-map (λ (x : Signal). x.driver) circuit.signals s signal (Input 0) known ∙ ap (λ (x : Signal). x.driver) (sym read);
+    }
+
+pub HasSource-signal : (circuit : FlatCircuit) (state : State) (inputs signals : List ℕ) (s : ℕ) (signal : Signal) → IsWellFormed circuit → IsState circuit state → IsInputs circuit inputs → AreTyped (signal_shapes circuit) signals → s < length circuit.signals → IsSignal circuit s signal → HasSource state inputs signals (shape signal.ty) signal.driver
+HasSource-signal circuit state inputs signals s signal formed st ins typed known is =
+    subst (λ sink. HasSource state inputs signals sink signal.driver) is.shape_is (subst (HasSource state inputs signals (shape_at (signal_shapes circuit) s)) is.driver_is (HasSource-from circuit state inputs signals s (driver_at circuit s) st ins typed (formed.drivers s known)))

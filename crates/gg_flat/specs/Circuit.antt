@@ -1,0 +1,40 @@
+-- The flat circuit: what a contract sees of a piece.
+-- Source: FIRRTL Specification, "Circuit Definitions", "Statements" (wires, nodes, registers, memories, connects). All
+-- instances are inlined; signals of type Clock are left out.
+use Rattle.std.specs.Prelude.{ℕ, List, [], map, slice_index_or}
+use Rattle.gg_bits.specs.Shape.{Shape, shape}
+use Rattle.gg_flat.specs.declared.piece.Signal.{Signal}
+use Rattle.gg_flat.specs.declared.piece.Register.{Register}
+use Rattle.gg_flat.specs.declared.piece.Driver.{Driver}
+use Rattle.gg_flat.specs.declared.piece.Driver.TheVariants.{Input}
+
+-- a memory: the shape of its words, and how many there are
+pub record Memory : Type 0 where
+  pub word : Shape
+  pub depth : ℕ
+
+-- A flat circuit. Signals, registers and memories are named by their places. `paths` has the path of each signal, as
+-- bytes; `ins` and `outs` are the signals that it gets from outside and gives to the outside, in port order.
+pub record FlatCircuit : Type 0 where
+  pub paths : List (List ℕ)
+  pub signals : List Signal
+  pub registers : List Register
+  pub memories : List Memory
+  pub ins : List ℕ
+  pub outs : List ℕ
+
+-- the flat circuit without a signal
+abbrev pub no_circuit : FlatCircuit
+no_circuit = record { paths = []; signals = []; registers = []; memories = []; ins = []; outs = [] }
+
+-- the shapes of the signals
+abbrev pub signal_shapes : FlatCircuit → List Shape
+signal_shapes circuit = map (λ signal. shape signal.ty) circuit.signals
+
+-- the driver of a signal
+abbrev pub driver_at : FlatCircuit → ℕ → Driver
+driver_at circuit s = slice_index_or (map (λ signal. signal.driver) circuit.signals) s (Input 0)
+
+-- the shapes of the registers
+abbrev pub register_shapes : FlatCircuit → List Shape
+register_shapes circuit = map (λ register. shape register.ty) circuit.registers

@@ -1,0 +1,11 @@
+-- An order of evaluation: every signal once, each after all that it reads. No definition of a cycle or a run rests on it.
+use Rattle.std.specs.Prelude.{◌≢◌, ℕ, ◌<◌, List, length, take, Contains, AllPairs}
+use Rattle.gg_flat.specs.Line.{value_at}
+use Rattle.gg_flat.specs.Circuit.{FlatCircuit}
+use Rattle.gg_flat.specs.Reads.{Reads}
+
+pub record IsOrder (circuit : FlatCircuit) (order : List ℕ) : Type 0 where
+  pub signals : (i : ℕ) → i < length order → value_at order i < length circuit.signals
+  pub once : AllPairs (λ a b. a ≢ b) order
+  pub every : (s : ℕ) → s < length circuit.signals → Contains order s
+  pub after : (i s : ℕ) → i < length order → Reads circuit (value_at order i) s → Contains (take i order) s

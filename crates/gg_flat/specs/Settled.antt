@@ -1,0 +1,38 @@
+-- A settled cycle: what values the signals have together.
+-- Source: FIRRTL Specification, "Connects", "Nodes", "Wires", "Registers"; the meaning of a cycle without a combinational
+-- loop. It is a relation on whole assignments, with no order of evaluation.
+use Rattle.std.specs.Prelude.{◌≡◌, ℕ, ◌<◌, List, [], length, map, slice_index_or}
+use Rattle.gg_bits.specs.Shape.{Shape, Fits}
+use Rattle.gg_flat.specs.declared.piece.Driver.{Driver}
+use Rattle.gg_flat.specs.declared.piece.Driver.TheVariants.{Input, Held, Read, Computed}
+use Rattle.gg_flat.specs.Line.{shape_at, value_at, AreTyped, HasValue, IsSource, connected_value}
+use Rattle.gg_flat.specs.Circuit.{FlatCircuit, signal_shapes, driver_at}
+use Rattle.gg_flat.specs.State.{State}
+
+-- The meaning of a signal's driver, where the signals have the values `signals` and the signal itself this shape: an
+-- in-signal has its input, a register's signal its state, a read port its read register, else the line's result.
+abbrev pub driver_value : State → List ℕ → List ℕ → Shape → Driver → ℕ
+driver_value state inputs signals sink (Input place) = value_at inputs place
+driver_value state inputs signals sink (Held register) = value_at state.registers register
+driver_value state inputs signals sink (Read memory port) = value_at (slice_index_or state.reads memory []) port
+driver_value state inputs signals sink (Computed line) = connected_value signals sink line
+
+-- The values `signals` are settled: there is one for each signal, of its type, and it is its driver's.
+pub record Settled (circuit : FlatCircuit) (state : State) (inputs signals : List ℕ) : Type 0 where
+  pub typed : AreTyped (signal_shapes circuit) signals
+  pub driven : (s : ℕ) → s < length circuit.signals → value_at signals s ≡ driver_value state inputs signals (shape_at (signal_shapes circuit) s) (driver_at circuit s)
+
+-- the shapes of the in-signals
+abbrev pub in_shapes : FlatCircuit → List Shape
+in_shapes circuit = map (shape_at (signal_shapes circuit)) circuit.ins
+
+-- inputs that the circuit can get in a cycle, by their count and types
+abbrev pub IsInputs : FlatCircuit → List ℕ → Type 0
+IsInputs circuit inputs = AreTyped (in_shapes circuit) inputs
+
+-- A driver can be evaluated: its input, register or line is there, and of a type that the signal takes.
+abbrev pub HasSource : State → List ℕ → List ℕ → Shape → Driver → Type 0
+HasSource state inputs signals sink (Input place) = (place < length inputs) × Fits sink (value_at inputs place)
+HasSource state inputs signals sink (Held register) = (register < length state.registers) × Fits sink (value_at state.registers register)
+HasSource state inputs signals sink (Read memory port) = ⊥
+HasSource state inputs signals sink (Computed line) = IsSource (HasValue signals) sink line

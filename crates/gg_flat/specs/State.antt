@@ -1,0 +1,58 @@
+-- The state of a flat circuit, and the state after a cycle.
+-- Source: FIRRTL Specification, "Registers" and "Memories". Registers and words start at 0; a register that is never
+-- connected keeps its value: this program's profile.
+use Rattle.std.specs.Prelude.{ℕ, List, [], ◌∷◌, Option, Some, None, length, map, replicate, ◌==◌, if◌then◌else◌}
+use Rattle.gg_bits.specs.Shape.{Shape, shape}
+use Rattle.gg_flat.specs.declared.line.Node.{Node}
+use Rattle.gg_flat.specs.declared.piece.Register.{Register}
+use Rattle.gg_flat.specs.declared.piece.Reset.{Reset}
+use Rattle.gg_flat.specs.Line.{AreTyped, line_value, connected_value}
+use Rattle.gg_flat.specs.Circuit.{FlatCircuit, register_shapes}
+
+-- a state: the registers' values, the words of each memory, and the read registers of each memory
+pub record State : Type 0 where
+  pub registers : List ℕ
+  pub words : List (List ℕ)
+  pub reads : List (List ℕ)
+
+-- the state before the first cycle
+abbrev pub opening : FlatCircuit → State
+opening circuit =
+    record {
+      registers = replicate (length circuit.registers) 0;
+      words = map (λ memory. replicate memory.depth 0) circuit.memories;
+      reads = map (λ memory. []) circuit.memories;
+    }
+
+-- a register's connected value, or its own where it has no connection
+abbrev pub connected_or : List ℕ → Shape → Option (List Node) → ℕ → ℕ
+connected_or signals sink None own = own
+connected_or signals sink (Some line) own = connected_value signals sink line
+
+-- the init of a reset whose condition is 1, else the other value
+abbrev pub reset_or : List ℕ → Shape → Option Reset → ℕ → ℕ
+reset_or signals sink None other = other
+reset_or signals sink (Some reset) other = if line_value signals reset.condition == 1 then connected_value signals sink reset.init else other
+
+-- A register after the cycle: its init where its reset condition is 1, else its connected value, else its own.
+abbrev pub next_register : List ℕ → Register → ℕ → ℕ
+next_register signals register own = reset_or signals (shape register.ty) register.reset (connected_or signals (shape register.ty) register.next own)
+
+-- the registers after the cycle, from their values before it
+abbrev pub next_registers : List ℕ → List Register → List ℕ → List ℕ
+next_registers signals [] own = []
+next_registers signals (register ∷ registers) [] = []
+next_registers signals (register ∷ registers) (own ∷ others) = next_register signals register own ∷ next_registers signals registers others
+
+-- The state after a cycle in which the signals have these values. Memories have no ports yet, so that they stay.
+abbrev pub next_state : FlatCircuit → State → List ℕ → State
+next_state circuit state signals =
+    record {
+      registers = next_registers signals circuit.registers state.registers;
+      words = state.words;
+      reads = state.reads;
+    }
+
+-- a state that the circuit can be in, by its counts and types
+abbrev pub IsState : FlatCircuit → State → Type 0
+IsState circuit state = AreTyped (register_shapes circuit) state.registers

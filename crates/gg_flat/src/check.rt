@@ -1,0 +1,249 @@
+//! `Piece::check`: whether a piece is well formed. It takes no memory.
+ghost use Rattle.std.specs.Prelude.{◌≡◌, ℕ, ◌<◌, ◌↔◌, Ok, length, map, slice_index_or, All, IsTrue};
+ghost use Rattle.gg_bits.specs.Shape.{shape, shape_of, Fits};
+ghost use Rattle.gg_flat.specs.Line.{shape_at, value_at, shapes_of, op_at, line_shape, HasShape, HasType, IsLine, IsSource, IsCondition};
+ghost use Rattle.gg_flat.specs.Circuit.{signal_shapes, driver_at};
+ghost use Rattle.gg_flat.specs.WellFormed.{MayDrive, IsReset, IsRegister, IsWellFormed};
+ghost use Rattle.gg_flat.specs.declared.piece.Driver.TheVariants.{Input};
+
+use crate::evaluate::{op_of, type_of};
+use crate::line::{Line, Node, Op};
+use crate::piece::{Driver, Piece, Register, Reset, Signal};
+use gg_bits::{Bad, Kind, Ty, Val, result_const, result_mux, result1, result2};
+
+// Whether a value is of a type.
+fn fits(value: Val, ty: Ty) -> bool
+    ensures { IsTrue result ↔ Fits (shape ty) value.0 }
+{
+    ty.width == 128 || value.0 < 1 << ty.width
+}
+
+// Whether an operation's result is of a type.
+fn results_in(found: Result<Ty, Bad>, ty: Ty) -> bool
+    ensures { IsTrue result ↔ (shape_of found ≡ Ok (shape ty)) }
+{
+    match found {
+        Ok(result) => result.kind == ty.kind && result.width == ty.width,
+        Err(_) => false,
+    }
+}
+
+// Whether a signal is one of these, of a type.
+fn is_typed(signals: &[Signal], signal: u32, ty: Ty) -> bool
+    ensures { IsTrue result ↔ HasType (map (λ s. shape s.ty) signals.now) signal (shape ty) }
+{
+    if signal as usize >= signals.len() {
+        return false;
+    }
+    let found = signals[signal as usize].ty;
+    found.kind == ty.kind && found.width == ty.width
+}
+
+// Whether a node has the type that it says.
+fn is_node(signals: &[Signal], nodes: &[Node], k: usize) -> bool
+    requires { k < length nodes.now }
+    ensures { IsTrue result ↔ HasShape (HasType (map (λ s. shape s.ty) signals.now)) (shapes_of nodes.now) k (shape_at (shapes_of nodes.now) k) (op_at nodes.now k) }
+{
+    let ty = type_of(nodes, k);
+    match op_of(nodes, k) {
+        Op::Ref(signal) => is_typed(signals, signal, ty),
+        Op::Literal(value) => fits(value, ty),
+        Op::One(op, i) => (i as usize) < k
+            && results_in(result1(op, type_of(nodes, i as usize)), ty),
+        Op::Two(op, i, j) => {
+            (i as usize) < k
+                && (j as usize) < k
+                && results_in(
+                    result2(op, type_of(nodes, i as usize), type_of(nodes, j as usize)),
+                    ty,
+                )
+        }
+        Op::Fix(op, i, n, m) => {
+            (i as usize) < k && results_in(result_const(op, type_of(nodes, i as usize), n, m), ty)
+        }
+        Op::Mux(c, i, j) => {
+            (c as usize) < k
+                && (i as usize) < k
+                && (j as usize) < k
+                && results_in(
+                    result_mux(
+                        type_of(nodes, c as usize),
+                        type_of(nodes, i as usize),
+                        type_of(nodes, j as usize),
+                    ),
+                    ty,
+                )
+        }
+    }
+}
+
+// Whether the nodes are a line.
+fn is_line(signals: &[Signal], nodes: &[Node]) -> bool
+    ensures { IsTrue result ↔ IsLine (HasType (map (λ s. shape s.ty) signals.now)) nodes.now }
+{
+    if nodes.is_empty() {
+        return false;
+    }
+    for k in 0..nodes.len() {
+        if !is_node(signals, nodes, k) {
+            return false;
+        }
+    }
+    true
+}
+
+// Whether a line may be connected to a sink of a type.
+fn is_source(signals: &[Signal], sink: Ty, line: &Line) -> bool
+    ensures { IsTrue result ↔ IsSource (HasType (map (λ s. shape s.ty) signals.now)) (shape sink) line.now }
+{
+    if !is_line(signals, line.as_slice()) {
+        return false;
+    }
+    let ty = line.ty();
+    ty.kind == sink.kind && ty.width <= sink.width
+}
+
+// Whether a line may be a condition.
+fn is_condition(signals: &[Signal], line: &Line) -> bool
+    ensures { IsTrue result ↔ IsCondition (HasType (map (λ s. shape s.ty) signals.now)) line.now }
+{
+    if !is_line(signals, line.as_slice()) {
+        return false;
+    }
+    let ty = line.ty();
+    ty.kind == Kind::UInt && ty.width == 1
+}
+
+// Whether a reset fits a register of a type.
+fn is_reset(signals: &[Signal], sink: Ty, reset: &Reset) -> bool
+    ensures { IsTrue result ↔ IsReset (HasType (map (λ s. shape s.ty) signals.now)) (shape sink) reset.now }
+{
+    if !is_condition(signals, &reset.condition) {
+        return false;
+    }
+    is_source(signals, sink, &reset.init)
+}
+
+// Whether a register's lines may be connected to it.
+fn is_register(signals: &[Signal], register: &Register) -> bool
+    ensures { IsTrue result ↔ IsRegister (HasType (map (λ s. shape s.ty) signals.now)) register.now }
+{
+    if let Some(reset) = &register.reset {
+        if !is_reset(signals, register.ty, reset) {
+            return false;
+        }
+    }
+    match &register.next {
+        Some(line) => is_source(signals, register.ty, line),
+        None => true,
+    }
+}
+
+// Whether every register's lines may be connected to it.
+fn are_registers(signals: &[Signal], registers: &[Register]) -> bool
+    ensures { IsTrue result ↔ All (IsRegister (HasType (map (λ s. shape s.ty) signals.now))) registers.now }
+{
+    for register in registers {
+        if !is_register(signals, register) {
+            return false;
+        }
+    }
+    true
+}
+
+impl Piece {
+    // Whether a signal may have its driver.
+    fn may_drive(&self, s: usize) -> bool
+        requires { s < length self.now.signals }
+        ensures { IsTrue result ↔ MayDrive self.now s (driver_at self.now s) }
+    {
+        let signal = &self.signals()[s];
+        match &signal.driver {
+            Driver::Input(place) => {
+                (*place as usize) < self.ins().len() && self.ins()[*place as usize] as usize == s
+            }
+            Driver::Held(register) => {
+                let register = *register as usize;
+                register < self.registers().len()
+                    && same_type(self.registers()[register].ty, signal.ty)
+            }
+            Driver::Read(_, _) => false,
+            Driver::Computed(line) => is_source(self.signals(), signal.ty, line),
+        }
+    }
+
+    // Whether every signal may have its driver.
+    fn may_drive_all(&self) -> bool
+        ensures { IsTrue result ↔ ((s : ℕ) → s < length self.now.signals → MayDrive self.now s (driver_at self.now s)) }
+    {
+        for s in 0..self.signals().len() {
+            if !self.may_drive(s) {
+                return false;
+            }
+        }
+        true
+    }
+}
+
+// Whether two types are the same.
+fn same_type(a: Ty, b: Ty) -> bool
+    ensures { IsTrue result ↔ (shape a ≡ shape b) }
+{
+    a.kind == b.kind && a.width == b.width
+}
+
+impl Piece {
+    // Whether every in-signal is a signal that names its place among the in-signals.
+    fn are_ins(&self) -> bool
+        ensures { IsTrue result ↔ ((place : ℕ) → place < length self.now.ins → (value_at self.now.ins place < length self.now.signals) × (driver_at self.now (value_at self.now.ins place) ≡ Input place)) }
+    {
+        for place in 0..self.ins().len() {
+            if !is_input(self.signals(), self.ins()[place], place) {
+                return false;
+            }
+        }
+        true
+    }
+
+    // Whether every out-signal is a signal.
+    fn are_outs(&self) -> bool
+        ensures { IsTrue result ↔ ((place : ℕ) → place < length self.now.outs → value_at self.now.outs place < length self.now.signals) }
+    {
+        for out in self.outs() {
+            if *out as usize >= self.signals().len() {
+                return false;
+            }
+        }
+        true
+    }
+
+    /// Whether the piece is well formed.
+    pub fn check(&self) -> bool
+        ensures { IsTrue result ↔ IsWellFormed self.now }
+    {
+        let _ = self.signal_count();
+        if !self.are_ins() {
+            return false;
+        }
+        if !self.are_outs() {
+            return false;
+        }
+        if !self.may_drive_all() {
+            return false;
+        }
+        are_registers(self.signals(), self.registers())
+    }
+}
+
+// Whether a signal is one of these, driven by the input at this place.
+fn is_input(signals: &[Signal], signal: u32, place: usize) -> bool
+    ensures { IsTrue result ↔ ((signal < length signals.now) × (slice_index_or (map (λ s. s.driver) signals.now) signal (Input 0) ≡ Input place)) }
+{
+    if signal as usize >= signals.len() {
+        return false;
+    }
+    match &signals[signal as usize].driver {
+        Driver::Input(found) => *found as usize == place,
+        _ => false,
+    }
+}

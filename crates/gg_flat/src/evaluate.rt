@@ -1,0 +1,172 @@
+//! The values of lines and drivers, worked out without memory.
+ghost use Rattle.std.specs.Prelude.{◌≡◌, ℕ, ◌<◌, ◌≤◌, ◌^◌, length, take};
+ghost use Rattle.gg_bits.specs.Shape.{shape, Fits};
+ghost use Rattle.gg_flat.specs.Line.{shape_at, value_at, shapes_of, op_at, HasShape, HasValue, IsLine, IsSource, op_value, node_values, line_shape, line_value, connected_value};
+ghost use Rattle.gg_flat.specs.Settled.{HasSource, driver_value};
+ghost use Rattle.gg_flat.specs.Room.{line_length, register_length};
+ghost use Rattle.gg_flat.specs.WellFormed.{IsRegister};
+ghost use Rattle.gg_flat.specs.State.{next_register};
+
+use crate::line::{Line, Node, Op};
+use crate::piece::{Driver, Register};
+use crate::state::State;
+use gg_bits::{Ty, Val, apply_const, apply1, apply2, extend, mux};
+
+// The type of a node.
+pub(crate) fn type_of(nodes: &[Node], i: usize) -> Ty
+    requires { i < length nodes.now }
+    ensures { shape result ≡ shape_at (shapes_of nodes.now) i }
+{
+    nodes[i].ty
+}
+
+// The operation of a node.
+pub(crate) fn op_of(nodes: &[Node], k: usize) -> Op
+    requires { k < length nodes.now }
+    ensures { result ≡ op_at nodes.now k }
+{
+    nodes[k].op
+}
+
+// The value of a node, from the values of the signals and of the nodes before it.
+fn node_value(nodes: &[Node], k: usize, signals: &[u128], before: &[u128]) -> u128
+    requires node { k < length nodes.now }
+    requires room { k ≤ length before.now }
+    requires typed { HasShape (HasValue signals.now) (shapes_of nodes.now) k (shape_at (shapes_of nodes.now) k) (op_at nodes.now k) }
+    requires known { (i : ℕ) → i < k → Fits (shape_at (shapes_of nodes.now) i) (value_at before.now i) }
+    ensures value { result ≡ op_value signals.now (shapes_of nodes.now) before.now (op_at nodes.now k) }
+    ensures fits { Fits (shape_at (shapes_of nodes.now) k) result }
+{
+    match op_of(nodes, k) {
+        Op::Ref(signal) => signals[signal as usize],
+        Op::Literal(value) => value.0,
+        Op::One(op, i) => apply1(op, type_of(nodes, i as usize), Val(before[i as usize])).0,
+        Op::Two(op, i, j) => {
+            let first = type_of(nodes, i as usize);
+            let second = type_of(nodes, j as usize);
+            apply2(
+                op,
+                first,
+                Val(before[i as usize]),
+                second,
+                Val(before[j as usize]),
+            )
+            .0
+        }
+        Op::Fix(op, i, n, m) => apply_const(
+            op,
+            type_of(nodes, i as usize),
+            Val(before[i as usize]),
+            n,
+            m,
+        )
+        .0,
+        Op::Mux(c, i, j) => {
+            let first = type_of(nodes, i as usize);
+            let second = type_of(nodes, j as usize);
+            let condition = Val(before[c as usize]);
+            mux(
+                condition,
+                first,
+                Val(before[i as usize]),
+                second,
+                Val(before[j as usize]),
+            )
+            .0
+        }
+    }
+}
+
+// The values of all nodes, from the front on, into the scratch space.
+fn fill_nodes(nodes: &[Node], signals: &[u128], scratch: &mut [u128])
+    requires line { IsLine (HasValue signals.now) nodes.now }
+    requires room { length nodes.now ≤ length scratch.old }
+    ensures values { take (length nodes.now) scratch.new ≡ node_values signals.now (shapes_of nodes.now) nodes.now }
+    ensures fits { (i : ℕ) → i < length nodes.now → Fits (shape_at (shapes_of nodes.now) i) (value_at scratch.new i) }
+{
+    for k in 0..nodes.len() {
+        let value = node_value(nodes, k, signals, scratch);
+        scratch[k] = value;
+    }
+}
+
+impl Line {
+    /// The value of the line, where the signals have these values. The scratch space has room for its nodes.
+    pub fn value(&self, signals: &[u128], scratch: &mut [u128]) -> u128
+        requires line { IsLine (HasValue signals.now) self.now }
+        requires room { length self.now ≤ length scratch.old }
+        ensures value { result ≡ line_value signals.now self.now }
+        ensures fits { Fits (line_shape self.now) result }
+    {
+        let nodes = self.as_slice();
+        fill_nodes(nodes, signals, scratch);
+        scratch[nodes.len() - 1]
+    }
+
+    /// What a sink of a type gets from the line: its value, extended to the sink's width by the line's own kind.
+    pub fn connected(&self, sink: Ty, signals: &[u128], scratch: &mut [u128]) -> u128
+        requires source { IsSource (HasValue signals.now) (shape sink) self.now }
+        requires room { length self.now ≤ length scratch.old }
+        ensures value { result ≡ connected_value signals.now (shape sink) self.now }
+        ensures fits { Fits (shape sink) result }
+    {
+        let value = self.value(signals, scratch);
+        extend(Val(value), self.ty(), sink.width).0
+    }
+
+    // The type of the result.
+    pub(crate) fn ty(&self) -> Ty
+        requires { 0 < length self.now }
+        ensures { shape result ≡ line_shape self.now }
+    {
+        let nodes = self.as_slice();
+        nodes[nodes.len() - 1].ty
+    }
+}
+
+impl Driver {
+    /// The value of a signal of type `sink` that the driver drives, in this state and with these inputs, where the
+    /// signals that it names have these values. The scratch space has room for the nodes of its line.
+    pub fn value(
+        &self,
+        sink: Ty,
+        state: &State,
+        inputs: &[u128],
+        signals: &[u128],
+        scratch: &mut [u128],
+    ) -> u128
+        requires source { HasSource state.now inputs.now signals.now (shape sink) self.now }
+        requires room { line_length self.now ≤ length scratch.old }
+        ensures value { result ≡ driver_value state.now inputs.now signals.now (shape sink) self.now }
+        ensures fits { Fits (shape sink) result }
+    {
+        match self {
+            Driver::Input(place) => inputs[*place as usize],
+            Driver::Held(register) => state.registers()[*register as usize],
+            Driver::Read(_, _) => unreachable!(),
+            Driver::Computed(line) => line.connected(sink, signals, scratch),
+        }
+    }
+}
+
+impl Register {
+    /// The register's value after a cycle: its init where its reset condition is 1, else its connected value, else its
+    /// own. The signals have these values; the scratch space has room for the nodes of its lines.
+    pub fn next_value(&self, own: u128, signals: &[u128], scratch: &mut [u128]) -> u128
+        requires lines { IsRegister (HasValue signals.now) self.now }
+        requires own { Fits (shape self.now.ty) own }
+        requires room { register_length self.now ≤ length scratch.old }
+        ensures value { result ≡ next_register signals.now self.now own }
+        ensures fits { Fits (shape self.now.ty) result }
+    {
+        if let Some(reset) = &self.reset {
+            if reset.condition.value(signals, scratch) == 1 {
+                return reset.init.connected(self.ty, signals, scratch);
+            }
+        }
+        match &self.next {
+            Some(line) => line.connected(self.ty, signals, scratch),
+            None => own,
+        }
+    }
+}

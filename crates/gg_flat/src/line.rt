@@ -1,0 +1,109 @@
+//! Lines: what a signal is computed by, as a straight list of nodes.
+ghost use Rattle.std.specs.Prelude.{◌≡◌, [], ◌∷◌, ◌++◌, length, OnOk, OnErr, IsTrue, ◌↔◌};
+
+use gg_bits::{Op1, Op2, OpN, Ty, Val};
+use std::alloc::{AllocError, Global};
+use std::marker::Model;
+
+/// What a node of a line does. The numbers of operands name earlier nodes of the same line.
+///
+/// These are the expressions of the FIRRTL Specification ("Expressions"): a reference, a literal, a primitive
+/// operation or a multiplexer.
+#[derive(Clone, Copy, Debug, PartialEq, Eq)]
+pub enum Op {
+    /// The value of a signal, named by its number.
+    Ref(u32),
+    /// A literal.
+    Literal(Val),
+    /// An operation on one value.
+    One(Op1, u32),
+    /// An operation on two values.
+    Two(Op2, u32, u32),
+    /// An operation on one value with the parameters `n` and `m`.
+    Fix(OpN, u32, u32, u32),
+    /// `mux`: the second where the first is 1, else the third.
+    Mux(u32, u32, u32),
+}
+
+/// A node of a line: what it does, and the type of its value.
+#[derive(Clone, Copy, Debug, PartialEq, Eq)]
+pub struct Node {
+    /// The type of the value.
+    pub ty: Ty,
+    /// What the node does.
+    pub op: Op,
+}
+
+/// An expression as a straight list of nodes, each of which names earlier ones; the last is the result.
+///
+/// A contract sees it as the list of its nodes. It is made of a `Vec` and gives it back without taking memory.
+#[derive(Debug, Drop)]
+pub struct Line {
+    nodes: Vec<Node>,
+}
+
+impl Model for Line {
+    ghost use Rattle.std.specs.Prelude.{List};
+    ghost use Rattle.gg_flat.specs.declared.line.Node.{Node};
+
+    ghost Value = { List Node };
+
+    ghost view = { λ line. line.nodes.items };
+}
+
+impl Line {
+    /// The line without a node.
+    pub fn new(alloc: Global) -> Line
+        ensures { result ≡ [] }
+    {
+        Line {
+            nodes: Vec::new(alloc),
+        }
+    }
+
+    /// Adds a node at the end.
+    pub fn push(&mut self, node: Node) -> Result<(), AllocError>
+        ensures ok { OnOk result (self.new ≡ self.old ++ node ∷ []) }
+        ensures err { OnErr result (self.new ≡ self.old) }
+    {
+        self.nodes.push(node)?;
+        Ok(())
+    }
+
+    /// How many nodes there are.
+    pub fn len(&self) -> usize
+        ensures { result ≡ length self.now }
+    {
+        self.nodes.len()
+    }
+
+    /// Whether there is no node.
+    pub fn is_empty(&self) -> bool
+        ensures { IsTrue result ↔ (self.now ≡ []) }
+    {
+        self.nodes.is_empty()
+    }
+
+    /// The nodes, in order.
+    pub fn as_slice(&self) -> &[Node]
+        ensures { result.now ≡ self.now }
+    {
+        self.nodes.as_slice()
+    }
+
+    /// Gives the `Vec` back.
+    pub fn into_vec(self) -> Vec<Node>
+        ensures { result.items ≡ self }
+    {
+        let Line { nodes } = self;
+        nodes
+    }
+}
+
+impl From<Vec<Node>> for Line {
+    ghost from_gives = { λ nodes line. line ≡ nodes.items };
+
+    fn from(nodes: Vec<Node>) -> Line {
+        Line { nodes }
+    }
+}

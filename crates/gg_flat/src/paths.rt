@@ -1,0 +1,99 @@
+//! `Paths`: the paths of a piece's signals, no two of them equal.
+ghost use Rattle.std.specs.Prelude.{◌≡◌, ◌≢◌, ◌<◌, ◌≤◌, ◌↔◌, ◌^◌, ◌-◌, [], ◌∷◌, ◌++◌, length, OnOk, OnErr, IsTrue, IfSome, IfNone, Some, None, Ok, Err, slice_get, option_copied, AllPairs, Contains};
+ghost use Rattle.gg_flat.specs.declared.paths.AddError.TheVariants.{Doubled, NoMemory};
+
+use gg_bits::Name;
+use indexmap::IndexSet;
+use std::alloc::Global;
+use std::marker::Model;
+
+/// Why a signal was not added.
+#[derive(Clone, Copy, Debug, PartialEq, Eq)]
+pub enum AddError {
+    /// There is a signal of that path already.
+    Doubled,
+    /// Memory ran out.
+    NoMemory,
+}
+
+/// The paths of signals in the order of the signals, no two of them equal. A contract sees the list of their bytes.
+///
+/// There are fewer than 4,294,967,296 of them, so that a `u32` names each.
+#[derive(Drop)]
+pub struct Paths {
+    names: IndexSet<Name>,
+}
+
+impl Model for Paths {
+    ghost use Rattle.std.specs.Prelude.{List, ℕ, ◌<◌, ◌^◌, length, nat_eq};
+    ghost use Rattle.std.specs.List.{IsDistinct};
+    ghost use Rattle.std.specs.Cmp.Lexicographic.{pointwise};
+
+    ghost Value = { List (List ℕ) };
+
+    ghost view = { λ paths. paths.names.keys };
+
+    ghost invariant = { λ paths. (length paths.names.keys < 2 ^ 32) × IsDistinct (pointwise nat_eq) paths.names.keys };
+}
+
+impl Paths {
+    /// No paths.
+    pub fn new(alloc: Global) -> Paths
+        ensures { result ≡ [] }
+    {
+        Paths {
+            names: IndexSet::new(alloc),
+        }
+    }
+
+    /// How many paths there are.
+    pub fn len(&self) -> usize
+        ensures count { result ≡ length self.now }
+        ensures named { length self.now < 2 ^ 32 }
+        ensures distinct { AllPairs (λ a b. a ≢ b) self.now }
+    {
+        self.names.len()
+    }
+
+    /// Whether there is no path.
+    pub fn is_empty(&self) -> bool
+        ensures { IsTrue result ↔ (self.now ≡ []) }
+    {
+        self.names.len() == 0
+    }
+
+    /// The number of a path, where it is one of these.
+    pub fn find(&self, path: &Name) -> Option<u32>
+        ensures found { IfSome result (λ number. slice_get self.now number ≡ Some path.now) }
+        ensures missing { IfNone result (¬ Contains self.now path.now) }
+    {
+        match self.names.get_index_of(path) {
+            Some(number) => Some(number as u32),
+            None => None,
+        }
+    }
+
+    /// The path of a number.
+    pub fn get(&self, number: u32) -> Option<&Name>
+        ensures { option_copied result ≡ slice_get self.now number }
+    {
+        self.names.get_index(number as usize)
+    }
+
+    /// Adds a path at the end.
+    pub fn add(&mut self, path: Name) -> Result<(), AddError>
+        requires { length self.old < 2 ^ 32 - 1 }
+        ensures ok { OnOk result (self.new ≡ self.old ++ path ∷ []) }
+        ensures fresh { OnOk result (¬ Contains self.old path) }
+        ensures doubled { (result ≡ Err Doubled) ↔ Contains self.old path }
+        ensures err { OnErr result (self.new ≡ self.old) }
+    {
+        if self.names.contains(&path) {
+            return Err(AddError::Doubled);
+        }
+        match self.names.insert(path) {
+            Ok(_) => Ok(()),
+            Err(_) => Err(AddError::NoMemory),
+        }
+    }
+}

@@ -1,0 +1,207 @@
+//! `Piece`: a flat circuit, built signal by signal.
+ghost use Rattle.std.specs.Prelude.{◌≡◌, ◌≢◌, ◌<◌, ◌-◌, ◌^◌, [], ◌∷◌, ◌++◌, length, Err, OnOk, OnErr, IfSome, IfNone, Some, slice_get, slice_set, AllPairs, Contains, option_copied};
+ghost use Rattle.gg_flat.specs.declared.paths.AddError.TheVariants.{Doubled};
+ghost use Rattle.gg_flat.specs.Circuit.{no_circuit};
+
+use crate::line::Line;
+use crate::paths::{AddError, Paths};
+use gg_bits::{Name, Ty};
+use std::alloc::{AllocError, Global};
+use std::marker::Model;
+
+/// What gives a signal its value in a cycle.
+#[derive(Debug, Drop)]
+pub enum Driver {
+    /// The outside: the input at this place among the in-signals.
+    Input(u32),
+    /// A register's value, by the register's number.
+    Held(u32),
+    /// A memory's read port, by the memory's number and the port's. No memory has one yet.
+    Read(u32, u32),
+    /// The result of a line, extended to the signal's width by its own kind.
+    Computed(Line),
+}
+
+/// A signal of a flat circuit: a port, wire, register, node or memory field that is no Clock.
+#[derive(Debug, Drop)]
+pub struct Signal {
+    /// The type of its values.
+    pub ty: Ty,
+    /// What gives it its value.
+    pub driver: Driver,
+}
+
+/// A register's reset: where the condition is 1, the register takes the init.
+#[derive(Debug, Drop)]
+pub struct Reset {
+    /// One unsigned bit.
+    pub condition: Line,
+    /// The value that the register takes.
+    pub init: Line,
+}
+
+/// A register: its type, its reset, and its connection. Without a connection it keeps its value.
+#[derive(Debug, Drop)]
+pub struct Register {
+    /// The type of its values.
+    pub ty: Ty,
+    /// Its reset, if it has one.
+    pub reset: Option<Reset>,
+    /// What is connected to it, if anything is.
+    pub next: Option<Line>,
+}
+
+/// A flat circuit, or a part of one. A contract sees it as a `FlatCircuit`: lists of paths, signals, registers,
+/// memories, in-signals and out-signals. No two signals have the same path.
+#[derive(Drop)]
+pub struct Piece {
+    paths: Paths,
+    signals: Vec<Signal>,
+    registers: Vec<Register>,
+    ins: Vec<u32>,
+    outs: Vec<u32>,
+}
+
+impl Model for Piece {
+    ghost use Rattle.std.specs.Prelude.{◌≡◌, [], length};
+    ghost use Rattle.gg_flat.specs.Circuit.{FlatCircuit};
+
+    ghost Value = { FlatCircuit };
+
+    ghost view = { λ piece. record { paths = piece.paths; signals = piece.signals.items; registers = piece.registers.items; memories = []; ins = piece.ins.items; outs = piece.outs.items } };
+
+    ghost invariant = { λ piece. length piece.paths ≡ length piece.signals.items };
+}
+
+impl Piece {
+    /// The piece without a signal.
+    pub fn new(alloc: Global) -> Piece
+        ensures { result ≡ no_circuit }
+    {
+        Piece {
+            paths: Paths::new(alloc),
+            signals: Vec::new(alloc),
+            registers: Vec::new(alloc),
+            ins: Vec::new(alloc),
+            outs: Vec::new(alloc),
+        }
+    }
+
+    /// The signals, in order.
+    pub fn signals(&self) -> &[Signal]
+        ensures { result.now ≡ self.now.signals }
+    {
+        self.signals.as_slice()
+    }
+
+    /// The registers, in order.
+    pub fn registers(&self) -> &[Register]
+        ensures { result.now ≡ self.now.registers }
+    {
+        self.registers.as_slice()
+    }
+
+    /// The in-signals, in port order.
+    pub fn ins(&self) -> &[u32]
+        ensures { result.now ≡ self.now.ins }
+    {
+        self.ins.as_slice()
+    }
+
+    /// The out-signals, in port order.
+    pub fn outs(&self) -> &[u32]
+        ensures { result.now ≡ self.now.outs }
+    {
+        self.outs.as_slice()
+    }
+
+    /// How many signals there are, which is how many paths there are. No piece has a memory yet.
+    pub fn signal_count(&self) -> usize
+        ensures count { result ≡ length self.now.signals }
+        ensures paths { length self.now.paths ≡ length self.now.signals }
+        ensures named { length self.now.signals < 2 ^ 32 }
+        ensures distinct { AllPairs (λ a b. a ≢ b) self.now.paths }
+        ensures memories { self.now.memories ≡ [] }
+    {
+        let _ = self.paths.len();
+        self.signals.len()
+    }
+
+    /// The number of the signal of a path, where there is one.
+    pub fn find(&self, path: &Name) -> Option<u32>
+        ensures found { IfSome result (λ signal. slice_get self.now.paths signal ≡ Some path.now) }
+        ensures missing { IfNone result (¬ Contains self.now.paths path.now) }
+    {
+        self.paths.find(path)
+    }
+
+    /// The path of a signal.
+    pub fn path(&self, signal: u32) -> Option<&Name>
+        ensures { option_copied result ≡ slice_get self.now.paths signal }
+    {
+        self.paths.get(signal)
+    }
+
+    /// Adds a signal.
+    pub fn add_signal(&mut self, path: Name, signal: Signal) -> Result<(), AddError>
+        requires { length self.old.signals < 2 ^ 32 - 1 }
+        ensures ok { OnOk result (self.new ≡ record self.old { paths = self.old.paths ++ path ∷ []; signals = self.old.signals ++ signal ∷ [] }) }
+        ensures fresh { OnOk result (¬ Contains self.old.paths path) }
+        ensures doubled { result ≡ Err Doubled → Contains self.old.paths path }
+        ensures err { OnErr result (self.new ≡ self.old) }
+    {
+        if self.signals.reserve(1).is_err() {
+            return Err(AddError::NoMemory);
+        }
+        match self.paths.add(path) {
+            Ok(()) => {
+                self.signals.push_reserved(signal);
+                Ok(())
+            }
+            Err(cause) => Err(cause),
+        }
+    }
+
+    /// Adds a register.
+    pub fn add_register(&mut self, register: Register) -> Result<(), AllocError>
+        ensures ok { OnOk result (self.new ≡ record self.old { registers = self.old.registers ++ register ∷ [] }) }
+        ensures err { OnErr result (self.new ≡ self.old) }
+    {
+        self.registers.push(register)?;
+        Ok(())
+    }
+
+    /// Adds a signal to the in-signals.
+    pub fn add_in(&mut self, signal: u32) -> Result<(), AllocError>
+        ensures ok { OnOk result (self.new ≡ record self.old { ins = self.old.ins ++ signal ∷ [] }) }
+        ensures err { OnErr result (self.new ≡ self.old) }
+    {
+        self.ins.push(signal)?;
+        Ok(())
+    }
+
+    /// Adds a signal to the out-signals.
+    pub fn add_out(&mut self, signal: u32) -> Result<(), AllocError>
+        ensures ok { OnOk result (self.new ≡ record self.old { outs = self.old.outs ++ signal ∷ [] }) }
+        ensures err { OnErr result (self.new ≡ self.old) }
+    {
+        self.outs.push(signal)?;
+        Ok(())
+    }
+
+    /// Puts a signal in the place of another. Its path stays.
+    pub fn set_signal(&mut self, number: u32, signal: Signal)
+        requires { number < length self.old.signals }
+        ensures { self.new ≡ record self.old { signals = slice_set self.old.signals number signal } }
+    {
+        self.signals[number as usize] = signal;
+    }
+
+    /// Puts a register in the place of another.
+    pub fn set_register(&mut self, number: u32, register: Register)
+        requires { number < length self.old.registers }
+        ensures { self.new ≡ record self.old { registers = slice_set self.old.registers number register } }
+    {
+        self.registers[number as usize] = register;
+    }
+}

@@ -1,0 +1,56 @@
+//! `Ports`: names with their types, in port order.
+ghost use Rattle.std.specs.Prelude.{◌≡◌};
+
+use gg_bits::{Name, Ty};
+use std::marker::Model;
+
+/// A port: its name, and the type of its values.
+#[derive(Debug, Drop)]
+pub struct Port {
+    /// The name.
+    pub name: Name,
+    /// The type of its values.
+    pub ty: Ty,
+}
+
+/// A list of ports. A contract sees it as the list.
+///
+/// It is made of a `Vec` and gives it back without taking memory.
+#[derive(Debug, Drop)]
+pub struct Ports {
+    items: Vec<Port>,
+}
+
+impl Model for Ports {
+    ghost use Rattle.std.specs.Prelude.{List};
+    ghost use Rattle.gg_flat.specs.declared.ports.Port.{Port};
+
+    ghost Value = { List Port };
+
+    ghost view = { λ ports. ports.items.items };
+}
+
+impl Ports {
+    /// The ports, in order.
+    pub fn as_slice(&self) -> &[Port]
+        ensures { result.now ≡ self.now }
+    {
+        self.items.as_slice()
+    }
+
+    /// Gives the `Vec` back.
+    pub fn into_vec(self) -> Vec<Port>
+        ensures { result.items ≡ self }
+    {
+        let Ports { items } = self;
+        items
+    }
+}
+
+impl From<Vec<Port>> for Ports {
+    ghost from_gives = { λ items ports. ports ≡ items.items };
+
+    fn from(items: Vec<Port>) -> Ports {
+        Ports { items }
+    }
+}
