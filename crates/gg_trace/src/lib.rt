@@ -1,0 +1,4 @@
+//! Reading an input trace and printing an output trace, exactly.
+#![tactic(auto)]
+
+mod field_cuts;
