@@ -1,6 +1,7 @@
 -- The fields of one line of a trace.
 use Rattle.std.specs.Prelude.{ℕ, Bool, ◌||◌, ◌==◌, List, [], ◌∷◌, Option, None, Some}
 use Rattle.std.specs.List.{slice_split}
+use Rattle.std.specs.Str.Lines.{lines}
 
 -- a blank: a space or a tab
 abbrev pub is_blank : ℕ → Bool
@@ -33,3 +34,7 @@ fields (b ∷ line) = fields_of_text (b ∷ line)
 abbrev pub fields_left : Option (List ℕ) → List (List ℕ)
 fields_left None = []
 fields_left (Some text) = fields_of_text text
+
+-- The lines of a text: each ends with LF or CR LF, and the last line end is optional (the lines of Rust's `str::lines`).
+unfoldable pub text_lines : List ℕ → List (List ℕ)
+text_lines text = lines text

@@ -2,3 +2,4 @@
 #![tactic(auto)]
 
 mod field_cuts;
+mod line_cuts;
