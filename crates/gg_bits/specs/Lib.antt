@@ -1,0 +1,4 @@
+pub mod Value
+pub mod Shape
+pub mod ResultType
+pub mod Meaning

@@ -1,0 +1,37 @@
+-- A shape is a kind and any width: a ground type before its width is judged.
+use Rattle.std.specs.Prelude.{ℕ, ◌^◌, ◌<◌, ℤ, Result, Ok, Err}
+use Rattle.gg_bits.specs.declared.types.Kind.{Kind}
+use Rattle.gg_bits.specs.declared.types.Kind.TheVariants.{UInt, SInt}
+use Rattle.gg_bits.specs.declared.types.Ty.{Ty}
+use Rattle.gg_bits.specs.declared.types.Bad.{Bad}
+use Rattle.gg_bits.specs.Value.{number_of}
+
+pub record Shape : Type 0 where
+  pub kind : Kind
+  pub width : ℕ
+
+abbrev pub of_kind : Kind → ℕ → Shape
+of_kind k w = record { kind = k; width = w }
+
+abbrev pub uint : ℕ → Shape
+uint w = of_kind UInt w
+
+abbrev pub sint : ℕ → Shape
+sint w = of_kind SInt w
+
+-- the shape of a type
+abbrev pub shape : Ty → Shape
+shape ty = of_kind ty.kind ty.width
+
+-- an answered type by its shape
+abbrev pub shape_of : Result Ty Bad → Result Shape Bad
+shape_of (Ok ty) = Ok (shape ty)
+shape_of (Err bad) = Err bad
+
+-- the pattern has no bit beyond the width of s: it is a value of that shape
+abbrev pub Fits : Shape → ℕ → Type 0
+Fits s p = p < 2 ^ s.width
+
+-- the number that a pattern stands for in this shape
+abbrev pub number : Shape → ℕ → ℤ
+number s p = number_of s.kind s.width p

@@ -1,0 +1,54 @@
+//! Ground types, values, and what can be wrong with an operation's operands.
+ghost use Rattle.std.specs.Prelude.{◌≡◌, ◌≤◌};
+
+/// The kind of a ground type (FIRRTL Specification, "Ground Types"): whether its values stand for natural numbers or
+/// for signed ones, in two's complement.
+#[derive(Clone, Copy, Debug, PartialEq, Eq, Hash)]
+pub enum Kind {
+    /// Natural numbers.
+    UInt,
+    /// Signed numbers, in two's complement.
+    SInt,
+}
+
+/// A ground type: a kind, and a width of 1 to 128 bits.
+#[derive(Clone, Copy, Debug, PartialEq, Eq, Hash)]
+pub struct Ty {
+    /// Whether values are signed.
+    pub kind: Kind,
+    /// How many bits a value has.
+    pub width: u32,
+    pub ghost positive: { 1 ≤ width },
+    pub ghost bounded: { width ≤ 128 },
+}
+
+/// A value: the pattern of its bits, below 2 to the width of its type.
+#[derive(Clone, Copy, Debug, PartialEq, Eq, Hash)]
+pub struct Val(pub u128);
+
+/// The first thing that is wrong with an operation's operands, in this order: the kinds, the parameters, the width
+/// of the result.
+#[derive(Clone, Copy, Debug, PartialEq, Eq, Hash)]
+pub enum Bad {
+    /// The operands are of kinds that the operation does not take.
+    Kind,
+    /// The result would have this width, which is 0 or above 128; 4,294,967,295 stands for any greater one.
+    Width(u32),
+    /// A parameter is out of its range.
+    Param,
+}
+
+impl Ty {
+    /// The widest type has 128 bits.
+    pub const MAX_WIDTH: u32 = 128;
+
+    /// The type of this kind and width.
+    pub fn new(kind: Kind, width: u32) -> Ty
+        requires positive { 1 ≤ width }
+        requires bounded { width ≤ 128 }
+        ensures kind { result.kind ≡ kind }
+        ensures width { result.width ≡ width }
+    {
+        Ty { kind, width }
+    }
+}
