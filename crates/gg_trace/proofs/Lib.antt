@@ -1,2 +1,4 @@
 pub mod FieldLaws
 pub mod LineLaws
+pub mod DigitLaws
+pub mod PortLaws
