@@ -2,3 +2,4 @@ pub mod FieldLaws
 pub mod LineLaws
 pub mod DigitLaws
 pub mod PortLaws
+pub mod HeaderLaws

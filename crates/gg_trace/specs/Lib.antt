@@ -1,3 +1,5 @@
 pub mod Fields
 pub mod Cells
 pub mod Ports
+pub mod Header
+pub mod Places

@@ -2,8 +2,11 @@
 #![tactic(auto)]
 
 mod cells;
+mod faults;
 mod field_cuts;
+mod heading;
 mod line_cuts;
 mod port_list;
 
+pub use faults::TraceFault;
 pub use port_list::{Port, Ports};
