@@ -2,10 +2,10 @@
 use Rattle.std.proofs.Common.{◌≡◌, ℕ, ◌+◌, ◌-◌, ◌<◌, ◌≤◌, Bool, true, false, not, cond, List, [], ◌∷◌, length, get_or, take, drop, All, refl, sym, ap, ◌∙◌, subst, arith, add-one, suc, zero, length-drop}
 use Rattle.std.specs.List.{slice_split, onto_first, position_or_len, before_first, after_first}
 use Rattle.std.proofs.lemmas.List.Splits.{slice_split_first, slice_split_none, length-slice_split}
-use Rattle.std.proofs.lemmas.List.Sums.{position_or_len_is}
+use Rattle.std.proofs.lemmas.List.Sums.{position_or_len_is, count_by-le-length}
 use Rattle.std.proofs.lemmas.List.{get_or_default, take_all, drop-drop, get_or-drop}
 use Rattle.std.proofs.lemmas.Bool.{false≢true}
-use Rattle.gg_trace.specs.Fields.{is_blank, fields_of_text, fields_of_parts, later_fields}
+use Rattle.gg_trace.specs.Fields.{is_blank, fields, fields_of_text, fields_of_parts, later_fields}
 
 -- a split has a first part
 later_fields-empty : (parts : List (List ℕ)) → 0 < length parts → later_fields ([] ∷ parts) ≡ later_fields parts
@@ -90,3 +90,22 @@ fields_of_text-first text n m inside before blank within gap ends =
       let e : n + 0 ≡ n = omega arith in
       absurd (false≢true (sym (stop (omega (arith, length-drop n text))) ∙ ap is_blank (get_or-drop n text 0 0 ∙ ap (λ i. get_or text i 0) e) ∙ blank))
   starts (suc i) stop = omega arith
+
+length-later_fields : (parts : List (List ℕ)) → length (later_fields parts) ≤ length parts
+length-later_fields [] = omega arith
+length-later_fields (x ∷ []) = omega arith
+length-later_fields ([] ∷ y ∷ more) = omega (arith, length-later_fields (y ∷ more))
+length-later_fields ((b ∷ x) ∷ y ∷ more) = omega (arith, length-later_fields (y ∷ more))
+
+length-fields_of_parts : (parts : List (List ℕ)) → length (fields_of_parts parts) ≤ length parts
+length-fields_of_parts [] = omega arith
+length-fields_of_parts (x ∷ more) = omega (arith, length-later_fields more)
+
+length-split : (text : List ℕ) → length (slice_split is_blank text) ≤ length text + 1
+length-split text = omega (arith, length-slice_split is_blank text, count_by-le-length is_blank text)
+
+-- a line has at most one field more than it has bytes
+pub field_count : (line : List ℕ) → length (fields line) ≤ length line + 1
+unfolding fields fields_of_text
+field_count [] = omega arith
+field_count (b ∷ line) = omega (arith, length-fields_of_parts (slice_split is_blank (b ∷ line)), length-split (b ∷ line))

@@ -65,7 +65,7 @@ stands {ports} {header} {rest} {places} reads distinct (suc f) h = record {
       differ reads distinct g f (omega arith) (omega arith) (ap (field header) (add-one g) ∙ e ∙ ap (field header) (sym (add-one f)))
 
 -- the next field of the header
-next_field : (header more : List (List ℕ)) (x : List ℕ) (n : ℕ) → drop n header ≡ x ∷ more → (field header n ≡ x) × (n < length header) × (drop (n + 1) header ≡ more)
+pub next_field : (header more : List (List ℕ)) (x : List ℕ) (n : ℕ) → drop n header ≡ x ∷ more → (field header n ≡ x) × (n < length header) × (drop (n + 1) header ≡ more)
 next_field header more x n e = (read, inside, sym (drop-drop 1 n header) ∙ ap (drop 1) e)
   where
   read : field header n ≡ x

@@ -3,3 +3,4 @@ pub mod LineLaws
 pub mod DigitLaws
 pub mod PortLaws
 pub mod HeaderLaws
+pub mod RowLaws

@@ -15,3 +15,6 @@ named ports name i port h e is = record { within = h; is = name_at-read ports i 
 
 pub not_named : (ports : List Port) (name : List ℕ) (i : ℕ) (port : Port) → i < length ports → port ≡ get_or ports i port → port.name ≢ name → name_at ports i ≢ name
 not_named ports name i port h e differs is = differs (sym (name_at-read ports i port h e) ∙ is)
+
+pub width_at-get : (ports : List Port) (i : ℕ) (port : Port) → i < length ports → width_at ports i ≡ (get_or ports i port).ty.width
+width_at-get ports i port h = get_or-map (λ p. p.ty.width) ports i port 0 h

@@ -78,3 +78,16 @@ impl<'a> Fields<'a> {
         Some(field)
     }
 }
+
+/// How many fields a line has.
+#[tactic(auto, using(crate::proofs::FieldLaws::field_count))]
+pub fn count_fields(line: &[u8]) -> usize
+    ensures { result ≡ length (fields line.now) }
+{
+    let mut rest = Fields::of(line);
+    let mut count = 0;
+    while let Some(_field) = rest.next() {
+        count += 1;
+    }
+    count
+}
