@@ -4,3 +4,4 @@ pub mod DigitLaws
 pub mod PortLaws
 pub mod HeaderLaws
 pub mod RowLaws
+pub mod TableLaws

@@ -3,3 +3,5 @@ pub mod Cells
 pub mod Ports
 pub mod Header
 pub mod Places
+pub mod Table
+pub mod Trace

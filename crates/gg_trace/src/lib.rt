@@ -8,6 +8,8 @@ mod heading;
 mod line_cuts;
 mod port_list;
 mod row_values;
+mod trace_table;
 
 pub use faults::TraceFault;
 pub use port_list::{Port, Ports};
+pub use trace_table::Trace;

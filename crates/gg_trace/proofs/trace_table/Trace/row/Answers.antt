@@ -1,0 +1,16 @@
+use Rattle.std.proofs.Common.{◌≡◌, ◌+◌, ◌-◌, ◌*◌, ◌<◌, List, ℕ, length, take, drop, sym, ap, ◌∙◌, subst, arith}
+use Rattle.gg_trace.specs.Table.{Table, row_of}
+use Rattle.gg_trace.proofs.TableLaws.{row_in}
+use Rattle.gg_trace.proofs.trace_table.Trace.row.Goals as goal
+
+pub returns : goal.returns
+returns c =
+    let a = c.self.inside in
+    let r = c.args.row in
+    let from = r * a.inputs in
+    let wide : from + a.inputs - from ≡ a.inputs = omega arith in
+    let inside : r < a.rows = subst (λ (t : Table). r < t.rows) (sym c.self.view_is) c.requires in
+    subst (λ (t : Table). take (from + a.inputs - from) (drop from c.deref.result.now) ≡ row_of t.columns r) c.self.view_is
+    (ap (λ n. take n (drop from c.deref.result.now)) wide
+      ∙ ap (λ (xs : List ℕ). take a.inputs (drop from xs)) c.deref.ensures.value
+      ∙ row_in a.rows a.inputs a.cells.items r c.self.invariant.0 inside)
