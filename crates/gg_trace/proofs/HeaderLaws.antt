@@ -2,6 +2,7 @@
 use Rattle.std.proofs.Common.{◌≡◌, ◌≢◌, ℕ, ◌+◌, ◌-◌, ◌<◌, ◌≤◌, zero, suc, Bool, true, false, List, [], ◌∷◌, ◌++◌, length, get_or, set, drop, replicate, codes, ◌⊎◌, inl, inr, refl, sym, ap, ◌∙◌, subst, arith, add-one, length-drop, length-append}
 use Rattle.std.proofs.lemmas.List.{get_or-drop, drop-drop, get_or_append_left, get_or_at, length_push, get_or-set_same, get_or-set_other, length-set, get_or-replicate, get_or_past, length-replicate}
 use Rattle.std.proofs.lemmas.Bool.{false≢true, cases_eq}
+use Rattle.gg_trace.proofs.ListLaws.{next_item}
 use Rattle.gg_trace.specs.declared.port_list.Port.{Port}
 use Rattle.gg_trace.specs.Ports.{name_at, IsNamed, HasDistinctNames}
 use Rattle.gg_trace.specs.Header.{field, IsNewName, MayStand, IsListed, IsHeader, HasHeaderFault}
@@ -36,7 +37,7 @@ reads_cycle ports rest n e = record {
 }
 
 -- the names of different ports differ
-one_port : (ports : List Port) → HasDistinctNames ports → (name : List ℕ) (i j : ℕ) → IsNamed ports name i → IsNamed ports name j → i ≡ j
+pub one_port : (ports : List Port) → HasDistinctNames ports → (name : List ℕ) (i j : ℕ) → IsNamed ports name i → IsNamed ports name j → i ≡ j
 one_port ports distinct name i j p q = distinct i j p.within q.within (p.is ∙ sym q.is)
 
 along : (ports : List Port) (x y : List ℕ) (i : ℕ) → x ≡ y → IsNamed ports x i → IsNamed ports y i
@@ -64,17 +65,6 @@ stands {ports} {header} {rest} {places} reads distinct (suc f) h = record {
   new (suc g) some before e =
       differ reads distinct g f (omega arith) (omega arith) (ap (field header) (add-one g) ∙ e ∙ ap (field header) (sym (add-one f)))
 
--- the next field of the header
-pub next_field : (header more : List (List ℕ)) (x : List ℕ) (n : ℕ) → drop n header ≡ x ∷ more → (field header n ≡ x) × (n < length header) × (drop (n + 1) header ≡ more)
-next_field header more x n e = (read, inside, sym (drop-drop 1 n header) ∙ ap (drop 1) e)
-  where
-  read : field header n ≡ x
-  read =
-      let same : n + 0 ≡ n = omega arith in
-      ap (field header) (sym same) ∙ sym (get_or-drop n header 0 []) ∙ ap (λ xs. get_or xs 0 []) e
-  inside : n < length header
-  inside = omega (arith, length-drop n header, ap length e)
-
 -- where the next name may not be taken, its field is the fault
 pub name_fault : (ports : List Port) (header more : List (List ℕ)) (x : List ℕ) (places : List ℕ) (marks : List Bool) → ReadsNames ports header (x ∷ more) places marks → HasDistinctNames ports
   → ((i : ℕ) → IsNamed ports x i → get_or marks i false ≡ true) → HasHeaderFault ports header (length places + 1)
@@ -84,7 +74,7 @@ name_fault ports header more x places marks reads distinct taken = record {
 }
   where
   here : (field header (length places + 1) ≡ x) × (length places + 1 < length header) × (drop (length places + 1 + 1) header ≡ more)
-  here = next_field header more x (length places + 1) reads.left
+  here = next_item header more x [] (length places + 1) reads.left
   refused : MayStand ports header (suc (length places)) → ⊥
   refused may =
       let is : field header (suc (length places)) ≡ x = ap (field header) (sym (add-one (length places))) ∙ here.0 in
@@ -157,7 +147,7 @@ pub reads_name : (ports : List Port) (header more : List (List ℕ)) (x : List �
   → IsNamed ports x p → get_or marks p false ≡ false → ReadsNames ports header more (places ++ p ∷ []) (set marks p true)
 reads_name ports header more x places marks p reads is new =
     let n = length places in
-    let here = next_field header more x (n + 1) reads.left in
+    let here = next_item header more x [] (n + 1) reads.left in
     let longer : length (places ++ p ∷ []) + 1 ≡ n + 1 + 1 = omega (arith, length_push places p) in
     let within : p < length marks = omega (arith, reads.size, is.within) in
     record {

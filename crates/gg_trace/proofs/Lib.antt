@@ -5,3 +5,5 @@ pub mod PortLaws
 pub mod HeaderLaws
 pub mod RowLaws
 pub mod TableLaws
+pub mod ListLaws
+pub mod TraceLaws

@@ -9,7 +9,7 @@ use Rattle.gg_trace.specs.Cells.{IsCell, IsHexadecimal, hexadecimal}
 use Rattle.gg_trace.specs.Ports.{width_at}
 use Rattle.gg_trace.specs.Header.{field}
 use Rattle.gg_trace.specs.Places.{ArePlaces, AreCells, AreValues, StopsAt, HasValueFault, HasValuesFault, PassesCycle, ReadsRow, HasRowFault}
-use Rattle.gg_trace.proofs.HeaderLaws.{next_field}
+use Rattle.gg_trace.proofs.ListLaws.{next_item}
 
 -- the first cells are read, and rest is left
 pub record ReadsCells (ports : List Port) (places : List ℕ) (cells rest : List (List ℕ)) (values : List ℕ) (at : ℕ) : Type 0 where
@@ -33,7 +33,7 @@ reads_none ports places cells values count size = record {
 
 -- the next cell is within the row
 pub next_cell : {ports : List Port} {places : List ℕ} {cells more : List (List ℕ)} {x values : List ℕ} {at : ℕ} → ReadsCells ports places cells (x ∷ more) values at → at < length places
-next_cell {ports} {places} {cells} {more} {x} {values} {at} reads = omega (arith, (next_field cells more x at reads.left).1, reads.count)
+next_cell {ports} {places} {cells} {more} {x} {values} {at} reads = omega (arith, (next_item cells more x [] at reads.left).1, reads.count)
 
 pub reads_cell : (ports : List Port) (places : List ℕ) (cells more : List (List ℕ)) (x values : List ℕ) (at v : ℕ) → ReadsCells ports places cells (x ∷ more) values at → ArePlaces ports places
   → IsCell (width_at ports (get_or places at 0)) x → v ≡ hexadecimal x → ReadsCells ports places cells more (set values (get_or places at 0) v) (at + 1)
@@ -47,7 +47,7 @@ reads_cell ports places cells more x values at v reads are cell value = record {
 }
   where
   next : (field cells at ≡ x) × (at < length cells) × (drop (at + 1) cells ≡ more)
-  next = next_field cells more x at reads.left
+  next = next_item cells more x [] at reads.left
   inside : at < length places
   inside = next_cell reads
   good : (g : ℕ) → g < at + 1 → IsCell (width_at ports (get_or places g 0)) (field cells g)
@@ -76,10 +76,10 @@ stops ports places cells more x values at row r f reads is_row is_field =
 pub cell_fault : (ports : List Port) (places : List ℕ) (cells more : List (List ℕ)) (x values : List ℕ) (at row : ℕ) (fault : TraceFault) → ReadsCells ports places cells (x ∷ more) values at
   → HasValueFault (width_at ports (get_or places at 0)) x row (at + 1) fault → HasValuesFault ports places cells row fault
 cell_fault ports places cells more x values at row (T3 r f) reads h =
-    (stops ports places cells more x values at row r f reads h.0 h.1, λ digits. h.2 (subst IsHexadecimal (next_field cells more x at reads.left).0 digits))
+    (stops ports places cells more x values at row r f reads h.0 h.1, λ digits. h.2 (subst IsHexadecimal (next_item cells more x [] at reads.left).0 digits))
 cell_fault ports places cells more x values at row (T4 r f) reads h =
     (stops ports places cells more x values at row r f reads h.0 h.1,
-      subst (λ text. IsHexadecimal text × (2 ^ width_at ports (get_or places at 0) ≤ hexadecimal text)) (sym (next_field cells more x at reads.left).0) h.2)
+      subst (λ text. IsHexadecimal text × (2 ^ width_at ports (get_or places at 0) ≤ hexadecimal text)) (sym (next_item cells more x [] at reads.left).0) h.2)
 cell_fault ports places cells more x values at row (T1 f) reads h = h
 cell_fault ports places cells more x values at row (T2 r) reads h = h
 cell_fault ports places cells more x values at row (T5 r c) reads h = h

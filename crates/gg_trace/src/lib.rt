@@ -7,6 +7,7 @@ mod field_cuts;
 mod heading;
 mod line_cuts;
 mod port_list;
+mod reading;
 mod row_values;
 mod trace_table;
 
