@@ -7,3 +7,4 @@ pub mod RowLaws
 pub mod TableLaws
 pub mod ListLaws
 pub mod TraceLaws
+pub mod FirstLaws

@@ -13,4 +13,5 @@ mod trace_table;
 
 pub use faults::TraceFault;
 pub use port_list::{Port, Ports};
+pub use reading::read_trace;
 pub use trace_table::Trace;

@@ -1,8 +1,9 @@
 //! Reading the whole text of a trace.
 
-ghost use Rattle.std.specs.Prelude.{◌≡◌, ℕ, ◌+◌, ◌*◌, ◌<◌, ◌≤◌, [], List, IfOk, IfErr, MatchResult, drop, map, length, slice_index_or};
+ghost use Rattle.std.specs.Prelude.{◌⊎◌, ◌≡◌, ℕ, ◌+◌, ◌*◌, ◌<◌, ◌≤◌, [], List, IfOk, IfErr, MatchResult, drop, map, length, slice_index_or};
 ghost use Rattle.gg_trace.specs.Fields.{fields};
 ghost use Rattle.gg_trace.specs.Ports.{HasDistinctNames};
+ghost use Rattle.gg_trace.specs.declared.faults.TraceFault.{TraceFault};
 ghost use Rattle.gg_trace.specs.Trace.{Columns, HaveWidths, IsFirstFault, IfFirstFault};
 
 use crate::faults::TraceFault;
@@ -40,4 +41,28 @@ fn read_lines(alloc: Global, ports: &[Port], bytes: &[u8]) -> Result<Trace, Trac
         rows += 1;
     }
     Ok(Trace::of(rows, ports.len(), cells))
+}
+
+/// Reads an input trace: the columns that its text gives, one for each port, or its first fault.
+///
+/// The header is `cycle` and the names of all ports, each once, in any order. Row r is r in decimal, and then a value
+/// for each port in hexadecimal. The first fault is that of the header; else of the first faulty row; in a row the
+/// limit of rows comes first, then the count of fields, the row's number, and the values from left to right.
+///
+/// The ports have different names.
+pub fn read_trace(alloc: Global, ports: &Ports, bytes: &[u8]) -> Result<Trace, TraceFault>
+    requires { HasDistinctNames ports.now }
+    // What is read are the columns of the text, and each value fits its port.
+    ensures columns { IfOk result (λ trace. Columns ports.now bytes.now trace.rows trace.columns) }
+    ensures widths { IfOk result (λ trace. HaveWidths ports.now trace.rows trace.columns) }
+    // A fault is the text's first, or memory ran out.
+    ensures fault { IfErr result (IfFirstFault ports.now bytes.now) }
+    // A text with columns is read, unless memory runs out.
+    ensures complete { (n : ℕ) (columns : List (List ℕ)) → Columns ports.now bytes.now n columns →
+        MatchResult result (λ trace. (trace.rows ≡ n) × (trace.columns ≡ columns)) (λ given. given ≡ TraceFault.NoMemory) }
+    // A text with a first fault is refused with it, unless memory runs out.
+    ensures due { (first : TraceFault) → IsFirstFault ports.now bytes.now first →
+        MatchResult result (λ _. ⊥) (λ given. (given ≡ first) ⊎ (given ≡ TraceFault.NoMemory)) }
+{
+    read_lines(alloc, ports.as_slice(), bytes)
 }
