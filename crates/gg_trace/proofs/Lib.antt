@@ -8,3 +8,4 @@ pub mod TableLaws
 pub mod ListLaws
 pub mod TraceLaws
 pub mod FirstLaws
+pub mod PrintLaws

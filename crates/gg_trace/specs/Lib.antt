@@ -5,3 +5,4 @@ pub mod Header
 pub mod Places
 pub mod Table
 pub mod Trace
+pub mod Printing

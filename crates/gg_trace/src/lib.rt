@@ -7,11 +7,13 @@ mod field_cuts;
 mod heading;
 mod line_cuts;
 mod port_list;
+mod printing;
 mod reading;
 mod row_values;
 mod trace_table;
 
 pub use faults::TraceFault;
 pub use port_list::{Port, Ports};
+pub use printing::{header_text, row_text};
 pub use reading::read_trace;
 pub use trace_table::Trace;
