@@ -17,3 +17,6 @@ pub use port_list::{Port, Ports};
 pub use printing::{header_text, row_text};
 pub use reading::read_trace;
 pub use trace_table::Trace;
+
+#[cfg(test)]
+mod tests;
