@@ -19,8 +19,8 @@ grows n [] = omega arith
 grows n (d ∷ ds) = omega (arith, grows (n * 16 + digit_value d) ds)
 
 next_number : (field rest : List ℕ) (c : ℕ) (value new : Option ℕ) → AppendsDigit value (digit_value c) new
-  → MatchOption value (2 ^ 128 ≤ digits_value 16 field) (λ v. digits_value_after 16 v (c ∷ rest) ≡ digits_value 16 field)
-  → MatchOption new (2 ^ 128 ≤ digits_value 16 field) (λ v. digits_value_after 16 v rest ≡ digits_value 16 field)
+    → MatchOption value (2 ^ 128 ≤ digits_value 16 field) (λ v. digits_value_after 16 v (c ∷ rest) ≡ digits_value 16 field)
+    → MatchOption new (2 ^ 128 ≤ digits_value 16 field) (λ v. digits_value_after 16 v rest ≡ digits_value 16 field)
 next_number field rest c None None append number = number
 next_number field rest c None (Some x) append number = cc
 next_number field rest c (Some v) None append number =
@@ -30,7 +30,7 @@ next_number field rest c (Some v) None append number =
 next_number field rest c (Some v) (Some x) append number = ap (λ n. digits_value_after 16 n rest) append.1 ∙ number
 
 pub reads_digit : (field rest : List ℕ) (c : ℕ) (value new : Option ℕ) → ReadsDigits field (c ∷ rest) value → digit_value c < 16
-  → AppendsDigit value (digit_value c) new → ReadsDigits field rest new
+    → AppendsDigit value (digit_value c) new → ReadsDigits field rest new
 reads_digit field rest c value new reads digit append = record {
   before = λ h. reads.before (digit, h);
   whole = λ h. (reads.whole h).1;
@@ -46,7 +46,7 @@ unfolding IsHexadecimal
 empty_not_hexadecimal field none hex = omega (arith, hex.0)
 
 pub reads_all : (field : List ℕ) (value : Option ℕ) → 0 < length field → ReadsDigits field [] value
-  → IsHexadecimal field × MatchOption value (2 ^ 128 ≤ hexadecimal field) (λ v. v ≡ hexadecimal field)
+    → IsHexadecimal field × MatchOption value (2 ^ 128 ≤ hexadecimal field) (λ v. v ≡ hexadecimal field)
 unfolding IsHexadecimal hexadecimal
 reads_all field None some reads = ((some, reads.before tt), reads.number)
 reads_all field (Some v) some reads = ((some, reads.before tt), reads.number)

@@ -22,14 +22,15 @@ later_fields-run : (p : ℕ → Bool) (text : List ℕ) → later_fields (slice_
 later_fields-run p [] = refl
 later_fields-run p (b ∷ text) = by_kind (later_fields-run p text) (p b) refl
   where
-  behind : ℕ
-  behind = position_or_len (λ c. not (p c)) text
-  by_kind : later_fields (slice_split p text) ≡ fields_of_parts (slice_split p (drop behind text)) → (kind : Bool) → p b ≡ kind
-    → later_fields (slice_split p (b ∷ text)) ≡ fields_of_parts (slice_split p (drop (position_or_len (λ c. not (p c)) (b ∷ text)) (b ∷ text)))
-  by_kind rest true h =
-      let e : 1 + behind ≡ suc behind = omega arith in
-      rw h (rw e (later_fields-empty (slice_split p text) (omega (arith, length-slice_split p text)) ∙ rest))
-  by_kind rest false h = simp h (later_fields-onto b (slice_split p text))
+    behind : ℕ
+    behind = position_or_len (λ c. not (p c)) text
+
+    by_kind : later_fields (slice_split p text) ≡ fields_of_parts (slice_split p (drop behind text)) → (kind : Bool) → p b ≡ kind
+        → later_fields (slice_split p (b ∷ text)) ≡ fields_of_parts (slice_split p (drop (position_or_len (λ c. not (p c)) (b ∷ text)) (b ∷ text)))
+    by_kind rest true h =
+        let e : 1 + behind ≡ suc behind = omega arith in
+        rw h (rw e (later_fields-empty (slice_split p text) (omega (arith, length-slice_split p text)) ∙ rest))
+    by_kind rest false h = simp h (later_fields-onto b (slice_split p text))
 
 -- where no blank follows, the text is the one field
 pub fields_of_text-last : (text : List ℕ) (n : ℕ) → length text ≤ n → n ≤ length text → ((k : ℕ) → k < n → is_blank (get_or text k 0) ≡ false) → fields_of_text text ≡ take n text ∷ []
@@ -40,7 +41,7 @@ fields_of_text-last text n long within same =
 
 -- the same for a test of any kind, at the places of its first yes and of the first no behind it
 first_part : (p : ℕ → Bool) (text : List ℕ) (n : ℕ) → position_or_len p text ≡ n → n < length text
-  → fields_of_parts (slice_split p text) ≡ take n text ∷ later_fields (slice_split p (drop (n + 1) text))
+    → fields_of_parts (slice_split p text) ≡ take n text ∷ later_fields (slice_split p (drop (n + 1) text))
 first_part p text n e inside =
     subst (λ i. fields_of_parts (slice_split p text) ≡ take i text ∷ later_fields (slice_split p (drop (i + 1) text))) e
     (ap fields_of_parts (slice_split_first p text 0 (omega arith)))
@@ -53,9 +54,9 @@ not_is false false h = sym h
 
 -- the run of blanks that begins at n ends m bytes on
 behind_run : (p : ℕ → Bool) (text : List ℕ) (n m : ℕ) → n < length text → 0 < m
-  → m ≤ length (drop n text) → ((k : ℕ) → k < m → p (get_or (drop n text) k 0) ≡ true)
-  → (m < length (drop n text) → p (get_or (drop n text) m 0) ≡ false)
-  → position_or_len (λ b. not (p b)) (drop (n + 1) text) ≡ m - 1
+    → m ≤ length (drop n text) → ((k : ℕ) → k < m → p (get_or (drop n text) k 0) ≡ true)
+    → (m < length (drop n text) → p (get_or (drop n text) m 0) ≡ false)
+    → position_or_len (λ b. not (p b)) (drop (n + 1) text) ≡ m - 1
 behind_run p text n m inside some within gap ends =
     let long = length-drop n text in
     let long_behind = length-drop (n + 1) text in
@@ -63,17 +64,17 @@ behind_run p text n m inside some within gap ends =
     (λ k h. not_is _ false (ap p (at k) ∙ gap (k + 1) (omega arith)))
     (λ h. not_is _ true (ap p (at (m - 1)) ∙ (let e : m - 1 + 1 ≡ m = omega arith in rw e (ends (omega arith)))))
   where
-  at : (k : ℕ) → get_or (drop (n + 1) text) k 0 ≡ get_or (drop n text) (k + 1) 0
-  at k =
-      let e : n + 1 + k ≡ n + (k + 1) = omega arith in
-      get_or-drop (n + 1) text k 0 ∙ ap (λ i. get_or text i 0) e ∙ sym (get_or-drop n text (k + 1) 0)
+    at : (k : ℕ) → get_or (drop (n + 1) text) k 0 ≡ get_or (drop n text) (k + 1) 0
+    at k =
+        let e : n + 1 + k ≡ n + (k + 1) = omega arith in
+        get_or-drop (n + 1) text k 0 ∙ ap (λ i. get_or text i 0) e ∙ sym (get_or-drop n text (k + 1) 0)
 
 -- the first field, and then the fields of what follows the run of blanks behind it
 pub fields_of_text-first : (text : List ℕ) (n m : ℕ) → n < length text
-  → ((k : ℕ) → k < n → is_blank (get_or text k 0) ≡ false) → is_blank (get_or text n 0) ≡ true
-  → m ≤ length (drop n text) → ((k : ℕ) → k < m → is_blank (get_or (drop n text) k 0) ≡ true)
-  → (m < length (drop n text) → is_blank (get_or (drop n text) m 0) ≡ false)
-  → fields_of_text text ≡ take n text ∷ fields_of_text (drop m (drop n text))
+    → ((k : ℕ) → k < n → is_blank (get_or text k 0) ≡ false) → is_blank (get_or text n 0) ≡ true
+    → m ≤ length (drop n text) → ((k : ℕ) → k < m → is_blank (get_or (drop n text) k 0) ≡ true)
+    → (m < length (drop n text) → is_blank (get_or (drop n text) m 0) ≡ false)
+    → fields_of_text text ≡ take n text ∷ fields_of_text (drop m (drop n text))
 unfolding fields_of_text
 fields_of_text-first text n m inside before blank within gap ends =
     let long = length-drop n text in
@@ -83,13 +84,13 @@ fields_of_text-first text n m inside before blank within gap ends =
     let left : drop (m - 1) (drop (n + 1) text) ≡ drop m (drop n text) = drop-drop (m - 1) (n + 1) text ∙ ap (λ i. drop i text) e ∙ sym (drop-drop m n text) in
     first_part is_blank text n (position_or_len_is is_blank text n 0 (omega arith) before (λ _. blank)) inside
     ∙ ap (λ fields. take n text ∷ fields) (later_fields-run is_blank (drop (n + 1) text)
-      ∙ ap (λ rest. fields_of_parts (slice_split is_blank rest)) (ap (λ i. drop i (drop (n + 1) text)) behind ∙ left))
+    ∙ ap (λ rest. fields_of_parts (slice_split is_blank rest)) (ap (λ i. drop i (drop (n + 1) text)) behind ∙ left))
   where
-  starts : (i : ℕ) → (i < length (drop n text) → is_blank (get_or (drop n text) i 0) ≡ false) → 0 < i
-  starts zero stop =
-      let e : n + 0 ≡ n = omega arith in
-      absurd (false≢true (sym (stop (omega (arith, length-drop n text))) ∙ ap is_blank (get_or-drop n text 0 0 ∙ ap (λ i. get_or text i 0) e) ∙ blank))
-  starts (suc i) stop = omega arith
+    starts : (i : ℕ) → (i < length (drop n text) → is_blank (get_or (drop n text) i 0) ≡ false) → 0 < i
+    starts zero stop =
+        let e : n + 0 ≡ n = omega arith in
+        absurd (false≢true (sym (stop (omega (arith, length-drop n text))) ∙ ap is_blank (get_or-drop n text 0 0 ∙ ap (λ i. get_or text i 0) e) ∙ blank))
+    starts (suc i) stop = omega arith
 
 length-later_fields : (parts : List (List ℕ)) → length (later_fields parts) ≤ length parts
 length-later_fields [] = omega arith

@@ -14,26 +14,26 @@ use Rattle.gg_trace.specs.Trace.{header_of, rows_of, row_at, IsValueField, IsRow
 header_good : (ports : List Port) (header : List (List ℕ)) (f : ℕ) → HasHeaderFault ports header f → IsHeader ports header → ⊥
 header_good ports header f fault good = by_kind fault.here
   where
-  by_kind : ((f < length header) × ¬ MayStand ports header f) ⊎ ((f ≡ length header) × ¬ IsHeader ports header) → ⊥
-  by_kind (inl h) = h.1 (good.each f h.0)
-  by_kind (inr h) = h.1 good
+    by_kind : ((f < length header) × ¬ MayStand ports header f) ⊎ ((f ≡ length header) × ¬ IsHeader ports header) → ⊥
+    by_kind (inl h) = h.1 (good.each f h.0)
+    by_kind (inr h) = h.1 good
 
 not_before : (ports : List Port) (header : List (List ℕ)) (f g : ℕ) → HasHeaderFault ports header f → HasHeaderFault ports header g → f < g → ⊥
 not_before ports header f g here there before = by_kind here.here there.here
   where
-  by_kind : ((f < length header) × ¬ MayStand ports header f) ⊎ ((f ≡ length header) × ¬ IsHeader ports header)
-    → ((g < length header) × ¬ MayStand ports header g) ⊎ ((g ≡ length header) × ¬ IsHeader ports header) → ⊥
-  by_kind (inl h) k = h.1 (there.before f before)
-  by_kind (inr h) (inl k) = omega (arith, before, h.0, k.0)
-  by_kind (inr h) (inr k) = omega (arith, before, h.0, k.0)
+    by_kind : ((f < length header) × ¬ MayStand ports header f) ⊎ ((f ≡ length header) × ¬ IsHeader ports header)
+        → ((g < length header) × ¬ MayStand ports header g) ⊎ ((g ≡ length header) × ¬ IsHeader ports header) → ⊥
+    by_kind (inl h) k = h.1 (there.before f before)
+    by_kind (inr h) (inl k) = omega (arith, before, h.0, k.0)
+    by_kind (inr h) (inr k) = omega (arith, before, h.0, k.0)
 
 one_header_fault : (ports : List Port) (header : List (List ℕ)) (f g : ℕ) → HasHeaderFault ports header f → HasHeaderFault ports header g → f ≡ g
 one_header_fault ports header f g here there = by_order (cases_order f g)
   where
-  by_order : (f ≡ g) ⊎ ((f < g) ⊎ (g < f)) → f ≡ g
-  by_order (inl e) = e
-  by_order (inr (inl before)) = absurd (not_before ports header f g here there before)
-  by_order (inr (inr before)) = absurd (not_before ports header g f there here before)
+    by_order : (f ≡ g) ⊎ ((f < g) ⊎ (g < f)) → f ≡ g
+    by_order (inl e) = e
+    by_order (inr (inl before)) = absurd (not_before ports header f g here there before)
+    by_order (inr (inr before)) = absurd (not_before ports header g f there here before)
 
 -- the port that a field of a header names
 named_port : (ports : List Port) (header : List (List ℕ)) (f : ℕ) → IsHeader ports header → 0 < f → f < length header → (i : ℕ) × IsNamed ports (field header f) i
@@ -41,7 +41,7 @@ named_port ports header zero good some within = absurd (omega arith)
 named_port ports header (suc f) good some within = let may = good.each (suc f) within in (may.port, may.is)
 
 bad_digits : (ports : List Port) (bytes : List ℕ) (r f : ℕ) → IsHeader ports (header_of bytes) → HasValueAt bytes r f → ¬ IsHexadecimal (field (row_at bytes r) f)
-  → IsValueField ports (header_of bytes) (row_at bytes r) f → ⊥
+    → IsValueField ports (header_of bytes) (row_at bytes r) f → ⊥
 bad_digits ports bytes r f good at none value =
     let named = named_port ports (header_of bytes) f good at.behind at.within in
     none ((value.value named.0 named.1).digits)
@@ -73,13 +73,13 @@ at_row ports bytes NoMemory h = tt
 
 -- two faults are of one row
 one_row : (ports : List Port) (bytes : List ℕ) (r s : ℕ) → ReachesRow ports bytes r × (r < length (rows_of bytes)) × ¬ IsRow ports (header_of bytes) r (row_at bytes r)
-  → ReachesRow ports bytes s × (s < length (rows_of bytes)) × ¬ IsRow ports (header_of bytes) s (row_at bytes s) → r ≡ s
+    → ReachesRow ports bytes s × (s < length (rows_of bytes)) × ¬ IsRow ports (header_of bytes) s (row_at bytes s) → r ≡ s
 one_row ports bytes r s here there = by_order (cases_order r s)
   where
-  by_order : (r ≡ s) ⊎ ((r < s) ⊎ (s < r)) → r ≡ s
-  by_order (inl e) = e
-  by_order (inr (inl before)) = absurd (here.2 (there.0.before r before))
-  by_order (inr (inr before)) = absurd (there.2 (here.0.before s before))
+    by_order : (r ≡ s) ⊎ ((r < s) ⊎ (s < r)) → r ≡ s
+    by_order (inl e) = e
+    by_order (inr (inl before)) = absurd (here.2 (there.0.before r before))
+    by_order (inr (inr before)) = absurd (there.2 (here.0.before s before))
 
 -- what a fault of a row says is not so where a later fault of it is reached
 limit_clash : (r s : ℕ) → r ≡ s → r ≡ 1000000 → s < 1000000 → ⊥
@@ -97,13 +97,13 @@ value_clash ports bytes r s f g e some before bad reached =
 
 -- two faults of values in one row are of one field
 one_field : (ports : List Port) (bytes : List ℕ) (r s f g : ℕ) → r ≡ s → 0 < f → 0 < g → (IsValueField ports (header_of bytes) (row_at bytes r) f → ⊥) → (IsValueField ports (header_of bytes) (row_at bytes s) g → ⊥)
-  → ReachesValue ports bytes r f → ReachesValue ports bytes s g → f ≡ g
+    → ReachesValue ports bytes r f → ReachesValue ports bytes s g → f ≡ g
 one_field ports bytes r s f g e some_f some_g bad_f bad_g here there = by_order (cases_order f g)
   where
-  by_order : (f ≡ g) ⊎ ((f < g) ⊎ (g < f)) → f ≡ g
-  by_order (inl same) = same
-  by_order (inr (inl before)) = absurd (value_clash ports bytes r s f g e some_f before bad_f there)
-  by_order (inr (inr before)) = absurd (value_clash ports bytes s r g f (sym e) some_g before bad_g here)
+    by_order : (f ≡ g) ⊎ ((f < g) ⊎ (g < f)) → f ≡ g
+    by_order (inl same) = same
+    by_order (inr (inl before)) = absurd (value_clash ports bytes r s f g e some_f before bad_f there)
+    by_order (inr (inr before)) = absurd (value_clash ports bytes s r g f (sym e) some_g before bad_g here)
 
 digits_clash : (bytes : List ℕ) (r s f g : ℕ) → r ≡ s → f ≡ g → ¬ IsHexadecimal (field (row_at bytes r) f) → IsHexadecimal (field (row_at bytes s) g) → ⊥
 digits_clash bytes r s f g e same none digits = none (subst (λ q. IsHexadecimal (field (row_at bytes q) f)) (sym e) (subst (λ k. IsHexadecimal (field (row_at bytes s) k)) (sym same) digits))
@@ -227,7 +227,7 @@ columns_have_no_fault ports bytes n columns NoMemory good h = h.1
 
 -- the value of a port in a row
 value_of_port : (ports : List Port) (bytes : List ℕ) (n : ℕ) (columns : List (List ℕ)) (i r : ℕ) (good : Columns ports bytes n columns) → (h : i < length ports) → r < n
-  → get_or (get_or columns i []) r 0 ≡ hexadecimal (field (row_at bytes r) (good.header.all i h).at)
+    → get_or (get_or columns i []) r 0 ≡ hexadecimal (field (row_at bytes r) (good.header.all i h).at)
 value_of_port ports bytes n columns i r good h k =
     let listed = good.header.all i h in
     good.values r listed.at i k listed.behind listed.within (record { within = h; is = sym listed.is })
@@ -236,11 +236,11 @@ value_of_port ports bytes n columns i r good h k =
 pub columns_have_widths : (ports : List Port) (bytes : List ℕ) (n : ℕ) (columns : List (List ℕ)) → Columns ports bytes n columns → HaveWidths ports n columns
 columns_have_widths ports bytes n columns good = record { fits = fits }
   where
-  fits : (i r : ℕ) → i < length ports → r < n → get_or (get_or columns i []) r 0 < 2 ^ width_at ports i
-  fits i r h k =
-      let listed = good.header.all i h in
-      let cell = ((good.rows r k).values listed.at listed.behind listed.within).value i (record { within = h; is = sym listed.is }) in
-      subst (λ v. v < 2 ^ width_at ports i) (sym (value_of_port ports bytes n columns i r good h k)) cell.fits
+    fits : (i r : ℕ) → i < length ports → r < n → get_or (get_or columns i []) r 0 < 2 ^ width_at ports i
+    fits i r h k =
+        let listed = good.header.all i h in
+        let cell = ((good.rows r k).values listed.at listed.behind listed.within).value i (record { within = h; is = sym listed.is }) in
+        subst (λ v. v < 2 ^ width_at ports i) (sym (value_of_port ports bytes n columns i r good h k)) cell.fits
 
 -- a text has one count of rows and one list of columns
 pub one_count : (ports : List Port) (bytes : List ℕ) (m n : ℕ) (xs ys : List (List ℕ)) → Columns ports bytes m xs → Columns ports bytes n ys → m ≡ n
@@ -249,13 +249,14 @@ one_count ports bytes m n xs ys p q = sym p.count ∙ q.count
 pub one_columns : (ports : List Port) (bytes : List ℕ) (m n : ℕ) (xs ys : List (List ℕ)) → Columns ports bytes m xs → Columns ports bytes n ys → xs ≡ ys
 one_columns ports bytes m n xs ys p q = ext_get_or [] xs ys (p.width ∙ sym q.width) column
   where
-  count : m ≡ n
-  count = one_count ports bytes m n xs ys p q
-  column : (i : ℕ) → i < length xs → get_or xs i [] ≡ get_or ys i []
-  column i inside =
-      let h : i < length ports = omega (arith, p.width) in
-      ext_get_or 0 (get_or xs i []) (get_or ys i []) (p.height i h ∙ count ∙ sym (q.height i h))
-      (λ r before. value_of_port ports bytes m xs i r p h (omega (arith, p.height i h))
+    count : m ≡ n
+    count = one_count ports bytes m n xs ys p q
+
+    column : (i : ℕ) → i < length xs → get_or xs i [] ≡ get_or ys i []
+    column i inside =
+        let h : i < length ports = omega (arith, p.width) in
+        ext_get_or 0 (get_or xs i []) (get_or ys i []) (p.height i h ∙ count ∙ sym (q.height i h))
+        (λ r before. value_of_port ports bytes m xs i r p h (omega (arith, p.height i h))
         ∙ sym (q.values r (p.header.all i h).at i (omega (arith, p.height i h, count)) (p.header.all i h).behind (p.header.all i h).within (record { within = h; is = sym (p.header.all i h).is })))
 
 -- what is answered is the first fault, or want of memory

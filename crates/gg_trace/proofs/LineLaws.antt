@@ -37,7 +37,7 @@ parts_first x [] h = absurd (omega arith)
 parts_first x (y ∷ parts) h = refl
 
 pub text_lines-first : (text : List ℕ) (n : ℕ) → n < length text → ((k : ℕ) → k < n → get_or text k 0 ≡ 10 → ⊥) → get_or text n 0 ≡ 10
-  → text_lines text ≡ strip_carriage_return (take n text) ∷ text_lines (drop (n + 1) text)
+    → text_lines text ≡ strip_carriage_return (take n text) ∷ text_lines (drop (n + 1) text)
 unfolding text_lines
 text_lines-first text n inside before ends =
     let p = λ (c : ℕ). eqb c 10 in

@@ -24,7 +24,7 @@ next_digit (suc k) value h =
 
 -- a text that takes the next digit
 pub push_digit : (text new whole : List ℕ) (p value d : ℕ) → 0 < p → d ≡ digit_char (value / 2 ^ (4 * (p - 1)) % 16) → new ≡ text ++ d ∷ [] → text ++ hex_digits p value ≡ whole
-  → new ++ hex_digits (p - 1) value ≡ whole
+    → new ++ hex_digits (p - 1) value ≡ whole
 push_digit text new whole p value d some digit longer before =
     ap (λ t. t ++ hex_digits (p - 1) value) longer ∙ append_assoc text (d ∷ []) (hex_digits (p - 1) value)
     ∙ ap (λ c. text ++ c ∷ hex_digits (p - 1) value) digit ∙ ap (λ t. text ++ t) (sym (next_digit p value some)) ∙ before

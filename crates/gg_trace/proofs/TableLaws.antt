@@ -29,22 +29,24 @@ pub row_in : (rows width : ℕ) (cells : List ℕ) (r : ℕ) → length cells �
 row_in rows width cells r size h =
     same_lists _ _ (wide ∙ sym (length-map columns (λ column. get_or column r 0) ∙ length-columns rows width cells)) each
   where
-  columns : List (List ℕ)
-  columns = (table_of rows width cells).columns
-  wide : length (take width (drop (r * width) cells)) ≡ width
-  wide = length-take-le width (drop (r * width) cells) (omega (arith, length-drop (r * width) cells, ends))
-    where
-    ends : r * width + width ≤ length cells
-    ends = grind arith
-  each : (k d : ℕ) → k < length (take width (drop (r * width) cells)) → get_or (take width (drop (r * width) cells)) k d ≡ get_or (row_of columns r) k d
-  each k d before =
-      let inside : k < width = omega (arith, wide) in
-      let within : r * width + k < length cells = omega (arith, mul-add-lt r width k rows h inside, size) in
-      get_or-take width (drop (r * width) cells) k d inside
-      ∙ get_or-drop (r * width) cells k d
-      ∙ get_or_default cells (r * width + k) d 0 within
-      ∙ sym (value_at rows width cells k r inside h)
-      ∙ sym (get_or-map (λ column. get_or column r 0) columns k [] d (omega (arith, length-columns rows width cells)))
+    columns : List (List ℕ)
+    columns = (table_of rows width cells).columns
+
+    wide : length (take width (drop (r * width) cells)) ≡ width
+    wide = length-take-le width (drop (r * width) cells) (omega (arith, length-drop (r * width) cells, ends))
+      where
+        ends : r * width + width ≤ length cells
+        ends = grind arith
+
+    each : (k d : ℕ) → k < length (take width (drop (r * width) cells)) → get_or (take width (drop (r * width) cells)) k d ≡ get_or (row_of columns r) k d
+    each k d before =
+        let inside : k < width = omega (arith, wide) in
+        let within : r * width + k < length cells = omega (arith, mul-add-lt r width k rows h inside, size) in
+        get_or-take width (drop (r * width) cells) k d inside
+        ∙ get_or-drop (r * width) cells k d
+        ∙ get_or_default cells (r * width + k) d 0 within
+        ∙ sym (value_at rows width cells k r inside h)
+        ∙ sym (get_or-map (λ column. get_or column r 0) columns k [] d (omega (arith, length-columns rows width cells)))
 
 -- a column with one more row
 pub column_more : (rows width : ℕ) (cells : List ℕ) (i : ℕ) → column_in (rows + 1) width cells i ≡ column_in rows width cells i ++ get_or cells (rows * width + i) 0 ∷ []

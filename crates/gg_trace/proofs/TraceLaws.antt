@@ -24,16 +24,16 @@ cell_is line g =
 
 -- a cell is a value of the port that its header field names
 value_field : (ports : List Port) (header line : List (List ℕ)) (places : List ℕ) (g : ℕ) → IsHeading ports header places → HasDistinctNames ports → g < length places
-  → IsCell (width_at ports (get_or places g 0)) (field (drop 1 line) g) → IsValueField ports header line (g + 1)
+    → IsCell (width_at ports (get_or places g 0)) (field (drop 1 line) g) → IsValueField ports header line (g + 1)
 value_field ports header line places g heading distinct within cell = record { value = value }
   where
-  value : (i : ℕ) → IsNamed ports (field header (g + 1)) i → IsCell (width_at ports i) (field line (g + 1))
-  value i named =
-      let same : get_or places g 0 ≡ i = one_port ports distinct (field header (g + 1)) _ i (heading.named g within) named in
-      subst (λ text. IsCell (width_at ports i) text) (cell_is line g) (subst (λ p. IsCell (width_at ports p) (field (drop 1 line) g)) same cell)
+    value : (i : ℕ) → IsNamed ports (field header (g + 1)) i → IsCell (width_at ports i) (field line (g + 1))
+    value i named =
+        let same : get_or places g 0 ≡ i = one_port ports distinct (field header (g + 1)) _ i (heading.named g within) named in
+        subst (λ text. IsCell (width_at ports i) text) (cell_is line g) (subst (λ p. IsCell (width_at ports p) (field (drop 1 line) g)) same cell)
 
 values_before : (ports : List Port) (header line : List (List ℕ)) (places : List ℕ) (n : ℕ) → IsHeading ports header places → HasDistinctNames ports → n ≤ length places
-  → AreCells ports places (drop 1 line) n → (f : ℕ) → 0 < f → f < n + 1 → IsValueField ports header line f
+    → AreCells ports places (drop 1 line) n → (f : ℕ) → 0 < f → f < n + 1 → IsValueField ports header line f
 values_before ports header line places n heading distinct within cells zero some before = absurd (omega arith)
 values_before ports header line places n heading distinct within cells (suc g) some before =
     subst (IsValueField ports header line) (add-one g)
@@ -41,13 +41,13 @@ values_before ports header line places n heading distinct within cells (suc g) s
 
 -- a row that is read is one of the header
 is_row : (ports : List Port) (header line : List (List ℕ)) (places values : List ℕ) (r : ℕ) → IsHeading ports header places → HasDistinctNames ports
-  → ReadsRow ports places r line values → IsRow ports header r line
+    → ReadsRow ports places r line values → IsRow ports header r line
 is_row ports header line places values r heading distinct reads = record {
   limit = reads.passes.limit;
   count = reads.passes.count ∙ sym heading.count;
   number = reads.passes.is;
   values = λ f some within.
-    values_before ports header line places (length places) heading distinct (omega arith) reads.cells f some (omega (arith, heading.count));
+      values_before ports header line places (length places) heading distinct (omega arith) reads.cells f some (omega (arith, heading.count));
 }
 
 -- a front part of the rows is read, and the lines are left; cells are the values, row by row
@@ -61,7 +61,7 @@ pub record ReadsRows (ports : List Port) (bytes : List ℕ) (lines : List (List 
   pub each : (r : ℕ) → r < rows → ReadsRow ports places r (row_at bytes r) (take (length ports) (drop (r * length ports) cells))
 
 pub reads_no_row : (ports : List Port) (bytes : List ℕ) (lines : List (List ℕ)) (places values : List ℕ) → IsHeading ports (header_of bytes) places → rows_of bytes ≡ map fields lines
-  → length values ≡ length ports → ReadsRows ports bytes lines places values [] 0
+    → length values ≡ length ports → ReadsRows ports bytes lines places values [] 0
 reads_no_row ports bytes lines places values heading left size = record {
   heading = heading;
   left = left;
@@ -80,7 +80,7 @@ reaches {ports} {bytes} {lines} {places} reads distinct = record {
 
 -- the next row of the text
 next_row : {ports : List Port} {bytes text : List ℕ} {lines : List (List ℕ)} {places values cells : List ℕ} {rows : ℕ} → ReadsRows ports bytes (text ∷ lines) places values cells rows
-  → (row_at bytes rows ≡ fields text) × (rows < length (rows_of bytes)) × (drop (rows + 1) (rows_of bytes) ≡ map fields lines)
+    → (row_at bytes rows ≡ fields text) × (rows < length (rows_of bytes)) × (drop (rows + 1) (rows_of bytes) ≡ map fields lines)
 next_row {ports} {bytes} {text} {lines} {places} {values} {cells} {rows} reads = next_item (rows_of bytes) (map fields lines) (fields text) [] rows reads.left
 
 -- the values of the rows before, and those of a new one
@@ -94,7 +94,7 @@ new_row : (width rows : ℕ) (cells new : List ℕ) → length cells ≡ rows * 
 new_row width rows cells new size wide = ap (take width) (drop_at cells new (rows * width) size) ∙ take_all width new (omega arith)
 
 pub reads_row : (ports : List Port) (bytes text : List ℕ) (lines : List (List ℕ)) (places values cells new : List ℕ) (rows : ℕ) → ReadsRows ports bytes (text ∷ lines) places values cells rows
-  → length new ≡ length ports → ReadsRow ports places rows (fields text) new → ReadsRows ports bytes lines places new (cells ++ new) (rows + 1)
+    → length new ≡ length ports → ReadsRow ports places rows (fields text) new → ReadsRows ports bytes lines places new (cells ++ new) (rows + 1)
 reads_row ports bytes text lines places values cells new rows reads size row = record {
   heading = reads.heading;
   left = next.2;
@@ -105,23 +105,24 @@ reads_row ports bytes text lines places values cells new rows reads size row = r
   each = each;
 }
   where
-  next : (row_at bytes rows ≡ fields text) × (rows < length (rows_of bytes)) × (drop (rows + 1) (rows_of bytes) ≡ map fields lines)
-  next = next_row reads
-  each : (r : ℕ) → r < rows + 1 → ReadsRow ports places r (row_at bytes r) (take (length ports) (drop (r * length ports) (cells ++ new)))
-  each r h = by_row (cases_eq r rows)
-    where
-    by_row : (r ≡ rows) ⊎ (r ≡ rows → ⊥) → ReadsRow ports places r (row_at bytes r) (take (length ports) (drop (r * length ports) (cells ++ new)))
-    by_row (inl e) =
-        subst (λ q. ReadsRow ports places q (row_at bytes q) (take (length ports) (drop (q * length ports) (cells ++ new)))) (sym e)
-        (subst (ReadsRow ports places rows (row_at bytes rows)) (sym (new_row (length ports) rows cells new reads.room size))
-          (subst (λ line. ReadsRow ports places rows line new) (sym next.0) row))
-    by_row (inr ne) =
-        let before : r < rows = omega arith in
-        subst (ReadsRow ports places r (row_at bytes r)) (sym (old_row (length ports) rows r cells new reads.room before)) (reads.each r before)
+    next : (row_at bytes rows ≡ fields text) × (rows < length (rows_of bytes)) × (drop (rows + 1) (rows_of bytes) ≡ map fields lines)
+    next = next_row reads
+
+    each : (r : ℕ) → r < rows + 1 → ReadsRow ports places r (row_at bytes r) (take (length ports) (drop (r * length ports) (cells ++ new)))
+    each r h = by_row (cases_eq r rows)
+      where
+        by_row : (r ≡ rows) ⊎ (r ≡ rows → ⊥) → ReadsRow ports places r (row_at bytes r) (take (length ports) (drop (r * length ports) (cells ++ new)))
+        by_row (inl e) =
+            subst (λ q. ReadsRow ports places q (row_at bytes q) (take (length ports) (drop (q * length ports) (cells ++ new)))) (sym e)
+            (subst (ReadsRow ports places rows (row_at bytes rows)) (sym (new_row (length ports) rows cells new reads.room size))
+            (subst (λ line. ReadsRow ports places rows line new) (sym next.0) row))
+        by_row (inr ne) =
+            let before : r < rows = omega arith in
+            subst (ReadsRow ports places r (row_at bytes r)) (sym (old_row (length ports) rows r cells new reads.room before)) (reads.each r before)
 
 -- where the header's names and the row's number are right, each value before a cell's field is good
 reaches_value : (ports : List Port) (bytes : List ℕ) (places : List ℕ) (rows n : ℕ) → IsHeading ports (header_of bytes) places → HasDistinctNames ports → ReachesRow ports bytes rows
-  → PassesCycle places rows (row_at bytes rows) → n ≤ length places → AreCells ports places (drop 1 (row_at bytes rows)) n → ReachesValue ports bytes rows (n + 1)
+    → PassesCycle places rows (row_at bytes rows) → n ≤ length places → AreCells ports places (drop 1 (row_at bytes rows)) n → ReachesValue ports bytes rows (n + 1)
 reaches_value ports bytes places rows n heading distinct before passes within cells = record {
   count = record { limit = record { row = before; limit = passes.limit }; count = passes.count ∙ sym heading.count };
   number = passes.is;
@@ -133,7 +134,7 @@ value_at_cell ports bytes places rows g heading row within = record { row = row;
 
 -- the fault of a row is the text's first
 first_of_row : (ports : List Port) (bytes : List ℕ) (places : List ℕ) (rows : ℕ) (fault : TraceFault) → IsHeading ports (header_of bytes) places → HasDistinctNames ports → ReachesRow ports bytes rows
-  → rows ≤ 1000000 → rows < length (rows_of bytes) → HasRowFault ports places rows (row_at bytes rows) fault → IfFirstFault ports bytes fault
+    → rows ≤ 1000000 → rows < length (rows_of bytes) → HasRowFault ports places rows (row_at bytes rows) fault → IfFirstFault ports bytes fault
 first_of_row ports bytes places rows (T1 f) heading distinct before limit row h = absurd h
 first_of_row ports bytes places rows (T2 r) heading distinct before limit row h =
     subst (λ q. IfFirstFault ports bytes (T2 q)) (sym h.0)
@@ -141,23 +142,29 @@ first_of_row ports bytes places rows (T2 r) heading distinct before limit row h 
 first_of_row ports bytes places rows (T3 r f) heading distinct before limit row h =
     let s = h.1.0 in
     subst (λ q. IfFirstFault ports bytes (T3 q f)) (sym s.is_row)
-    (subst (λ g. IfFirstFault ports bytes (T3 rows g)) (sym s.is_field)
-      (reaches_value ports bytes places rows s.at heading distinct before h.0 (omega (arith, s.within)) s.before,
-        (value_at_cell ports bytes places rows s.at heading row s.within,
-          λ digits. h.1.1 (subst IsHexadecimal (sym (cell_is (row_at bytes rows) s.at)) digits))))
+    (subst (λ g. IfFirstFault ports bytes (T3 rows g)) (sym s.is_field) (
+      reaches_value ports bytes places rows s.at heading distinct before h.0 (omega (arith, s.within)) s.before,
+      (
+        value_at_cell ports bytes places rows s.at heading row s.within,
+        λ digits. h.1.1 (subst IsHexadecimal (sym (cell_is (row_at bytes rows) s.at)) digits),
+      ),
+    ))
 first_of_row ports bytes places rows (T4 r f) heading distinct before limit row h =
     let s = h.1.0 in
     let at = cell_is (row_at bytes rows) s.at in
     subst (λ q. IfFirstFault ports bytes (T4 q f)) (sym s.is_row)
-    (subst (λ g. IfFirstFault ports bytes (T4 rows g)) (sym s.is_field)
-      (reaches_value ports bytes places rows s.at heading distinct before h.0 (omega (arith, s.within)) s.before,
-        (value_at_cell ports bytes places rows s.at heading row s.within,
-          record {
-            port = get_or places s.at 0;
-            named = heading.named s.at s.within;
-            digits = subst IsHexadecimal at h.1.1.0;
-            wide = subst (λ text. 2 ^ width_at ports (get_or places s.at 0) ≤ hexadecimal text) at h.1.1.1;
-          })))
+    (subst (λ g. IfFirstFault ports bytes (T4 rows g)) (sym s.is_field) (
+      reaches_value ports bytes places rows s.at heading distinct before h.0 (omega (arith, s.within)) s.before,
+      (
+        value_at_cell ports bytes places rows s.at heading row s.within,
+        record {
+          port = get_or places s.at 0;
+          named = heading.named s.at s.within;
+          digits = subst IsHexadecimal at h.1.1.0;
+          wide = subst (λ text. 2 ^ width_at ports (get_or places s.at 0) ≤ hexadecimal text) at h.1.1.1;
+        },
+      ),
+    ))
 first_of_row ports bytes places rows (T5 r c) heading distinct before limit row h =
     subst (λ q. IfFirstFault ports bytes (T5 q c)) (sym h.0)
     (record { row = before; limit = h.1 }, (row, sym h.2, λ e. h.3 (e ∙ heading.count)))
@@ -166,7 +173,7 @@ first_of_row ports bytes places rows (T6 r) heading distinct before limit row h 
 first_of_row ports bytes places rows NoMemory heading distinct before limit row h = absurd h
 
 pub row_fault : (ports : List Port) (bytes text : List ℕ) (lines : List (List ℕ)) (places values cells : List ℕ) (rows : ℕ) (fault : TraceFault) → ReadsRows ports bytes (text ∷ lines) places values cells rows
-  → HasDistinctNames ports → HasRowFault ports places rows (fields text) fault → IfFirstFault ports bytes fault
+    → HasDistinctNames ports → HasRowFault ports places rows (fields text) fault → IfFirstFault ports bytes fault
 row_fault ports bytes text lines places values cells rows fault reads distinct h =
     let next = next_row reads in
     first_of_row ports bytes places rows fault reads.heading distinct (reaches reads distinct) reads.limit next.1
@@ -184,8 +191,8 @@ header_fault ports bytes NoMemory h = tt
 
 -- the value of a port in a row
 row_value : (ports : List Port) (header line : List (List ℕ)) (places cells : List ℕ) (r f i : ℕ) → IsHeading ports header places → HasDistinctNames ports
-  → ReadsRow ports places r line (take (length ports) (drop (r * length ports) cells)) → 0 < f → f < length header → IsNamed ports (field header f) i
-  → get_or cells (r * length ports + i) 0 ≡ hexadecimal (field line f)
+    → ReadsRow ports places r line (take (length ports) (drop (r * length ports) cells)) → 0 < f → f < length header → IsNamed ports (field header f) i
+    → get_or cells (r * length ports + i) 0 ≡ hexadecimal (field line f)
 row_value ports header line places cells r zero i heading distinct reads some within named = absurd (omega arith)
 row_value ports header line places cells r (suc g) i heading distinct reads some within named =
     let inside : g < length places = omega (arith, heading.count) in
@@ -197,7 +204,7 @@ row_value ports header line places cells r (suc g) i heading distinct reads some
 
 -- all rows are read
 pub reads_all_rows : (ports : List Port) (bytes places values cells : List ℕ) (rows : ℕ) → ReadsRows ports bytes [] places values cells rows → HasDistinctNames ports
-  → Columns ports bytes rows (table_of rows (length ports) cells).columns
+    → Columns ports bytes rows (table_of rows (length ports) cells).columns
 reads_all_rows ports bytes places values cells rows reads distinct = record {
   header = reads.heading.is_header;
   count = ends;
@@ -205,9 +212,9 @@ reads_all_rows ports bytes places values cells rows reads distinct = record {
   width = length-columns rows (length ports) cells;
   height = λ i h. ap length (column_at rows (length ports) cells i h) ∙ length-column rows (length ports) cells i;
   values = λ r f i h some within named.
-    value_at rows (length ports) cells i r named.within h
-    ∙ row_value ports (header_of bytes) (row_at bytes r) places cells r f i reads.heading distinct (reads.each r h) some within named;
+      value_at rows (length ports) cells i r named.within h
+      ∙ row_value ports (header_of bytes) (row_at bytes r) places cells r f i reads.heading distinct (reads.each r h) some within named;
 }
   where
-  ends : length (rows_of bytes) ≡ rows
-  ends = omega (arith, length-drop rows (rows_of bytes), ap length reads.left, reads.reached)
+    ends : length (rows_of bytes) ≡ rows
+    ends = omega (arith, length-drop rows (rows_of bytes), ap length reads.left, reads.reached)

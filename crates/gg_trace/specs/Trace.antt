@@ -44,7 +44,7 @@ pub record Columns (ports : List Port) (bytes : List ℕ) (n : ℕ) (columns : L
   pub width : length columns ≡ length ports
   pub height : (i : ℕ) → i < length ports → length (slice_index_or columns i []) ≡ n
   pub values : (r f i : ℕ) → r < n → 0 < f → f < length (header_of bytes) → IsNamed ports (field (header_of bytes) f) i
-    → slice_index (slice_index_or columns i []) r ≡ hexadecimal (field (row_at bytes r) f)
+      → slice_index (slice_index_or columns i []) r ≡ hexadecimal (field (row_at bytes r) f)
 
 -- row r has a field f below a name of the header
 pub record HasValueAt (bytes : List ℕ) (r f : ℕ) : Type 0 where

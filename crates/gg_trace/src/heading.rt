@@ -7,7 +7,7 @@ ghost use Rattle.gg_trace.specs.Places.{IsHeading, IfHeaderFault, TakesName};
 
 use crate::faults::TraceFault;
 use crate::field_cuts::Fields;
-use crate::port_list::{place_of, same_bytes, Port};
+use crate::port_list::{Port, place_of, same_bytes};
 use std::alloc::Global;
 
 /// The first port that is not named, if there is one.
@@ -37,11 +37,7 @@ fn take_name(ports: &[Port], name: &[u8], named: &mut Vec<bool>, guess: usize) -
 }
 
 /// The ports that the fields behind the first name, where `header` is the whole header.
-fn read_names(
-    alloc: Global,
-    ports: &[Port],
-    rest: &mut Fields,
-) -> Result<Vec<usize>, TraceFault>
+fn read_names(alloc: Global, ports: &[Port], rest: &mut Fields) -> Result<Vec<usize>, TraceFault>
     requires { HasDistinctNames ports.now }
     ensures { MatchResult result (λ places. IsHeading ports.now (codes "cycle" ∷ rest.old) places.items) (IfHeaderFault ports.now (codes "cycle" ∷ rest.old)) }
 {
@@ -49,12 +45,16 @@ fn read_names(
     let mut named = vec![in alloc; false; ports.len()]?;
     while let Some(name) = rest.next() {
         let Some(place) = take_name(ports, name, &mut named, places.len()) else {
-            return Err(TraceFault::T1 { field: places.len() as u64 + 1 });
+            return Err(TraceFault::T1 {
+                field: places.len() as u64 + 1,
+            });
         };
         places.push(place)?;
     }
     match first_missing(&named) {
-        Some(_) => Err(TraceFault::T1 { field: places.len() as u64 + 1 }),
+        Some(_) => Err(TraceFault::T1 {
+            field: places.len() as u64 + 1,
+        }),
         None => Ok(places),
     }
 }

@@ -7,10 +7,10 @@ ghost use Rattle.gg_trace.specs.Cells.{IsCell, hexadecimal};
 ghost use Rattle.gg_trace.specs.Header.{field};
 ghost use Rattle.gg_trace.specs.Places.{ArePlaces, AreCells, AreValues, HasValueFault, HasValuesFault, ReadsRow, HasRowFault};
 
-use crate::cells::{value_of, CellFault};
+use crate::cells::{CellFault, value_of};
 use crate::faults::TraceFault;
-use crate::field_cuts::{count_fields, Fields};
-use crate::port_list::{same_bytes, Port};
+use crate::field_cuts::{Fields, count_fields};
+use crate::port_list::{Port, same_bytes};
 use itoa::Buffer;
 
 /// A trace has at most this many rows.
@@ -76,11 +76,16 @@ pub fn read_row(
     }
     let count = count_fields(line);
     if count != places.len() + 1 {
-        return Err(TraceFault::T5 { row, count: count as u64 });
+        return Err(TraceFault::T5 {
+            row,
+            count: count as u64,
+        });
     }
     let mut cells = Fields::of(line);
     match cells.next() {
-        Some(first) if is_decimal(first, row) => read_values(ports, places, &mut cells, row, values),
+        Some(first) if is_decimal(first, row) => read_values(
+            ports, places, &mut cells, row, values,
+        ),
         _ => Err(TraceFault::T2 { row }),
     }
 }

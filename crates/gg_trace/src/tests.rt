@@ -70,10 +70,16 @@ static REFUSED: [(&[u8], TraceFault); 21] = [
     (b"cycle reset\n0 g\n", TraceFault::T3 { row: 0, field: 1 }),
     (b"cycle reset\n0 \n", TraceFault::T3 { row: 0, field: 1 }),
     (b"cycle reset\n0 1\r", TraceFault::T3 { row: 0, field: 1 }),
-    (b"cycle reset\n0 \xff\n", TraceFault::T3 { row: 0, field: 1 }),
+    (
+        b"cycle reset\n0 \xff\n",
+        TraceFault::T3 { row: 0, field: 1 },
+    ),
     (b"cycle reset\n0 0x1\n", TraceFault::T3 { row: 0, field: 1 }),
     (b"cycle reset\n0 2\n", TraceFault::T4 { row: 0, field: 1 }),
-    (b"cycle reset\n0 0\n1 100000000000000000000000000000000\n", TraceFault::T4 { row: 1, field: 1 }),
+    (
+        b"cycle reset\n0 0\n1 100000000000000000000000000000000\n",
+        TraceFault::T4 { row: 1, field: 1 },
+    ),
     (b"cycle reset\n0\n", TraceFault::T5 { row: 0, count: 1 }),
     (b"cycle reset\n0 0\n\n", TraceFault::T5 { row: 1, count: 0 }),
     (b"cycle reset\n5 x 2\n", TraceFault::T5 { row: 0, count: 3 }),

@@ -35,7 +35,11 @@ impl Trace {
         requires limit { rows ≤ 1000000 }
         ensures { result ≡ table_of rows inputs cells.items }
     {
-        Trace { rows, inputs, cells }
+        Trace {
+            rows,
+            inputs,
+            cells,
+        }
     }
 
     /// How many rows there are: at most 1,000,000.
@@ -72,7 +76,13 @@ impl Trace {
 }
 
 /// Every value at place `input` of a row.
-fn column_of(alloc: Global, cells: &[u128], rows: usize, inputs: usize, input: usize) -> Result<Vec<u128>, AllocError>
+fn column_of(
+    alloc: Global,
+    cells: &[u128],
+    rows: usize,
+    inputs: usize,
+    input: usize,
+) -> Result<Vec<u128>, AllocError>
     requires size { length cells.now ≡ rows * inputs }
     requires within { input < inputs }
     ensures { IfOk result (λ column. column.items ≡ map (λ r. slice_index cells.now (r * inputs + input)) (range_with_len 0 rows)) }

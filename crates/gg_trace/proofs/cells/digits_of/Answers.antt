@@ -20,10 +20,12 @@ loop-byte-init c = reads_nothing c.args.field.now
 pub returns-in_default : goal.returns-in_default
 returns-in_default c =
     let field = c.args.field.now in
-    let i = c.loop-byte.byte-index in
-    (refl, not_hexadecimal field (drop (i + 1) field) (get_or field i 0) c.loop-byte.value
-      (at_byte field i c.loop-byte.value (omega arith) c.loop-byte.invariant)
-      (subst (λ b. digit_value b < 16 → ⊥) c.from.ensures c.in_default.ensures.value))
+    let i = c.loop-byte.byte-index in (
+      refl,
+      not_hexadecimal field (drop (i + 1) field) (get_or field i 0) c.loop-byte.value
+          (at_byte field i c.loop-byte.value (omega arith) c.loop-byte.invariant)
+          (subst (λ b. digit_value b < 16 → ⊥) c.from.ensures c.in_default.ensures.value),
+    )
 
 pub loop-byte-preserved : goal.loop-byte-preserved
 loop-byte-preserved c =

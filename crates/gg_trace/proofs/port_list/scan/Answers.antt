@@ -11,4 +11,4 @@ pub loop-i-preserved : goal.loop-i-preserved
 loop-i-preserved c =
     below_more _ _ c.loop-i.invariant
     (not_named c.args.ports.now c.args.name.now c.loop-i.i c.index-ports-i.result (omega arith) c.index-ports-i.is
-      (λ is. c.if-same_bytes.ensures.differ (c.as_bytes.ensures ∙ is)))
+    (λ is. c.if-same_bytes.ensures.differ (c.as_bytes.ensures ∙ is)))

@@ -16,7 +16,7 @@ returns-in_err-read_row c =
     let p = err_from_is_err_and c.from_residual-in_err-read_row.result c.from_residual-in_err-read_row.ensures.1 in
     rw (p.1, p.2)
     (row_fault ports c.args.bytes.now c.in-Some.line.now c.next.new.self c.in_ok-places.places.items c.loop-line.values.items c.loop-line.cells.items c.loop-line.rows fault reads c.requires
-      (subst (λ places. HasRowFault ports places c.loop-line.rows (fields c.in-Some.line.now) fault) c.deref.ensures.value c.in_err-read_row.ensures))
+    (subst (λ places. HasRowFault ports places c.loop-line.rows (fields c.in-Some.line.now) fault) c.deref.ensures.value c.in_err-read_row.ensures))
 
 pub loop-line-preserved : goal.loop-line-preserved
 loop-line-preserved c =
@@ -33,7 +33,7 @@ loop-line-preserved c =
     let longer = c.in_ok-extend_from_slice.ensures.items ∙ ap (λ xs. cells ++ xs) (c.deref-in-Some.ensures.value ∙ same) in
     subst (λ values. ReadsRows ports bytes c.next.new.self places values c.extend_from_slice.new.self.items (c.loop-line.rows + 1)) (sym same)
     (subst (λ xs. ReadsRows ports bytes c.next.new.self places new xs (c.loop-line.rows + 1)) (sym longer)
-      (reads_row ports bytes c.in-Some.line.now c.next.new.self places c.loop-line.values.items cells new c.loop-line.rows reads size row))
+    (reads_row ports bytes c.in-Some.line.now c.next.new.self places c.loop-line.values.items cells new c.loop-line.rows reads size row))
 
 pub returns : goal.returns
 returns c =

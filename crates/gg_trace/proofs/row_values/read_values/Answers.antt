@@ -17,7 +17,7 @@ returns-in_err-values c =
     let p = err_from_is_err_and c.from_residual.result c.from_residual.ensures.1 in
     rw (p.1, p.2)
     (cell_fault ports places c.args.cells.now c.next.new.self c.in-Some.text.now c.loop-text.values c.loop-text.at c.args.row fault reads
-      (subst (λ w. HasValueFault w c.in-Some.text.now c.args.row (c.loop-text.at + 1) fault) (sym width) c.in_err-values.ensures))
+    (subst (λ w. HasValueFault w c.in-Some.text.now c.args.row (c.loop-text.at + 1) fault) (sym width) c.in_err-values.ensures))
 
 pub loop-text-preserved : goal.loop-text-preserved
 loop-text-preserved c =

@@ -12,5 +12,5 @@ returns c =
     let inside : r < a.rows = subst (λ (t : Table). r < t.rows) (sym c.self.view_is) c.requires in
     subst (λ (t : Table). take (from + a.inputs - from) (drop from c.deref.result.now) ≡ row_of t.columns r) c.self.view_is
     (ap (λ n. take n (drop from c.deref.result.now)) wide
-      ∙ ap (λ (xs : List ℕ). take a.inputs (drop from xs)) c.deref.ensures.value
-      ∙ row_in a.rows a.inputs a.cells.items r c.self.invariant.0 inside)
+    ∙ ap (λ (xs : List ℕ). take a.inputs (drop from xs)) c.deref.ensures.value
+    ∙ row_in a.rows a.inputs a.cells.items r c.self.invariant.0 inside)
