@@ -9,3 +9,4 @@ pub mod ListLaws
 pub mod TraceLaws
 pub mod FirstLaws
 pub mod PrintLaws
+pub mod PartedLaws

@@ -6,3 +6,4 @@ pub mod Places
 pub mod Table
 pub mod Trace
 pub mod Printing
+pub mod Parted

@@ -1,7 +1,8 @@
 //! The fields of one line, from left to right.
 
-ghost use Rattle.std.specs.Prelude.{◌≡◌, ℕ, ◌∷◌, [], ◌<◌, ◌≤◌, MatchOption, not, length, slice_index};
+ghost use Rattle.std.specs.Prelude.{◌≡◌, ℕ, List, ◌∷◌, [], ◌<◌, ◌≤◌, MatchOption, not, length, slice_index};
 ghost use Rattle.std.specs.Option.{option_copied};
+ghost use Rattle.gg_trace.specs.Parted.{AreFields};
 ghost use Rattle.gg_trace.specs.Fields.{is_blank, fields, fields_of_text, fields_left};
 
 use std::marker::Model;
@@ -90,4 +91,11 @@ pub fn count_fields(line: &[u8]) -> usize
         count += 1;
     }
     count
+}
+
+/// The fields of a line are the one list of fields that parts it.
+pub fn fields_part_their_line()
+    ensures are { (line : List ℕ) → AreFields line (fields line) }
+    ensures only { (line : List ℕ) (others : List (List ℕ)) → AreFields line others → others ≡ fields line }
+{
 }

@@ -13,8 +13,9 @@ mod row_values;
 mod trace_table;
 
 pub use faults::TraceFault;
+pub use field_cuts::fields_part_their_line;
 pub use port_list::{Port, Ports};
-pub use printing::{header_text, row_text};
+pub use printing::{header_text, printed_values_are_read, row_text};
 pub use reading::read_trace;
 pub use trace_table::Trace;
 

@@ -1,7 +1,8 @@
 //! The lines of an output trace.
 
-ghost use Rattle.std.specs.Prelude.{◌≡◌, ◌≤◌, ◌<◌, ◌++◌, ◌∷◌, [], IfOk, OnOk, length, string_bytes};
+ghost use Rattle.std.specs.Prelude.{◌≡◌, ℕ, ◌^◌, ◌≤◌, ◌<◌, ◌++◌, ◌∷◌, [], IfOk, OnOk, length, string_bytes};
 ghost use Rattle.std.specs.Char.{digit_char};
+ghost use Rattle.gg_trace.specs.Cells.{IsCell, hexadecimal};
 ghost use Rattle.gg_trace.specs.Printing.{hex_digits, digit_count, header_line, row_line};
 
 use crate::port_list::Ports;
@@ -72,4 +73,11 @@ pub fn row_text(alloc: Global, ports: &Ports, row: u64, values: &[u128]) -> Resu
     }
     text.push_str("\n")?;
     Ok(Name::from(text))
+}
+
+/// A value that is printed in its width is read again as it was.
+pub fn printed_values_are_read()
+    ensures { (width value : ℕ) → 0 < width → value < 2 ^ width →
+        IsCell width (hex_digits (digit_count width) value) × (hexadecimal (hex_digits (digit_count width) value) ≡ value) }
+{
 }
