@@ -1,14 +1,14 @@
 -- A text has at most one first fault, or columns, and these are the only ones.
-use Rattle.std.proofs.Common.{◌≡◌, ◌≢◌, ℕ, ◌+◌, ◌^◌, ◌<◌, ◌≤◌, zero, suc, List, [], length, get_or, decimal, ◌⊎◌, inl, inr, refl, sym, ap, ◌∙◌, subst, arith}
-use Rattle.std.proofs.lemmas.List.{same_lists, ext_get_or}
+use Rattle.std.proofs.Common.{◌≡◌, ◌≢◌, ℕ, ◌^◌, ◌<◌, zero, suc, List, [], length, get_or, decimal, ◌⊎◌, inl, inr, refl, sym, ap, ◌∙◌, subst, arith}
+use Rattle.std.proofs.lemmas.List.{ext_get_or}
 use Rattle.std.proofs.lemmas.Bool.{cases_order}
 use Rattle.gg_trace.specs.declared.port_list.Port.{Port}
 use Rattle.gg_trace.specs.declared.faults.TraceFault.{TraceFault}
 use Rattle.gg_trace.specs.declared.faults.TraceFault.TheVariants.{T1, T2, T3, T4, T5, T6, NoMemory}
-use Rattle.gg_trace.specs.Cells.{IsHexadecimal, hexadecimal, IsCell}
+use Rattle.gg_trace.specs.Cells.{IsHexadecimal, hexadecimal}
 use Rattle.gg_trace.specs.Ports.{IsNamed, width_at}
-use Rattle.gg_trace.specs.Header.{field, MayStand, IsListed, IsHeader, HasHeaderFault}
-use Rattle.gg_trace.specs.Trace.{header_of, rows_of, row_at, IsValueField, IsRow, Columns, HasValueAt, IsTooWide, HasFault, ReachesRow, ReachesCount, ReachesNumber, ReachesValue, IsReached, IsFirstFault, IfFirstFault, HaveWidths}
+use Rattle.gg_trace.specs.Header.{field, MayStand, IsHeader, HasHeaderFault}
+use Rattle.gg_trace.specs.Trace.{header_of, rows_of, row_at, IsValueField, IsRow, Columns, HasValueAt, IsTooWide, ReachesRow, ReachesValue, IsFirstFault, IfFirstFault, HaveWidths}
 
 -- a header has no fault
 header_good : (ports : List Port) (header : List (List ℕ)) (f : ℕ) → HasHeaderFault ports header f → IsHeader ports header → ⊥

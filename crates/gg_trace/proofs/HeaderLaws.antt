@@ -1,11 +1,11 @@
 -- The names of a header, as far as they are read.
-use Rattle.std.proofs.Common.{◌≡◌, ◌≢◌, ℕ, ◌+◌, ◌-◌, ◌<◌, ◌≤◌, zero, suc, Bool, true, false, List, [], ◌∷◌, ◌++◌, length, get_or, set, drop, replicate, codes, ◌⊎◌, inl, inr, refl, sym, ap, ◌∙◌, subst, arith, add-one, length-drop, length-append}
-use Rattle.std.proofs.lemmas.List.{get_or-drop, drop-drop, get_or_append_left, get_or_at, length_push, get_or-set_same, get_or-set_other, length-set, get_or-replicate, get_or_past, length-replicate}
+use Rattle.std.proofs.Common.{◌≡◌, ◌≢◌, ℕ, ◌+◌, ◌<◌, ◌≤◌, zero, suc, Bool, true, false, List, [], ◌∷◌, ◌++◌, length, get_or, set, drop, replicate, codes, ◌⊎◌, inl, inr, refl, sym, ap, ◌∙◌, subst, arith, add-one, length-drop}
+use Rattle.std.proofs.lemmas.List.{get_or_append_left, get_or_at, length_push, get_or-set_same, get_or-set_other, length-set, length-replicate}
 use Rattle.std.proofs.lemmas.Bool.{false≢true, cases_eq}
 use Rattle.gg_trace.proofs.ListLaws.{next_item}
 use Rattle.gg_trace.specs.declared.port_list.Port.{Port}
 use Rattle.gg_trace.specs.Ports.{name_at, IsNamed, HasDistinctNames}
-use Rattle.gg_trace.specs.Header.{field, IsNewName, MayStand, IsListed, IsHeader, HasHeaderFault}
+use Rattle.gg_trace.specs.Header.{field, MayStand, IsListed, HasHeaderFault}
 use Rattle.gg_trace.specs.Places.{IsPlace, IsHeading}
 
 -- the header is `cycle`, the names at these places, and then rest; marks are of the ports that are named

@@ -1,5 +1,5 @@
 -- The digits of a value.
-use Rattle.std.proofs.Common.{◌≡◌, ℕ, ◌+◌, ◌-◌, ◌*◌, ◌/◌, ◌%◌, ◌^◌, ◌<◌, ◌≤◌, zero, suc, cond, nat_lt, true, false, Bool, List, [], ◌∷◌, ◌++◌, refl, sym, ap, ◌∙◌, subst, arith, append_assoc, length}
+use Rattle.std.proofs.Common.{◌≡◌, ℕ, ◌+◌, ◌-◌, ◌*◌, ◌/◌, ◌%◌, ◌^◌, ◌<◌, ◌≤◌, zero, suc, List, [], ◌∷◌, ◌++◌, refl, sym, ap, ◌∙◌, subst, arith, append_assoc, length}
 use Rattle.std.proofs.Math.Nat.{pow-succ', mod-eq_of_lt}
 use Rattle.std.proofs.lemmas.Nat.{pow-add, mod-pow-add}
 use Rattle.std.proofs.Math.Pow.{pow_mono}
@@ -48,12 +48,12 @@ digits_after (suc k) n value =
     ∙ carry n d (16 ^ k) (value % 16 ^ k) (value % 16 ^ suc k) split
     ∙ ap (λ p. n * p + value % 16 ^ suc k) (sym (pow-succ' 16 k))
   where
-  split_last : (k v : ℕ) → v % 16 ^ suc k ≡ v / 16 ^ k % 16 * 16 ^ k + v % 16 ^ k
-  split_last k v =
-      let e : 4 + 4 * k ≡ 4 * suc k = omega arith in
-      let long : 2 ^ (4 + 4 * k) ≡ 16 ^ suc k = ap (λ n. 2 ^ n) e ∙ sixteen (suc k) in
-      subst (λ p. v % 16 ^ suc k ≡ v / p % 16 * p + v % p) (sixteen k)
-      (subst (λ q. v % q ≡ v / 2 ^ (4 * k) % 16 * 2 ^ (4 * k) + v % 2 ^ (4 * k)) long (mod-pow-add v 4 (4 * k)))
+    split_last : (k v : ℕ) → v % 16 ^ suc k ≡ v / 16 ^ k % 16 * 16 ^ k + v % 16 ^ k
+    split_last k v =
+        let e : 4 + 4 * k ≡ 4 * suc k = omega arith in
+        let long : 2 ^ (4 + 4 * k) ≡ 16 ^ suc k = ap (λ n. 2 ^ n) e ∙ sixteen (suc k) in
+        subst (λ p. v % 16 ^ suc k ≡ v / p % 16 * p + v % p) (sixteen k)
+        (subst (λ q. v % q ≡ v / 2 ^ (4 * k) % 16 * 2 ^ (4 * k) + v % 2 ^ (4 * k)) long (mod-pow-add v 4 (4 * k)))
 
 are_digits : (k value : ℕ) → AllDigits 16 (hex_digits k value)
 are_digits zero value = tt
@@ -69,16 +69,19 @@ length-hex_digits (suc k) value = ap (λ n. suc n) (length-hex_digits k value)
 -- a value is read as it is printed
 pub printed_value : (width value : ℕ) → 0 < width → value < 2 ^ width → IsCell width (hex_digits (digit_count width) value) × (hexadecimal (hex_digits (digit_count width) value) ≡ value)
 unfolding IsHexadecimal hexadecimal
-printed_value width value some fits =
-    (record {
-      digits = (omega (arith, length-hex_digits (digit_count width) value), are_digits (digit_count width) value);
-      fits = subst (λ n. n < 2 ^ width) (sym same) fits;
-    }, same)
+printed_value width value some fits = (
+  record {
+    digits = (omega (arith, length-hex_digits (digit_count width) value), are_digits (digit_count width) value);
+    fits = subst (λ n. n < 2 ^ width) (sym same) fits;
+  },
+  same,
+)
   where
-  room : value < 16 ^ digit_count width
-  room =
-      let enough : width ≤ 4 * digit_count width = omega arith in
-      let wider : 2 ^ width ≤ 2 ^ (4 * digit_count width) = pow_mono enough in
-      omega (arith, wider, sixteen (digit_count width))
-  same : digits_value 16 (hex_digits (digit_count width) value) ≡ value
-  same = digits_after (digit_count width) 0 value ∙ (let e : value % 16 ^ digit_count width ≡ value = mod-eq_of_lt room in omega (arith, e))
+    room : value < 16 ^ digit_count width
+    room =
+        let enough : width ≤ 4 * digit_count width = omega arith in
+        let wider : 2 ^ width ≤ 2 ^ (4 * digit_count width) = pow_mono enough in
+        omega (arith, wider, sixteen (digit_count width))
+
+    same : digits_value 16 (hex_digits (digit_count width) value) ≡ value
+    same = digits_after (digit_count width) 0 value ∙ (let e : value % 16 ^ digit_count width ≡ value = mod-eq_of_lt room in omega (arith, e))

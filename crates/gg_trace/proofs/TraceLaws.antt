@@ -1,17 +1,17 @@
 -- The rows of a trace, as far as they are read.
-use Rattle.std.proofs.Common.{◌≡◌, ◌≢◌, ℕ, ◌+◌, ◌-◌, ◌*◌, ◌^◌, ◌<◌, ◌≤◌, zero, suc, List, [], ◌∷◌, ◌++◌, map, length, get_or, take, drop, decimal, ◌⊎◌, inl, inr, refl, sym, ap, ◌∙◌, subst, arith, add-one, length-drop, length-append}
-use Rattle.std.proofs.lemmas.List.{get_or-drop, get_or-take, take_at, take_all, drop_at, take-append-le, drop-append-le}
+use Rattle.std.proofs.Common.{◌≡◌, ℕ, ◌+◌, ◌*◌, ◌^◌, ◌<◌, ◌≤◌, zero, suc, List, [], ◌∷◌, ◌++◌, map, length, get_or, take, drop, ◌⊎◌, inl, inr, sym, ap, ◌∙◌, subst, arith, add-one, length-drop, length-append}
+use Rattle.std.proofs.lemmas.List.{get_or-drop, get_or-take, take_all, drop_at, take-append-le, drop-append-le}
 use Rattle.std.proofs.lemmas.Bool.{cases_eq}
 use Rattle.gg_trace.specs.declared.port_list.Port.{Port}
 use Rattle.gg_trace.specs.declared.faults.TraceFault.{TraceFault}
 use Rattle.gg_trace.specs.declared.faults.TraceFault.TheVariants.{T1, T2, T3, T4, T5, T6, NoMemory}
 use Rattle.gg_trace.specs.Cells.{IsHexadecimal, hexadecimal, IsCell}
-use Rattle.gg_trace.specs.Fields.{fields, text_lines}
+use Rattle.gg_trace.specs.Fields.{fields}
 use Rattle.gg_trace.specs.Ports.{IsNamed, HasDistinctNames, width_at}
-use Rattle.gg_trace.specs.Header.{field, IsHeader, HasHeaderFault}
-use Rattle.gg_trace.specs.Places.{IsHeading, IfHeaderFault, AreCells, AreValues, StopsAt, HasValuesFault, PassesCycle, ReadsRow, HasRowFault}
+use Rattle.gg_trace.specs.Header.{field}
+use Rattle.gg_trace.specs.Places.{IsHeading, IfHeaderFault, AreCells, PassesCycle, ReadsRow, HasRowFault}
 use Rattle.gg_trace.specs.Table.{table_of}
-use Rattle.gg_trace.specs.Trace.{header_of, rows_of, row_at, IsValueField, IsRow, Columns, HasValueAt, IsTooWide, HasFault, ReachesRow, ReachesCount, ReachesNumber, ReachesValue, IsReached, IsFirstFault, IfFirstFault, HaveWidths}
+use Rattle.gg_trace.specs.Trace.{header_of, rows_of, row_at, IsValueField, IsRow, Columns, HasValueAt, ReachesRow, ReachesValue, IfFirstFault}
 use Rattle.gg_trace.proofs.ListLaws.{next_item}
 use Rattle.gg_trace.proofs.HeaderLaws.{one_port}
 use Rattle.gg_trace.proofs.TableLaws.{length-columns, column_at, length-column, value_at}

@@ -7,3 +7,4 @@ pub mod Table
 pub mod Trace
 pub mod Printing
 pub mod Parted
+pub mod FaultText

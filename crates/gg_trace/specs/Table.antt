@@ -1,5 +1,5 @@
 -- What a trace holds: a column of values for each port.
-use Rattle.std.specs.Prelude.{ℕ, ◌+◌, ◌*◌, List, map, slice_index, slice_index_or}
+use Rattle.std.specs.Prelude.{ℕ, ◌+◌, ◌*◌, List, map, slice_index}
 use Rattle.std.specs.List.{range_with_len}
 
 -- the count of rows, and for each port, in port order, its value in each row

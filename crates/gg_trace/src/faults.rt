@@ -4,6 +4,7 @@ ghost use Rattle.std.specs.Prelude.{◌≡◌};
 ghost use Rattle.gg_trace.specs.declared.faults.TraceFault.TheVariants.{NoMemory};
 
 use std::alloc::{AllocError, AllocFailed};
+use std::fmt;
 
 /// What is wrong with an input trace. Rows and fields are counted from 0, and the header is no row.
 #[derive(Clone, Copy, Debug, Drop, PartialEq, Eq)]
@@ -37,5 +38,25 @@ impl<T: Drop> From<AllocFailed<T>> for TraceFault {
 
     fn from(_error: AllocFailed<T>) -> TraceFault {
         TraceFault::NoMemory
+    }
+}
+
+/// The fault's code, and what it carries, as the program prints it behind `golden: trace: `.
+impl fmt::Display for TraceFault {
+    ghost use Rattle.std.specs.Prelude.{Some};
+    ghost use Rattle.gg_trace.specs.FaultText.{fault_words};
+
+    ghost output = { λ fault. Some (fault_words fault) };
+
+    fn fmt<W: fmt::Write>(&self, f: &mut fmt::Formatter<W>) -> fmt::Result {
+        match self {
+            TraceFault::T1 { field } => write!(f, "T1 field {field}"),
+            TraceFault::T2 { row } => write!(f, "T2 row {row}"),
+            TraceFault::T3 { row, field } => write!(f, "T3 row {row} field {field}"),
+            TraceFault::T4 { row, field } => write!(f, "T4 row {row} field {field}"),
+            TraceFault::T5 { row, count } => write!(f, "T5 row {row} {count}"),
+            TraceFault::T6 { row } => write!(f, "T6 row {row}"),
+            TraceFault::NoMemory => f.write_str("out of memory"),
+        }
     }
 }

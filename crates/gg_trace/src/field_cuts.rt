@@ -97,5 +97,4 @@ pub fn count_fields(line: &[u8]) -> usize
 pub fn fields_part_their_line()
     ensures are { (line : List ℕ) → AreFields line (fields line) }
     ensures only { (line : List ℕ) (others : List (List ℕ)) → AreFields line others → others ≡ fields line }
-{
-}
+{}

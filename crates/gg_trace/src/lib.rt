@@ -1,4 +1,9 @@
-//! Reading an input trace and printing an output trace, exactly.
+//! Input traces read, and output traces printed, exactly.
+//!
+//! An input trace gives a value for each port of a circuit's top in each cycle. `read_trace` answers the columns that
+//! the whole text gives, or the first thing that is wrong with it, and no other: a text that has columns is read, and a
+//! text that has a fault is refused with its first one, unless memory runs out. `header_text` and `row_text` give the
+//! exact bytes of the lines of an output trace, and what is printed there is read again as the same value.
 #![tactic(auto)]
 
 mod cells;

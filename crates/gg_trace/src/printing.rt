@@ -79,5 +79,4 @@ pub fn row_text(alloc: Global, ports: &Ports, row: u64, values: &[u128]) -> Resu
 pub fn printed_values_are_read()
     ensures { (width value : ℕ) → 0 < width → value < 2 ^ width →
         IsCell width (hex_digits (digit_count width) value) × (hexadecimal (hex_digits (digit_count width) value) ≡ value) }
-{
-}
+{}

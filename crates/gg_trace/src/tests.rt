@@ -166,3 +166,23 @@ fn printed_lines(rt: HostRuntime) -> Result<(), Fail> {
     }
     Ok(())
 }
+
+static FAULTS: [(TraceFault, &str); 7] = [
+    (TraceFault::T1 { field: 2 }, "T1 field 2"),
+    (TraceFault::T2 { row: 3 }, "T2 row 3"),
+    (TraceFault::T3 { row: 3, field: 1 }, "T3 row 3 field 1"),
+    (TraceFault::T4 { row: 0, field: 1 }, "T4 row 0 field 1"),
+    (TraceFault::T5 { row: 0, count: 1 }, "T5 row 0 1"),
+    (TraceFault::T6 { row: 1_000_000 }, "T6 row 1000000"),
+    (TraceFault::NoMemory, "out of memory"),
+];
+
+#[test]
+fn fault_lines(rt: HostRuntime) -> Result<(), Fail> {
+    for (fault, text) in FAULTS {
+        assert_eq!(rt; format!(in rt.alloc(); "{fault}")?.as_str(), text);
+    }
+    let ports = reset(rt.alloc())?.into_vec();
+    assert_eq!(rt; ports.len(), 1);
+    Ok(())
+}

@@ -30,7 +30,7 @@ impl Model for Trace {
 
 impl Trace {
     /// The trace whose rows, of `inputs` values each, stand one after another.
-    pub fn of(rows: usize, inputs: usize, cells: Vec<u128>) -> Trace
+    pub(crate) fn of(rows: usize, inputs: usize, cells: Vec<u128>) -> Trace
         requires size { length cells.items ≡ rows * inputs }
         requires limit { rows ≤ 1000000 }
         ensures { result ≡ table_of rows inputs cells.items }
@@ -60,7 +60,8 @@ impl Trace {
     /// The values of one row, in port order.
     pub fn row(&self, row: u64) -> &[u128]
         requires { row < self.now.rows }
-        ensures { result.now ≡ row_of self.now.columns row }
+        ensures values { result.now ≡ row_of self.now.columns row }
+        ensures count { length result.now ≡ length self.now.columns }
     {
         let from = row as usize * self.inputs;
         &self.cells[from..from + self.inputs]

@@ -1,4 +1,4 @@
-use Rattle.std.proofs.Common.{◌≡◌, ◌<◌, ◌≤◌, ◌+◌, ℕ, List, ◌∷◌, [], length, drop, get_or, Option, refl, ap, ◌∙◌, arith, subst}
+use Rattle.std.proofs.Common.{◌≡◌, ◌<◌, ◌+◌, ℕ, List, ◌∷◌, length, drop, get_or, Option, refl, ap, ◌∙◌, arith, subst}
 use Rattle.std.specs.Char.{digit_value}
 use Rattle.gg_trace.specs.Cells.{AppendsDigit}
 use Rattle.std.proofs.lemmas.Bool.Decides.{nat_tests}

@@ -1,6 +1,5 @@
-use Rattle.std.proofs.Common.{◌≡◌, ◌≤◌, ◌^◌, MatchOption, arith, subst}
+use Rattle.std.proofs.Common.{◌≤◌, ◌^◌, arith}
 use Rattle.std.proofs.Math.Pow.{pow_mono}
-use Rattle.gg_trace.specs.Cells.{IsHexadecimal, hexadecimal}
 use Rattle.gg_trace.proofs.cells.value_of.Goals as goal
 
 pub returns-in-None : goal.returns-in-None

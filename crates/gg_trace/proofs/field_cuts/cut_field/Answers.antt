@@ -1,4 +1,4 @@
-use Rattle.std.proofs.Common.{◌≡◌, ◌<◌, ◌≤◌, List, ◌∷◌, [], ℕ, refl, ◌∙◌, sym, ap, subst, arith, length, take, drop, length-drop, false, true, get_or}
+use Rattle.std.proofs.Common.{◌≡◌, ◌<◌, ◌≤◌, ◌∷◌, [], ℕ, ◌∙◌, sym, ap, subst, arith, length, drop, length-drop, false, true, get_or}
 use Rattle.std.proofs.lemmas.Bool.Decides.{nat_tests}
 use Rattle.gg_trace.specs.Fields.{is_blank, fields_of_text}
 use Rattle.gg_trace.proofs.FieldLaws.{fields_of_text-last, fields_of_text-first}

@@ -1,4 +1,4 @@
-use Rattle.std.proofs.Common.{◌≡◌, ℕ, ◌+◌, ◌∷◌, ◌++◌, [], List, Bool, codes, set, true, false, length, get_or, ◌<◌, arith, sym, ◌∙◌, ap, subst}
+use Rattle.std.proofs.Common.{◌≡◌, ℕ, ◌∷◌, List, Bool, codes, set, true, false, length, get_or, ◌<◌, arith, sym, subst}
 use Rattle.gg_trace.specs.Header.{HasHeaderFault}
 use Rattle.gg_trace.proofs.HeaderLaws.{ReadsNames, reads_name, name_fault, reads_header, missing_name}
 use Rattle.gg_trace.proofs.heading.read_names.Goals as goal

@@ -1,4 +1,4 @@
-use Rattle.std.proofs.Common.{◌≡◌, refl, sym, ◌∙◌, ap, true, false, get_or, length, ◌<◌, arith}
+use Rattle.std.proofs.Common.{refl, sym, ◌∙◌, ap, false, get_or, length, ◌<◌, arith}
 use Rattle.std.proofs.lemmas.List.{get_or_read}
 use Rattle.gg_trace.proofs.heading.take_name.Goals as goal
 

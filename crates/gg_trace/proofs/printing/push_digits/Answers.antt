@@ -1,4 +1,4 @@
-use Rattle.std.proofs.Common.{◌≡◌, ◌<◌, ◌++◌, ◌∷◌, [], string_bytes, sym, ap, ◌∙◌, subst, arith}
+use Rattle.std.proofs.Common.{◌<◌, ◌++◌, string_bytes, sym, ap, ◌∙◌, subst, arith}
 use Rattle.gg_trace.proofs.PrintLaws.{digit_is_ascii, push_digit}
 use Rattle.gg_trace.proofs.printing.push_digits.Goals as goal
 

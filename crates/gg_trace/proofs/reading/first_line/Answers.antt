@@ -1,4 +1,4 @@
-use Rattle.std.proofs.Common.{refl, ap, [], map, get_or, ◌∙◌}
+use Rattle.std.proofs.Common.{ap, [], map, get_or}
 use Rattle.gg_trace.specs.Fields.{fields}
 use Rattle.gg_trace.proofs.reading.first_line.Goals as goal
 

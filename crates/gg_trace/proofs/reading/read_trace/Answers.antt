@@ -1,5 +1,4 @@
 use Rattle.std.proofs.Common.{subst, MatchResult}
-use Rattle.std.specs.Bool.{⊤}
 use Rattle.std.proofs.lemmas.Result.{MatchResult-weaker}
 use Rattle.gg_trace.specs.Trace.{Columns, IfFirstFault}
 use Rattle.gg_trace.proofs.FirstLaws.{columns_have_no_fault, columns_have_widths, one_count, one_columns, first_or_memory, columns_or_memory}

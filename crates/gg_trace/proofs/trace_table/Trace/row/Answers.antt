@@ -1,10 +1,11 @@
-use Rattle.std.proofs.Common.{◌≡◌, ◌+◌, ◌-◌, ◌*◌, ◌<◌, List, ℕ, length, take, drop, sym, ap, ◌∙◌, subst, arith}
+use Rattle.std.proofs.Common.{◌≡◌, get_or, ◌+◌, ◌-◌, ◌*◌, ◌<◌, List, ℕ, length, take, drop, sym, ap, ◌∙◌, subst, arith}
+use Rattle.std.proofs.lemmas.List.{length-map}
 use Rattle.gg_trace.specs.Table.{Table, row_of}
 use Rattle.gg_trace.proofs.TableLaws.{row_in}
 use Rattle.gg_trace.proofs.trace_table.Trace.row.Goals as goal
 
-pub returns : goal.returns
-returns c =
+pub returns-clause-values : goal.returns-clause-values
+returns-clause-values c =
     let a = c.self.inside in
     let r = c.args.row in
     let from = r * a.inputs in
@@ -14,3 +15,7 @@ returns c =
     (ap (λ n. take n (drop from c.deref.result.now)) wide
     ∙ ap (λ (xs : List ℕ). take a.inputs (drop from xs)) c.deref.ensures.value
     ∙ row_in a.rows a.inputs a.cells.items r c.self.invariant.0 inside)
+
+pub returns-clause-count : goal.returns-clause-count
+returns-clause-count c =
+    ap length (returns-clause-values c) ∙ length-map c.args.self.now.columns (λ column. get_or column c.args.row 0)
