@@ -30,7 +30,10 @@ fn with_digit(value: Option<u128>, digit: u32) -> Option<u128>
 
 /// The value that the digits of a field give, as far as it fits 128 bits; an error where they are not all digits.
 fn digits_of(field: &[u8]) -> Result<Option<u128>, CellFault>
-    ensures { MatchResult result (λ value. IsHexadecimal field.now × MatchOption value (2 ^ 128 ≤ hexadecimal field.now) (λ v. v ≡ hexadecimal field.now)) (λ fault. (fault ≡ CellFault.NotHexadecimal) × ¬ IsHexadecimal field.now) }
+    ensures { MatchResult result
+        (λ value. IsHexadecimal field.now
+        × MatchOption value (2 ^ 128 ≤ hexadecimal field.now) (λ v. v ≡ hexadecimal field.now))
+        (λ fault. (fault ≡ CellFault.NotHexadecimal) × ¬ IsHexadecimal field.now) }
 {
     if field.is_empty() {
         return Err(CellFault::NotHexadecimal);
@@ -48,7 +51,9 @@ fn digits_of(field: &[u8]) -> Result<Option<u128>, CellFault>
 /// The value that a field gives in this width.
 pub fn value_of(field: &[u8], width: u32) -> Result<u128, CellFault>
     requires { width ≤ 128 }
-    ensures { MatchResult result (λ value. IsCell width field.now × (value ≡ hexadecimal field.now)) (HasCellFault width field.now) }
+    ensures { MatchResult result
+        (λ value. IsCell width field.now × (value ≡ hexadecimal field.now))
+        (HasCellFault width field.now) }
 {
     match digits_of(field)? {
         Some(value) => {

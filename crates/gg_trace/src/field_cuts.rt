@@ -72,7 +72,9 @@ impl<'a> Fields<'a> {
 
     /// The next field, if one is left.
     pub fn next(&mut self) -> Option<&'a [u8]>
-        ensures { MatchOption result ((self.old ≡ []) × (self.new ≡ [])) (λ field. self.old ≡ field.now ∷ self.new) }
+        ensures { MatchOption result
+            ((self.old ≡ []) × (self.new ≡ []))
+            (λ field. self.old ≡ field.now ∷ self.new) }
     {
         let (field, rest) = cut_field(self.rest?);
         self.rest = rest;
@@ -96,5 +98,6 @@ pub fn count_fields(line: &[u8]) -> usize
 /// The fields of a line are the one list of fields that parts it.
 pub fn fields_part_their_line()
     ensures are { (line : List ℕ) → AreFields line (fields line) }
-    ensures only { (line : List ℕ) (others : List (List ℕ)) → AreFields line others → others ≡ fields line }
+    ensures only { (line : List ℕ) (others : List (List ℕ)) →
+        AreFields line others → others ≡ fields line }
 {}

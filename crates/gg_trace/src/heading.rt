@@ -12,7 +12,9 @@ use std::alloc::Global;
 
 /// The first port that is not named, if there is one.
 fn first_missing(named: &[bool]) -> Option<usize>
-    ensures { MatchOption result ((i : ℕ) → i < length named.now → slice_index_or named.now i false ≡ true) (λ i. (i < length named.now) × (slice_index_or named.now i false ≡ false)) }
+    ensures { MatchOption result
+        ((i : ℕ) → i < length named.now → slice_index_or named.now i false ≡ true)
+        (λ i. (i < length named.now) × (slice_index_or named.now i false ≡ false)) }
 {
     for (i, is_named) in named.iter().enumerate() {
         if !*is_named {
@@ -39,7 +41,8 @@ fn take_name(ports: &[Port], name: &[u8], named: &mut Vec<bool>, guess: usize) -
 /// The ports that the fields behind the first name, where `header` is the whole header.
 fn read_names(alloc: Global, ports: &[Port], rest: &mut Fields) -> Result<Vec<usize>, TraceFault>
     requires { HasDistinctNames ports.now }
-    ensures { MatchResult result (λ places. IsHeading ports.now (codes "cycle" ∷ rest.old) places.items) (IfHeaderFault ports.now (codes "cycle" ∷ rest.old)) }
+    ensures { let header = codes "cycle" ∷ rest.old in
+        MatchResult result (λ places. IsHeading ports.now header places.items) (IfHeaderFault ports.now header) }
 {
     let mut places = Vec::new(alloc);
     let mut named = vec![in alloc; false; ports.len()]?;
@@ -62,7 +65,8 @@ fn read_names(alloc: Global, ports: &[Port], rest: &mut Fields) -> Result<Vec<us
 /// The ports that the fields of the header behind the first name.
 pub fn read_header(alloc: Global, ports: &[Port], line: &[u8]) -> Result<Vec<usize>, TraceFault>
     requires { HasDistinctNames ports.now }
-    ensures { MatchResult result (λ places. IsHeading ports.now (fields line.now) places.items) (IfHeaderFault ports.now (fields line.now)) }
+    ensures { let header = fields line.now in
+        MatchResult result (λ places. IsHeading ports.now header places.items) (IfHeaderFault ports.now header) }
 {
     let mut rest = Fields::of(line);
     match rest.next() {

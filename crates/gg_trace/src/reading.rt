@@ -28,7 +28,9 @@ fn first_line<'a>(lines: &mut Lines<'a>) -> &'a [u8]
 /// The columns of a text, or its first fault.
 fn read_lines(alloc: Global, ports: &[Port], bytes: &[u8]) -> Result<Trace, TraceFault>
     requires { HasDistinctNames ports.now }
-    ensures { MatchResult result (λ trace. Columns ports.now bytes.now trace.rows trace.columns) (IfFirstFault ports.now bytes.now) }
+    ensures { MatchResult result
+        (λ trace. Columns ports.now bytes.now trace.rows trace.columns)
+        (IfFirstFault ports.now bytes.now) }
 {
     let mut lines = Lines::of(bytes);
     let places = read_header(alloc, ports, first_line(&mut lines))?;

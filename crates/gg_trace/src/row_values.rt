@@ -19,7 +19,9 @@ pub const ROW_LIMIT: u64 = 1_000_000;
 /// The value of the field at place `at` of a row.
 fn read_value(text: &[u8], width: u32, row: u64, at: u64) -> Result<u128, TraceFault>
     requires { width ≤ 128 }
-    ensures { MatchResult result (λ value. IsCell width text.now × (value ≡ hexadecimal text.now)) (HasValueFault width text.now row at) }
+    ensures { MatchResult result
+        (λ value. IsCell width text.now × (value ≡ hexadecimal text.now))
+        (HasValueFault width text.now row at) }
 {
     match value_of(text, width) {
         Ok(value) => Ok(value),
@@ -39,7 +41,10 @@ fn read_values(
     requires places { ArePlaces ports.now places.now }
     requires size { length values.old ≡ length ports.now }
     requires count { length cells.old ≡ length places.now }
-    ensures { MatchResult result (λ _. AreCells ports.now places.now cells.old (length places.now) × AreValues places.now cells.old values.new (length places.now)) (HasValuesFault ports.now places.now cells.old row) }
+    ensures { let count = length places.now in
+        MatchResult result
+        (λ _. AreCells ports.now places.now cells.old count × AreValues places.now cells.old values.new count)
+        (HasValuesFault ports.now places.now cells.old row) }
 {
     let mut at = 0;
     while let Some(text) = cells.next() {
@@ -69,7 +74,9 @@ pub fn read_row(
 ) -> Result<(), TraceFault>
     requires places { ArePlaces ports.now places.now }
     requires size { length values.old ≡ length ports.now }
-    ensures { MatchResult result (λ _. ReadsRow ports.now places.now row (fields line.now) values.new) (HasRowFault ports.now places.now row (fields line.now)) }
+    ensures { MatchResult result
+        (λ _. ReadsRow ports.now places.now row (fields line.now) values.new)
+        (HasRowFault ports.now places.now row (fields line.now)) }
 {
     if row >= ROW_LIMIT {
         return Err(TraceFault::T6 { row });
