@@ -8,7 +8,7 @@ use Rattle.gg_trace.specs.declared.faults.TraceFault.TheVariants.{T1, T2, T3, T4
 use Rattle.gg_trace.specs.Cells.{IsHexadecimal, hexadecimal}
 use Rattle.gg_trace.specs.Ports.{IsNamed, width_at}
 use Rattle.gg_trace.specs.Header.{field, MayStand, IsHeader, HasHeaderFault}
-use Rattle.gg_trace.specs.Trace.{header_of, rows_of, row_at, IsValueField, IsRow, Columns, HasValueAt, IsTooWide, ReachesRow, ReachesValue, IsFirstFault, IfFirstFault, HaveWidths}
+use Rattle.gg_trace.specs.Trace.{header_of, rows_of, row_at, IsValueField, IsRow, Columns, HasValueAt, IsTooWide, HasFault, ReachesRow, ReachesValue, IsFirstFault, IfFirstFault, HaveWidths}
 
 -- a header has no fault
 header_good : (ports : List Port) (header : List (List ℕ)) (f : ℕ) → HasHeaderFault ports header f → IsHeader ports header → ⊥
@@ -215,15 +215,20 @@ one_first_fault ports bytes (T4 r f) NoMemory h k = absurd k.1
 one_first_fault ports bytes (T5 r c) NoMemory h k = absurd k.1
 one_first_fault ports bytes (T6 r) NoMemory h k = absurd k.1
 
--- a text with columns has no fault
-pub columns_have_no_fault : (ports : List Port) (bytes : List ℕ) (n : ℕ) (columns : List (List ℕ)) (fault : TraceFault) → Columns ports bytes n columns → IsFirstFault ports bytes fault → ⊥
-columns_have_no_fault ports bytes n columns (T1 f) good h = header_good ports (header_of bytes) f h.1 good.header
-columns_have_no_fault ports bytes n columns (T2 r) good h = let at = at_row ports bytes (T2 r) h in at.2 (good.rows r (omega (arith, at.1, good.count)))
-columns_have_no_fault ports bytes n columns (T3 r f) good h = let at = at_row ports bytes (T3 r f) h in at.2 (good.rows r (omega (arith, at.1, good.count)))
-columns_have_no_fault ports bytes n columns (T4 r f) good h = let at = at_row ports bytes (T4 r f) h in at.2 (good.rows r (omega (arith, at.1, good.count)))
-columns_have_no_fault ports bytes n columns (T5 r c) good h = let at = at_row ports bytes (T5 r c) h in at.2 (good.rows r (omega (arith, at.1, good.count)))
-columns_have_no_fault ports bytes n columns (T6 r) good h = let at = at_row ports bytes (T6 r) h in at.2 (good.rows r (omega (arith, at.1, good.count)))
-columns_have_no_fault ports bytes n columns NoMemory good h = h.1
+-- a text with columns has none of the faults
+pub columns_have_no_fault :
+    (ports : List Port) (bytes : List ℕ) (n : ℕ) (columns : List (List ℕ)) (fault : TraceFault) → Columns ports bytes n columns → HasFault ports bytes fault → ⊥
+columns_have_no_fault ports bytes n columns (T1 f) good h = header_good ports (header_of bytes) f h good.header
+columns_have_no_fault ports bytes n columns (T2 r) good h = h.1 ((good.rows r (omega (arith, h.0, good.count))).number)
+columns_have_no_fault ports bytes n columns (T3 r f) good h =
+    bad_digits ports bytes r f good.header h.0 h.1
+    ((good.rows r (omega (arith, h.0.row, good.count))).values f h.0.behind h.0.within)
+columns_have_no_fault ports bytes n columns (T4 r f) good h =
+    bad_width ports bytes r f h.1
+    ((good.rows r (omega (arith, h.0.row, good.count))).values f h.0.behind h.0.within)
+columns_have_no_fault ports bytes n columns (T5 r c) good h = h.2 (sym h.1 ∙ (good.rows r (omega (arith, h.0, good.count))).count)
+columns_have_no_fault ports bytes n columns (T6 r) good h = omega (arith, (good.rows r (omega (arith, h.0, good.count))).limit, h.1)
+columns_have_no_fault ports bytes n columns NoMemory good h = h
 
 -- the value of a port in a row
 value_of_port : (ports : List Port) (bytes : List ℕ) (n : ℕ) (columns : List (List ℕ)) (i r : ℕ) (good : Columns ports bytes n columns) → (h : i < length ports) → r < n
@@ -270,10 +275,10 @@ first_or_memory ports bytes (T6 r) first h k = inl (one_first_fault ports bytes 
 first_or_memory ports bytes NoMemory first h k = inr refl
 
 pub columns_or_memory : (ports : List Port) (bytes : List ℕ) (n : ℕ) (columns : List (List ℕ)) (given : TraceFault) → Columns ports bytes n columns → IfFirstFault ports bytes given → given ≡ NoMemory
-columns_or_memory ports bytes n columns (T1 f) good h = absurd (columns_have_no_fault ports bytes n columns (T1 f) good h)
-columns_or_memory ports bytes n columns (T2 r) good h = absurd (columns_have_no_fault ports bytes n columns (T2 r) good h)
-columns_or_memory ports bytes n columns (T3 r f) good h = absurd (columns_have_no_fault ports bytes n columns (T3 r f) good h)
-columns_or_memory ports bytes n columns (T4 r f) good h = absurd (columns_have_no_fault ports bytes n columns (T4 r f) good h)
-columns_or_memory ports bytes n columns (T5 r c) good h = absurd (columns_have_no_fault ports bytes n columns (T5 r c) good h)
-columns_or_memory ports bytes n columns (T6 r) good h = absurd (columns_have_no_fault ports bytes n columns (T6 r) good h)
+columns_or_memory ports bytes n columns (T1 f) good h = absurd (columns_have_no_fault ports bytes n columns (T1 f) good h.1)
+columns_or_memory ports bytes n columns (T2 r) good h = absurd (columns_have_no_fault ports bytes n columns (T2 r) good h.1)
+columns_or_memory ports bytes n columns (T3 r f) good h = absurd (columns_have_no_fault ports bytes n columns (T3 r f) good h.1)
+columns_or_memory ports bytes n columns (T4 r f) good h = absurd (columns_have_no_fault ports bytes n columns (T4 r f) good h.1)
+columns_or_memory ports bytes n columns (T5 r c) good h = absurd (columns_have_no_fault ports bytes n columns (T5 r c) good h.1)
+columns_or_memory ports bytes n columns (T6 r) good h = absurd (columns_have_no_fault ports bytes n columns (T6 r) good h.1)
 columns_or_memory ports bytes n columns NoMemory good h = refl

@@ -4,7 +4,7 @@ ghost use Rattle.std.specs.Prelude.{◌⊎◌, ◌≡◌, ℕ, ◌+◌, ◌*◌,
 ghost use Rattle.gg_trace.specs.Fields.{fields};
 ghost use Rattle.gg_trace.specs.Ports.{HasDistinctNames};
 ghost use Rattle.gg_trace.specs.declared.faults.TraceFault.{TraceFault};
-ghost use Rattle.gg_trace.specs.Trace.{Columns, HaveWidths, IsFirstFault, IfFirstFault};
+ghost use Rattle.gg_trace.specs.Trace.{Columns, HaveWidths, HasFault, IsFirstFault, IfFirstFault};
 
 use crate::faults::TraceFault;
 use crate::heading::read_header;
@@ -57,6 +57,8 @@ pub fn read_trace(alloc: Global, ports: &Ports, bytes: &[u8]) -> Result<Trace, T
     // What is read are the columns of the text, and each value fits its port.
     ensures columns { IfOk result (λ trace. Columns ports.now bytes.now trace.rows trace.columns) }
     ensures widths { IfOk result (λ trace. HaveWidths ports.now trace.rows trace.columns) }
+    // What is read has none of the faults.
+    ensures clean { IfOk result (λ _. (fault : TraceFault) → ¬ HasFault ports.now bytes.now fault) }
     // A fault is the text's first, or memory ran out.
     ensures fault { IfErr result (IfFirstFault ports.now bytes.now) }
     // A text with columns is read, unless memory runs out.

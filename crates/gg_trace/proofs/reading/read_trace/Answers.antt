@@ -20,5 +20,10 @@ pub returns-clause-due : goal.returns-clause-due
 returns-clause-due c = λ first is.
     let read = subst (λ ports. MatchResult c.read_lines.result (λ trace. Columns ports c.args.bytes.now trace.rows trace.columns) (IfFirstFault ports c.args.bytes.now)) c.as_slice.ensures c.read_lines.ensures in
     MatchResult-weaker c.read_lines.result read
-    (λ trace good. columns_have_no_fault _ _ _ _ first good is)
+    (λ trace good. columns_have_no_fault _ _ _ _ first good is.1)
     (λ given h. first_or_memory _ _ given first h is)
+
+pub returns-clause-clean : goal.returns-clause-clean
+returns-clause-clean c =
+    let read = subst (λ ports. MatchResult c.read_lines.result (λ trace. Columns ports c.args.bytes.now trace.rows trace.columns) (IfFirstFault ports c.args.bytes.now)) c.as_slice.ensures c.read_lines.ensures in
+    MatchResult-weaker c.read_lines.result read (λ trace good fault. columns_have_no_fault _ _ _ _ fault good) (λ given h. tt)
