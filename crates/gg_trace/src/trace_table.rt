@@ -62,6 +62,8 @@ impl Trace {
         requires { row < self.now.rows }
         ensures values { result.now ≡ row_of self.now.columns row }
         ensures count { length result.now ≡ length self.now.columns }
+        ensures at { (i : ℕ) → i < length self.now.columns →
+            slice_index result.now i ≡ slice_index (slice_index_or self.now.columns i []) row }
     {
         let from = row as usize * self.inputs;
         &self.cells[from..from + self.inputs]

@@ -1,5 +1,5 @@
-use Rattle.std.proofs.Common.{◌≡◌, get_or, ◌+◌, ◌-◌, ◌*◌, ◌<◌, List, ℕ, length, take, drop, sym, ap, ◌∙◌, subst, arith}
-use Rattle.std.proofs.lemmas.List.{length-map}
+use Rattle.std.proofs.Common.{[], ◌≡◌, get_or, ◌+◌, ◌-◌, ◌*◌, ◌<◌, List, ℕ, length, take, drop, sym, ap, ◌∙◌, subst, arith}
+use Rattle.std.proofs.lemmas.List.{length-map, get_or-map}
 use Rattle.gg_trace.specs.Table.{Table, row_of}
 use Rattle.gg_trace.proofs.TableLaws.{row_in}
 use Rattle.gg_trace.proofs.trace_table.Trace.row.Goals as goal
@@ -19,3 +19,8 @@ returns-clause-values c =
 pub returns-clause-count : goal.returns-clause-count
 returns-clause-count c =
     ap length (returns-clause-values c) ∙ length-map c.args.self.now.columns (λ column. get_or column c.args.row 0)
+
+pub returns-clause-at : goal.returns-clause-at
+returns-clause-at c = λ i h.
+    ap (λ (values : List ℕ). get_or values i 0) (returns-clause-values c)
+    ∙ get_or-map (λ column. get_or column c.args.row 0) c.args.self.now.columns i [] 0 h
