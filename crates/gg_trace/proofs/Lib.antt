@@ -1,0 +1,12 @@
+pub mod FieldLaws
+pub mod LineLaws
+pub mod DigitLaws
+pub mod PortLaws
+pub mod HeaderLaws
+pub mod RowLaws
+pub mod TableLaws
+pub mod ListLaws
+pub mod TraceLaws
+pub mod FirstLaws
+pub mod PrintLaws
+pub mod PartedLaws

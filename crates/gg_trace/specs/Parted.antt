@@ -1,0 +1,31 @@
+-- A line and its fields as a relation: what `fields` computes is the one list that it allows.
+use Rattle.std.specs.Prelude.{◌≡◌, ℕ, ◌<◌, true, false, List, [], ◌∷◌, ◌++◌, length, slice_index}
+use Rattle.gg_trace.specs.Fields.{is_blank}
+
+-- no byte is a blank
+abbrev pub HasNoBlank : List ℕ → Type 0
+HasNoBlank text = (k : ℕ) → k < length text → is_blank (slice_index text k) ≡ false
+
+-- one blank or more, and nothing else
+pub record IsGap (gap : List ℕ) : Type 0 where
+  pub some : 0 < length gap
+  pub blanks : (k : ℕ) → k < length gap → is_blank (slice_index gap k) ≡ true
+
+-- text is a first field, a gap, and then rest, which begins with no blank
+pub record IsCut (text field rest : List ℕ) : Type 0 where
+  pub gap : List ℕ
+  pub whole : text ≡ field ++ (gap ++ rest)
+  pub plain : HasNoBlank field
+  pub is_gap : IsGap gap
+  pub ends : 0 < length rest → is_blank (slice_index rest 0) ≡ false
+
+-- text is these fields, parted by gaps
+abbrev pub IsParted : List ℕ → List (List ℕ) → Type 0
+IsParted text [] = ⊥
+IsParted text (f ∷ []) = (text ≡ f) × HasNoBlank f
+IsParted text (f ∷ g ∷ fs) = (rest : List ℕ) × IsCut text f rest × IsParted rest (g ∷ fs)
+
+-- these are the fields of the line: an empty line has none
+abbrev pub AreFields : List ℕ → List (List ℕ) → Type 0
+AreFields [] fs = fs ≡ []
+AreFields (b ∷ line) fs = IsParted (b ∷ line) fs

@@ -1,0 +1,101 @@
+-- What is kept of a header: the port that each field after the first names.
+use Rattle.std.specs.Prelude.{◌≡◌, ◌≢◌, ℕ, ◌+◌, ◌<◌, ◌≤◌, decimal, drop, List, length, slice_index, slice_index_or, slice_set, Bool, true, false, Option, None, Some}
+use Rattle.gg_trace.specs.declared.port_list.Port.{Port}
+use Rattle.gg_trace.specs.declared.faults.TraceFault.{TraceFault}
+use Rattle.gg_trace.specs.declared.faults.TraceFault.TheVariants.{T1, T2, T3, T4, T5, T6, NoMemory}
+use Rattle.gg_trace.specs.declared.cells.CellFault.TheVariants.{TooWide}
+use Rattle.gg_trace.specs.Cells.{IsHexadecimal, hexadecimal, IsCell, HasCellFault}
+use Rattle.gg_trace.specs.Ports.{IsNamed, width_at}
+use Rattle.gg_trace.specs.Header.{field, IsHeader, HasHeaderFault}
+
+-- i is one of the places
+pub record IsPlace (places : List ℕ) (i : ℕ) : Type 0 where
+  pub at : ℕ
+  pub within : at < length places
+  pub is : slice_index places at ≡ i
+
+-- The header is one of these ports, and its field g + 1 names the port at place g of the list.
+pub record IsHeading (ports : List Port) (header : List (List ℕ)) (places : List ℕ) : Type 0 where
+  pub is_header : IsHeader ports header
+  pub count : length header ≡ length places + 1
+  pub named : (g : ℕ) → g < length places → IsNamed ports (field header (g + 1)) (slice_index places g)
+  pub distinct : (g h : ℕ) → g < h → h < length places → slice_index places g ≢ slice_index places h
+  pub all : (i : ℕ) → i < length ports → IsPlace places i
+
+-- the fault is the header's, or memory ran out
+abbrev pub IfHeaderFault : List Port → List (List ℕ) → TraceFault → Type 0
+IfHeaderFault ports header (T1 f) = HasHeaderFault ports header f
+IfHeaderFault ports header (T2 r) = ⊥
+IfHeaderFault ports header (T3 r f) = ⊥
+IfHeaderFault ports header (T4 r f) = ⊥
+IfHeaderFault ports header (T5 r c) = ⊥
+IfHeaderFault ports header (T6 r) = ⊥
+IfHeaderFault ports header NoMemory = Unit {0}
+
+-- a name is taken: its port was not named before and is now, or there is no such port
+abbrev pub TakesName : List Port → List ℕ → List Bool → List Bool → Option ℕ → Type 0
+TakesName ports name old new None = (new ≡ old) × ((i : ℕ) → IsNamed ports name i → slice_index_or old i false ≡ true)
+TakesName ports name old new (Some i) = IsNamed ports name i × (slice_index_or old i false ≡ false) × (new ≡ slice_set old i true)
+
+-- the places are of ports, and no two are one
+pub record ArePlaces (ports : List Port) (places : List ℕ) : Type 0 where
+  pub within : (g : ℕ) → g < length places → slice_index places g < length ports
+  pub distinct : (g h : ℕ) → g < h → h < length places → slice_index places g ≢ slice_index places h
+
+-- each of the first n cells is a value of its port's width
+pub record AreCells (ports : List Port) (places : List ℕ) (cells : List (List ℕ)) (n : ℕ) : Type 0 where
+  pub each : (g : ℕ) → g < n → IsCell (width_at ports (slice_index places g)) (field cells g)
+
+-- the first n cells give these values, each at its port's place
+pub record AreValues (places : List ℕ) (cells : List (List ℕ)) (values : List ℕ) (n : ℕ) : Type 0 where
+  pub each : (g : ℕ) → g < n → slice_index values (slice_index places g) ≡ hexadecimal (field cells g)
+
+-- r and f name a cell of this row, and each cell before it is a value
+pub record StopsAt (ports : List Port) (places : List ℕ) (cells : List (List ℕ)) (row r f : ℕ) : Type 0 where
+  pub at : ℕ
+  pub is_row : r ≡ row
+  pub is_field : f ≡ at + 1
+  pub within : at < length places
+  pub before : AreCells ports places cells at
+
+-- the fault is of the first cell of the row that is no value
+abbrev pub HasValuesFault : List Port → List ℕ → List (List ℕ) → ℕ → TraceFault → Type 0
+HasValuesFault ports places cells row (T1 f) = ⊥
+HasValuesFault ports places cells row (T2 r) = ⊥
+HasValuesFault ports places cells row (T3 r f) = (s : StopsAt ports places cells row r f) × ¬ IsHexadecimal (field cells s.at)
+HasValuesFault ports places cells row (T4 r f) = (s : StopsAt ports places cells row r f) × HasCellFault (width_at ports (slice_index places s.at)) (field cells s.at) TooWide
+HasValuesFault ports places cells row (T5 r c) = ⊥
+HasValuesFault ports places cells row (T6 r) = ⊥
+HasValuesFault ports places cells row NoMemory = ⊥
+
+-- the fault of one field of a row
+abbrev pub HasValueFault : ℕ → List ℕ → ℕ → ℕ → TraceFault → Type 0
+HasValueFault width text row at (T1 f) = ⊥
+HasValueFault width text row at (T2 r) = ⊥
+HasValueFault width text row at (T3 r f) = (r ≡ row) × (f ≡ at) × ¬ IsHexadecimal text
+HasValueFault width text row at (T4 r f) = (r ≡ row) × (f ≡ at) × HasCellFault width text TooWide
+HasValueFault width text row at (T5 r c) = ⊥
+HasValueFault width text row at (T6 r) = ⊥
+HasValueFault width text row at NoMemory = ⊥
+
+-- the row is below the limit, has the header's count of fields, and begins with its number
+pub record PassesCycle (places : List ℕ) (row : ℕ) (line : List (List ℕ)) : Type 0 where
+  pub limit : row < 1000000
+  pub count : length line ≡ length places + 1
+  pub is : field line 0 ≡ decimal row
+
+-- the row gives these values
+pub record ReadsRow (ports : List Port) (places : List ℕ) (row : ℕ) (line : List (List ℕ)) (values : List ℕ) : Type 0 where
+  pub passes : PassesCycle places row line
+  pub cells : AreCells ports places (drop 1 line) (length places)
+  pub gives : AreValues places (drop 1 line) values (length places)
+
+-- the fault is the first of this row
+abbrev pub HasRowFault : List Port → List ℕ → ℕ → List (List ℕ) → TraceFault → Type 0
+HasRowFault ports places row line (T1 f) = ⊥
+HasRowFault ports places row line (T2 r) = (r ≡ row) × (row < 1000000) × (length line ≡ length places + 1) × (field line 0 ≢ decimal row)
+HasRowFault ports places row line (T3 r f) = PassesCycle places row line × HasValuesFault ports places (drop 1 line) row (T3 r f)
+HasRowFault ports places row line (T4 r f) = PassesCycle places row line × HasValuesFault ports places (drop 1 line) row (T4 r f)
+HasRowFault ports places row line (T5 r c) = (r ≡ row) × (row < 1000000) × (c ≡ length line) × (c ≢ length places + 1)
+HasRowFault ports places row line (T6 r) = (r ≡ row) × (1000000 ≤ row)
+HasRowFault ports places row line NoMemory = ⊥

@@ -1,0 +1,120 @@
+-- The text of an input trace: its columns, or its first fault.
+use Rattle.std.specs.Prelude.{◌≡◌, ◌≢◌, ℕ, ◌<◌, ◌≤◌, ◌^◌, List, [], length, map, drop, decimal, slice_index, slice_index_or}
+use Rattle.gg_trace.specs.declared.port_list.Port.{Port}
+use Rattle.gg_trace.specs.declared.faults.TraceFault.{TraceFault}
+use Rattle.gg_trace.specs.declared.faults.TraceFault.TheVariants.{T1, T2, T3, T4, T5, T6, NoMemory}
+use Rattle.gg_trace.specs.Fields.{fields, text_lines}
+use Rattle.gg_trace.specs.Cells.{IsHexadecimal, hexadecimal, IsCell}
+use Rattle.gg_trace.specs.Ports.{IsNamed, width_at}
+use Rattle.gg_trace.specs.Header.{field, IsHeader, HasHeaderFault}
+
+-- the fields of each line
+abbrev pub line_fields : List ℕ → List (List (List ℕ))
+line_fields bytes = map fields (text_lines bytes)
+
+-- the fields of the first line, and none where there is no line
+abbrev pub header_of : List ℕ → List (List ℕ)
+header_of bytes = slice_index_or (line_fields bytes) 0 []
+
+-- the fields of each further line: row r is line r + 1
+abbrev pub rows_of : List ℕ → List (List (List ℕ))
+rows_of bytes = drop 1 (line_fields bytes)
+
+-- the fields of row r
+abbrev pub row_at : List ℕ → ℕ → List (List ℕ)
+row_at bytes r = slice_index_or (rows_of bytes) r []
+
+-- field f of a row is a value of the port that field f of the header names
+pub record IsValueField (ports : List Port) (header row : List (List ℕ)) (f : ℕ) : Type 0 where
+  pub value : (i : ℕ) → IsNamed ports (field header f) i → IsCell (width_at ports i) (field row f)
+
+-- These are the fields of row r: the row's number, and a value for each port that the header names.
+pub record IsRow (ports : List Port) (header : List (List ℕ)) (r : ℕ) (row : List (List ℕ)) : Type 0 where
+  pub limit : r < 1000000
+  pub count : length row ≡ length header
+  pub number : field row 0 ≡ decimal r
+  pub values : (f : ℕ) → 0 < f → f < length header → IsValueField ports header row f
+
+-- The text has a header and n rows, and gives these columns: in row r the value of port i is the number that the
+-- field below the port's name writes.
+pub record Columns (ports : List Port) (bytes : List ℕ) (n : ℕ) (columns : List (List ℕ)) : Type 0 where
+  pub header : IsHeader ports (header_of bytes)
+  pub count : length (rows_of bytes) ≡ n
+  pub rows : (r : ℕ) → r < n → IsRow ports (header_of bytes) r (row_at bytes r)
+  pub width : length columns ≡ length ports
+  pub height : (i : ℕ) → i < length ports → length (slice_index_or columns i []) ≡ n
+  pub values : (r f i : ℕ) → r < n → 0 < f → f < length (header_of bytes) → IsNamed ports (field (header_of bytes) f) i
+      → slice_index (slice_index_or columns i []) r ≡ hexadecimal (field (row_at bytes r) f)
+
+-- row r has a field f below a name of the header
+pub record HasValueAt (bytes : List ℕ) (r f : ℕ) : Type 0 where
+  pub row : r < length (rows_of bytes)
+  pub behind : 0 < f
+  pub within : f < length (header_of bytes)
+
+-- a value of row r that is hexadecimal is too great for its port's width
+pub record IsTooWide (ports : List Port) (bytes : List ℕ) (r f : ℕ) : Type 0 where
+  pub port : ℕ
+  pub named : IsNamed ports (field (header_of bytes) f) port
+  pub digits : IsHexadecimal (field (row_at bytes r) f)
+  pub wide : 2 ^ width_at ports port ≤ hexadecimal (field (row_at bytes r) f)
+
+-- The text has this fault.
+abbrev pub HasFault : List Port → List ℕ → TraceFault → Type 0
+HasFault ports bytes (T1 f) = HasHeaderFault ports (header_of bytes) f
+HasFault ports bytes (T2 r) = (r < length (rows_of bytes)) × (field (row_at bytes r) 0 ≢ decimal r)
+HasFault ports bytes (T3 r f) = HasValueAt bytes r f × ¬ IsHexadecimal (field (row_at bytes r) f)
+HasFault ports bytes (T4 r f) = HasValueAt bytes r f × IsTooWide ports bytes r f
+HasFault ports bytes (T5 r c) = (r < length (rows_of bytes)) × (length (row_at bytes r) ≡ c) × (c ≢ length (header_of bytes))
+HasFault ports bytes (T6 r) = (r < length (rows_of bytes)) × (r ≡ 1000000)
+HasFault ports bytes NoMemory = ⊥
+
+-- the header and each row before r are good
+pub record ReachesRow (ports : List Port) (bytes : List ℕ) (r : ℕ) : Type 0 where
+  pub header : IsHeader ports (header_of bytes)
+  pub before : (q : ℕ) → q < r → IsRow ports (header_of bytes) q (row_at bytes q)
+
+-- and row r is below the limit
+pub record ReachesCount (ports : List Port) (bytes : List ℕ) (r : ℕ) : Type 0 where
+  pub row : ReachesRow ports bytes r
+  pub limit : r < 1000000
+
+-- and has the header's count of fields
+pub record ReachesNumber (ports : List Port) (bytes : List ℕ) (r : ℕ) : Type 0 where
+  pub limit : ReachesCount ports bytes r
+  pub count : length (row_at bytes r) ≡ length (header_of bytes)
+
+-- and begins with its number, and each value before field f is good
+pub record ReachesValue (ports : List Port) (bytes : List ℕ) (r f : ℕ) : Type 0 where
+  pub count : ReachesNumber ports bytes r
+  pub number : field (row_at bytes r) 0 ≡ decimal r
+  pub before : (g : ℕ) → 0 < g → g < f → IsValueField ports (header_of bytes) (row_at bytes r) g
+
+-- Nothing that comes before this fault is faulty: the header comes before all, then the rows in order, and in a row
+-- the limit, the count of fields, the row's number, and the values from left to right, where digits come before width.
+abbrev pub IsReached : List Port → List ℕ → TraceFault → Type 0
+IsReached ports bytes (T1 f) = Unit {0}
+IsReached ports bytes (T6 r) = ReachesRow ports bytes r
+IsReached ports bytes (T5 r c) = ReachesCount ports bytes r
+IsReached ports bytes (T2 r) = ReachesNumber ports bytes r
+IsReached ports bytes (T3 r f) = ReachesValue ports bytes r f
+IsReached ports bytes (T4 r f) = ReachesValue ports bytes r f
+IsReached ports bytes NoMemory = ⊥
+
+-- the text has this fault, and nothing before it is faulty
+abbrev pub IsFirstFault : List Port → List ℕ → TraceFault → Type 0
+IsFirstFault ports bytes fault = IsReached ports bytes fault × HasFault ports bytes fault
+
+-- the first fault, or want of memory
+abbrev pub IfFirstFault : List Port → List ℕ → TraceFault → Type 0
+IfFirstFault ports bytes NoMemory = Unit {0}
+IfFirstFault ports bytes (T1 f) = IsFirstFault ports bytes (T1 f)
+IfFirstFault ports bytes (T2 r) = IsFirstFault ports bytes (T2 r)
+IfFirstFault ports bytes (T3 r f) = IsFirstFault ports bytes (T3 r f)
+IfFirstFault ports bytes (T4 r f) = IsFirstFault ports bytes (T4 r f)
+IfFirstFault ports bytes (T5 r c) = IsFirstFault ports bytes (T5 r c)
+IfFirstFault ports bytes (T6 r) = IsFirstFault ports bytes (T6 r)
+
+-- each value fits its port's width
+pub record HaveWidths (ports : List Port) (n : ℕ) (columns : List (List ℕ)) : Type 0 where
+  pub fits : (i r : ℕ) → i < length ports → r < n → slice_index (slice_index_or columns i []) r < 2 ^ width_at ports i

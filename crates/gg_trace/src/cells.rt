@@ -1,0 +1,68 @@
+//! The value that a field gives: hexadecimal digits that fit a width.
+
+ghost use Rattle.std.specs.Prelude.{◌≡◌, ℕ, ◌+◌, ◌*◌, ◌^◌, ◌<◌, ◌≤◌, ◌↔◌, IsTrue, MatchOption, MatchResult};
+ghost use Rattle.gg_trace.specs.Cells.{IsCell, AppendsDigit, IsHexadecimal, HasCellFault, hexadecimal};
+
+/// What is wrong with the field of a value.
+#[derive(Clone, Copy, Debug, Drop, PartialEq, Eq)]
+pub enum CellFault {
+    /// It is empty, or not all hexadecimal digits.
+    NotHexadecimal,
+    /// It is a number that the width does not hold.
+    TooWide,
+}
+
+/// Whether a value has no bit at `width` or above it.
+fn fits(value: u128, width: u32) -> bool
+    requires { width ≤ 128 }
+    ensures { IsTrue result ↔ (value < 2 ^ width) }
+{
+    width == 128 || value < 1 << width
+}
+
+/// The value with one more hexadecimal digit at its end, as far as it fits 128 bits.
+fn with_digit(value: Option<u128>, digit: u32) -> Option<u128>
+    requires { digit < 16 }
+    ensures { AppendsDigit value digit result }
+{
+    value?.checked_mul(16)?.checked_add(u128::from(digit))
+}
+
+/// The value that the digits of a field give, as far as it fits 128 bits; an error where they are not all digits.
+fn digits_of(field: &[u8]) -> Result<Option<u128>, CellFault>
+    ensures { MatchResult result
+        (λ value. IsHexadecimal field.now
+        × MatchOption value (2 ^ 128 ≤ hexadecimal field.now) (λ v. v ≡ hexadecimal field.now))
+        (λ fault. (fault ≡ CellFault.NotHexadecimal) × ¬ IsHexadecimal field.now) }
+{
+    if field.is_empty() {
+        return Err(CellFault::NotHexadecimal);
+    }
+    let mut value = Some(0);
+    for byte in field {
+        let Some(digit) = char::from(*byte).to_digit(16) else {
+            return Err(CellFault::NotHexadecimal);
+        };
+        value = with_digit(value, digit);
+    }
+    Ok(value)
+}
+
+/// The value that a field gives in this width.
+pub fn value_of(field: &[u8], width: u32) -> Result<u128, CellFault>
+    requires { width ≤ 128 }
+    ensures { MatchResult result
+        (λ value. IsCell width field.now × (value ≡ hexadecimal field.now))
+        (HasCellFault width field.now) }
+{
+    match digits_of(field)? {
+        Some(value) => {
+            if fits(value, width) {
+                Ok(value)
+            } else {
+                Err(CellFault::TooWide)
+            }
+        }
+        None => Err(CellFault::TooWide),
+    }
+}

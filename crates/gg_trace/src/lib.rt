@@ -1,0 +1,28 @@
+//! Input traces read, and output traces printed, exactly.
+//!
+//! An input trace gives a value for each port of a circuit's top in each cycle. `read_trace` answers the columns that
+//! the whole text gives, or the first thing that is wrong with it, and no other: a text that has columns is read, and a
+//! text that has a fault is refused with its first one, unless memory runs out. `header_text` and `row_text` give the
+//! exact bytes of the lines of an output trace, and what is printed there is read again as the same value.
+#![tactic(auto)]
+
+mod cells;
+mod faults;
+mod field_cuts;
+mod heading;
+mod line_cuts;
+mod port_list;
+mod printing;
+mod reading;
+mod row_values;
+mod trace_table;
+
+pub use faults::TraceFault;
+pub use field_cuts::fields_part_their_line;
+pub use port_list::{Port, Ports};
+pub use printing::{header_text, printed_values_are_read, row_text};
+pub use reading::read_trace;
+pub use trace_table::Trace;
+
+#[cfg(test)]
+mod tests;

@@ -1,0 +1,98 @@
+//! An input trace: a value for each port in each row.
+
+ghost use Rattle.std.specs.Prelude.{◌≡◌, ℕ, ◌+◌, ◌*◌, ◌<◌, ◌≤◌, [], IfOk, map, length, slice_index, slice_index_or};
+ghost use Rattle.std.specs.List.{range_with_len};
+ghost use Rattle.gg_trace.specs.Table.{row_of, table_of};
+
+use std::alloc::{AllocError, Global};
+use std::marker::Model;
+
+/// An input trace: for each port, in port order, a column of one value a row. A contract sees the count of rows and
+/// the columns.
+#[derive(Debug, Drop)]
+pub struct Trace {
+    rows: usize,
+    inputs: usize,
+    // row by row, in each a value for each port
+    cells: Vec<u128>,
+}
+
+impl Model for Trace {
+    ghost use Rattle.std.specs.Prelude.{◌≡◌, ◌*◌, ◌≤◌, length};
+    ghost use Rattle.gg_trace.specs.Table.{Table, table_of};
+
+    ghost Value = { Table };
+
+    ghost view = { λ a. table_of a.rows a.inputs a.cells.items };
+
+    ghost invariant = { λ a. (length a.cells.items ≡ a.rows * a.inputs) × (a.rows ≤ 1000000) };
+}
+
+impl Trace {
+    /// The trace whose rows, of `inputs` values each, stand one after another.
+    pub(crate) fn of(rows: usize, inputs: usize, cells: Vec<u128>) -> Trace
+        requires size { length cells.items ≡ rows * inputs }
+        requires limit { rows ≤ 1000000 }
+        ensures { result ≡ table_of rows inputs cells.items }
+    {
+        Trace {
+            rows,
+            inputs,
+            cells,
+        }
+    }
+
+    /// How many rows there are: at most 1,000,000.
+    pub fn rows(&self) -> u64
+        ensures count { result ≡ self.now.rows }
+        ensures limit { result ≤ 1000000 }
+    {
+        self.rows as u64
+    }
+
+    /// How many ports there are.
+    pub fn inputs(&self) -> usize
+        ensures { result ≡ length self.now.columns }
+    {
+        self.inputs
+    }
+
+    /// The values of one row, in port order.
+    pub fn row(&self, row: u64) -> &[u128]
+        requires { row < self.now.rows }
+        ensures values { result.now ≡ row_of self.now.columns row }
+        ensures count { length result.now ≡ length self.now.columns }
+        ensures at { (i : ℕ) → i < length self.now.columns →
+            slice_index result.now i ≡ slice_index (slice_index_or self.now.columns i []) row }
+    {
+        let from = row as usize * self.inputs;
+        &self.cells[from..from + self.inputs]
+    }
+
+    /// The column of the port at this place.
+    pub fn column(&self, alloc: Global, input: usize) -> Result<Vec<u128>, AllocError>
+        requires { input < length self.now.columns }
+        ensures { IfOk result (λ column. column.items ≡ slice_index_or self.now.columns input []) }
+    {
+        column_of(alloc, self.cells.as_slice(), self.rows, self.inputs, input)
+    }
+}
+
+/// Every value at place `input` of a row.
+fn column_of(
+    alloc: Global,
+    cells: &[u128],
+    rows: usize,
+    inputs: usize,
+    input: usize,
+) -> Result<Vec<u128>, AllocError>
+    requires size { length cells.now ≡ rows * inputs }
+    requires within { input < inputs }
+    ensures { IfOk result (λ column. column.items ≡ map (λ r. slice_index cells.now (r * inputs + input)) (range_with_len 0 rows)) }
+{
+    let mut column = Vec::new(alloc);
+    for row in 0..rows {
+        column.push(cells[row * inputs + input])?;
+    }
+    Ok(column)
+}
