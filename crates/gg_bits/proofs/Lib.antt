@@ -1,1 +1,2 @@
+mod PatternLaws
 mod WorkedRows

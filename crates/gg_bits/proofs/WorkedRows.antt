@@ -3,11 +3,11 @@ use Rattle.std.proofs.Common.{◌≡◌, refl}
 use Rattle.std.specs.Prelude.{Ok, Err}
 use lib.Count.{ones}
 use Rattle.gg_bits.specs.declared.types.Bad.TheVariants.{Kind, Width, Param}
-use Rattle.gg_bits.specs.declared.ops.Op1.TheVariants.{Neg, Not, Andr, Xorr}
-use Rattle.gg_bits.specs.declared.ops.Op2.TheVariants.{Add, Mul, Div, Rem, Lt, Dshl, Dshr, Cat, Xor}
-use Rattle.gg_bits.specs.declared.ops.OpN.TheVariants.{Pad, Shl, Shr, Bits, Head, Tail}
+use Rattle.gg_bits.specs.declared.ops.Op1.TheVariants.{Neg, Not, Xorr}
+use Rattle.gg_bits.specs.declared.ops.Op2.TheVariants.{Add, Mul, Div, Rem, Lt, Dshl, Dshr, Cat}
+use Rattle.gg_bits.specs.declared.ops.OpN.TheVariants.{Pad, Shr, Bits, Head, Tail}
 use Rattle.gg_bits.specs.Shape.{uint, sint}
-use Rattle.gg_bits.specs.ResultType.{type1, type2, type_const, type_mux}
+use Rattle.gg_bits.specs.ResultType.{type2, type_const}
 use Rattle.gg_bits.specs.Meaning.{value1, value2, value_const, value_mux}
 
 -- the sum of two greatest UInt<127>

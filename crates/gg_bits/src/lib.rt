@@ -6,12 +6,28 @@
 //! it answers is the specification's, or the first thing that is wrong. No call of an operation takes memory.
 #![tactic(auto)]
 
+mod arithmetic;
+mod binary;
+mod bitwise;
+mod choice;
+mod compare;
+mod judge;
 mod lists;
 mod name;
 mod ops;
+mod parametric;
+mod patterns;
+mod shifts;
+#[cfg(test)]
+mod tests;
 mod types;
+mod unary;
 
+pub use binary::{apply2, result2};
+pub use choice::{extend, mux, result_mux};
 pub use lists::{Ids, Names};
 pub use name::Name;
 pub use ops::{Op1, Op2, OpN};
+pub use parametric::{apply_const, result_const};
 pub use types::{Bad, Kind, Ty, Val};
+pub use unary::{apply1, result1};

@@ -1,0 +1,120 @@
+//! Operations on two values (FIRRTL Specification, "Primitive Operations").
+ghost use Rattle.std.specs.Prelude.{◌≡◌, ◌+◌, ◌-◌, ◌^◌, ◌≤◌, min, true, IsOk, IfOk};
+ghost use Rattle.gg_bits.specs.Value.{pattern_of};
+ghost use Rattle.gg_bits.specs.Shape.{shape, shape_of, Fits};
+ghost use Rattle.gg_bits.specs.ResultType.{kinds2, shape2, type2};
+ghost use Rattle.gg_bits.specs.Meaning.{meaning2, value2};
+
+use crate::arithmetic::{difference, product, quotient, remainder, sum};
+use crate::bitwise::{both, differing, either, joined};
+use crate::compare::{equal, less};
+use crate::judge::judged;
+use crate::ops::Op2;
+use crate::patterns::{bit, fit, wide};
+use crate::shifts::{shifted_left, shifted_right};
+use crate::types::{Bad, Kind, Ty, Val};
+
+/// The type of the operation's result.
+///
+/// # Errors
+///
+/// `Kind`, where the kinds differ (of a shift: where the amount is signed; of `validif`: where the condition is not
+/// `UInt<1>`); else `Width`, where the result would have more than 128 bits.
+pub fn result2(op: Op2, ta: Ty, tb: Ty) -> Result<Ty, Bad>
+    ensures exact { shape_of result ≡ type2 op (shape ta) (shape tb) }
+    ensures ok { IfOk result (λ ty. shape ty ≡ shape2 op (shape ta) (shape tb)) }
+{
+    if !takes_kinds(op, ta, tb) {
+        return Err(Bad::Kind);
+    }
+    let (kind, width) = kind_and_width2(op, ta, tb);
+    judged(kind, width)
+}
+
+/// The operation's result.
+pub fn apply2(op: Op2, ta: Ty, a: Val, tb: Ty, b: Val) -> Val
+    requires accepted { IsOk (type2 op (shape ta) (shape tb)) }
+    requires first { Fits (shape ta) a.0 }
+    requires second { Fits (shape tb) b.0 }
+    ensures value { result.0 ≡ value2 op (shape ta) a.0 (shape tb) b.0 }
+    ensures typed { IfOk (type2 op (shape ta) (shape tb)) (λ s. Fits s result.0) }
+{
+    let (_, width) = kind_and_width2(op, ta, tb);
+    Val(fit(wide2(op, ta, a, tb, b), width))
+}
+
+/// Whether the operation takes operands of these kinds.
+fn takes_kinds(op: Op2, ta: Ty, tb: Ty) -> bool
+    ensures { result ≡ kinds2 op (shape ta) (shape tb) }
+{
+    match op {
+        Op2::Dshl | Op2::Dshr => tb.kind == Kind::UInt,
+        Op2::Validif => ta.kind == Kind::UInt && ta.width == 1,
+        _ => ta.kind == tb.kind,
+    }
+}
+
+/// The kind and the width of the result, before the width is judged; 4,294,967,295 stands for any greater width.
+fn kind_and_width2(op: Op2, ta: Ty, tb: Ty) -> (Kind, u32)
+    ensures kind { result.0 ≡ (shape2 op (shape ta) (shape tb)).kind }
+    ensures width { result.1 ≡ min (shape2 op (shape ta) (shape tb)).width 4294967295 }
+{
+    match op {
+        Op2::Add | Op2::Sub => (ta.kind, ta.width.max(tb.width) + 1),
+        Op2::Mul => (ta.kind, ta.width + tb.width),
+        Op2::Div => match ta.kind {
+            Kind::UInt => (Kind::UInt, ta.width),
+            Kind::SInt => (Kind::SInt, ta.width + 1),
+        },
+        Op2::Rem => (ta.kind, ta.width.min(tb.width)),
+        Op2::Lt | Op2::Leq | Op2::Gt | Op2::Geq | Op2::Eq | Op2::Neq => (Kind::UInt, 1),
+        Op2::Dshl => (ta.kind, shifted_width(ta.width, tb.width)),
+        Op2::Dshr => (ta.kind, ta.width),
+        Op2::And | Op2::Or | Op2::Xor => (Kind::UInt, ta.width.max(tb.width)),
+        Op2::Cat => (Kind::UInt, ta.width + tb.width),
+        Op2::Validif => (tb.kind, tb.width),
+    }
+}
+
+/// The width after a shift to the left by an amount of `amount` bits.
+fn shifted_width(width: u32, amount: u32) -> u32
+    requires some { 1 ≤ width }
+    requires few { width ≤ 128 }
+    ensures { result ≡ min (width + 2 ^ amount - 1) 4294967295 }
+{
+    if amount < 32 {
+        width.saturating_add((1 << amount) - 1)
+    } else {
+        u32::MAX
+    }
+}
+
+/// The pattern in 128 bits of the operation's meaning.
+fn wide2(op: Op2, ta: Ty, a: Val, tb: Ty, b: Val) -> u128
+    requires kinds { kinds2 op (shape ta) (shape tb) ≡ true }
+    requires few { (shape2 op (shape ta) (shape tb)).width ≤ 128 }
+    requires first { Fits (shape ta) a.0 }
+    requires second { Fits (shape tb) b.0 }
+    ensures { result ≡ pattern_of 128 (meaning2 op (shape ta) a.0 (shape tb) b.0) }
+{
+    match op {
+        Op2::Add => sum(ta, a, tb, b),
+        Op2::Sub => difference(ta, a, tb, b),
+        Op2::Mul => product(ta, a, tb, b),
+        Op2::Div => quotient(ta, a, tb, b),
+        Op2::Rem => remainder(ta, a, tb, b),
+        Op2::Lt => bit(less(ta, a, tb, b)),
+        Op2::Leq => bit(!less(tb, b, ta, a)),
+        Op2::Gt => bit(less(tb, b, ta, a)),
+        Op2::Geq => bit(!less(ta, a, tb, b)),
+        Op2::Eq => bit(equal(ta, a, tb, b)),
+        Op2::Neq => bit(!equal(ta, a, tb, b)),
+        Op2::Dshl => shifted_left(ta, a, b.0 as u32),
+        Op2::Dshr => shifted_right(ta, a, b.0),
+        Op2::And => both(ta, a, tb, b),
+        Op2::Or => either(ta, a, tb, b),
+        Op2::Xor => differing(ta, a, tb, b),
+        Op2::Cat => joined(ta, a, tb, b),
+        Op2::Validif => wide(tb, b),
+    }
+}

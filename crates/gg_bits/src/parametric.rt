@@ -1,0 +1,85 @@
+//! Operations with parameters (FIRRTL Specification, "Primitive Operations").
+ghost use Rattle.std.specs.Prelude.{◌≡◌, ◌≤◌, min, true, IsOk, IfOk};
+ghost use Rattle.gg_bits.specs.Value.{pattern_of};
+ghost use Rattle.gg_bits.specs.Shape.{shape, shape_of, Fits};
+ghost use Rattle.gg_bits.specs.ResultType.{params_const, shape_const, type_const};
+ghost use Rattle.gg_bits.specs.Meaning.{meaning_const, value_const};
+
+use crate::judge::judged;
+use crate::ops::OpN;
+use crate::patterns::{fit, wide};
+use crate::shifts::{shifted_left, shifted_right};
+use crate::types::{Bad, Kind, Ty, Val};
+
+/// The type of the operation's result. Values of both kinds are taken.
+///
+/// # Errors
+///
+/// `Param`, where `bits` names bits that are not there, or `head` or `tail` more bits than there are; else `Width`,
+/// where the result would have no bit or more than 128.
+pub fn result_const(op: OpN, ty: Ty, n: u32, m: u32) -> Result<Ty, Bad>
+    ensures exact { shape_of result ≡ type_const op (shape ty) n m }
+    ensures ok { IfOk result (λ answer. shape answer ≡ shape_const op (shape ty) n m) }
+{
+    if !has_params(op, ty, n, m) {
+        return Err(Bad::Param);
+    }
+    let (kind, width) = kind_and_width_const(op, ty, n, m);
+    judged(kind, width)
+}
+
+/// The operation's result.
+pub fn apply_const(op: OpN, ty: Ty, v: Val, n: u32, m: u32) -> Val
+    requires accepted { IsOk (type_const op (shape ty) n m) }
+    requires typed { Fits (shape ty) v.0 }
+    ensures value { result.0 ≡ value_const op (shape ty) v.0 n m }
+    ensures typed { IfOk (type_const op (shape ty) n m) (λ s. Fits s result.0) }
+{
+    let (_, width) = kind_and_width_const(op, ty, n, m);
+    Val(fit(wide_const(op, ty, v, n, m), width))
+}
+
+/// Whether the bits that the parameters name are there.
+fn has_params(op: OpN, ty: Ty, n: u32, m: u32) -> bool
+    ensures { result ≡ params_const op (shape ty) n m }
+{
+    match op {
+        OpN::Pad | OpN::Shl | OpN::Shr => true,
+        OpN::Bits => m <= n && n < ty.width,
+        OpN::Head | OpN::Tail => n <= ty.width,
+    }
+}
+
+/// The kind and the width of the result, before the width is judged; 4,294,967,295 stands for any greater width.
+fn kind_and_width_const(op: OpN, ty: Ty, n: u32, m: u32) -> (Kind, u32)
+    requires { params_const op (shape ty) n m ≡ true }
+    ensures kind { result.0 ≡ (shape_const op (shape ty) n m).kind }
+    ensures width { result.1 ≡ min (shape_const op (shape ty) n m).width 4294967295 }
+{
+    match op {
+        OpN::Pad => (ty.kind, ty.width.max(n)),
+        OpN::Shl => (ty.kind, ty.width.saturating_add(n)),
+        OpN::Shr => (ty.kind, ty.width.saturating_sub(n).max(1)),
+        OpN::Bits => (Kind::UInt, n - m + 1),
+        OpN::Head => (Kind::UInt, n),
+        OpN::Tail => (Kind::UInt, ty.width - n),
+    }
+}
+
+/// The pattern in 128 bits of the operation's meaning.
+fn wide_const(op: OpN, ty: Ty, v: Val, n: u32, m: u32) -> u128
+    requires params { params_const op (shape ty) n m ≡ true }
+    requires some { 1 ≤ (shape_const op (shape ty) n m).width }
+    requires few { (shape_const op (shape ty) n m).width ≤ 128 }
+    requires typed { Fits (shape ty) v.0 }
+    ensures { result ≡ pattern_of 128 (meaning_const op (shape ty) v.0 n m) }
+{
+    match op {
+        OpN::Pad => wide(ty, v),
+        OpN::Shl => shifted_left(ty, v, n),
+        OpN::Shr => shifted_right(ty, v, u128::from(n)),
+        OpN::Bits => fit(v.0 >> m, n - m + 1),
+        OpN::Head => v.0 >> (ty.width - n),
+        OpN::Tail => fit(v.0, ty.width - n),
+    }
+}

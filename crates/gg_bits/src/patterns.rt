@@ -1,0 +1,68 @@
+//! Patterns of 128 bits: how a value's number is spread over them, and how a result's bits are taken from them.
+ghost use Rattle.std.specs.Prelude.{◌≡◌, ℤ, ◌-◌, ◌%◌, ◌^◌, ◌<◌, ◌≤◌};
+ghost use Rattle.gg_bits.specs.Value.{number_of, pattern_of};
+ghost use Rattle.gg_bits.specs.Shape.{shape, number, Fits};
+ghost use Rattle.gg_bits.specs.Meaning.{truth};
+
+use crate::types::{Kind, Ty, Val};
+
+/// The pattern of `width` set bits.
+pub(crate) fn ones(width: u32) -> u128
+    requires positive { 1 ≤ width }
+    requires bounded { width ≤ 128 }
+    ensures { result ≡ 2 ^ width - 1 }
+{
+    u128::MAX >> (128 - width)
+}
+
+/// The low `width` bits of `x`. So of the pattern of a number in 128 bits it gives the pattern in `width` bits.
+pub(crate) fn fit(x: u128, width: u32) -> u128
+    requires positive { 1 ≤ width }
+    requires bounded { width ≤ 128 }
+    ensures low { result ≡ x % 2 ^ width }
+    ensures small { result < 2 ^ width }
+    ensures fitted { (z : ℤ) → x ≡ pattern_of 128 z → result ≡ pattern_of width z }
+{
+    x & ones(width)
+}
+
+/// The pattern in 128 bits of the number that a value stands for.
+pub(crate) fn wide(ty: Ty, v: Val) -> u128
+    requires { Fits (shape ty) v.0 }
+    ensures { result ≡ pattern_of 128 (number (shape ty) v.0) }
+{
+    match ty.kind {
+        Kind::UInt => v.0,
+        Kind::SInt => sign_extended(v.0, ty.width),
+    }
+}
+
+/// The pattern in 128 bits of the number that `x` stands for in two's complement of `width` bits.
+fn sign_extended(x: u128, width: u32) -> u128
+    requires positive { 1 ≤ width }
+    requires bounded { width ≤ 128 }
+    requires small { x < 2 ^ width }
+    ensures { result ≡ pattern_of 128 (number_of Kind.SInt width x) }
+{
+    if width == 128 || x < 1 << (width - 1) {
+        x
+    } else {
+        x.wrapping_sub(1 << width)
+    }
+}
+
+/// The number that a value of an `SInt` type stands for.
+pub(crate) fn signed(ty: Ty, v: Val) -> i128
+    requires kind { ty.kind ≡ Kind.SInt }
+    requires typed { Fits (shape ty) v.0 }
+    ensures { result ≡ number (shape ty) v.0 }
+{
+    wide(ty, v).cast_signed()
+}
+
+/// The one bit of a test.
+pub(crate) fn bit(holds: bool) -> u128
+    ensures { result ≡ pattern_of 128 (truth holds) }
+{
+    if holds { 1 } else { 0 }
+}
