@@ -26,7 +26,7 @@ pub enum Fault {
     /// F10: a type or a result has this width, which is 0 or above 128; 4,294,967,295 stands for any greater one.
     WrongWidth { line: u64, width: u32 },
     /// F11: a parameter of this operation is out of range.
-    WrongParameter { line: u64, operation: OpN },
+    WrongParameter { line: u64, word: Word },
     /// F12: a literal's number doesn't fit its type.
     LiteralTooLarge { line: u64 },
     /// F13: a value of the first width is connected to a sink of the second, which is less.

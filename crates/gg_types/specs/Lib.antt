@@ -1,0 +1,4 @@
+pub mod Literal
+pub mod Sorts
+pub mod Clocks
+pub mod Types
