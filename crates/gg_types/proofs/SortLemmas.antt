@@ -1,5 +1,5 @@
 -- The type of a name by its place.
-use Rattle.std.proofs.Common.{◌≡◌, ℕ, zero, suc, ◌+◌, ◌<◌, ◌≤◌, Bool, true, false, List, [], ◌∷◌, ◌++◌, length, get_or, Option, Some, None, is_some, refl, sym, ap, ◌∙◌, if◌then◌else◌, true≢false, arith}
+use Rattle.std.proofs.Common.{◌≡◌, ℕ, zero, suc, ◌+◌, ◌<◌, ◌≤◌, Bool, true, false, List, [], ◌∷◌, ◌++◌, length, length-append, take, get_or, Option, Some, None, is_some, refl, sym, ap, ◌∙◌, if◌then◌else◌, true≢false, arith}
 use Rattle.std.specs.Option.{option_map}
 use Rattle.std.specs.Str.{bytes_eq}
 use Rattle.gg_shape.specs.declared.scope.Role.{Role}
@@ -45,3 +45,27 @@ pub entry_at-past : (ts : List Typing) (k : ℕ) → length ts ≤ k → entry_a
 entry_at-past [] k le = refl
 entry_at-past (t ∷ ts) zero le = absurd (omega arith)
 entry_at-past (t ∷ ts) (suc k) le = entry_at-past ts k (omega arith)
+
+abbrev rest_of : {A : Type 0} → List A → List A
+rest_of [] = []
+rest_of (x ∷ xs) = xs
+
+-- the type of the next name
+pub sorts_with-push : (ds : List (List ℕ × Role)) (ts : List Typing) (t : Typing) (name : List ℕ) (role : Role) → take (length ts + 1) ds ≡ take (length ts) ds ++ (name, role) ∷ [] → sorts_with ds (ts ++ t ∷ []) ≡ sorts_with ds ts ++ (name, Some (sort t)) ∷ []
+sorts_with-push [] ts t name role next = absurd (omega (arith, ap length next ∙ length-append (take (length ts) []) ((name, role) ∷ []), nothing (length ts), nothing (length ts + 1)))
+  where
+    nothing : (n : ℕ) → length (take {A = List ℕ × Role} n []) ≡ 0
+    nothing zero = refl
+    nothing (suc n) = refl
+sorts_with-push (d ∷ ds) [] t name role next = same (cc)
+  where
+    same : d ≡ (name, role) → (d.0, Some (sort t)) ∷ sorts_with ds [] ≡ (name, Some (sort t)) ∷ []
+    same e = ap (λ x. (x.0, Some (sort t)) ∷ sorts_with ds []) e ∙ ap (λ l. (name, Some (sort t)) ∷ l) (none ds)
+      where
+        none : (xs : List (List ℕ × Role)) → sorts_with xs [] ≡ []
+        none [] = refl
+        none (x ∷ xs) = refl
+sorts_with-push (d ∷ ds) (u ∷ us) t name role next =
+    let more : suc (length us) + 1 ≡ suc (length us + 1) = omega arith in
+    let e : take (length us + 1) ds ≡ take (length us) ds ++ (name, role) ∷ [] = ap rest_of (sym (ap (λ n. take n (d ∷ ds)) more) ∙ next) in
+    ap (λ l. (d.0, Some (sort u)) ∷ l) (sorts_with-push ds us t name role e)

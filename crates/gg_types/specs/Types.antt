@@ -135,6 +135,52 @@ declared_sort (ground.UInt w) = if is_width w then Some (Bits (uint w)) else Non
 declared_sort (ground.SInt w) = if is_width w then Some (Bits (sint w)) else None
 declared_sort ground.Clock = Some ClockSort
 
+-- ---- places with a rule of their own
+
+-- in a clock position stands a reference of type Clock; only a reference has that type
+abbrev pub clock_position : ℕ → Word → Option Sort → List Fault
+clock_position line word None = []
+clock_position line word (Some (Bits s)) = WrongKind line word ∷ []
+clock_position line word (Some ClockSort) = []
+
+-- a condition is UInt<1>
+abbrev pub condition_position : ℕ → Word → Option Sort → List Fault
+condition_position line word None = []
+condition_position line word (Some (Bits s)) = fault_if (not (is_condition s)) (WrongKind line word)
+condition_position line word (Some ClockSort) = WrongKind line word ∷ []
+
+-- a value that is connected has its sink's kind and is not wider
+abbrev pub bits_connected : ℕ → Word → Shape → Shape → List Fault
+bits_connected line word sink source =
+    if same_kind sink.kind source.kind
+    then fault_if (nat_lt sink.width source.width) (TooWide line source.width sink.width)
+    else WrongKind line word ∷ []
+
+abbrev pub connected : ℕ → Word → Option Sort → Option Sort → List Fault
+connected line word None source = []
+connected line word (Some sink) None = []
+connected line word (Some (Bits sink)) (Some (Bits source)) = bits_connected line word sink source
+connected line word (Some (Bits sink)) (Some ClockSort) = WrongKind line word ∷ []
+connected line word (Some ClockSort) (Some (Bits source)) = WrongKind line word ∷ []
+connected line word (Some ClockSort) (Some ClockSort) = []
+
+-- a register is no Clock
+abbrev pub register_sort : GroundType → Option Sort
+register_sort (ground.UInt w) = declared_sort (ground.UInt w)
+register_sort (ground.SInt w) = declared_sort (ground.SInt w)
+register_sort ground.Clock = None
+
+abbrev pub register_type_faults : ℕ → GroundType → List Fault
+register_type_faults line (ground.UInt w) = width_faults line (ground.UInt w)
+register_type_faults line (ground.SInt w) = width_faults line (ground.SInt w)
+register_type_faults line ground.Clock = WrongKind line words.Register ∷ []
+
+-- a Clock is not `is invalid`
+abbrev pub invalid_faults : ℕ → Reference → Option Sort → List Fault
+invalid_faults line r None = []
+invalid_faults line r (Some (Bits s)) = []
+invalid_faults line r (Some ClockSort) = WrongClock line (written r) ∷ []
+
 -- ---- expressions
 
 module _ (traced : List ℕ → Bool) where
@@ -165,53 +211,13 @@ module _ (traced : List ℕ → Bool) where
       ++ (faults_in scope line b
       ++ result_faults line words.Mux (result3 type_mux (sort_in scope c) (sort_in scope a) (sort_in scope b))))
 
-  -- ---- places with a rule of their own
-
-  -- in a clock position stands a reference of type Clock; only a reference has that type
-  abbrev pub clock_position : ℕ → Word → Option Sort → List Fault
-  clock_position line word None = []
-  clock_position line word (Some (Bits s)) = WrongKind line word ∷ []
-  clock_position line word (Some ClockSort) = []
-
   abbrev pub clock_faults_in : List (List ℕ × Option Sort) → ℕ → Word → Term → List Fault
   clock_faults_in scope line word t = faults_in scope line t ++ clock_position line word (sort_in scope t)
-
-  -- a condition is UInt<1>
-  abbrev pub condition_position : ℕ → Word → Option Sort → List Fault
-  condition_position line word None = []
-  condition_position line word (Some (Bits s)) = fault_if (not (is_condition s)) (WrongKind line word)
-  condition_position line word (Some ClockSort) = WrongKind line word ∷ []
 
   abbrev pub condition_faults_in : List (List ℕ × Option Sort) → ℕ → Word → Term → List Fault
   condition_faults_in scope line word t = faults_in scope line t ++ condition_position line word (sort_in scope t)
 
-  -- a value that is connected has its sink's kind and is not wider
-  abbrev pub bits_connected : ℕ → Word → Shape → Shape → List Fault
-  bits_connected line word sink source =
-      if same_kind sink.kind source.kind
-      then fault_if (nat_lt sink.width source.width) (TooWide line source.width sink.width)
-      else WrongKind line word ∷ []
-
-  abbrev pub connected : ℕ → Word → Option Sort → Option Sort → List Fault
-  connected line word None source = []
-  connected line word (Some sink) None = []
-  connected line word (Some (Bits sink)) (Some (Bits source)) = bits_connected line word sink source
-  connected line word (Some (Bits sink)) (Some ClockSort) = WrongKind line word ∷ []
-  connected line word (Some ClockSort) (Some (Bits source)) = WrongKind line word ∷ []
-  connected line word (Some ClockSort) (Some ClockSort) = []
-
   -- ---- statements
-
-  -- a register is no Clock
-  abbrev pub register_sort : GroundType → Option Sort
-  register_sort (ground.UInt w) = declared_sort (ground.UInt w)
-  register_sort (ground.SInt w) = declared_sort (ground.SInt w)
-  register_sort ground.Clock = None
-
-  abbrev pub register_type_faults : ℕ → GroundType → List Fault
-  register_type_faults line (ground.UInt w) = width_faults line (ground.UInt w)
-  register_type_faults line (ground.SInt w) = width_faults line (ground.SInt w)
-  register_type_faults line ground.Clock = WrongKind line words.Register ∷ []
 
   -- a reset's condition, and its initial value as it is connected to the register
   abbrev pub reset_faults : List (List ℕ × Option Sort) → Option Sort → Option Reset → List Fault
@@ -220,6 +226,20 @@ module _ (traced : List ℕ → Bool) where
       condition_faults_in scope reset.line words.Register (term reset.condition)
       ++ (faults_in scope reset.line (term reset.init)
       ++ connected reset.line words.Register register (sort_in scope (term reset.init)))
+
+  -- a register's type, its clock, and its reset, in which it is declared
+  abbrev pub register_faults : List (List ℕ × Option Sort) → ℕ → List ℕ → GroundType → Term → Option Reset → List Fault
+  register_faults scope line name ty clock reset =
+      register_type_faults line ty
+      ++ (clock_faults_in scope line words.Register clock
+      ++ reset_faults (scope ++ (name, register_sort ty) ∷ []) (register_sort ty) reset)
+
+  -- what is connected, and then whether it may be
+  abbrev pub connection_faults : List (List ℕ × Option Sort) → ℕ → Reference → Term → List Fault
+  connection_faults scope line sink source =
+      undeclared scope line sink
+      ++ (faults_in scope line source
+      ++ connected line words.Connect (sort_of_reference scope sink) (sort_in scope source))
 
   -- all arguments but the first are only typed
   abbrev pub argument_faults : List (List ℕ × Option Sort) → ℕ → List Argument → List Fault
@@ -234,26 +254,14 @@ module _ (traced : List ℕ → Bool) where
       clock_faults_in scope line word (term e) ++ argument_faults scope line rest
   report_faults scope line word (Text t ∷ rest) = WrongKind line word ∷ argument_faults scope line rest
 
-  -- a Clock is not `is invalid`
-  abbrev pub invalid_faults : ℕ → Reference → Option Sort → List Fault
-  invalid_faults line r None = []
-  invalid_faults line r (Some (Bits s)) = []
-  invalid_faults line r (Some ClockSort) = WrongClock line (written r) ∷ []
-
   -- the faults of a statement, in the scope of what is declared before it
   abbrev pub faults_of_kind : List (List ℕ × Option Sort) → ℕ → statements.StmtKind → List Fault
   faults_of_kind scope line (kinds.Wire name ty) = width_faults line ty
   faults_of_kind scope line (kinds.Node name value) = faults_in scope line (term value)
-  faults_of_kind scope line (kinds.Register name ty clock reset) =
-      register_type_faults line ty
-      ++ (clock_faults_in scope line words.Register (term clock)
-      ++ reset_faults (scope ++ (name, register_sort ty) ∷ []) (register_sort ty) reset)
+  faults_of_kind scope line (kinds.Register name ty clock reset) = register_faults scope line name ty (term clock) reset
   faults_of_kind scope line (kinds.Instance name of_module) = []
   faults_of_kind scope line (kinds.Memory name fields) = []
-  faults_of_kind scope line (kinds.Connect sink source) =
-      undeclared scope line sink
-      ++ (faults_in scope line (term source)
-      ++ connected line words.Connect (sort_of_reference scope sink) (sort_in scope (term source)))
+  faults_of_kind scope line (kinds.Connect sink source) = connection_faults scope line sink (term source)
   faults_of_kind scope line (kinds.Invalid sink) =
       undeclared scope line sink ++ invalid_faults line sink (sort_of_reference scope sink)
   faults_of_kind scope line kinds.Skip = []

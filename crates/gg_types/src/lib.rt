@@ -9,5 +9,7 @@
 mod expression;
 mod known;
 mod literal;
+mod places;
+mod statement;
 
 pub use known::Typing;
