@@ -1,5 +1,6 @@
 //! `Scope`: the names of a module that are declared, in the order of the file.
-ghost use Rattle.std.specs.Prelude.{◌≡◌, [], ◌∷◌, ◌++◌, ◌<◌, ◌^◌, not, length, is_some, take, IfSome, IfOk, OnErr, if◌then◌else◌};
+ghost use Rattle.std.specs.Prelude.{◌≡◌, [], ◌∷◌, ◌++◌, ◌<◌, ◌^◌, not, length, is_some, take, slice_get, IfSome, IfOk, OnErr, if◌then◌else◌};
+ghost use Rattle.std.specs.Option.{option_map};
 ghost use Rattle.gg_shape.specs.Scope.{role_of, place_of};
 
 use gg_bits::Name;
@@ -100,6 +101,16 @@ impl<'a> Scope<'a> {
             self.role(name)
         } else {
             None
+        }
+    }
+
+    /// The role of the name at a place.
+    pub fn role_at(&self, place: usize) -> Option<Role>
+        ensures { result ≡ option_map (λ declared. declared.1) (slice_get self.now place) }
+    {
+        match self.roles.get_index(place) {
+            Some((_, role)) => Some(*role),
+            None => None,
         }
     }
 }

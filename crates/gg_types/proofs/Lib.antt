@@ -1,2 +1,4 @@
 pub mod SortLemmas
 pub mod LiteralLemmas
+pub mod StepLemmas
+pub mod ClockLemmas

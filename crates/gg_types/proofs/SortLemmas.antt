@@ -69,3 +69,7 @@ sorts_with-push (d ∷ ds) (u ∷ us) t name role next =
     let more : suc (length us) + 1 ≡ suc (length us + 1) = omega arith in
     let e : take (length us + 1) ds ≡ take (length us) ds ++ (name, role) ∷ [] = ap rest_of (sym (ap (λ n. take n (d ∷ ds)) more) ∙ next) in
     ap (λ l. (d.0, Some (sort u)) ∷ l) (sorts_with-push ds us t name role e)
+
+pub sorts_with-empty : (ds : List (List ℕ × Role)) → sorts_with ds [] ≡ []
+sorts_with-empty [] = refl
+sorts_with-empty (d ∷ ds) = refl

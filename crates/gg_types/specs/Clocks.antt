@@ -93,8 +93,10 @@ abbrev pub followed : List (List ℕ × Role) → List Stmt → ℕ → List ℕ
 followed scope statements zero name = name
 followed scope statements (suc n) name = followed scope statements n (stay_or name (next_of scope statements name))
 
--- A name leads to an input port where as many steps as the module declares names lead there: a longer way would pass a name
--- twice, and so be a ring.
+-- A name leads to an input port where as many steps as there are names lead there: a longer way would pass a name twice, and so
+-- be a ring.
+abbrev pub leads : List (List ℕ × Role) → List Stmt → List ℕ → Bool
+leads scope statements name = is_input_port (role_of (followed scope statements (length scope) name) scope)
+
 abbrev pub leads_to_input : ModuleTree → List ℕ → Bool
-leads_to_input m name =
-    is_input_port (role_of (followed (scope_of m) m.statements (length (scope_of m)) name) (scope_of m))
+leads_to_input m name = leads (scope_of m) m.statements name

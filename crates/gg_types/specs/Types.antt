@@ -308,12 +308,15 @@ is_input Output = false
 abbrev pub is_clock_input : Port → Bool
 is_clock_input port = is_clock port.ty && is_input port.direction
 
--- F14: an output port is no Clock, and the top has one Clock input at most; F10
-abbrev pub port_faults : Bool → List Port → Port → List Fault
-port_faults is_top before port =
+-- a port of type Clock is an input, and none where the top has one already (F14); a width is 1 to 128 (F10)
+abbrev pub port_judged : Bool → Port → List Fault
+port_judged is_taken port =
     if is_clock port.ty
-    then fault_if (not (is_input port.direction) || (is_top && list_any is_clock_input before)) (WrongClock port.line port.name)
+    then fault_if (not (is_input port.direction) || is_taken) (WrongClock port.line port.name)
     else width_faults port.line port.ty
+
+abbrev pub port_faults : Bool → List Port → Port → List Fault
+port_faults is_top before port = port_judged (is_top && list_any is_clock_input before) port
 
 -- ---- all of them
 

@@ -6,10 +6,14 @@
 //! For now it takes circuits of one module without instances and memories.
 #![tactic(auto)]
 
+mod circuit;
+mod clocks;
 mod expression;
 mod known;
 mod literal;
+mod module;
 mod places;
 mod statement;
 
+pub use circuit::{TypeFault, Typed, types};
 pub use known::Typing;

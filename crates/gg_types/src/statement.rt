@@ -57,8 +57,8 @@ pub fn judge(alloc: Global, known: &mut Known, statement: &Stmt) -> Result<(), R
     }
 }
 
-// The next name of the scope has this type.
-fn declare(known: &mut Known, typing: Typing) -> Result<(), Refusal>
+/// The next name of the scope has this type.
+pub fn declare(known: &mut Known, typing: Typing) -> Result<(), Refusal>
     ensures answers { Answers [] result }
     ensures types { (name : List ℕ) (role : Roles) → IsDeclaredNext known.old.scope (length known.old.types.items) ((name, role) ∷ []) → OnOk result (sorts_with known.new.scope known.new.types.items ≡ sorts_with known.old.scope known.old.types.items ++ (name, Some (sort typing)) ∷ []) }
     ensures count { OnOk result (length known.new.types.items ≡ length known.old.types.items + 1) }
