@@ -1,5 +1,5 @@
 -- Drivers by the places of names, and steps by squaring.
-use Rattle.std.proofs.Common.{◌≡◌, ◌≢◌, ℕ, zero, suc, ◌+◌, ◌*◌, ◌/◌, ◌%◌, ◌<◌, ◌≤◌, Bool, true, false, List, [], ◌∷◌, ◌++◌, length, get_or, set, map, slice_get, slice_index, slice_set, Option, Some, None, is_some, refl, sym, ap, subst, ◌∙◌, if◌then◌else◌, true≢false, unwrap_or, ◌⊎◌, inl, inr, eqb, eqb-true, arith}
+use Rattle.std.proofs.Common.{◌≡◌, ◌≢◌, ℕ, zero, suc, ◌+◌, ◌/◌, ◌%◌, ◌<◌, Bool, true, false, List, [], ◌∷◌, ◌++◌, length, get_or, map, slice_index, slice_set, Option, Some, None, is_some, refl, sym, ap, subst, ◌∙◌, if◌then◌else◌, true≢false, unwrap_or, inl, inr, eqb, eqb-true, arith}
 use Rattle.std.proofs.lemmas.List.{length-set, get_or-set_same, get_or-set_other, length-map, get_or-map}
 use Rattle.std.proofs.lemmas.Slice.Eq.{bytes_eq-Decides}
 use Rattle.std.proofs.lemmas.Bool.{eqb-false}
@@ -119,8 +119,8 @@ follow-tells scope before s next tells = go (driven_by s.kind) refl
                     ∙ get_or-set_same next p (next_at scope p d.1) 0 bound
                     ∙ ap (λ j. next_at scope j d.1) (sym k-is)
                     ∙ sym (after scope before s name k ∙ ap (Place name k) is
-                        ∙ ap (λ b. if is_followed (role_of name scope) then next_at scope k (if b then d.1 else lead_of name before) else k) e
-                        ∙ ap (λ b. if b then next_at scope k d.1 else k) f)
+                    ∙ ap (λ b. if is_followed (role_of name scope) then next_at scope k (if b then d.1 else lead_of name before) else k) e
+                    ∙ ap (λ b. if b then next_at scope k d.1 else k) f)
 
 -- ---- steps
 
@@ -244,9 +244,9 @@ module _ (scope : List (List ℕ × Role)) (statements : List Stmt) where
               ∙ ap (λ l. is_input_port (role_of l scope)) (undeclared-stays n q gone)
               ∙ ap is_input_port gone
               ∙ sym (ap (λ i. is_input_port (role_at scope (iterate n next i))) here
-                  ∙ ap (λ i. is_input_port (role_at scope i)) (stays n next k here)
-                  ∙ ap is_input_port (sym (placed-role name scope k u))
-                  ∙ followed-not-input (role_of name scope) t)
+              ∙ ap (λ i. is_input_port (role_at scope i)) (stays n next k here)
+              ∙ ap is_input_port (sym (placed-role name scope k u))
+              ∙ followed-not-input (role_of name scope) t)
 
   -- the flags of the places that are reached tell which names lead to an input port
   pub traced : (next reached : List ℕ) (flags : List Bool) → TellsNext scope statements next → Reaches (length scope) next reached → flags ≡ map (λ (place : ℕ). is_input_port (role_at scope place)) reached → (name : List ℕ) → traced_with scope flags name ≡ leads scope statements name

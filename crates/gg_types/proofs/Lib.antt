@@ -2,3 +2,4 @@ pub mod SortLemmas
 pub mod LiteralLemmas
 pub mod StepLemmas
 pub mod ClockLemmas
+pub mod CircuitLemmas

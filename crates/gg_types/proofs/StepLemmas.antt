@@ -1,6 +1,6 @@
 -- How what is known grows from port to port and from statement to statement.
 use Rattle.std.proofs.Common.{◌≡◌, ℕ, ◌+◌, ◌<◌, Bool, true, false, ◌||◌, List, [], ◌∷◌, ◌++◌, length, get_or, take, drop, map, Option, refl, sym, ap, ◌∙◌, append_assoc, length-append, arith}
-use Rattle.std.proofs.lemmas.List.{take_more, take_at, take-append-drop, append-nil, map-append, length-map}
+use Rattle.std.proofs.lemmas.List.{take_more, take_at, take-append-drop, map-append, length-map}
 use Rattle.std.proofs.lemmas.List.Folds.{list_any-append}
 use Rattle.std.proofs.lemmas.Grind.{common_steps}
 use Rattle.std.specs.List.{list_any, flat_map}
@@ -45,15 +45,15 @@ pub port-next : (ports : List Port) (statements : List Stmt) (scope : List (List
 port-next ports statements scope i count p all n lt is =
     let rest = map declared_by_port (drop (i + 1) ports) ++ flat_map declared_by statements in
     let grown : map declared_by_port (take (i + 1) ports) ≡ map declared_by_port (take i ports) ++ declared_by_port p ∷ [] =
-        ap (map declared_by_port) (take_more ports i p lt)
-        ∙ ap (λ x. map declared_by_port (take i ports ++ x ∷ [])) (sym is)
-        ∙ map-append declared_by_port (take i ports) (p ∷ []) in
+    ap (map declared_by_port) (take_more ports i p lt)
+    ∙ ap (λ x. map declared_by_port (take i ports ++ x ∷ [])) (sym is)
+    ∙ map-append declared_by_port (take i ports) (p ∷ []) in
     let whole : scope ≡ (map declared_by_port (take i ports) ++ declared_by_port p ∷ []) ++ (map declared_by_port (drop (i + 1) ports) ++ flat_map declared_by statements) =
-        all
-        ∙ ap (λ l. map declared_by_port l ++ flat_map declared_by statements) (sym (take-append-drop (i + 1) ports))
-        ∙ ap (λ l. l ++ flat_map declared_by statements) (map-append declared_by_port (take (i + 1) ports) (drop (i + 1) ports))
-        ∙ append_assoc (map declared_by_port (take (i + 1) ports)) (map declared_by_port (drop (i + 1) ports)) (flat_map declared_by statements)
-        ∙ ap (λ l. l ++ (map declared_by_port (drop (i + 1) ports) ++ flat_map declared_by statements)) grown in
+    all
+    ∙ ap (λ l. map declared_by_port l ++ flat_map declared_by statements) (sym (take-append-drop (i + 1) ports))
+    ∙ ap (λ l. l ++ flat_map declared_by statements) (map-append declared_by_port (take (i + 1) ports) (drop (i + 1) ports))
+    ∙ append_assoc (map declared_by_port (take (i + 1) ports)) (map declared_by_port (drop (i + 1) ports)) (flat_map declared_by statements)
+    ∙ ap (λ l. l ++ (map declared_by_port (drop (i + 1) ports) ++ flat_map declared_by statements)) grown in
     let short : length (map declared_by_port (take i ports)) ≡ count = length-map (take i ports) declared_by_port ∙ length-take-lt ports i lt ∙ sym n in
     parts (map declared_by_port (take i ports)) (declared_by_port p ∷ []) (map declared_by_port (drop (i + 1) ports) ++ flat_map declared_by statements) scope count whole short
   where

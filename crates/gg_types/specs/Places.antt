@@ -1,10 +1,10 @@
 -- Drivers by the places of names in a scope.
-use Rattle.std.specs.Prelude.{◌≡◌, ℕ, zero, suc, ◌<◌, Bool, List, Option, Some, None, length, slice_get, slice_index, slice_set, if◌then◌else◌, unwrap_or}
+use Rattle.std.specs.Prelude.{◌≡◌, ℕ, zero, suc, ◌<◌, List, Option, Some, None, length, slice_get, slice_index, slice_set, if◌then◌else◌, unwrap_or}
 use Rattle.std.specs.Option.{option_map}
 use Rattle.gg_ast.specs.declared.statement.Stmt.{Stmt}
 use Rattle.gg_shape.specs.declared.scope.Role.{Role}
 use Rattle.gg_shape.specs.Scope.{role_of, place_of}
-use Rattle.gg_types.specs.Clocks.{is_followed, is_input_port, lead_of}
+use Rattle.gg_types.specs.Clocks.{is_followed, lead_of}
 
 -- the place that a name at a place leads to; where it leads to no declared name, its own
 abbrev pub next_at : List (List ℕ × Role) → ℕ → Option (List ℕ) → ℕ

@@ -1,5 +1,5 @@
 -- The types of names: a ground type by its shape, or Clock.
-use Rattle.std.specs.Prelude.{ℕ, Bool, false, List, [], ◌∷◌, Option, Some, None, if◌then◌else◌}
+use Rattle.std.specs.Prelude.{ℕ, Bool, List, [], ◌∷◌, Option, Some, None, if◌then◌else◌}
 use Rattle.std.specs.Str.{bytes_eq}
 use Rattle.gg_bits.specs.Shape.{Shape, shape}
 use Rattle.gg_shape.specs.declared.scope.Role.{Role}

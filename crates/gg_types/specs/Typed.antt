@@ -1,5 +1,5 @@
 -- What `types` answers: the type of each name.
-use Rattle.std.specs.Prelude.{◌≡◌, ℕ, List, [], ◌∷◌, length}
+use Rattle.std.specs.Prelude.{◌≡◌, List, [], ◌∷◌, length}
 use Rattle.gg_ast.specs.Tree.{ModuleTree}
 use Rattle.gg_shape.specs.Namespace.{scope_of}
 use Rattle.gg_types.specs.declared.known.Typing.{Typing}

@@ -1,14 +1,13 @@
 -- The type of each expression and the faults of types, in the order of the text.
 -- Sources: FIRRTL Specification, "Ground Types" (F10), "Primitive Operations" (F9 to F11), "Expressions" (F12), "Connects",
 -- "Registers" (F9, F13), "Clock Type" (F14).
-use Rattle.std.specs.Prelude.{ℕ, ◌+◌, Bool, true, false, not, ◌&&◌, ◌||◌, List, [], ◌∷◌, ◌++◌, Option, Some, None, Result, Ok, Err, map, length, nat_lt, nat_le, is_some, if◌then◌else◌}
+use Rattle.std.specs.Prelude.{ℕ, Bool, true, false, not, ◌&&◌, ◌||◌, List, [], ◌∷◌, ◌++◌, Option, Some, None, Result, Ok, Err, map, nat_lt, nat_le, is_some, if◌then◌else◌}
 use Rattle.std.specs.List.{list_any}
 use Rattle.std.specs.Str.{bytes_eq}
-use Rattle.gg_bits.specs.declared.types.Kind.{Kind}
 use Rattle.gg_bits.specs.declared.types.Bad as bits
 use Rattle.gg_bits.specs.declared.types.Bad.TheVariants as bads
 use Rattle.gg_bits.specs.Shape.{Shape, of_kind, uint, sint}
-use Rattle.gg_bits.specs.ResultType.{type1, type2, type_const, type_mux, is_condition, same_kind, within}
+use Rattle.gg_bits.specs.ResultType.{type1, type2, type_const, type_mux, is_condition, same_kind}
 use Rattle.gg_ast.specs.declared.expression.Reference.{Reference}
 use Rattle.gg_ast.specs.declared.expression.Reference.TheVariants as references
 use Rattle.gg_ast.specs.declared.expression.Literal.{Literal}

@@ -10,7 +10,7 @@ ghost use Rattle.gg_types.specs.Typed.{TellsTypes, TellsTypesOf};
 
 use crate::clocks::trace;
 use crate::known::{Known, Typing};
-use crate::module::{judge_ports, judge_statements};
+use crate::module::judge_all;
 use gg_ast::{Circuit, Module};
 use gg_shape::{Refusal, declarations};
 use std::alloc::Global;
@@ -45,19 +45,15 @@ fn types_of(alloc: Global, is_top: bool, top: &Module) -> Result<Typed, Refusal>
     ensures answers { Answers (module_type_faults is_top (leads_to_input top.now) top.now) result }
     ensures types { IfOk result (λ typed. TellsTypes top.now typed.types.items) }
 {
+    let ports = top.ports();
+    let statements = top.statements();
     let scope = declarations(alloc, top)?;
-    let traced = trace(alloc, &scope, top.statements())?;
+    let traced = trace(alloc, &scope, statements)?;
     let mut known = Known {
         scope,
         traced,
         types: Vec::new(alloc),
     };
-    judge_ports(&mut known, is_top, top.ports(), top.statements())?;
-    judge_statements(alloc, &mut known, top.ports(), top.statements())?;
-    let Known {
-        scope: _,
-        traced: _,
-        types,
-    } = known;
-    Ok(Typed { types })
+    judge_all(alloc, &mut known, is_top, ports, statements)?;
+    Ok(Typed { types: known.types })
 }

@@ -113,11 +113,7 @@ fn is_followed(role: Option<Role>) -> bool
         Some(Role::Wire | Role::Node) => true,
         None
         | Some(
-            Role::InputPort
-            | Role::OutputPort
-            | Role::Register
-            | Role::Instance
-            | Role::Memory,
+            Role::InputPort | Role::OutputPort | Role::Register | Role::Instance | Role::Memory,
         ) => false,
     }
 }

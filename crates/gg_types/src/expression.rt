@@ -18,12 +18,7 @@ use gg_shape::{Fault, Refusal, Word, written};
 use std::alloc::Global;
 
 /// The type of an expression on this line, or its first fault.
-pub fn type_of(
-    alloc: Global,
-    known: &Known,
-    line: u64,
-    value: &Expr,
-) -> Result<Typing, Refusal>
+pub fn type_of(alloc: Global, known: &Known, line: u64, value: &Expr) -> Result<Typing, Refusal>
     ensures answers { Answers (faults_in (traced_with known.now.scope known.now.traced.items) (sorts_with known.now.scope known.now.types.items) line (term value.now)) result }
     ensures sort { IfOk result (λ t. sort_in (traced_with known.now.scope known.now.traced.items) (sorts_with known.now.scope known.now.types.items) (term value.now) ≡ Some (sort t)) }
 {
@@ -53,12 +48,7 @@ pub fn type_of(
 }
 
 // The type of a reference that is read.
-fn read(
-    alloc: Global,
-    known: &Known,
-    line: u64,
-    reference: &Reference,
-) -> Result<Typing, Refusal>
+fn read(alloc: Global, known: &Known, line: u64, reference: &Reference) -> Result<Typing, Refusal>
     ensures answers { Answers (undeclared (sorts_with known.now.scope known.now.types.items) line reference.now ++ clock_faults (traced_with known.now.scope known.now.traced.items) line reference.now (sort_of_reference (sorts_with known.now.scope known.now.types.items) reference.now)) result }
     ensures sort { IfOk result (λ t. read_sort (traced_with known.now.scope known.now.traced.items) reference.now (sort_of_reference (sorts_with known.now.scope known.now.types.items) reference.now) ≡ Some (sort t)) }
 {

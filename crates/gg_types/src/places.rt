@@ -92,10 +92,12 @@ fn only_condition(line: u64, word: Word, typing: Typing) -> Result<(), Refusal>
     ensures { Answers (condition_position line word (Some (sort typing))) result }
 {
     match typing {
-        Typing::Ground(Ty {
-            kind: Kind::UInt,
-            width: 1,
-        }) => Ok(()),
+        Typing::Ground(
+            Ty {
+                kind: Kind::UInt,
+                width: 1,
+            },
+        ) => Ok(()),
         Typing::Ground(_) | Typing::Clock => wrong_kind(line, word),
     }
 }

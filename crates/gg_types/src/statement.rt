@@ -37,7 +37,10 @@ pub fn judge(alloc: Global, known: &mut Known, statement: &Stmt) -> Result<(), R
             declare(known, typing)
         }
         StmtKind::Register {
-            ty, clock, reset, ..
+            ty,
+            clock,
+            reset,
+            ..
         } => judge_register(alloc, known, line, *ty, clock, reset),
         StmtKind::Connect { sink, source } => judge_connection(alloc, known, line, sink, source),
         StmtKind::Invalid { sink } => judge_invalid(alloc, known, line, sink),
@@ -51,7 +54,9 @@ pub fn judge(alloc: Global, known: &mut Known, statement: &Stmt) -> Result<(), R
             condition(alloc, known, line, Word::Stop, test)
         }
         StmtKind::Report {
-            word, arguments, ..
+            word,
+            arguments,
+            ..
         } => judge_report(alloc, known, line, *word, arguments.as_slice()),
         StmtKind::Instance { .. } | StmtKind::Memory { .. } => unreachable!(),
     }
@@ -123,12 +128,7 @@ fn judge_connection(
     connected(line, Word::Connect, wide, narrow)
 }
 
-fn judge_invalid(
-    alloc: Global,
-    known: &Known,
-    line: u64,
-    sink: &Reference,
-) -> Result<(), Refusal>
+fn judge_invalid(alloc: Global, known: &Known, line: u64, sink: &Reference) -> Result<(), Refusal>
     ensures { Answers (undeclared (sorts_with known.now.scope known.now.types.items) line sink.now ++ invalid_faults line sink.now (sort_of_reference (sorts_with known.now.scope known.now.types.items) sink.now)) result }
 {
     match named(alloc, known, line, sink)? {

@@ -1,4 +1,4 @@
-use Rattle.std.proofs.Common.{◌≡◌, ◌^◌, ◌≤◌, sym, ap, subst, ◌∙◌, arith}
+use Rattle.std.proofs.Common.{◌^◌, ◌≤◌, sym, subst}
 use Rattle.gg_types.specs.Literal.{magnitude}
 use Rattle.gg_types.proofs.LiteralLemmas.{fits_none}
 use Rattle.gg_types.proofs.literal.fits.Goals as goal

@@ -1,6 +1,6 @@
-use Rattle.std.proofs.Common.{◌≡◌, ◌+◌, ◌*◌, ◌^◌, ◌<◌, ◌≤◌, get_or, refl, sym, ap, ◌∙◌, arith}
-use Rattle.gg_types.specs.Literal.{radix_of, digit_value, magnitude_from, magnitude}
-use Rattle.gg_types.proofs.LiteralLemmas.{too_large, next_digit}
+use Rattle.std.proofs.Common.{◌+◌, ◌*◌, ◌^◌, ◌≤◌, get_or, refl, ap, arith}
+use Rattle.gg_types.specs.Literal.{radix_of, digit_value, magnitude}
+use Rattle.gg_types.proofs.LiteralLemmas.{too_large}
 use Rattle.gg_types.proofs.literal.magnitude.Goals as goal
 
 pub returns-in_default : goal.returns-in_default

@@ -1,4 +1,4 @@
-use Rattle.std.proofs.Common.{◌≡◌, ap, ◌∙◌}
+use Rattle.std.proofs.Common.{ap, ◌∙◌}
 use Rattle.gg_types.specs.Sorts.{sorts_with}
 use Rattle.gg_types.proofs.SortLemmas.{sorts_with-push}
 use Rattle.gg_types.proofs.statement.declare.Goals as goal

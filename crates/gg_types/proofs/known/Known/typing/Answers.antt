@@ -1,6 +1,5 @@
-use Rattle.std.proofs.Common.{◌≡◌, sym, ap, ◌∙◌, Some, arith}
-use Rattle.std.specs.Option.{option_map}
-use Rattle.gg_types.specs.Sorts.{sort, entry_of, sorts_with}
+use Rattle.std.proofs.Common.{sym, ap, ◌∙◌, Some, arith}
+use Rattle.gg_types.specs.Sorts.{sort}
 use Rattle.gg_types.proofs.SortLemmas.{entry_at, entry-placed, entry_at-there, entry_at-past}
 use Rattle.gg_types.proofs.known.Known.typing.Goals as goal
 
