@@ -12,7 +12,7 @@ use Rattle.std.proofs.lemmas.Bool.{cases_lt}
 use lib.Pow.{ones_split, ones_lt}
 use Rattle.std.proofs.Math.Nat.{mod-lt, mod-eq_of_lt, mul-le-mul_left, pow-le-pow_right, div-eq_of_lt}
 use Rattle.std.proofs.Math.IntN.{*ℤ_comm}
-use borrow.Author.Differences.{up, down, ints, same_in, same_out, sum_is_lem, neg_is, product_is}
+use borrow.Author.Differences.{up, down, ints, same_in, same_out, sum_is_lem, product_is}
 use Rattle.gg_bits.specs.Value.{number_of, pattern_of}
 use Rattle.gg_bits.specs.Meaning.{floor_by}
 
@@ -41,27 +41,8 @@ left_over k (negsuc a) =
     let small = mod-lt a (pow_pos k) in
     (0, a / 2 ^ k + 1, omega (arith, same_in, same_out, sum_is_lem, div-add-mod' a (2 ^ k)))
 
--- a pattern is below 2 ^ k
-pub pattern_of-lt : (k : ℕ) (z : ℤ) → pattern_of k z < 2 ^ k
-pattern_of-lt k (pos a) = mod-lt a (pow_pos k)
-pattern_of-lt k (negsuc a) = omega (arith, pow_pos k)
-
--- ---- wrapping operations on patterns
-
+-- the wrapping product of patterns is the pattern of the product
 module _ (k : ℕ) (a b : ℤ) (x y : ℕ) (p : x ≡ pattern_of k a) (q : y ≡ pattern_of k b) where
-  pub sum_wraps : (x + y) % 2 ^ k ≡ pattern_of k (a +ℤ b)
-  sum_wraps =
-      let l = left_over k a in
-      let r = left_over k b in
-      same_pattern k (pos (x + y)) (a +ℤ b) (l.0 + r.0) (l.1 + r.1) (omega (arith, same_in, same_out, sum_is_lem, l.2, r.2))
-
-  pub difference_wraps : (x + (2 ^ k - y)) % 2 ^ k ≡ pattern_of k (a -ℤ b)
-  difference_wraps =
-      let l = left_over k a in
-      let r = left_over k b in
-      let small = pattern_of-lt k b in
-      same_pattern k (pos (x + (2 ^ k - y))) (a -ℤ b) (l.0 + r.1) (l.1 + r.0 + 1) (omega (arith, same_in, same_out, sum_is_lem, neg_is, l.2, r.2))
-
   pub product_wraps : (x * y) % 2 ^ k ≡ pattern_of k (a *ℤ b)
   product_wraps =
       let l = left_over k a in

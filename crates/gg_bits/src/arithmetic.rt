@@ -43,8 +43,7 @@ pub(crate) fn quotient(ta: Ty, a: Val, tb: Ty, b: Val) -> u128
     ensures { result ≡ pattern_of 128 (quotient_of (number (shape ta) a.0) (number (shape tb) b.0)) }
 {
     match ta.kind {
-        Kind::UInt if b.0 == 0 => 0,
-        Kind::UInt => a.0 / b.0,
+        Kind::UInt => a.0.checked_div(b.0).unwrap_or(0),
         Kind::SInt => signed_quotient(signed(ta, a), signed(tb, b)),
     }
 }
@@ -65,8 +64,7 @@ pub(crate) fn remainder(ta: Ty, a: Val, tb: Ty, b: Val) -> u128
     ensures { result ≡ pattern_of 128 (remainder_of (number (shape ta) a.0) (number (shape tb) b.0)) }
 {
     match ta.kind {
-        Kind::UInt if b.0 == 0 => 0,
-        Kind::UInt => a.0 % b.0,
+        Kind::UInt => a.0.checked_rem(b.0).unwrap_or(0),
         Kind::SInt => signed_remainder(signed(ta, a), signed(tb, b)),
     }
 }

@@ -10,6 +10,8 @@ mod fronts;
 mod line;
 mod longest;
 mod symbols;
+#[cfg(test)]
+mod tests;
 mod token;
 
 pub use line::{lex, one_reading, tokens};

@@ -1,0 +1,186 @@
+//! Shelves in memory.
+ghost use Rattle.std.specs.Prelude.{◌≡◌, ◌-◌, ◌^◌, ◌<◌, ◌≤◌, ◌↔◌, ◌⊎◌, length, IfOk, IfErr, IsErrOf, Contains};
+ghost use Rattle.gg_io.specs.Count.{risen};
+ghost use Rattle.gg_io.specs.Told.{CanHold, Missing, Holds};
+ghost use Rattle.gg_io.specs.LoadFail.{HasLoadCause, faults_after_load, cuts_after_load};
+ghost use Rattle.gg_io.specs.Memory.{bytes_under, told_of, told_or_empty};
+
+use crate::counts::raise;
+use crate::files::{LoadFail, Shelf};
+use crate::mem_files::MemFiles;
+use std::alloc::Global;
+
+/// A shelf in memory: its files by name, and the numbers of the loads that are to fail, counted from 0.
+#[derive(Debug, Drop)]
+pub struct MemShelf {
+    pub files: MemFiles,
+    pub failing: Vec<u64>,
+    /// The number of the next load.
+    pub loads: u64,
+    pub faults: u64,
+    pub cuts: u64,
+}
+
+impl MemShelf {
+    /// A shelf of these files whose loads with these numbers are to fail, and nothing was loaded yet.
+    pub fn new(files: MemFiles, failing: Vec<u64>) -> MemShelf
+        ensures { result ≡ record { files = files; failing = failing; loads = 0; faults = 0; cuts = 0 } }
+    {
+        MemShelf {
+            files,
+            failing,
+            loads: 0,
+            faults: 0,
+            cuts: 0,
+        }
+    }
+}
+
+// A copy of the bytes, where they are within the limit; else the count of cut loads rises.
+fn copy_within(alloc: Global, bytes: &[u8], limit: u64, cuts: &mut u64) -> Result<Vec<u8>, LoadFail>
+    requires { limit < 2 ^ 64 - 1 }
+    ensures within { IfOk result (λ file. length file.items ≤ limit) }
+    ensures whole { IfOk result (λ file. file.items ≡ bytes.now) }
+    ensures caused { IfErr result (HasLoadCause (Holds bytes.now) limit (2 ^ 64 - 1) 0 cuts.old cuts.new) }
+    ensures stays_or_rises { cuts.old ≤ cuts.new }
+    ensures count { cuts.new ≡ cuts_after_load result cuts.old }
+{
+    if bytes.len() as u64 > limit {
+        raise(cuts);
+        return Err(LoadFail::TooLong { taken: limit + 1 });
+    }
+    Ok(Vec::from_slice(alloc, bytes)?)
+}
+
+impl Shelf for MemShelf {
+    ghost files = { λ s name. told_of (bytes_under s.files name) };
+
+    ghost faults = { λ s. s.faults };
+
+    ghost cuts = { λ s. s.cuts };
+
+    /// Fails exactly where the load's number is listed or there is no such file.
+    fn load(&mut self, alloc: Global, name: &str, limit: u64) -> Result<Vec<u8>, LoadFail>
+        requires { limit < 2 ^ 64 - 1 }
+        ensures within { IfOk result (λ file. length file.items ≤ limit) }
+        ensures whole { IfOk result (λ file. CanHold (told_of (bytes_under self.old.files name.now)) file.items) }
+        ensures caused { IfErr result (HasLoadCause (told_of (bytes_under self.old.files name.now)) limit
+            self.old.faults self.new.faults self.old.cuts self.new.cuts) }
+        ensures faults_stay_or_rise { self.old.faults ≤ self.new.faults }
+        ensures cuts_stay_or_rise { self.old.cuts ≤ self.new.cuts }
+
+        ensures fails { IsErrOf result LoadFail.Failed
+            ↔ (Contains self.old.failing.items self.old.loads ⊎ (told_of (bytes_under self.old.files name.now) ≡ Missing)) }
+        ensures faults { self.new.faults ≡ faults_after_load result self.old.faults }
+        ensures cuts { self.new.cuts ≡ cuts_after_load result self.old.cuts }
+        ensures number { self.new.loads ≡ risen self.old.loads }
+        ensures files_stay { self.new.files ≡ self.old.files }
+        ensures list_stays { self.new.failing ≡ self.old.failing }
+    {
+        let number = self.loads;
+        raise(&mut self.loads);
+        if self.failing.contains(&number) {
+            raise(&mut self.faults);
+            return Err(LoadFail::Failed);
+        }
+        let Some(bytes) = self.files.get(name) else {
+            raise(&mut self.faults);
+            return Err(LoadFail::Failed);
+        };
+        copy_within(alloc, bytes.as_slice(), limit, &mut self.cuts)
+    }
+}
+
+/// A shelf in memory that never fails: every name is a file, empty where none is held.
+#[derive(Debug, Drop)]
+pub struct SureShelf {
+    pub files: MemFiles,
+    pub cuts: u64,
+}
+
+impl SureShelf {
+    /// A shelf of these files, from which nothing was loaded yet.
+    pub fn new(files: MemFiles) -> SureShelf
+        ensures { result ≡ record { files = files; cuts = 0 } }
+    {
+        SureShelf { files, cuts: 0 }
+    }
+}
+
+impl Shelf for SureShelf {
+    ghost files = { λ s name. told_or_empty (bytes_under s.files name) };
+
+    ghost faults = { λ _. 0 };
+
+    ghost cuts = { λ s. s.cuts };
+
+    fn load(&mut self, alloc: Global, name: &str, limit: u64) -> Result<Vec<u8>, LoadFail>
+        requires { limit < 2 ^ 64 - 1 }
+        ensures within { IfOk result (λ file. length file.items ≤ limit) }
+        ensures whole { IfOk result (λ file. CanHold (told_or_empty (bytes_under self.old.files name.now)) file.items) }
+        ensures caused { IfErr result (HasLoadCause (told_or_empty (bytes_under self.old.files name.now)) limit
+            0 0 self.old.cuts self.new.cuts) }
+        ensures cuts_stay_or_rise { self.old.cuts ≤ self.new.cuts }
+
+        ensures cuts { self.new.cuts ≡ cuts_after_load result self.old.cuts }
+        ensures files_stay { self.new.files ≡ self.old.files }
+    {
+        match self.files.get(name) {
+            Some(bytes) => copy_within(alloc, bytes.as_slice(), limit, &mut self.cuts),
+            None => copy_within(alloc, &[], limit, &mut self.cuts),
+        }
+    }
+}
+
+#[cfg(test)]
+mod tests {
+    use super::*;
+    use crate::mem_files::hold;
+    use std::collections::BTreeMap;
+    use std::test::Fail;
+
+    // The second load is listed as failing.
+    #[test]
+    fn shelf_fails_where_listed_or_missing(rt: HostRuntime) -> Result<(), Fail> {
+        let alloc = rt.alloc();
+        let mut files = BTreeMap::new(alloc);
+        hold(&mut files, alloc, "a", b"old")?;
+        hold(&mut files, alloc, "b", b"")?;
+        hold(&mut files, alloc, "a", b"hello")?;
+        let mut shelf = MemShelf::new(files, vec![in alloc; 1]?);
+        assert_eq!(rt; shelf.load(alloc, "a", 5)?.as_slice(), b"hello".as_slice());
+        assert_eq!(rt;
+            shelf.load(alloc, "a", 5).err(),
+            Some(LoadFail::Failed),
+            "listed"
+        );
+        assert_eq!(rt;
+            shelf.load(alloc, "c", 5).err(),
+            Some(LoadFail::Failed),
+            "missing"
+        );
+        assert_eq!(rt;
+            shelf.load(alloc, "a", 4).err(),
+            Some(LoadFail::TooLong { taken: 5 })
+        );
+        assert!(rt; shelf.load(alloc, "b", 0)?.is_empty());
+        assert_eq!(rt; (shelf.loads, shelf.faults, shelf.cuts), (5, 2, 1));
+        Ok(())
+    }
+
+    #[test]
+    fn sure_shelf_holds_every_name(rt: HostRuntime) -> Result<(), Fail> {
+        let alloc = rt.alloc();
+        let mut files = BTreeMap::new(alloc);
+        hold(&mut files, alloc, "a", b"hello")?;
+        let mut shelf = SureShelf::new(files);
+        assert_eq!(rt; shelf.load(alloc, "a", 5)?.as_slice(), b"hello".as_slice());
+        assert!(rt; shelf.load(alloc, "c", 0)?.is_empty(), "no file is empty");
+        assert_eq!(rt;
+            shelf.load(alloc, "a", 0).err(),
+            Some(LoadFail::TooLong { taken: 1 })
+        );
+        assert_eq!(rt; shelf.cuts, 1);
+        Ok(())
+    }
+}

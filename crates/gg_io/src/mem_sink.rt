@@ -1,0 +1,184 @@
+//! Sinks in memory.
+ghost use Rattle.std.specs.Prelude.{◌≡◌, [], ◌≤◌, ◌++◌, Some, OnOk, IfErr, IsErrOf, IsNone, IsSomeAnd, take};
+ghost use Rattle.std.specs.Io.KnownBytes.{append_known};
+ghost use Rattle.gg_io.specs.Count.{risen};
+ghost use Rattle.gg_io.specs.PutFail.{HasPutCause, LeavesFront, faults_after_put, refused_after_put};
+ghost use Rattle.gg_io.specs.Memory.{taken_before_failure};
+
+use crate::counts::raise;
+use crate::output::{PutFail, Sink};
+use std::alloc::Global;
+
+/// A put that is to fail: its number, counted from 0, and how many bytes of its piece are still taken.
+#[derive(Clone, Copy, Debug, PartialEq, Eq)]
+pub struct FailingPut {
+    pub number: u64,
+    pub takes: u64,
+}
+
+/// A sink in memory: what was written, and the puts that are to fail. Of two entries with one number the first
+/// stands.
+#[derive(Debug, Drop)]
+pub struct MemSink {
+    pub bytes: Vec<u8>,
+    pub failing: Vec<FailingPut>,
+    /// The number of the next put.
+    pub puts: u64,
+    pub faults: u64,
+    pub refused: u64,
+}
+
+impl MemSink {
+    /// An empty sink whose puts with these numbers are to fail.
+    pub fn new(alloc: Global, failing: Vec<FailingPut>) -> MemSink
+        ensures bytes { result.bytes.items ≡ [] }
+        ensures failing { result.failing ≡ failing }
+        ensures counts { (result.puts ≡ 0) × (result.faults ≡ 0) × (result.refused ≡ 0) }
+    {
+        MemSink {
+            bytes: Vec::new(alloc),
+            failing,
+            puts: 0,
+            faults: 0,
+            refused: 0,
+        }
+    }
+}
+
+// How many bytes the put of this number still takes before it fails; None where it isn't to fail.
+fn taken_before_failure_of(failing: &[FailingPut], number: u64) -> Option<u64>
+    ensures { result ≡ taken_before_failure failing.now number }
+{
+    let listed = failing.iter().find(|put| put.number == number)?;
+    Some(listed.takes)
+}
+
+// Adds the bytes to what was written, or counts a refused put.
+fn append(written: &mut Vec<u8>, bytes: &[u8], refused: &mut u64) -> Result<(), PutFail>
+    ensures whole { OnOk result (written.new.items ≡ written.old.items ++ bytes.now) }
+    ensures none { IfErr result (λ e. (e ≡ PutFail.NoMemory) × (written.new.items ≡ written.old.items)) }
+    ensures stays_or_rises { refused.old ≤ refused.new }
+    ensures count { refused.new ≡ refused_after_put result refused.old }
+{
+    if written.extend_from_slice(bytes).is_err() {
+        raise(refused);
+        return Err(PutFail::NoMemory);
+    }
+    Ok(())
+}
+
+impl Sink for MemSink {
+    ghost written = { λ s. Some s.bytes.items };
+
+    ghost faults = { λ s. s.faults };
+
+    ghost refused = { λ s. s.refused };
+
+    /// Fails exactly where the put's number is listed, after as many bytes as the list says, or the whole piece.
+    fn put(&mut self, bytes: &[u8]) -> Result<(), PutFail>
+        ensures whole { OnOk result (Some self.new.bytes.items ≡ append_known (Some self.old.bytes.items) bytes.now) }
+        ensures caused { IfErr result (HasPutCause self.old.faults self.new.faults self.old.refused self.new.refused) }
+        ensures front { IfErr result (LeavesFront (Some self.old.bytes.items) (Some self.new.bytes.items) bytes.now) }
+        ensures faults_stay_or_rise { self.old.faults ≤ self.new.faults }
+        ensures refused_stay_or_rise { self.old.refused ≤ self.new.refused }
+
+        ensures unlisted { OnOk result (IsNone (taken_before_failure self.old.failing.items self.old.puts)) }
+        ensures listed { IsErrOf result PutFail.Failed → IsSomeAnd (taken_before_failure self.old.failing.items self.old.puts)
+            (λ takes. self.new.bytes.items ≡ self.old.bytes.items ++ take takes bytes.now) }
+        ensures faults { self.new.faults ≡ faults_after_put result self.old.faults }
+        ensures refused { self.new.refused ≡ refused_after_put result self.old.refused }
+        ensures number { self.new.puts ≡ risen self.old.puts }
+        ensures list_stays { self.new.failing ≡ self.old.failing }
+    {
+        let number = self.puts;
+        raise(&mut self.puts);
+        match taken_before_failure_of(self.failing.as_slice(), number) {
+            None => append(&mut self.bytes, bytes, &mut self.refused),
+            Some(takes) => {
+                let end = bytes.len().min(takes as usize);
+                append(&mut self.bytes, &bytes[..end], &mut self.refused)?;
+                raise(&mut self.faults);
+                Err(PutFail::Failed)
+            }
+        }
+    }
+}
+
+/// A sink in memory that never fails, but for want of memory.
+#[derive(Debug, Drop)]
+pub struct SureSink {
+    pub bytes: Vec<u8>,
+    pub refused: u64,
+}
+
+impl SureSink {
+    /// An empty sink.
+    pub fn new(alloc: Global) -> SureSink
+        ensures bytes { result.bytes.items ≡ [] }
+        ensures refused { result.refused ≡ 0 }
+    {
+        SureSink {
+            bytes: Vec::new(alloc),
+            refused: 0,
+        }
+    }
+}
+
+impl Sink for SureSink {
+    ghost written = { λ s. Some s.bytes.items };
+
+    ghost faults = { λ _. 0 };
+
+    ghost refused = { λ s. s.refused };
+
+    fn put(&mut self, bytes: &[u8]) -> Result<(), PutFail>
+        ensures whole { OnOk result (Some self.new.bytes.items ≡ append_known (Some self.old.bytes.items) bytes.now) }
+        ensures caused { IfErr result (HasPutCause 0 0 self.old.refused self.new.refused) }
+        ensures front { IfErr result (LeavesFront (Some self.old.bytes.items) (Some self.new.bytes.items) bytes.now) }
+        ensures refused_stay_or_rise { self.old.refused ≤ self.new.refused }
+
+        ensures refused { self.new.refused ≡ refused_after_put result self.old.refused }
+    {
+        append(&mut self.bytes, bytes, &mut self.refused)
+    }
+}
+
+#[cfg(test)]
+mod tests {
+    use super::*;
+    use std::test::Fail;
+
+    // The second put takes 3 bytes and fails, the third takes all of its 2 and fails.
+    #[test]
+    fn sink_fails_where_listed(rt: HostRuntime) -> Result<(), Fail> {
+        let alloc = rt.alloc();
+        let second = FailingPut {
+            number: 1,
+            takes: 3,
+        };
+        let third = FailingPut {
+            number: 2,
+            takes: u64::MAX,
+        };
+        let mut sink = MemSink::new(alloc, vec![in alloc; second, third]?);
+        sink.put(b"first ")?;
+        assert_eq!(rt; sink.put(b"second").err(), Some(PutFail::Failed));
+        assert_eq!(rt; sink.bytes.as_slice(), b"first sec".as_slice());
+        assert_eq!(rt; sink.put(b"on").err(), Some(PutFail::Failed));
+        sink.put(b".")?;
+        assert_eq!(rt; sink.bytes.as_slice(), b"first secon.".as_slice());
+        assert_eq!(rt; (sink.puts, sink.faults, sink.refused), (4, 2, 0));
+        Ok(())
+    }
+
+    #[test]
+    fn sure_sink_takes_every_piece(rt: HostRuntime) -> Result<(), Fail> {
+        let mut sink = SureSink::new(rt.alloc());
+        sink.put(b"one ")?;
+        sink.put(b"")?;
+        sink.put(b"two")?;
+        assert_eq!(rt; sink.bytes.as_slice(), b"one two".as_slice());
+        assert_eq!(rt; sink.refused, 0);
+        Ok(())
+    }
+}
