@@ -3,3 +3,4 @@ pub mod Faults
 pub mod Namespace
 pub mod Shape
 pub mod Marks
+pub mod Plain

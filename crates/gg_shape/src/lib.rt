@@ -10,11 +10,13 @@ mod check;
 mod connections;
 mod fault;
 mod names;
+mod plain;
 mod references;
 mod scope;
 
 pub use check::{ShapeFault, is_single_module, shape};
 pub use fault::{Fault, Limit, MemoryKey, Refusal, Word};
 pub use names::declarations;
+pub use plain::names_only_plain;
 pub use references::written;
 pub use scope::{Role, Scope};
