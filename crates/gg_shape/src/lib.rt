@@ -13,6 +13,7 @@ mod names;
 mod plain;
 mod references;
 mod scope;
+mod text;
 
 pub use check::{ShapeFault, is_single_module, shape};
 pub use fault::{Fault, Limit, MemoryKey, Refusal, Word};

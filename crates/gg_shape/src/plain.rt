@@ -48,7 +48,9 @@ fn is_plain_statement(scope: &Scope, statement: &Stmt) -> bool
         }
         StmtKind::Connect { source, .. } => is_plain_value(scope, source),
         StmtKind::Stop {
-            clock, condition, ..
+            clock,
+            condition,
+            ..
         } => is_plain_value(scope, clock) && is_plain_value(scope, condition),
         StmtKind::Report { arguments, .. } => are_plain_arguments(scope, arguments.as_slice()),
         StmtKind::Wire { .. }
@@ -111,8 +113,7 @@ fn is_plain(role: Option<Role>) -> bool
     match role {
         Some(Role::OutputPort | Role::Wire) => false,
         None
-        | Some(
-            Role::InputPort | Role::Register | Role::Node | Role::Instance | Role::Memory,
-        ) => true,
+        | Some(Role::InputPort | Role::Register | Role::Node | Role::Instance | Role::Memory) =>
+            true,
     }
 }

@@ -17,3 +17,6 @@ mod statement;
 
 pub use circuit::{TypeFault, Typed, types};
 pub use known::Typing;
+
+#[cfg(test)]
+mod tests;
