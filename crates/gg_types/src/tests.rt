@@ -1,4 +1,6 @@
 //! The counter of the first path with each mistake once, through `shape` and `types`.
+ghost use Rattle.std.specs.Prelude.{◌≡◌, ◌<◌, length};
+
 use crate::{Typing, types};
 use gg_ast::{
     Circuit, Direction, Expr, GroundType, Literal, Port, Radix, Reference, Reset, Stmt, StmtKind,
@@ -44,11 +46,7 @@ fn literal(alloc: Global, width: u32, digits: &str) -> Result<Expr, AllocError> 
 }
 
 fn binary(alloc: Global, operation: Op2, a: Expr, b: Expr) -> Result<Expr, AllocError> {
-    Ok(Expr::Binary(
-        operation,
-        Box::new(alloc, a)?,
-        Box::new(alloc, b)?,
-    ))
+    Ok(Expr::Binary(operation, Box::new(alloc, a)?, Box::new(alloc, b)?))
 }
 
 fn port(
@@ -57,7 +55,10 @@ fn port(
     name: Name,
     direction: Direction,
     ty: GroundType,
-) -> Result<(), AllocError> {
+) -> Result<(), AllocError>
+    requires { 0 < length circuit.old.modules }
+    ensures { length circuit.new.modules ≡ length circuit.old.modules }
+{
     circuit.push_port(Port {
         line,
         name,
@@ -72,7 +73,10 @@ fn connect(
     line: u64,
     sink: &str,
     source: Expr,
-) -> Result<(), AllocError> {
+) -> Result<(), AllocError>
+    requires { 0 < length circuit.old.modules }
+    ensures { length circuit.new.modules ≡ length circuit.old.modules }
+{
     let sink = Reference::One(name(alloc, sink)?);
     circuit.push_statement(Stmt {
         line,
@@ -80,7 +84,10 @@ fn connect(
     })
 }
 
-fn register(alloc: Global, circuit: &mut Circuit) -> Result<(), AllocError> {
+fn register(alloc: Global, circuit: &mut Circuit) -> Result<(), AllocError>
+    requires { 0 < length circuit.old.modules }
+    ensures { length circuit.new.modules ≡ length circuit.old.modules }
+{
     let reset = Reset {
         line: 8,
         condition: literal(alloc, 1, "0")?,
@@ -97,13 +104,23 @@ fn register(alloc: Global, circuit: &mut Circuit) -> Result<(), AllocError> {
     })
 }
 
-fn line_10(alloc: Global, mistake: Mistake) -> Result<Expr, AllocError> {
+fn out_source(alloc: Global, mistake: Mistake) -> Result<Expr, AllocError> {
     let c = signal(alloc, "c")?;
     match mistake {
         Mistake::WrongKind => Ok(Expr::Unary(Op1::AsSInt, Box::new(alloc, c)?)),
         Mistake::WrongWidth => binary(alloc, Op2::Dshl, c, literal(alloc, 32, "0")?),
         _ => Ok(c),
     }
+}
+
+fn line_10(alloc: Global, circuit: &mut Circuit, mistake: Mistake) -> Result<(), AllocError>
+    requires { 0 < length circuit.old.modules }
+    ensures { length circuit.new.modules ≡ length circuit.old.modules }
+{
+    if mistake == Mistake::NotConnected {
+        return Ok(());
+    }
+    connect(alloc, circuit, 10, "out", out_source(alloc, mistake)?)
 }
 
 fn line_11(alloc: Global, mistake: Mistake) -> Result<Expr, AllocError> {
@@ -120,7 +137,10 @@ fn line_11(alloc: Global, mistake: Mistake) -> Result<Expr, AllocError> {
     }
 }
 
-fn line_12(alloc: Global, circuit: &mut Circuit, mistake: Mistake) -> Result<(), AllocError> {
+fn line_12(alloc: Global, circuit: &mut Circuit, mistake: Mistake) -> Result<(), AllocError>
+    requires { 0 < length circuit.old.modules }
+    ensures { length circuit.new.modules ≡ length circuit.old.modules }
+{
     match mistake {
         Mistake::NameTwice => circuit.push_statement(Stmt {
             line: 12,
@@ -150,28 +170,47 @@ fn line_12(alloc: Global, circuit: &mut Circuit, mistake: Mistake) -> Result<(),
     }
 }
 
-fn counter(alloc: Global, mistake: Mistake) -> Result<Circuit, AllocError> {
-    let top = if mistake == Mistake::TopName { "Count" } else { "Counter" };
-    let mut circuit = Circuit::new(alloc, 1, name(alloc, top)?);
-    circuit.push_module(alloc, 2, name(alloc, "Counter")?)?;
-    let clock = name(alloc, "clock")?;
-    port(&mut circuit, 3, clock, Direction::Input, GroundType::Clock)?;
-    let reset = name(alloc, "reset")?;
-    port(&mut circuit, 4, reset, Direction::Input, GroundType::UInt(1))?;
-    let out = name(alloc, "out")?;
-    port(&mut circuit, 5, out, Direction::Output, GroundType::UInt(8))?;
-    register(alloc, &mut circuit)?;
-    let one = literal(alloc, 1, if mistake == Mistake::LargeLiteral { "2" } else { "1" })?;
-    circuit.push_statement(Stmt {
+fn top_name(alloc: Global, mistake: Mistake) -> Result<Name, AllocError> {
+    if mistake == Mistake::TopName {
+        name(alloc, "Count")
+    } else {
+        name(alloc, "Counter")
+    }
+}
+
+fn line_9(alloc: Global, mistake: Mistake) -> Result<Stmt, AllocError> {
+    let one = if mistake == Mistake::LargeLiteral {
+        literal(alloc, 1, "2")?
+    } else {
+        literal(alloc, 1, "1")?
+    };
+    Ok(Stmt {
         line: 9,
         kind: StmtKind::Node {
             name: name(alloc, "n")?,
             value: binary(alloc, Op2::Add, signal(alloc, "c")?, one)?,
         },
-    })?;
-    if mistake != Mistake::NotConnected {
-        connect(alloc, &mut circuit, 10, "out", line_10(alloc, mistake)?)?;
-    }
+    })
+}
+
+fn counter(alloc: Global, mistake: Mistake) -> Result<Circuit, AllocError> {
+    let mut circuit = Circuit::new(alloc, 1, top_name(alloc, mistake)?);
+    circuit.push_module(alloc, 2, name(alloc, "Counter")?)?;
+    let clock = name(alloc, "clock")?;
+    port(&mut circuit, 3, clock, Direction::Input, GroundType::Clock)?;
+    let reset = name(alloc, "reset")?;
+    port(
+        &mut circuit,
+        4,
+        reset,
+        Direction::Input,
+        GroundType::UInt(1),
+    )?;
+    let out = name(alloc, "out")?;
+    port(&mut circuit, 5, out, Direction::Output, GroundType::UInt(8))?;
+    register(alloc, &mut circuit)?;
+    circuit.push_statement(line_9(alloc, mistake)?)?;
+    line_10(alloc, &mut circuit, mistake)?;
     connect(alloc, &mut circuit, 11, "c", line_11(alloc, mistake)?)?;
     line_12(alloc, &mut circuit, mistake)?;
     Ok(circuit)
@@ -230,6 +269,9 @@ fn the_counter_has_types(rt: HostRuntime) -> Result<(), Fail> {
     assert!(rt; names_only_plain(alloc, &circuit)?);
     let typed = types(alloc, &circuit).ok().ok_or("faulty")?;
     let ground = |width: u32| Typing::Ground(Ty::new(Kind::UInt, width));
-    assert_eq!(rt; typed.types.as_slice(), [Typing::Clock, ground(1), ground(8), ground(8), ground(9)].as_slice());
+    assert_eq!(rt;
+        typed.types.as_slice(),
+        [Typing::Clock, ground(1), ground(8), ground(8), ground(9)].as_slice()
+    );
     Ok(())
 }
