@@ -14,7 +14,7 @@ use Rattle.gg_ast.specs.declared.expression.Literal.{Literal}
 use Rattle.gg_ast.specs.declared.module.Direction.{Direction}
 use Rattle.gg_ast.specs.declared.module.Direction.TheVariants.{Input, Output}
 use Rattle.gg_ast.specs.declared.module.GroundType.{GroundType}
-use Rattle.gg_ast.specs.declared.module.GroundType.TheVariants as ground
+use Rattle.gg_ast.specs.declared.module.GroundType.TheVariants as types
 use Rattle.gg_ast.specs.declared.module.Port.{Port}
 use Rattle.gg_ast.specs.declared.statement.Argument.{Argument}
 use Rattle.gg_ast.specs.declared.statement.Argument.TheVariants.{Value, Text}
@@ -125,14 +125,14 @@ abbrev pub literal_sort : Literal → Option Sort
 literal_sort l = if is_width l.width && literal_fits l then Some (Bits (of_kind l.kind l.width)) else None
 
 abbrev pub width_faults : ℕ → GroundType → List Fault
-width_faults line (ground.UInt w) = fault_if (not (is_width w)) (WrongWidth line w)
-width_faults line (ground.SInt w) = fault_if (not (is_width w)) (WrongWidth line w)
-width_faults line ground.Clock = []
+width_faults line (types.UInt w) = fault_if (not (is_width w)) (WrongWidth line w)
+width_faults line (types.SInt w) = fault_if (not (is_width w)) (WrongWidth line w)
+width_faults line types.Clock = []
 
 abbrev pub declared_sort : GroundType → Option Sort
-declared_sort (ground.UInt w) = if is_width w then Some (Bits (uint w)) else None
-declared_sort (ground.SInt w) = if is_width w then Some (Bits (sint w)) else None
-declared_sort ground.Clock = Some ClockSort
+declared_sort (types.UInt w) = if is_width w then Some (Bits (uint w)) else None
+declared_sort (types.SInt w) = if is_width w then Some (Bits (sint w)) else None
+declared_sort types.Clock = Some ClockSort
 
 -- ---- places with a rule of their own
 
@@ -165,14 +165,14 @@ connected line word (Some ClockSort) (Some ClockSort) = []
 
 -- a register is no Clock
 abbrev pub register_sort : GroundType → Option Sort
-register_sort (ground.UInt w) = declared_sort (ground.UInt w)
-register_sort (ground.SInt w) = declared_sort (ground.SInt w)
-register_sort ground.Clock = None
+register_sort (types.UInt w) = declared_sort (types.UInt w)
+register_sort (types.SInt w) = declared_sort (types.SInt w)
+register_sort types.Clock = None
 
 abbrev pub register_type_faults : ℕ → GroundType → List Fault
-register_type_faults line (ground.UInt w) = width_faults line (ground.UInt w)
-register_type_faults line (ground.SInt w) = width_faults line (ground.SInt w)
-register_type_faults line ground.Clock = WrongKind line words.Register ∷ []
+register_type_faults line (types.UInt w) = width_faults line (types.UInt w)
+register_type_faults line (types.SInt w) = width_faults line (types.SInt w)
+register_type_faults line types.Clock = WrongKind line words.Register ∷ []
 
 -- a Clock is not `is invalid`
 abbrev pub invalid_faults : ℕ → Reference → Option Sort → List Fault
@@ -296,9 +296,9 @@ abbrev pub port_sort : Port → List ℕ × Option Sort
 port_sort port = (port.name, declared_sort port.ty)
 
 abbrev pub is_clock : GroundType → Bool
-is_clock (ground.UInt w) = false
-is_clock (ground.SInt w) = false
-is_clock ground.Clock = true
+is_clock (types.UInt w) = false
+is_clock (types.SInt w) = false
+is_clock types.Clock = true
 
 abbrev pub is_input : Direction → Bool
 is_input Input = true

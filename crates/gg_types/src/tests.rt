@@ -268,10 +268,10 @@ fn the_counter_has_types(rt: HostRuntime) -> Result<(), Fail> {
     assert!(rt; shape(alloc, &circuit).is_ok());
     assert!(rt; names_only_plain(alloc, &circuit)?);
     let typed = types(alloc, &circuit).ok().ok_or("faulty")?;
-    let ground = |width: u32| Typing::Ground(Ty::new(Kind::UInt, width));
+    let bits = |width: u32| Typing::Ground(Ty::new(Kind::UInt, width));
     assert_eq!(rt;
         typed.types.as_slice(),
-        [Typing::Clock, ground(1), ground(8), ground(8), ground(9)].as_slice()
+        [Typing::Clock, bits(1), bits(8), bits(8), bits(9)].as_slice()
     );
     Ok(())
 }
