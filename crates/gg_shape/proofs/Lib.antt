@@ -1,0 +1,5 @@
+pub mod ScopeLemmas
+pub mod FaultLemmas
+pub mod ScopeSteps
+pub mod MarkLemmas
+pub mod SingleModule

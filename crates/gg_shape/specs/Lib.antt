@@ -1,0 +1,6 @@
+pub mod Scope
+pub mod Faults
+pub mod Namespace
+pub mod Shape
+pub mod Marks
+pub mod Plain

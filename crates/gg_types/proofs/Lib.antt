@@ -1,0 +1,5 @@
+pub mod SortLemmas
+pub mod LiteralLemmas
+pub mod StepLemmas
+pub mod ClockLemmas
+pub mod CircuitLemmas

@@ -1,0 +1,181 @@
+//! The type of an expression, and its first fault.
+ghost use Rattle.std.specs.Prelude.{◌≡◌, ◌++◌, Some, IfOk, Err};
+ghost use Rattle.gg_bits.specs.Shape.{shape_of};
+ghost use Rattle.gg_bits.specs.ResultType.{type1, type2, type_const, type_mux};
+ghost use Rattle.gg_ast.specs.Term.{term};
+ghost use Rattle.gg_shape.specs.Faults.{Answers};
+ghost use Rattle.gg_types.specs.Sorts.{sort, sorts_with, traced_with};
+ghost use Rattle.gg_types.specs.Types.{undeclared, clock_faults, read_sort, sort_of_reference, literal_faults, literal_sort, sort_in, faults_in, result1 as result_1, result2 as result_2, result3 as result_3, is_traced, result_faults, result_sort};
+ghost use Rattle.gg_shape.specs.declared.fault.Word.TheVariants as words;
+ghost use Rattle.gg_shape.specs.declared.fault.Refusal.TheVariants.{F};
+ghost use Rattle.gg_shape.specs.declared.fault.Fault.TheVariants.{WrongKind};
+
+use crate::known::{Known, Typing};
+use crate::literal::fits;
+use gg_ast::{Expr, Literal, Reference};
+use gg_bits::{Bad, Op1, Op2, OpN, Ty, result_const, result_mux, result1, result2};
+use gg_shape::{Fault, Refusal, Word, written};
+use std::alloc::Global;
+
+/// The type of an expression on this line, or its first fault.
+pub fn type_of(alloc: Global, known: &Known, line: u64, value: &Expr) -> Result<Typing, Refusal>
+    ensures answers { Answers (faults_in (traced_with known.now.scope known.now.traced.items) (sorts_with known.now.scope known.now.types.items) line (term value.now)) result }
+    ensures sort { IfOk result (λ t. sort_in (traced_with known.now.scope known.now.traced.items) (sorts_with known.now.scope known.now.types.items) (term value.now) ≡ Some (sort t)) }
+{
+    match value {
+        Expr::Named(reference) => read(alloc, known, line, reference),
+        Expr::Constant(literal) => constant(line, literal),
+        Expr::Unary(operation, a) => {
+            let ta = type_of(alloc, known, line, a)?;
+            unary(line, *operation, ta)
+        }
+        Expr::Binary(operation, a, b) => {
+            let ta = type_of(alloc, known, line, a)?;
+            let tb = type_of(alloc, known, line, b)?;
+            binary(line, *operation, ta, tb)
+        }
+        Expr::Fixed(operation, a, n, m) => {
+            let ta = type_of(alloc, known, line, a)?;
+            fixed(line, *operation, ta, *n, *m)
+        }
+        Expr::Mux(c, a, b) => {
+            let tc = type_of(alloc, known, line, c)?;
+            let ta = type_of(alloc, known, line, a)?;
+            let tb = type_of(alloc, known, line, b)?;
+            mux(line, tc, ta, tb)
+        }
+    }
+}
+
+// The type of a reference that is read.
+fn read(alloc: Global, known: &Known, line: u64, reference: &Reference) -> Result<Typing, Refusal>
+    ensures answers { Answers (undeclared (sorts_with known.now.scope known.now.types.items) line reference.now ++ clock_faults (traced_with known.now.scope known.now.traced.items) line reference.now (sort_of_reference (sorts_with known.now.scope known.now.types.items) reference.now)) result }
+    ensures sort { IfOk result (λ t. read_sort (traced_with known.now.scope known.now.traced.items) reference.now (sort_of_reference (sorts_with known.now.scope known.now.types.items) reference.now) ≡ Some (sort t)) }
+{
+    let typing = named(alloc, known, line, reference)?;
+    match typing {
+        Typing::Ground(_) => Ok(typing),
+        Typing::Clock => {
+            if leads_to_input(known, reference) {
+                return Ok(typing);
+            }
+            Err(Refusal::F(Fault::WrongClock {
+                line,
+                name: written(alloc, reference)?,
+            }))
+        }
+    }
+}
+
+fn leads_to_input(known: &Known, reference: &Reference) -> bool
+    ensures { result ≡ is_traced (traced_with known.now.scope known.now.traced.items) reference.now }
+{
+    match reference {
+        Reference::One(name) => known.is_traced(name),
+        Reference::Two(_, _) | Reference::Three(_, _, _) => false,
+    }
+}
+
+/// The type of what a reference names.
+pub fn named(
+    alloc: Global,
+    known: &Known,
+    line: u64,
+    reference: &Reference,
+) -> Result<Typing, Refusal>
+    ensures answers { Answers (undeclared (sorts_with known.now.scope known.now.types.items) line reference.now) result }
+    ensures sort { IfOk result (λ t. sort_of_reference (sorts_with known.now.scope known.now.types.items) reference.now ≡ Some (sort t)) }
+{
+    if let Reference::One(name) = reference {
+        if let Some(typing) = known.typing(name) {
+            return Ok(typing);
+        }
+    }
+    Err(Refusal::F(Fault::UnknownName {
+        line,
+        name: written(alloc, reference)?,
+    }))
+}
+
+fn constant(line: u64, literal: &Literal) -> Result<Typing, Refusal>
+    ensures answers { Answers (literal_faults line literal.now) result }
+    ensures sort { IfOk result (λ t. literal_sort literal.now ≡ Some (sort t)) }
+{
+    if literal.width == 0 || literal.width > Ty::MAX_WIDTH {
+        return Err(Refusal::F(Fault::WrongWidth {
+            line,
+            width: literal.width,
+        }));
+    }
+    if !fits(literal) {
+        return Err(Refusal::F(Fault::LiteralTooLarge { line }));
+    }
+    Ok(Typing::Ground(Ty::new(literal.kind, literal.width)))
+}
+
+fn unary(line: u64, operation: Op1, ta: Typing) -> Result<Typing, Refusal>
+    ensures answers { Answers (result_faults line (words.Unary operation) (result_1 (type1 operation) (Some (sort ta)))) result }
+    ensures sort { IfOk result (λ t. result_sort (result_1 (type1 operation) (Some (sort ta))) ≡ Some (sort t)) }
+{
+    let word = Word::Unary(operation);
+    match ta {
+        Typing::Ground(a) => judged(line, word, result1(operation, a)),
+        Typing::Clock => wrong_kind(line, word),
+    }
+}
+
+fn binary(line: u64, operation: Op2, ta: Typing, tb: Typing) -> Result<Typing, Refusal>
+    ensures answers { Answers (result_faults line (words.Binary operation) (result_2 (type2 operation) (Some (sort ta)) (Some (sort tb)))) result }
+    ensures sort { IfOk result (λ t. result_sort (result_2 (type2 operation) (Some (sort ta)) (Some (sort tb))) ≡ Some (sort t)) }
+{
+    let word = Word::Binary(operation);
+    match (ta, tb) {
+        (Typing::Ground(a), Typing::Ground(b)) => judged(line, word, result2(operation, a, b)),
+        (Typing::Clock, _) | (_, Typing::Clock) => wrong_kind(line, word),
+    }
+}
+
+fn fixed(line: u64, operation: OpN, ta: Typing, n: u32, m: u32) -> Result<Typing, Refusal>
+    ensures answers { Answers (result_faults line (words.Fixed operation) (result_1 (λ s. type_const operation s n m) (Some (sort ta)))) result }
+    ensures sort { IfOk result (λ t. result_sort (result_1 (λ s. type_const operation s n m) (Some (sort ta))) ≡ Some (sort t)) }
+{
+    let word = Word::Fixed(operation);
+    match ta {
+        Typing::Ground(a) => judged(line, word, result_const(operation, a, n, m)),
+        Typing::Clock => wrong_kind(line, word),
+    }
+}
+
+fn mux(line: u64, tc: Typing, ta: Typing, tb: Typing) -> Result<Typing, Refusal>
+    ensures answers { Answers (result_faults line words.Mux (result_3 type_mux (Some (sort tc)) (Some (sort ta)) (Some (sort tb)))) result }
+    ensures sort { IfOk result (λ t. result_sort (result_3 type_mux (Some (sort tc)) (Some (sort ta)) (Some (sort tb))) ≡ Some (sort t)) }
+{
+    match (tc, ta, tb) {
+        (Typing::Ground(c), Typing::Ground(a), Typing::Ground(b)) => {
+            judged(line, Word::Mux, result_mux(c, a, b))
+        }
+        (Typing::Clock, _, _) | (_, Typing::Clock, _) | (_, _, Typing::Clock) => {
+            wrong_kind(line, Word::Mux)
+        }
+    }
+}
+
+// The type of a result, or what is wrong with it.
+fn judged(line: u64, word: Word, result_type: Result<Ty, Bad>) -> Result<Typing, Refusal>
+    ensures answers { Answers (result_faults line word (Some (shape_of result_type))) result }
+    ensures sort { IfOk result (λ t. result_sort (Some (shape_of result_type)) ≡ Some (sort t)) }
+{
+    match result_type {
+        Ok(ty) => Ok(Typing::Ground(ty)),
+        Err(Bad::Kind) => wrong_kind(line, word),
+        Err(Bad::Width(width)) => Err(Refusal::F(Fault::WrongWidth { line, width })),
+        Err(Bad::Param) => Err(Refusal::F(Fault::WrongParameter { line, word })),
+    }
+}
+
+/// A value of the wrong kind.
+pub fn wrong_kind<T>(line: u64, word: Word) -> Result<T, Refusal>
+    ensures { result ≡ Err (F (WrongKind line word)) }
+{
+    Err(Refusal::F(Fault::WrongKind { line, word }))
+}
