@@ -12,3 +12,6 @@ mod places;
 
 pub use design::Design;
 pub use places::order_by_places;
+
+#[cfg(test)]
+mod tests;

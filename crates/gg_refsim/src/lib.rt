@@ -10,3 +10,6 @@ mod mono;
 
 pub use laws::{run_begins, run_continues};
 pub use mono::{Mono, NoMemory};
+
+#[cfg(test)]
+mod tests;
