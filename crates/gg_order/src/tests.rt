@@ -24,11 +24,7 @@ fn bit(driver: Driver) -> Signal {
 }
 
 // The piece of the signals `a`, `b` and `c`, of one bit each, of which this one is the input.
-fn piece_of(
-    alloc: Global,
-    drivers: (Driver, Driver, Driver),
-    input: u32,
-) -> Result<Piece, Fail> {
+fn piece_of(alloc: Global, drivers: (Driver, Driver, Driver), input: u32) -> Result<Piece, Fail> {
     let (a, b, c) = drivers;
     let mut piece = Piece::new(alloc);
     piece.add_signal(Name::from(String::from_str(alloc, "a")?), bit(a))?;

@@ -28,9 +28,9 @@ state_at-next circuit columns n rows before after inputs printed cycle run is =
     let turned : n + 1 ≡ suc n = omega arith in
     let within : n ≤ length rows = omega (arith, run.count) in
     sym (ap (state_at circuit (rows ++ cycle.row ∷ [])) turned
-        ∙ ap (λ (s : State). next_state circuit s (row_at (rows ++ cycle.row ∷ []) n)) (state_at-push circuit rows cycle.row n within ∙ sym is)
-        ∙ ap (λ (r : List ℕ). next_state circuit before r) (row_at-last rows cycle.row n run.count)
-        ∙ sym cycle.next)
+    ∙ ap (λ (s : State). next_state circuit s (row_at (rows ++ cycle.row ∷ []) n)) (state_at-push circuit rows cycle.row n within ∙ sym is)
+    ∙ ap (λ (r : List ℕ). next_state circuit before r) (row_at-last rows cycle.row n run.count)
+    ∙ sym cycle.next)
 
 -- a run of one more cycle
 pub IsRun-next : (circuit : FlatCircuit) (columns : List (List ℕ)) (n : ℕ) (rows : List (List ℕ)) (before after : State) (inputs printed : List ℕ) (cycle : Cycle circuit before inputs printed after) → IsRun circuit columns n rows → before ≡ state_at circuit rows n → inputs ≡ inputs_at columns n → IsRun circuit columns (n + 1) (rows ++ cycle.row ∷ [])
@@ -45,10 +45,10 @@ IsRun-next circuit columns n rows before after inputs printed cycle run is given
     old : (t : ℕ) → t < n → Settled circuit (state_at circuit (rows ++ cycle.row ∷ []) t) (inputs_at columns t) (row_at (rows ++ cycle.row ∷ []) t)
     old t lt =
         subst (λ (s : State). Settled circuit s (inputs_at columns t) (row_at (rows ++ cycle.row ∷ []) t)) (sym (state_at-push circuit rows cycle.row t (omega (arith, run.count))))
-            (subst (λ (r : List ℕ). Settled circuit (state_at circuit rows t) (inputs_at columns t) r) (sym (row_at-push rows cycle.row t (omega (arith, run.count)))) (run.settled t lt))
+        (subst (λ (r : List ℕ). Settled circuit (state_at circuit rows t) (inputs_at columns t) r) (sym (row_at-push rows cycle.row t (omega (arith, run.count)))) (run.settled t lt))
 
     last : Settled circuit (state_at circuit (rows ++ cycle.row ∷ []) n) (inputs_at columns n) (row_at (rows ++ cycle.row ∷ []) n)
     last =
         subst (λ (s : State). Settled circuit s (inputs_at columns n) (row_at (rows ++ cycle.row ∷ []) n)) (is ∙ sym (state_at-push circuit rows cycle.row n within))
-            (subst (λ (i : List ℕ). Settled circuit before i (row_at (rows ++ cycle.row ∷ []) n)) given
-                (subst (λ (r : List ℕ). Settled circuit before inputs r) (sym (row_at-last rows cycle.row n run.count)) cycle.settled))
+        (subst (λ (i : List ℕ). Settled circuit before i (row_at (rows ++ cycle.row ∷ []) n)) given
+        (subst (λ (r : List ℕ). Settled circuit before inputs r) (sym (row_at-last rows cycle.row n run.count)) cycle.settled))

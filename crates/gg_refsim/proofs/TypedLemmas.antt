@@ -13,7 +13,7 @@ zeros_typed circuit n count =
     record {
       count = omega (arith, length-replicate {A = ℕ} n 0);
       fits = λ i lt.
-        let at : value_at (replicate n 0) i ≡ 0 = get_or-replicate n i 0 0 (omega (arith, lt)) in
-        let P : ℕ → Type 0 = λ v. Fits (shape_at (signal_shapes circuit) i) v in
-        subst P (sym at) (pow_pos (shape_at (signal_shapes circuit) i).width);
+          let at : value_at (replicate n 0) i ≡ 0 = get_or-replicate n i 0 0 (omega (arith, lt)) in
+          let P : ℕ → Type 0 = λ v. Fits (shape_at (signal_shapes circuit) i) v in
+          subst P (sym at) (pow_pos (shape_at (signal_shapes circuit) i).width);
     }

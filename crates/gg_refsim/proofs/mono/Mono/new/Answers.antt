@@ -11,11 +11,11 @@ pub invariant_of-result : goal.invariant_of-result
 invariant_of-result c = record {
   state_typed = subst (λ (k : FlatCircuit). IsState k c.in_ok-state.state) c.piece-piece.ensures.circuit c.in_ok-state.ensures.typed;
   signals_typed =
-    subst (λ (k : FlatCircuit). AreTyped (signal_shapes k) c.in_ok-signals.signals.items) c.piece-piece.ensures.circuit
-        (subst (λ (l : List ℕ). AreTyped (signal_shapes c.piece-piece.result.now) l) (sym c.in_ok-signals.ensures)
-            (zeros_typed c.piece-piece.result.now _ (ap length c.signals.ensures)));
+      subst (λ (k : FlatCircuit). AreTyped (signal_shapes k) c.in_ok-signals.signals.items) c.piece-piece.ensures.circuit
+      (subst (λ (l : List ℕ). AreTyped (signal_shapes c.piece-piece.result.now) l) (sym c.in_ok-signals.ensures)
+      (zeros_typed c.piece-piece.result.now _ (ap length c.signals.ensures)));
   room =
-    let count : length c.in_ok-scratch.scratch.items ≡ c.room.result = ap length c.in_ok-scratch.ensures ∙ length-replicate c.room.result 0 in
-    subst (λ (k : FlatCircuit). HasRoom k (length c.in_ok-scratch.scratch.items)) c.piece-piece.ensures.circuit
-        (subst (λ (n : ℕ). HasRoom c.piece-piece.result.now n) (sym count) c.room.ensures.enough);
+      let count : length c.in_ok-scratch.scratch.items ≡ c.room.result = ap length c.in_ok-scratch.ensures ∙ length-replicate c.room.result 0 in
+      subst (λ (k : FlatCircuit). HasRoom k (length c.in_ok-scratch.scratch.items)) c.piece-piece.ensures.circuit
+      (subst (λ (n : ℕ). HasRoom c.piece-piece.result.now n) (sym count) c.room.ensures.enough);
 }
