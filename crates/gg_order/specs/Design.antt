@@ -1,0 +1,15 @@
+-- A flat circuit with an order of evaluation.
+use Rattle.std.specs.Prelude.{ℕ, List}
+use Rattle.gg_flat.specs.Circuit.{FlatCircuit}
+use Rattle.gg_flat.specs.WellFormed.{IsWellFormed}
+use Rattle.gg_flat.specs.Order.{IsOrder}
+
+-- what a contract sees of a design
+pub record Ordered : Type 0 where
+  pub circuit : FlatCircuit
+  pub order : List ℕ
+
+-- the circuit is well formed, and the order is one of it
+pub record IsDesign (design : Ordered) : Type 0 where
+  pub formed : IsWellFormed design.circuit
+  pub ordered : IsOrder design.circuit design.order

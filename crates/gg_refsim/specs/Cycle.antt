@@ -1,0 +1,24 @@
+-- One cycle of a flat circuit.
+-- Source: FIRRTL Specification, "Registers"; ICCAD 2019 for target cycles as rows.
+use Rattle.std.specs.Prelude.{◌≡◌, ℕ, List, map}
+use Rattle.gg_flat.specs.Line.{value_at}
+use Rattle.gg_flat.specs.Circuit.{FlatCircuit}
+use Rattle.gg_flat.specs.State.{State, next_state}
+use Rattle.gg_flat.specs.Settled.{Settled}
+
+-- what a contract sees of a simulator: a circuit, and the state that it is in
+pub record Simulation : Type 0 where
+  pub circuit : FlatCircuit
+  pub state : State
+
+-- the values of the out-signals, in port order
+abbrev pub outputs : FlatCircuit → List ℕ → List ℕ
+outputs circuit row = map (λ s. value_at row s) circuit.outs
+
+-- A cycle with these inputs leads from a state to another: some row is settled in the first with the inputs, the other
+-- is the next state by this row, and `printed` has the row's outputs.
+pub record Cycle (circuit : FlatCircuit) (before : State) (inputs printed : List ℕ) (after : State) : Type 0 where
+  pub row : List ℕ
+  pub settled : Settled circuit before inputs row
+  pub outputs_are : printed ≡ outputs circuit row
+  pub next : after ≡ next_state circuit before row

@@ -1,0 +1,117 @@
+//! `Mono`: the simulator of a whole circuit.
+ghost use Rattle.std.specs.Prelude.{◌≡◌, ℕ, ◌<◌, length, map, replicate, IfOk};
+ghost use Rattle.gg_flat.specs.Line.{value_at};
+ghost use Rattle.gg_flat.specs.State.{opening, IsState};
+ghost use Rattle.gg_flat.specs.Settled.{IsInputs};
+ghost use Rattle.gg_flat.specs.WellFormed.{IsWellFormed};
+ghost use Rattle.gg_refsim.specs.Cycle.{Cycle};
+
+use gg_flat::{Piece, State};
+use gg_order::Design;
+use std::alloc::{AllocError, Global};
+use std::marker::Model;
+
+/// Memory was refused.
+#[derive(Clone, Copy, Debug, PartialEq, Eq)]
+pub struct NoMemory;
+
+impl From<AllocError> for NoMemory {
+    ghost from_gives = { λ error refusal. Unit {0} };
+
+    fn from(error: AllocError) -> NoMemory {
+        let _ = error;
+        NoMemory
+    }
+}
+
+/// A simulator of a circuit. A contract sees the circuit and the state that it is in.
+#[derive(Drop)]
+pub struct Mono {
+    design: Design,
+    state: State,
+    signals: Vec<u128>,
+    scratch: Vec<u128>,
+}
+
+impl Model for Mono {
+    ghost use Rattle.std.specs.Prelude.{length};
+    ghost use Rattle.gg_refsim.specs.Cycle.{Simulation};
+    ghost use Rattle.gg_refsim.specs.Kept.{IsKept};
+
+    ghost Value = { Simulation };
+
+    ghost view = { λ mono. record { circuit = mono.design.circuit; state = mono.state } };
+
+    ghost invariant = { λ mono. IsKept mono.design mono.state mono.signals.items (length mono.scratch.items) };
+}
+
+impl Mono {
+    /// The simulator of a design, in the state before the first cycle.
+    ///
+    /// # Errors
+    ///
+    /// `NoMemory`, where memory is refused.
+    pub fn new(alloc: Global, design: Design) -> Result<Mono, NoMemory>
+        ensures circuit { IfOk result (λ mono. mono.circuit ≡ design.circuit) }
+        ensures opening { IfOk result (λ mono. mono.state ≡ opening design.circuit) }
+    {
+        let piece = design.piece();
+        let state = State::new(alloc, piece)?;
+        let signals = zeros(alloc, piece.signals().len())?;
+        let scratch = zeros(alloc, piece.room())?;
+        Ok(Mono {
+            design,
+            state,
+            signals,
+            scratch,
+        })
+    }
+
+    /// The circuit.
+    pub fn piece(&self) -> &Piece
+        ensures circuit { result.now ≡ self.now.circuit }
+        ensures formed { IsWellFormed self.now.circuit }
+        ensures typed { IsState self.now.circuit self.now.state }
+    {
+        let _ = &self.state;
+        self.design.piece()
+    }
+
+    /// One cycle, with these inputs in port order: puts the outputs, in port order, into `outs`, and goes to the next
+    /// state. It takes no memory.
+    pub fn cycle(&mut self, inputs: &[u128], outs: &mut [u128])
+        requires inputs { IsInputs self.old.circuit inputs.now }
+        requires outs { length outs.old ≡ length self.old.circuit.outs }
+        ensures circuit { self.new.circuit ≡ self.old.circuit }
+        ensures cycle { Cycle self.old.circuit self.old.state inputs.now outs.new self.new.state }
+    {
+        let piece = self.design.piece();
+        piece.settle(
+            self.design.order(),
+            &self.state,
+            inputs,
+            &mut self.signals,
+            &mut self.scratch,
+        );
+        read_outs(piece.outs(), &self.signals, outs);
+        self.state.advance(piece, &self.signals, &mut self.scratch);
+    }
+}
+
+// This many zeros.
+fn zeros(alloc: Global, count: usize) -> Result<Vec<u128>, AllocError>
+    ensures { IfOk result (λ values. values.items ≡ replicate count 0) }
+{
+    vec![in alloc; 0; count]
+}
+
+// Puts the values of these signals into `outs`.
+fn read_outs(places: &[u32], signals: &[u128], outs: &mut [u128])
+    requires known { (k : ℕ) → k < length places.now → value_at places.now k < length signals.now }
+    requires count { length outs.old ≡ length places.now }
+    ensures { outs.new ≡ map (λ s. value_at signals.now s) places.now }
+{
+    for k in 0..places.len() {
+        outs[k] = signals[places[k] as usize];
+    }
+}
