@@ -1,0 +1,5 @@
+//! The reader: from the text of a circuit in lowered FIRRTL to its tree.
+#![tactic(auto)]
+
+mod cursor;
+mod words;
