@@ -3,7 +3,6 @@
 use Rattle.std.specs.Prelude.{◌≡◌, ℕ, ◌<◌, ◌^◌, Bool, true, false, ◌&&◌, not, IsTrue, List, [], ◌∷◌, length, Option, None, Some, ◌==◌, nat_lt, ◌||◌, codes, if◌then◌else◌}
 use Rattle.std.specs.List.{list_all, list_any}
 use Rattle.std.specs.Char.{is_ascii_digit, is_ascii_hexdigit}
-use Rattle.std.specs.Str.{all_ascii_digits}
 use Rattle.std.specs.Str.Parse.{digits_value}
 use Rattle.gg_bits.specs.declared.ops.OpN.{OpN}
 use Rattle.gg_bits.specs.declared.ops.OpN.TheVariants.{Pad, Shl, Shr, Bits, Head, Tail}
@@ -28,9 +27,21 @@ is_name word = not (list_any (λ b. b == 45) word)
 abbrev pub IsName : List ℕ → Type 0
 IsName word = IsTrue (is_name word)
 
+-- the digits of a radix, of either case
+abbrev pub is_digit_of : Radix → ℕ → Bool
+is_digit_of Binary b = b == 48 || b == 49
+is_digit_of Octal b = nat_lt 47 b && nat_lt b 56
+is_digit_of Decimal b = is_ascii_digit b
+is_digit_of Hexadecimal b = is_ascii_hexdigit b
+
+-- at least one digit of the radix, and nothing else
+abbrev pub are_digits : Radix → List ℕ → Bool
+are_digits radix [] = false
+are_digits radix (d ∷ ds) = list_all (is_digit_of radix) (d ∷ ds)
+
 -- decimal digits without a sign, of a number of at most 4,294,967,295
 abbrev pub is_natural : List ℕ → Bool
-is_natural digits = nat_lt 0 (length digits) && (all_ascii_digits digits && nat_lt (digits_value 10 digits) (2 ^ 32))
+is_natural digits = are_digits Decimal digits && nat_lt (digits_value 10 digits) (2 ^ 32)
 
 pub record IsNatural (digits : List ℕ) (n : ℕ) : Type 0 where
   pub decimal : IsTrue (is_natural digits)
@@ -50,17 +61,6 @@ SpellsType (ground.UInt width) ts rest =
 SpellsType (ground.SInt width) ts rest =
     (digits : List ℕ) × IsNatural digits width × (ts ≡ Word (codes "SInt") ∷ (Symbol Less ∷ (Number digits ∷ (Symbol Greater ∷ rest))))
 SpellsType ground.Clock ts rest = ts ≡ Word (codes "Clock") ∷ rest
-
--- the digits of a radix, of either case
-abbrev pub is_digit_of : Radix → ℕ → Bool
-is_digit_of Binary b = b == 48 || b == 49
-is_digit_of Octal b = nat_lt 47 b && nat_lt b 56
-is_digit_of Decimal b = is_ascii_digit b
-is_digit_of Hexadecimal b = is_ascii_hexdigit b
-
--- at least one digit of the radix, and nothing else
-abbrev pub are_digits : Radix → List ℕ → Bool
-are_digits radix digits = nat_lt 0 (length digits) && list_all (is_digit_of radix) digits
 
 -- digits, maybe with a `-` before them
 abbrev pub signed : Bool → List ℕ → List ℕ

@@ -1,5 +1,7 @@
 -- How operations and the other words of the grammar are written (FIRRTL Specification, "Primitive Operations").
-use Rattle.std.specs.Prelude.{ℕ, List, [], ◌∷◌, codes}
+use Rattle.std.specs.Prelude.{ℕ, List, [], ◌∷◌, Option, None, Some, codes, option_map, if◌then◌else◌}
+use Rattle.std.specs.Option.{option_or}
+use Rattle.std.specs.Str.{bytes_eq}
 use Rattle.gg_bits.specs.declared.types.Kind.{Kind}
 use Rattle.gg_bits.specs.declared.types.Kind.TheVariants as kind
 use Rattle.gg_bits.specs.declared.ops.Op1.{Op1}
@@ -12,6 +14,10 @@ use Rattle.gg_ast.specs.declared.module.Direction.{Direction}
 use Rattle.gg_ast.specs.declared.module.Direction.TheVariants as direction
 use Rattle.gg_ast.specs.declared.statement.Report.{Report}
 use Rattle.gg_ast.specs.declared.statement.Report.TheVariants as report
+use Rattle.gg_read.specs.declared.words.Operation.{Operation}
+use Rattle.gg_read.specs.declared.words.Operation.TheVariants.{Unary, Binary, Fixed, Mux}
+use Rattle.gg_read.specs.declared.words.Keyword.{Keyword}
+use Rattle.gg_read.specs.declared.words.Keyword.TheVariants as keyword
 
 abbrev pub kind_text : Kind → List ℕ
 kind_text kind.UInt = codes "UInt"
@@ -67,3 +73,49 @@ fix_text fix.Shr = codes "shr"
 fix_text fix.Bits = codes "bits"
 fix_text fix.Head = codes "head"
 fix_text fix.Tail = codes "tail"
+
+-- what the first entry with this word holds
+abbrev pub find_word : {A : Type 0} → List ℕ → List (List ℕ × A) → Option A
+find_word word [] = None
+find_word word (entry ∷ table) = if bytes_eq word entry.0 then Some entry.1 else find_word word table
+
+abbrev pub unary_words : List (List ℕ × Op1)
+unary_words =
+    (codes "asUInt", one.AsUInt) ∷ ((codes "asSInt", one.AsSInt) ∷ ((codes "cvt", one.Cvt) ∷ ((codes "neg", one.Neg) ∷ ((codes "not", one.Not)
+      ∷ ((codes "andr", one.Andr) ∷ ((codes "orr", one.Orr) ∷ ((codes "xorr", one.Xorr) ∷ [])))))))
+
+abbrev pub arithmetic_words : List (List ℕ × Op2)
+arithmetic_words =
+    (codes "add", two.Add) ∷ ((codes "sub", two.Sub) ∷ ((codes "mul", two.Mul) ∷ ((codes "div", two.Div) ∷ ((codes "rem", two.Rem)
+      ∷ ((codes "dshl", two.Dshl) ∷ ((codes "dshr", two.Dshr) ∷ ((codes "cat", two.Cat) ∷ ((codes "validif", two.Validif) ∷ []))))))))
+
+abbrev pub logic_words : List (List ℕ × Op2)
+logic_words =
+    (codes "lt", two.Lt) ∷ ((codes "leq", two.Leq) ∷ ((codes "gt", two.Gt) ∷ ((codes "geq", two.Geq) ∷ ((codes "eq", two.Eq)
+      ∷ ((codes "neq", two.Neq) ∷ ((codes "and", two.And) ∷ ((codes "or", two.Or) ∷ ((codes "xor", two.Xor) ∷ []))))))))
+
+abbrev pub fixed_words : List (List ℕ × OpN)
+fixed_words =
+    (codes "pad", fix.Pad) ∷ ((codes "shl", fix.Shl) ∷ ((codes "shr", fix.Shr) ∷ ((codes "bits", fix.Bits) ∷ ((codes "head", fix.Head) ∷ ((codes "tail", fix.Tail) ∷ [])))))
+
+-- the operation that a word names
+abbrev pub operation_of : List ℕ → Option Operation
+operation_of word =
+    option_or (option_map Unary (find_word word unary_words))
+      (option_or (option_map Binary (find_word word arithmetic_words))
+        (option_or (option_map Binary (find_word word logic_words))
+          (option_or (option_map Fixed (find_word word fixed_words)) (if bytes_eq word (codes "mux") then Some Mux else None))))
+
+-- the words with which a line begins that is no connection
+abbrev pub head_words : List (List ℕ × Keyword)
+head_words =
+    (codes "FIRRTL", keyword.Version) ∷ ((codes "circuit", keyword.Circuit) ∷ ((codes "module", keyword.Module) ∷ ((codes "input", keyword.Port direction.Input)
+      ∷ ((codes "output", keyword.Port direction.Output) ∷ ((codes "wire", keyword.Wire) ∷ ((codes "node", keyword.Node) ∷ ((codes "reg", keyword.Register) ∷ []))))))) 
+
+abbrev pub tail_words : List (List ℕ × Keyword)
+tail_words =
+    (codes "reset", keyword.Reset) ∷ ((codes "inst", keyword.Instance) ∷ ((codes "skip", keyword.Skip) ∷ ((codes "stop", keyword.Stop)
+      ∷ ((codes "printf", keyword.Report report.Printf) ∷ ((codes "assert", keyword.Report report.Assert) ∷ ((codes "assume", keyword.Report report.Assume) ∷ ((codes "cover", keyword.Report report.Cover) ∷ [])))))))
+
+abbrev pub keyword_of : List ℕ → Option Keyword
+keyword_of word = option_or (find_word word head_words) (find_word word tail_words)

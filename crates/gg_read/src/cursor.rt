@@ -1,10 +1,14 @@
 //! A cursor over the tokens of a line.
-ghost use Rattle.std.specs.Prelude.{◌≡◌};
-ghost use Rattle.gg_read.specs.Reading.{Reads, Passes, symbol_at, word_at, name_at, end_at};
+ghost use Rattle.std.specs.Prelude.{◌≡◌, MatchBool};
+ghost use Rattle.gg_read.specs.Forms.{is_name};
+ghost use Rattle.gg_read.specs.Reading.{Reads, Passes, symbol_at, word_at, name_at, natural_at, digits_at, operation_at, is_second, end_at};
 
+use crate::digits::{Digits, natural_value, signed_digits, text_digits};
+use crate::words::{Operation, find_operation};
+use gg_ast::Radix;
 use gg_bits::Name;
 use gg_lex::{Symbol, Tok};
-use std::alloc::AllocError;
+use std::alloc::{AllocError, Global};
 use std::marker::Model;
 
 /// Why nothing was read.
@@ -48,29 +52,132 @@ impl<'a> Cursor<'a> {
         Cursor { rest: tokens }
     }
 
-    /// Passes over this symbol.
-    pub(crate) fn symbol(&mut self, symbol: Symbol) -> Result<(), Miss>
-        ensures { Passes result self.new (symbol_at symbol self.old) }
+    /// Passes over this symbol, if it is the next token, and tells whether it is.
+    pub(crate) fn skip(&mut self, symbol: Symbol) -> bool
+        ensures { MatchBool result (symbol_at symbol self.old ≡ Some self.new) ((symbol_at symbol self.old ≡ None) × (self.new ≡ self.old)) }
     {
         match self.rest {
             [Tok::Symbol(found), rest @ ..] if found.text() == symbol.text() => {
                 self.rest = rest;
-                Ok(())
+                true
             }
-            _ => Err(Miss::NoForm),
+            _ => false,
         }
+    }
+
+    /// Passes over this word, if it is the next token, and tells whether it is.
+    pub(crate) fn skip_word(&mut self, word: &str) -> bool
+        ensures { MatchBool result (word_at word.now self.old ≡ Some self.new) ((word_at word.now self.old ≡ None) × (self.new ≡ self.old)) }
+    {
+        match self.rest {
+            [Tok::Word(found), rest @ ..] if found.as_str() == word => {
+                self.rest = rest;
+                true
+            }
+            _ => false,
+        }
+    }
+
+    /// Passes over this symbol.
+    pub(crate) fn symbol(&mut self, symbol: Symbol) -> Result<(), Miss>
+        ensures { Passes result self.new (symbol_at symbol self.old) }
+    {
+        if self.skip(symbol) { Ok(()) } else { Err(Miss::NoForm) }
     }
 
     /// Passes over this word.
     pub(crate) fn word(&mut self, word: &str) -> Result<(), Miss>
         ensures { Passes result self.new (word_at word.now self.old) }
     {
+        if self.skip_word(word) { Ok(()) } else { Err(Miss::NoForm) }
+    }
+
+    /// A name, which is a word without `-`.
+    pub(crate) fn name(&mut self) -> Result<Name, Miss>
+        ensures { Reads (λ name. name) result self.new (name_at self.old) }
+    {
         match self.rest {
-            [Tok::Word(found), rest @ ..] if found.as_str() == word => {
+            [Tok::Word(found), rest @ ..] if is_name(found.as_str()) => {
                 self.rest = rest;
-                Ok(())
+                Ok(found.clone()?)
             }
             _ => Err(Miss::NoForm),
         }
     }
+
+    /// A number without a sign, of at most 4,294,967,295.
+    pub(crate) fn natural(&mut self) -> Result<u32, Miss>
+        ensures { Reads (λ n. n) result self.new (natural_at self.old) }
+    {
+        match self.rest {
+            [Tok::Number(found), rest @ ..] => match natural_value(found.as_str()) {
+                Some(value) => {
+                    self.rest = rest;
+                    Ok(value)
+                }
+                None => Err(Miss::NoForm),
+            },
+            _ => Err(Miss::NoForm),
+        }
+    }
+
+    /// The digits of a literal's number: a number, or a text that begins with its radix.
+    pub(crate) fn digits(&mut self, alloc: Global) -> Result<Digits, Miss>
+        ensures { Reads (λ d. d) result self.new (digits_at self.old) }
+    {
+        match self.rest {
+            [Tok::Number(found), rest @ ..] => {
+                self.rest = rest;
+                signed_digits(alloc, Radix::Decimal, found.as_bytes())
+            }
+            [Tok::Text(found), rest @ ..] => {
+                self.rest = rest;
+                text_digits(alloc, found.as_bytes())
+            }
+            _ => Err(Miss::NoForm),
+        }
+    }
+
+    /// A word that names an operation.
+    pub(crate) fn operation(&mut self) -> Result<Operation, Miss>
+        ensures { Reads (λ o. o) result self.new (operation_at self.old) }
+    {
+        match self.rest {
+            [Tok::Word(found), rest @ ..] => match find_operation(found.as_str()) {
+                Some(op) => {
+                    self.rest = rest;
+                    Ok(op)
+                }
+                None => Err(Miss::NoForm),
+            },
+            _ => Err(Miss::NoForm),
+        }
+    }
+
+    /// Whether the token behind the first is this symbol.
+    pub(crate) fn is_second(&self, symbol: Symbol) -> bool
+        ensures { result ≡ is_second symbol self.now }
+    {
+        match self.rest {
+            [_, Tok::Symbol(found), ..] => found.text() == symbol.text(),
+            _ => false,
+        }
+    }
+
+    /// Nothing is left.
+    pub(crate) fn end(&mut self) -> Result<(), Miss>
+        ensures { Passes result self.new (end_at self.old) }
+    {
+        match self.rest {
+            [] => Ok(()),
+            _ => Err(Miss::NoForm),
+        }
+    }
+}
+
+/// Whether a word is a name: it has no `-`.
+fn is_name(word: &str) -> bool
+    ensures { result ≡ is_name word.now }
+{
+    !word.as_bytes().contains(&b'-')
 }

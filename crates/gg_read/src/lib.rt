@@ -2,4 +2,6 @@
 #![tactic(auto)]
 
 mod cursor;
+mod digits;
+mod expression;
 mod words;
