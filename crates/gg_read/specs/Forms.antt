@@ -78,13 +78,13 @@ number_token Hexadecimal digits = Text (104 ∷ digits)
 abbrev pub SpellsLiteral : Literal → List Tok → List Tok → Type 0
 SpellsLiteral l ts rest =
     (width : List ℕ) × IsNatural width l.width × IsTrue (are_digits l.radix l.digits)
-      × (ts ≡ Word (kind_text l.kind) ∷ (Symbol Less ∷ (Number width ∷ (Symbol Greater ∷ (Symbol OpenParen ∷ (number_token l.radix (signed l.negative l.digits) ∷ (Symbol CloseParen ∷ rest)))))))
+    × (ts ≡ Word (kind_text l.kind) ∷ (Symbol Less ∷ (Number width ∷ (Symbol Greater ∷ (Symbol OpenParen ∷ (number_token l.radix (signed l.negative l.digits) ∷ (Symbol CloseParen ∷ rest)))))))
 
 -- the parameters of an operation, and its closing bracket: two of `bits`, one of any other
 abbrev pub SpellsParameters : OpN → ℕ → ℕ → List Tok → List Tok → Type 0
 SpellsParameters Bits n m ts rest =
     (high : List ℕ) × (low : List ℕ) × IsNatural high n × IsNatural low m
-      × (ts ≡ Symbol Comma ∷ (Number high ∷ (Symbol Comma ∷ (Number low ∷ (Symbol CloseParen ∷ rest)))))
+    × (ts ≡ Symbol Comma ∷ (Number high ∷ (Symbol Comma ∷ (Number low ∷ (Symbol CloseParen ∷ rest)))))
 SpellsParameters Pad n m ts rest = (digits : List ℕ) × IsNatural digits n × (m ≡ 0) × (ts ≡ Symbol Comma ∷ (Number digits ∷ (Symbol CloseParen ∷ rest)))
 SpellsParameters Shl n m ts rest = (digits : List ℕ) × IsNatural digits n × (m ≡ 0) × (ts ≡ Symbol Comma ∷ (Number digits ∷ (Symbol CloseParen ∷ rest)))
 SpellsParameters Shr n m ts rest = (digits : List ℕ) × IsNatural digits n × (m ≡ 0) × (ts ≡ Symbol Comma ∷ (Number digits ∷ (Symbol CloseParen ∷ rest)))
@@ -103,13 +103,13 @@ SpellsExpr (Fix o a n m) ts rest =
     (t : List Tok) × (u : List Tok) × (ts ≡ Word (fix_text o) ∷ (Symbol OpenParen ∷ t)) × SpellsExpr a t u × SpellsParameters o n m u rest
 SpellsExpr (Choose c a b) ts rest =
     (t : List Tok) × (u : List Tok) × (v : List Tok) × (ts ≡ Word (codes "mux") ∷ (Symbol OpenParen ∷ t))
-      × SpellsExpr c t (Symbol Comma ∷ u) × SpellsExpr a u (Symbol Comma ∷ v) × SpellsExpr b v (Symbol CloseParen ∷ rest)
+    × SpellsExpr c t (Symbol Comma ∷ u) × SpellsExpr a u (Symbol Comma ∷ v) × SpellsExpr b v (Symbol CloseParen ∷ rest)
 
 -- reset => ( CONDITION , INIT )
 abbrev pub SpellsReset : Term → Term → List Tok → List Tok → Type 0
 SpellsReset condition init ts rest =
     (t : List Tok) × (u : List Tok) × (ts ≡ Word (codes "reset") ∷ (Symbol Arrow ∷ (Symbol OpenParen ∷ t)))
-      × SpellsExpr condition t (Symbol Comma ∷ u) × SpellsExpr init u (Symbol CloseParen ∷ rest)
+    × SpellsExpr condition t (Symbol Comma ∷ u) × SpellsExpr init u (Symbol CloseParen ∷ rest)
 
 -- nothing, or : NAME
 abbrev pub SpellsLabel : Option (List ℕ) → List Tok → Type 0
@@ -136,7 +136,7 @@ SpellsRegister name ty clock ts rest =
 abbrev pub SpellsRow : Row → List Tok → Type 0
 SpellsRow (VersionRow a b c) ts =
     (x : List ℕ) × (y : List ℕ) × (z : List ℕ) × IsNatural x a × IsNatural y b × IsNatural z c
-      × (ts ≡ Word (codes "FIRRTL") ∷ (Word (codes "version") ∷ (Number x ∷ (Symbol Dot ∷ (Number y ∷ (Symbol Dot ∷ (Number z ∷ [])))))))
+    × (ts ≡ Word (codes "FIRRTL") ∷ (Word (codes "version") ∷ (Number x ∷ (Symbol Dot ∷ (Number y ∷ (Symbol Dot ∷ (Number z ∷ [])))))))
 SpellsRow (CircuitRow name) ts = IsName name × (ts ≡ Word (codes "circuit") ∷ (Word name ∷ (Symbol Colon ∷ [])))
 SpellsRow (ModuleRow name) ts = IsName name × (ts ≡ Word (codes "module") ∷ (Word name ∷ (Symbol Colon ∷ [])))
 SpellsRow (PortRow direction name ty) ts =
@@ -148,7 +148,7 @@ SpellsRow (NodeRow name value) ts =
 SpellsRow (RegisterRow name ty clock) ts = SpellsRegister name ty clock ts []
 SpellsRow (RegisterResetRow name ty clock condition init) ts =
     (t : List Tok) × SpellsRegister name ty clock ts (Word (codes "with") ∷ (Symbol Colon ∷ (Symbol OpenParen ∷ t)))
-      × SpellsReset condition init t (Symbol CloseParen ∷ [])
+    × SpellsReset condition init t (Symbol CloseParen ∷ [])
 SpellsRow (RegisterOpenRow name ty clock) ts = SpellsRegister name ty clock ts (Word (codes "with") ∷ (Symbol Colon ∷ []))
 SpellsRow (ResetRow condition init) ts = SpellsReset condition init ts []
 SpellsRow (InstanceRow name m) ts =
@@ -162,6 +162,6 @@ SpellsRow (InvalidRow sink) ts = SpellsReference sink ts (Word (codes "is") ∷ 
 SpellsRow SkipRow ts = ts ≡ Word (codes "skip") ∷ []
 SpellsRow (StopRow clock condition code label) ts =
     (t : List Tok) × (u : List Tok) × (digits : List ℕ) × (v : List Tok) × (ts ≡ Word (codes "stop") ∷ (Symbol OpenParen ∷ t))
-      × SpellsExpr clock t (Symbol Comma ∷ u) × SpellsExpr condition u (Symbol Comma ∷ (Number digits ∷ (Symbol CloseParen ∷ v))) × IsNatural digits code × SpellsLabel label v
+    × SpellsExpr clock t (Symbol Comma ∷ u) × SpellsExpr condition u (Symbol Comma ∷ (Number digits ∷ (Symbol CloseParen ∷ v))) × IsNatural digits code × SpellsLabel label v
 SpellsRow (ReportRow word arguments label) ts =
     (t : List Tok) × (u : List Tok) × (ts ≡ Word (report_text word) ∷ (Symbol OpenParen ∷ t)) × SpellsArguments arguments t u × SpellsLabel label u

@@ -2,3 +2,5 @@ pub mod Words
 pub mod Forms
 pub mod Text
 pub mod Reading
+pub mod LineRows
+pub mod States

@@ -82,17 +82,17 @@ find_word word (entry ∷ table) = if bytes_eq word entry.0 then Some entry.1 el
 abbrev pub unary_words : List (List ℕ × Op1)
 unary_words =
     (codes "asUInt", one.AsUInt) ∷ ((codes "asSInt", one.AsSInt) ∷ ((codes "cvt", one.Cvt) ∷ ((codes "neg", one.Neg) ∷ ((codes "not", one.Not)
-      ∷ ((codes "andr", one.Andr) ∷ ((codes "orr", one.Orr) ∷ ((codes "xorr", one.Xorr) ∷ [])))))))
+    ∷ ((codes "andr", one.Andr) ∷ ((codes "orr", one.Orr) ∷ ((codes "xorr", one.Xorr) ∷ [])))))))
 
 abbrev pub arithmetic_words : List (List ℕ × Op2)
 arithmetic_words =
     (codes "add", two.Add) ∷ ((codes "sub", two.Sub) ∷ ((codes "mul", two.Mul) ∷ ((codes "div", two.Div) ∷ ((codes "rem", two.Rem)
-      ∷ ((codes "dshl", two.Dshl) ∷ ((codes "dshr", two.Dshr) ∷ ((codes "cat", two.Cat) ∷ ((codes "validif", two.Validif) ∷ []))))))))
+    ∷ ((codes "dshl", two.Dshl) ∷ ((codes "dshr", two.Dshr) ∷ ((codes "cat", two.Cat) ∷ ((codes "validif", two.Validif) ∷ []))))))))
 
 abbrev pub logic_words : List (List ℕ × Op2)
 logic_words =
     (codes "lt", two.Lt) ∷ ((codes "leq", two.Leq) ∷ ((codes "gt", two.Gt) ∷ ((codes "geq", two.Geq) ∷ ((codes "eq", two.Eq)
-      ∷ ((codes "neq", two.Neq) ∷ ((codes "and", two.And) ∷ ((codes "or", two.Or) ∷ ((codes "xor", two.Xor) ∷ []))))))))
+    ∷ ((codes "neq", two.Neq) ∷ ((codes "and", two.And) ∷ ((codes "or", two.Or) ∷ ((codes "xor", two.Xor) ∷ []))))))))
 
 abbrev pub fixed_words : List (List ℕ × OpN)
 fixed_words =
@@ -102,20 +102,20 @@ fixed_words =
 abbrev pub operation_of : List ℕ → Option Operation
 operation_of word =
     option_or (option_map Unary (find_word word unary_words))
-      (option_or (option_map Binary (find_word word arithmetic_words))
-        (option_or (option_map Binary (find_word word logic_words))
-          (option_or (option_map Fixed (find_word word fixed_words)) (if bytes_eq word (codes "mux") then Some Mux else None))))
+    (option_or (option_map Binary (find_word word arithmetic_words))
+    (option_or (option_map Binary (find_word word logic_words))
+    (option_or (option_map Fixed (find_word word fixed_words)) (if bytes_eq word (codes "mux") then Some Mux else None))))
 
 -- the words with which a line begins that is no connection
 abbrev pub head_words : List (List ℕ × Keyword)
 head_words =
     (codes "FIRRTL", keyword.Version) ∷ ((codes "circuit", keyword.Circuit) ∷ ((codes "module", keyword.Module) ∷ ((codes "input", keyword.Port direction.Input)
-      ∷ ((codes "output", keyword.Port direction.Output) ∷ ((codes "wire", keyword.Wire) ∷ ((codes "node", keyword.Node) ∷ ((codes "reg", keyword.Register) ∷ []))))))) 
+    ∷ ((codes "output", keyword.Port direction.Output) ∷ ((codes "wire", keyword.Wire) ∷ ((codes "node", keyword.Node) ∷ ((codes "reg", keyword.Register) ∷ [])))))))
 
 abbrev pub tail_words : List (List ℕ × Keyword)
 tail_words =
     (codes "reset", keyword.Reset) ∷ ((codes "inst", keyword.Instance) ∷ ((codes "skip", keyword.Skip) ∷ ((codes "stop", keyword.Stop)
-      ∷ ((codes "printf", keyword.Report report.Printf) ∷ ((codes "assert", keyword.Report report.Assert) ∷ ((codes "assume", keyword.Report report.Assume) ∷ ((codes "cover", keyword.Report report.Cover) ∷ [])))))))
+    ∷ ((codes "printf", keyword.Report report.Printf) ∷ ((codes "assert", keyword.Report report.Assert) ∷ ((codes "assume", keyword.Report report.Assume) ∷ ((codes "cover", keyword.Report report.Cover) ∷ [])))))))
 
 abbrev pub keyword_of : List ℕ → Option Keyword
 keyword_of word = option_or (find_word word head_words) (find_word word tail_words)

@@ -1,10 +1,10 @@
 //! A cursor over the tokens of a line.
-ghost use Rattle.std.specs.Prelude.{◌≡◌, MatchBool};
+ghost use Rattle.std.specs.Prelude.{◌≡◌, MatchBool, is_some, length};
 ghost use Rattle.gg_read.specs.Forms.{is_name};
-ghost use Rattle.gg_read.specs.Reading.{Reads, Passes, symbol_at, word_at, name_at, natural_at, digits_at, operation_at, is_second, end_at};
+ghost use Rattle.gg_read.specs.Reading.{Reads, Passes, symbol_at, word_at, name_at, natural_at, digits_at, operation_at, is_second, end_at, text_at, keyword_at, is_invalid, is_connection};
 
 use crate::digits::{Digits, natural_value, signed_digits, text_digits};
-use crate::words::{Operation, find_operation};
+use crate::words::{Keyword, Operation, find_keyword, find_operation};
 use gg_ast::Radix;
 use gg_bits::Name;
 use gg_lex::{Symbol, Tok};
@@ -31,6 +31,7 @@ impl From<AllocError> for Miss {
 }
 
 /// The tokens of a line that are left to read. A contract sees them as their list.
+#[derive(Drop)]
 pub(crate) struct Cursor<'a> {
     rest: &'a [Tok],
 }
@@ -82,14 +83,22 @@ impl<'a> Cursor<'a> {
     pub(crate) fn symbol(&mut self, symbol: Symbol) -> Result<(), Miss>
         ensures { Passes result self.new (symbol_at symbol self.old) }
     {
-        if self.skip(symbol) { Ok(()) } else { Err(Miss::NoForm) }
+        if self.skip(symbol) {
+            Ok(())
+        } else {
+            Err(Miss::NoForm)
+        }
     }
 
     /// Passes over this word.
     pub(crate) fn word(&mut self, word: &str) -> Result<(), Miss>
         ensures { Passes result self.new (word_at word.now self.old) }
     {
-        if self.skip_word(word) { Ok(()) } else { Err(Miss::NoForm) }
+        if self.skip_word(word) {
+            Ok(())
+        } else {
+            Err(Miss::NoForm)
+        }
     }
 
     /// A name, which is a word without `-`.
@@ -162,6 +171,80 @@ impl<'a> Cursor<'a> {
             [_, Tok::Symbol(found), ..] => found.text() == symbol.text(),
             _ => false,
         }
+    }
+
+    /// How many tokens are left.
+    pub(crate) fn len(&self) -> usize
+        ensures { result ≡ length self.now }
+    {
+        self.rest.len()
+    }
+
+    /// Whether nothing is left.
+    pub(crate) fn is_empty(&self) -> bool
+        ensures { MatchBool result (end_at self.now ≡ Some self.now) (end_at self.now ≡ None) }
+    {
+        match self.rest {
+            [] => true,
+            _ => false,
+        }
+    }
+
+    /// Whether a text is the next token.
+    pub(crate) fn is_text(&self) -> bool
+        ensures { result ≡ is_some (text_at self.now) }
+    {
+        match self.rest {
+            [Tok::Text(_), ..] => true,
+            _ => false,
+        }
+    }
+
+    /// A text, as it stands between its quotation marks.
+    pub(crate) fn text(&mut self) -> Result<Name, Miss>
+        ensures { Reads (λ text. text) result self.new (text_at self.old) }
+    {
+        match self.rest {
+            [Tok::Text(found), rest @ ..] => {
+                self.rest = rest;
+                Ok(found.clone()?)
+            }
+            _ => Err(Miss::NoForm),
+        }
+    }
+
+    /// A word with which a line begins that is no connection.
+    pub(crate) fn keyword(&mut self) -> Result<Keyword, Miss>
+        ensures { Reads (λ k. k) result self.new (keyword_at self.old) }
+    {
+        match self.rest {
+            [Tok::Word(found), rest @ ..] => match find_keyword(found.as_str()) {
+                Some(keyword) => {
+                    self.rest = rest;
+                    Ok(keyword)
+                }
+                None => Err(Miss::NoForm),
+            },
+            _ => Err(Miss::NoForm),
+        }
+    }
+
+    /// Whether the two tokens behind the first are `is invalid`.
+    fn is_invalid(&self) -> bool
+        ensures { result ≡ is_invalid self.now }
+    {
+        match self.rest {
+            [_, Tok::Word(is), Tok::Word(invalid), ..] => is.as_str() == "is"
+                && invalid.as_str() == "invalid",
+            _ => false,
+        }
+    }
+
+    /// Whether the line is a connection, so that its first word is a name.
+    pub(crate) fn is_connection(&self) -> bool
+        ensures { result ≡ is_connection self.now }
+    {
+        self.is_second(Symbol::Connect) || self.is_second(Symbol::Dot) || self.is_invalid()
     }
 
     /// Nothing is left.

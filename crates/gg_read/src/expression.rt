@@ -1,7 +1,7 @@
 //! References, types, literals and expressions.
 ghost use Rattle.std.specs.Prelude.{◌≡◌, MatchResult};
 ghost use Rattle.gg_ast.specs.Term.{term};
-ghost use Rattle.gg_read.specs.Reading.{Reads, reference_at, second_at, third_at, width_at, kind_at, type_at, literal_at, parameters_at, one_parameter_at, two_parameters_at, expr_at, call_at, operands_at, unary_at, binary_at, fixed_at, mux_at};
+ghost use Rattle.gg_read.specs.Reading.{Reads, reference_at, second_at, third_at, width_at, kind_at, type_at, literal_at, parameters_at, one_parameter_at, two_parameters_at, expr_at, form_at, call_at, operands_at, unary_at, binary_at, fixed_at, mux_at};
 
 use crate::cursor::{Cursor, Miss};
 use crate::words::Operation;
@@ -95,7 +95,7 @@ fn literal(alloc: Global, cursor: &mut Cursor) -> Result<Literal, Miss>
 }
 
 /// `, n )`.
-fn one_parameter(cursor: &mut Cursor) -> Result<u32, Miss>
+pub(crate) fn one_parameter(cursor: &mut Cursor) -> Result<u32, Miss>
     ensures { Reads (λ n. n) result cursor.new (one_parameter_at cursor.old) }
 {
     cursor.symbol(Symbol::Comma)?;
@@ -137,8 +137,16 @@ pub(crate) fn expr(alloc: Global, cursor: &mut Cursor, depth: usize) -> Result<E
     if depth == 0 {
         return Err(Miss::NoForm);
     }
+    form(alloc, cursor, depth - 1)
+}
+
+/// An operation, a literal or a reference.
+#[cycle(expression)]
+fn form(alloc: Global, cursor: &mut Cursor, depth: usize) -> Result<Expr, Miss>
+    ensures { Reads term result cursor.new (form_at (expr_at depth) cursor.old) }
+{
     if cursor.is_second(Symbol::OpenParen) {
-        return call(alloc, cursor, depth - 1);
+        return call(alloc, cursor, depth);
     }
     if cursor.is_second(Symbol::Less) {
         let literal = literal(alloc, cursor)?;
@@ -160,7 +168,12 @@ fn call(alloc: Global, cursor: &mut Cursor, depth: usize) -> Result<Expr, Miss>
 
 /// The operands of an operation, and its closing bracket.
 #[cycle(expression)]
-fn operands(alloc: Global, cursor: &mut Cursor, depth: usize, operation: Operation) -> Result<Expr, Miss>
+fn operands(
+    alloc: Global,
+    cursor: &mut Cursor,
+    depth: usize,
+    operation: Operation,
+) -> Result<Expr, Miss>
     ensures { Reads term result cursor.new (operands_at (expr_at depth) operation cursor.old) }
 {
     match operation {

@@ -4,4 +4,7 @@
 mod cursor;
 mod digits;
 mod expression;
+mod fault;
+mod row;
+mod state;
 mod words;

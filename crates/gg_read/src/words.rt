@@ -119,7 +119,11 @@ pub(crate) fn find_operation(word: &str) -> Option<Operation>
     if let Some(op) = fixed(word) {
         return Some(Operation::Fixed(op));
     }
-    if word == "mux" { Some(Operation::Mux) } else { None }
+    if word == "mux" {
+        Some(Operation::Mux)
+    } else {
+        None
+    }
 }
 
 /// The form of a line whose first word is one of these.
