@@ -1,2 +1,6 @@
 pub mod Depth
 pub mod DigitRuns
+pub mod Expressions
+pub mod ExpressionsSpelt
+pub mod Leaves
+pub mod WordLaws

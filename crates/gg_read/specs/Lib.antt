@@ -3,4 +3,3 @@ pub mod Forms
 pub mod Text
 pub mod Reading
 pub mod LineRows
-pub mod States

@@ -4,7 +4,7 @@
 mod cursor;
 mod digits;
 mod expression;
-mod fault;
+mod laws;
 mod row;
-mod state;
 mod words;
+pub use laws::one_expression;
