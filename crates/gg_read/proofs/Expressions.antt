@@ -37,7 +37,7 @@ pub record Ends (rest : List Tok) : Type 0 where
 
 -- ---- what is spelt is read
 
-reference-read : (r : Reference) (ts rest : List Tok) → symbol_at Dot rest ≡ None → SpellsReference r ts rest → reference_at ts ≡ Some (r, rest)
+pub reference-read : (r : Reference) (ts rest : List Tok) → symbol_at Dot rest ≡ None → SpellsReference r ts rest → reference_at ts ≡ Some (r, rest)
 reference-read (reference.One a) ts rest ends h =
     rw h.1 (goes_on (name_at (Word a ∷ rest)) (λ n. second_at n.0 n.1) (a, rest) (name_at-here a rest h.0)
       ∙ not_chosen (symbol_at Dot rest) (λ t. name_at t >>= λ b. third_at a b.0 b.1) (Some (reference.One a, rest)) ends)
@@ -61,7 +61,7 @@ type-read (ground.UInt width) ts rest h =
 type-read (ground.SInt width) ts rest h =
     rw h.2 (goes_on (width_at (Symbol Less ∷ (Number h.0 ∷ (Symbol Greater ∷ rest)))) (λ w. Some (ground.SInt w.0, w.1)) (width, rest) (width-read h.0 width rest h.1))
 
-one_parameter-read : (digits : List ℕ) (n : ℕ) (rest : List Tok) → IsNatural digits n → one_parameter_at (Symbol Comma ∷ (Number digits ∷ (Symbol CloseParen ∷ rest))) ≡ Some (n, rest)
+pub one_parameter-read : (digits : List ℕ) (n : ℕ) (rest : List Tok) → IsNatural digits n → one_parameter_at (Symbol Comma ∷ (Number digits ∷ (Symbol CloseParen ∷ rest))) ≡ Some (n, rest)
 one_parameter-read digits n rest h =
     goes_on (natural_at (Number digits ∷ (Symbol CloseParen ∷ rest))) (λ m. symbol_at CloseParen m.1 >>= λ u. Some (m.0, u)) (n, Symbol CloseParen ∷ rest) (natural_at-here digits n _ h)
 
@@ -143,10 +143,10 @@ module _ (sub : List Tok → Option (Term × List Tok)) where
         ∙ goes_on (sub u) (λ y. symbol_at Comma y.1 >>= λ q. sub q >>= λ z. symbol_at CloseParen z.1 >>= λ w. Some (Choose c y.0 z.0, w)) (a, Symbol Comma ∷ v) f
         ∙ goes_on (sub v) (λ z. symbol_at CloseParen z.1 >>= λ w. Some (Choose c a z.0, w)) (b, Symbol CloseParen ∷ rest) g
 
-ends_close : (rest : List Tok) → Ends (Symbol CloseParen ∷ rest)
+pub ends_close : (rest : List Tok) → Ends (Symbol CloseParen ∷ rest)
 ends_close rest = record { no_dot = refl; no_open = refl; no_less = refl }
 
-ends_comma : (rest : List Tok) → Ends (Symbol Comma ∷ rest)
+pub ends_comma : (rest : List Tok) → Ends (Symbol Comma ∷ rest)
 ends_comma rest = record { no_dot = refl; no_open = refl; no_less = refl }
 
 parameters-end : (o : OpN) (n m : ℕ) (ts rest : List Tok) → SpellsParameters o n m ts rest → Ends ts

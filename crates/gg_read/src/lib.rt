@@ -7,4 +7,4 @@ mod expression;
 mod laws;
 mod row;
 mod words;
-pub use laws::{one_expression, read_is_spelt};
+pub use laws::{one_row, read_is_spelt};
