@@ -3,6 +3,7 @@ pub mod DigitRuns
 pub mod Expressions
 pub mod ExpressionsSpelt
 pub mod Leaves
+pub mod RowLaws
 pub mod RowsRead
 pub mod RowsSpelt
 pub mod WordLaws
