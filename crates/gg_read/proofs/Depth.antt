@@ -1,7 +1,6 @@
 -- One level of an expression.
-use Rattle.std.proofs.Common.{◌≡◌, ◌<◌, ℕ, zero, suc, ◌-◌, List, Option, refl, arith, ap}
+use Rattle.std.proofs.Common.{◌≡◌, ◌<◌, ℕ, zero, suc, ◌-◌, List, refl, arith, ap}
 use Rattle.gg_lex.specs.declared.token.Tok.{Tok}
-use Rattle.gg_ast.specs.Term.{Term}
 use Rattle.gg_ast.specs.Row.{GivenArgument}
 use Rattle.gg_read.specs.Reading.{expr_at, form_at, arguments_at}
 

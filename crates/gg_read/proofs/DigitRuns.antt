@@ -1,5 +1,5 @@
 -- Laws of runs of digits.
-use Rattle.std.proofs.Common.{◌≡◌, ℕ, suc, zero, ◌+◌, ◌<◌, ◌^◌, List, [], ◌∷◌, length, get_or, Bool, true, false, ◌&&◌, Result, Ok, Err, Option, Some, None, IsTrue, refl, sym, ap, ◌∙◌, subst, arith, rules}
+use Rattle.std.proofs.Common.{◌≡◌, ℕ, ◌<◌, ◌^◌, List, [], ◌∷◌, length, Bool, true, false, ◌&&◌, Result, Ok, Err, Some, None, refl, sym, ap, ◌∙◌, arith}
 use Rattle.std.specs.Prelude.{nat_lt, if◌then◌else◌}
 use Rattle.std.specs.Char.{is_ascii_digit}
 use Rattle.std.specs.Result.{OkIff, result_ok}
@@ -7,9 +7,8 @@ use Rattle.std.specs.List.{list_all}
 use Rattle.std.specs.Str.{all_ascii_digits}
 use Rattle.std.specs.Str.Parse.{ParsesUnsigned, digits_value}
 use Rattle.std.proofs.lemmas.Str.Parse.{parse_digits, numerals_by_value, tells_all_ascii_digits}
-use Rattle.gg_ast.specs.declared.expression.Radix.{Radix}
-use Rattle.gg_ast.specs.declared.expression.Radix.TheVariants.{Binary, Octal, Decimal, Hexadecimal}
-use Rattle.gg_read.specs.Forms.{is_digit_of, are_digits, is_natural}
+use Rattle.gg_ast.specs.declared.expression.Radix.TheVariants.{Decimal}
+use Rattle.gg_read.specs.Forms.{are_digits}
 use Rattle.gg_read.specs.Reading.{natural_of}
 
 -- std's word for decimal digits

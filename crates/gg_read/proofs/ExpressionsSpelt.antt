@@ -1,6 +1,6 @@
 -- An expression that is read is spelt so.
 use Rattle.std.proofs.Common.{◌≡◌, ℕ, zero, suc, List, [], ◌∷◌, Bool, true, false, Option, None, Some, IsTrue, refl, sym, ap, ◌∙◌, subst, arith}
-use Rattle.std.specs.Prelude.{if◌then◌else◌, codes, is_some, ◌==◌}
+use Rattle.std.specs.Prelude.{if◌then◌else◌, codes, ◌==◌}
 use Rattle.gg_bits.specs.declared.types.Kind.{Kind}
 use Rattle.gg_bits.specs.declared.types.Kind.TheVariants as kind
 use Rattle.gg_bits.specs.declared.ops.Op1.{Op1}
@@ -23,8 +23,8 @@ use Rattle.gg_read.specs.declared.words.Operation.TheVariants.{Unary, Binary as 
 use Rattle.gg_read.specs.declared.digits.Digits.{Digits}
 use Rattle.gg_read.specs.Words.{kind_text, one_text, two_text, fix_text, operation_of}
 use Rattle.gg_read.specs.Forms.{IsName, IsNatural, SpellsReference, SpellsType, SpellsLiteral, SpellsParameters, SpellsExpr, are_digits, signed, number_token}
-use Rattle.gg_read.specs.Reading.{◌>>=◌, choose, symbol_at, word_at, name_at, natural_at, third_at, second_at, reference_at, width_at, kind_at, ground_type, type_at, checked_digits, signed_digits, radix_of, text_digits, digits_at, literal_of, literal_at, operation_at, one_parameter_at, two_parameters_at, parameters_at, is_second, unary_at, binary_at, fixed_at, mux_at, operands_at, call_at, form_at, expr_at}
-use Rattle.gg_read.proofs.Leaves.{bound, chosen, not_chosen, some_same, symbol_at-spells, word_at-spells, name_at-spells, natural_at-spells, equal_bytes}
+use Rattle.gg_read.specs.Reading.{◌>>=◌, symbol_at, word_at, name_at, natural_at, third_at, second_at, reference_at, width_at, kind_at, ground_type, type_at, checked_digits, signed_digits, radix_of, text_digits, digits_at, literal_of, literal_at, operation_at, one_parameter_at, two_parameters_at, parameters_at, is_second, unary_at, binary_at, fixed_at, mux_at, operands_at, call_at, expr_at}
+use Rattle.gg_read.proofs.Leaves.{bound, chosen, not_chosen, some_same, symbol_at-spells, word_at-spells, name_at-spells, natural_at-spells}
 use Rattle.gg_read.proofs.WordLaws.{operation_text, operation_of-spells}
 
 -- ---- references
@@ -42,7 +42,7 @@ third-spells a b ts rest r (Some t) na nb e h =
     let word = name_at-spells t n.0.0 n.0.1 n.1 in
     let tail : ts ≡ Symbol Dot ∷ (Word n.0.0 ∷ n.0.1) = symbol_at-spells Dot ts t e ∙ ap (λ l. Symbol Dot ∷ l) word.1 in
     subst (λ (p : Reference × List Tok). SpellsReference p.0 (Word a ∷ (Symbol Dot ∷ (Word b ∷ ts))) p.1) (some_same (reference.Three a b n.0.0, n.0.1) (r, rest) n.2)
-      (na, nb, word.0, ap (λ l. Word a ∷ (Symbol Dot ∷ (Word b ∷ l))) tail)
+    (na, nb, word.0, ap (λ l. Word a ∷ (Symbol Dot ∷ (Word b ∷ l))) tail)
 
 second-spells : (a : List ℕ) (ts rest : List Tok) (r : Reference) (o : Option (List Tok)) → IsName a → symbol_at Dot ts ≡ o → second_at a ts ≡ Some (r, rest) → SpellsReference r (Word a ∷ ts) rest
 second-spells a ts rest r None na e h =
@@ -83,7 +83,7 @@ width-spells ts rest n h =
       digits = digits.0;
       natural = subst (λ (p : ℕ × List Tok). IsNatural digits.0 p.0) same digits.1;
       spelt = symbol_at-spells Less ts open_.0 open_.1 ∙ ap (λ l. Symbol Less ∷ l) (digits.2 ∙ ap (λ l. Number digits.0 ∷ l) (symbol_at-spells Greater number.0.1 close.0 close.1))
-        ∙ ap (λ (p : ℕ × List Tok). Symbol Less ∷ (Number digits.0 ∷ (Symbol Greater ∷ p.1))) same
+          ∙ ap (λ (p : ℕ × List Tok). Symbol Less ∷ (Number digits.0 ∷ (Symbol Greater ∷ p.1))) same;
     }
 
 kind_by : (ts rest : List Tok) (k : Kind) (o : Option (List Tok)) → word_at (codes "UInt") ts ≡ o → kind_at ts ≡ Some (k, rest) → ts ≡ Word (kind_text k) ∷ rest
@@ -118,7 +118,7 @@ type_by ts rest ty None e h =
     let k = bound (kind_at ts) (λ k. width_at k.1 >>= λ w. Some (ground_type k.0 w.0, w.1)) (ty, rest) (sym (not_chosen (word_at (codes "Clock") ts) go other e) ∙ h) in
     let w = bound (width_at k.0.1) (λ w. Some (ground_type k.0.0 w.0, w.1)) (ty, rest) k.2 in
     subst (λ (p : GroundType × List Tok). SpellsType p.0 ts p.1) (some_same (ground_type k.0.0 w.0.0, w.0.1) (ty, rest) w.2)
-      (wide k.0.0 w.0.0 ts k.0.1 w.0.1 (kind-spells ts k.0.1 k.0.0 k.1) (width-spells k.0.1 w.0.1 w.0.0 w.1))
+    (wide k.0.0 w.0.0 ts k.0.1 w.0.1 (kind-spells ts k.0.1 k.0.0 k.1) (width-spells k.0.1 w.0.1 w.0.0 w.1))
 
 pub type-spells : (ts rest : List Tok) (ty : GroundType) → type_at ts ≡ Some (ty, rest) → SpellsType ty ts rest
 type-spells ts rest ty h = type_by ts rest ty (word_at (codes "Clock") ts) refl h
@@ -131,9 +131,12 @@ record AreSigned (radix : Radix) (bytes : List ℕ) (d : Digits) : Type 0 where
 
 checked_by : (radix : Radix) (negative : Bool) (bs : List ℕ) (d : Digits) (b : Bool) → are_digits radix bs ≡ b → (if b then Some (record { radix = radix; negative = negative; digits = bs }) else None) ≡ Some d → (d.radix ≡ radix) × (d.negative ≡ negative) × (d.digits ≡ bs) × IsTrue (are_digits radix d.digits)
 checked_by radix negative bs d true e h =
-    let same = some_same (record { radix = radix; negative = negative; digits = bs }) d h in
-    (sym (ap (λ (x : Digits). x.radix) same), sym (ap (λ (x : Digits). x.negative) same), sym (ap (λ (x : Digits). x.digits) same),
-      subst (λ (x : Digits). IsTrue (are_digits radix x.digits)) same e)
+    let same = some_same (record { radix = radix; negative = negative; digits = bs }) d h in (
+      sym (ap (λ (x : Digits). x.radix) same),
+      sym (ap (λ (x : Digits). x.negative) same),
+      sym (ap (λ (x : Digits). x.digits) same),
+      subst (λ (x : Digits). IsTrue (are_digits radix x.digits)) same e,
+    )
 checked_by radix negative bs d false e h = absurd (cc)
 
 signed_by : (radix : Radix) (b : ℕ) (bs : List ℕ) (d : Digits) (t : Bool) → (b == 45) ≡ t → (if t then checked_digits radix true bs else checked_digits radix false (b ∷ bs)) ≡ Some d → AreSigned radix (b ∷ bs) d
@@ -163,7 +166,7 @@ radix_byte b bs radix d e s =
     record { digits = subst (λ r. IsTrue (are_digits r d.digits)) (sym s.same) s.digits; spelt = with_radix (b == 98) (b == 111) (b == 104) refl refl refl e ∙ ap (λ r. number_token r (signed d.negative d.digits)) (sym s.same) }
   where
     with_radix : (x y z : Bool) → (b == 98) ≡ x → (b == 111) ≡ y → (b == 104) ≡ z
-      → (if x then Some Binary else (if y then Some Octal else (if z then Some Hexadecimal else None))) ≡ Some radix → Text (b ∷ bs) ≡ number_token radix (signed d.negative d.digits)
+        → (if x then Some Binary else (if y then Some Octal else (if z then Some Hexadecimal else None))) ≡ Some radix → Text (b ∷ bs) ≡ number_token radix (signed d.negative d.digits)
     with_radix true y z p q r f = let at : b ≡ 98 = grind arith in ap (λ n. Text (n ∷ bs)) at ∙ ap (λ l. Text (98 ∷ l)) s.spelt ∙ ap (λ k. number_token k (signed d.negative d.digits)) (some_same Binary radix f)
     with_radix false true z p q r f = let at : b ≡ 111 = grind arith in ap (λ n. Text (n ∷ bs)) at ∙ ap (λ l. Text (111 ∷ l)) s.spelt ∙ ap (λ k. number_token k (signed d.negative d.digits)) (some_same Octal radix f)
     with_radix false false true p q r f = let at : b ≡ 104 = grind arith in ap (λ n. Text (n ∷ bs)) at ∙ ap (λ l. Text (104 ∷ l)) s.spelt ∙ ap (λ k. number_token k (signed d.negative d.digits)) (some_same Hexadecimal radix f)
@@ -194,10 +197,13 @@ literal-spells ts rest l h =
     let width = width-spells k.0.1 w.0.1 w.0.0 w.1 in
     let number = digits-spells o.0 d.0.1 d.0.0 d.1 in
     let inner : o.0 ≡ number_token d.0.0.radix (signed d.0.0.negative d.0.0.digits) ∷ (Symbol CloseParen ∷ c.0) =
-      number.2 ∙ ap (λ t. t ∷ d.0.1) number.1.spelt ∙ ap (λ l. number_token d.0.0.radix (signed d.0.0.negative d.0.0.digits) ∷ l) (symbol_at-spells CloseParen d.0.1 c.0 c.1) in
-    subst (λ (p : Literal × List Tok). SpellsLiteral p.0 ts p.1) (some_same (literal_of k.0.0 w.0.0 d.0.0, c.0) (l, rest) c.2)
-      (width.digits, width.natural, number.1.digits,
-        kind-spells ts k.0.1 k.0.0 k.1 ∙ ap (λ x. Word (kind_text k.0.0) ∷ x) (width.spelt ∙ ap (λ x. Symbol Less ∷ (Number width.digits ∷ (Symbol Greater ∷ x))) (symbol_at-spells OpenParen w.0.1 o.0 o.1 ∙ ap (λ x. Symbol OpenParen ∷ x) inner)))
+    number.2 ∙ ap (λ t. t ∷ d.0.1) number.1.spelt ∙ ap (λ l. number_token d.0.0.radix (signed d.0.0.negative d.0.0.digits) ∷ l) (symbol_at-spells CloseParen d.0.1 c.0 c.1) in
+    subst (λ (p : Literal × List Tok). SpellsLiteral p.0 ts p.1) (some_same (literal_of k.0.0 w.0.0 d.0.0, c.0) (l, rest) c.2) (
+      width.digits,
+      width.natural,
+      number.1.digits,
+      kind-spells ts k.0.1 k.0.0 k.1 ∙ ap (λ x. Word (kind_text k.0.0) ∷ x) (width.spelt ∙ ap (λ x. Symbol Less ∷ (Number width.digits ∷ (Symbol Greater ∷ x))) (symbol_at-spells OpenParen w.0.1 o.0 o.1 ∙ ap (λ x. Symbol OpenParen ∷ x) inner)),
+    )
 
 -- ---- operations
 
@@ -217,7 +223,7 @@ one_parameter-spells ts rest n h =
       digits = digits.0;
       natural = subst (λ (p : ℕ × List Tok). IsNatural digits.0 p.0) same digits.1;
       spelt = symbol_at-spells Comma ts comma.0 comma.1 ∙ ap (λ l. Symbol Comma ∷ l) (digits.2 ∙ ap (λ l. Number digits.0 ∷ l) (symbol_at-spells CloseParen number.0.1 close.0 close.1))
-        ∙ ap (λ (p : ℕ × List Tok). Symbol Comma ∷ (Number digits.0 ∷ (Symbol CloseParen ∷ p.1))) same
+          ∙ ap (λ (p : ℕ × List Tok). Symbol Comma ∷ (Number digits.0 ∷ (Symbol CloseParen ∷ p.1))) same;
     }
 
 two_parameters-spells : (ts rest : List Tok) (n m : ℕ) → two_parameters_at ts ≡ Some ((n, m), rest) → SpellsParameters Bits n m ts rest
@@ -231,7 +237,7 @@ two_parameters-spells ts rest n m h =
     let y = natural_at-spells again.0 low.0.0 low.0.1 low.1 in
     let inner : again.0 ≡ Number y.0 ∷ (Symbol CloseParen ∷ close.0) = y.2 ∙ ap (λ l. Number y.0 ∷ l) (symbol_at-spells CloseParen low.0.1 close.0 close.1) in
     subst (λ (p : (ℕ × ℕ) × List Tok). SpellsParameters Bits p.0.0 p.0.1 ts p.1) (some_same ((high.0.0, low.0.0), close.0) ((n, m), rest) close.2)
-      (x.0, y.0, x.1, y.1, symbol_at-spells Comma ts comma.0 comma.1 ∙ ap (λ l. Symbol Comma ∷ l) (x.2 ∙ ap (λ l. Number x.0 ∷ l) (symbol_at-spells Comma high.0.1 again.0 again.1 ∙ ap (λ l. Symbol Comma ∷ l) inner)))
+    (x.0, y.0, x.1, y.1, symbol_at-spells Comma ts comma.0 comma.1 ∙ ap (λ l. Symbol Comma ∷ l) (x.2 ∙ ap (λ l. Number x.0 ∷ l) (symbol_at-spells Comma high.0.1 again.0 again.1 ∙ ap (λ l. Symbol Comma ∷ l) inner)))
 
 -- one parameter, and none behind it
 record OneParameter (ts rest : List Tok) (n m : ℕ) : Type 0 where
@@ -247,7 +253,7 @@ one_only ts rest n m h =
     let same = some_same ((p.0.0, 0), p.0.1) ((n, m), rest) p.2 in
     record {
       spelt = subst (λ (q : (ℕ × ℕ) × List Tok). SpellsParameter q.0.0 ts q.1) same (one_parameter-spells ts p.0.1 p.0.0 p.1);
-      none = sym (ap (λ (q : (ℕ × ℕ) × List Tok). q.0.1) same)
+      none = sym (ap (λ (q : (ℕ × ℕ) × List Tok). q.0.1) same);
     }
 
 parameters-spells : (o : OpN) (ts rest : List Tok) (n m : ℕ) → parameters_at o ts ≡ Some ((n, m), rest) → SpellsParameters o n m ts rest
@@ -281,7 +287,7 @@ module _ (sub : List Tok → Option (Term × List Tok)) (sound : IsSound sub) wh
       let a = bound (sub t) (λ a. symbol_at CloseParen a.1 >>= λ t. Some (One o a.0, t)) (e, rest) h in
       let u = bound (symbol_at CloseParen a.0.1) (λ t. Some (One o a.0.0, t)) (e, rest) a.2 in
       subst (λ (p : Term × List Tok). SpellsExpr p.0 (Word (one_text o) ∷ (Symbol OpenParen ∷ t)) p.1) (some_same (One o a.0.0, u.0) (e, rest) u.2)
-        (t, refl, operand-close t a.0 u.0 a.1 u.1)
+      (t, refl, operand-close t a.0 u.0 a.1 u.1)
 
   binary-spells : (o : Op2) (t rest : List Tok) (e : Term) → binary_at sub o t ≡ Some (e, rest) → SpellsExpr e (Word (two_text o) ∷ (Symbol OpenParen ∷ t)) rest
   binary-spells o t rest e h =
@@ -290,14 +296,14 @@ module _ (sub : List Tok → Option (Term × List Tok)) (sound : IsSound sub) wh
       let b = bound (sub u.0) (λ b. symbol_at CloseParen b.1 >>= λ u. Some (Two o a.0.0 b.0, u)) (e, rest) u.2 in
       let v = bound (symbol_at CloseParen b.0.1) (λ u. Some (Two o a.0.0 b.0.0, u)) (e, rest) b.2 in
       subst (λ (p : Term × List Tok). SpellsExpr p.0 (Word (two_text o) ∷ (Symbol OpenParen ∷ t)) p.1) (some_same (Two o a.0.0 b.0.0, v.0) (e, rest) v.2)
-        (t, u.0, refl, operand-comma t a.0 u.0 a.1 u.1, operand-close u.0 b.0 v.0 b.1 v.1)
+      (t, u.0, refl, operand-comma t a.0 u.0 a.1 u.1, operand-close u.0 b.0 v.0 b.1 v.1)
 
   fixed-spells : (o : OpN) (t rest : List Tok) (e : Term) → fixed_at sub o t ≡ Some (e, rest) → SpellsExpr e (Word (fix_text o) ∷ (Symbol OpenParen ∷ t)) rest
   fixed-spells o t rest e h =
       let a = bound (sub t) (λ a. parameters_at o a.1 >>= λ p. Some (Fix o a.0 p.0.0 p.0.1, p.1)) (e, rest) h in
       let p = bound (parameters_at o a.0.1) (λ p. Some (Fix o a.0.0 p.0.0 p.0.1, p.1)) (e, rest) a.2 in
       subst (λ (p : Term × List Tok). SpellsExpr p.0 (Word (fix_text o) ∷ (Symbol OpenParen ∷ t)) p.1) (some_same (Fix o a.0.0 p.0.0.0 p.0.0.1, p.0.1) (e, rest) p.2)
-        (t, a.0.1, refl, sound t a.0.1 a.0.0 a.1, parameters-spells o a.0.1 p.0.1 p.0.0.0 p.0.0.1 p.1)
+      (t, a.0.1, refl, sound t a.0.1 a.0.0 a.1, parameters-spells o a.0.1 p.0.1 p.0.0.0 p.0.0.1 p.1)
 
   mux-spells : (t rest : List Tok) (e : Term) → mux_at sub t ≡ Some (e, rest) → SpellsExpr e (Word (codes "mux") ∷ (Symbol OpenParen ∷ t)) rest
   mux-spells t rest e h =
@@ -308,7 +314,7 @@ module _ (sub : List Tok → Option (Term × List Tok)) (sound : IsSound sub) wh
       let b = bound (sub v.0) (λ b. symbol_at CloseParen b.1 >>= λ v. Some (Choose c.0.0 a.0.0 b.0, v)) (e, rest) v.2 in
       let w = bound (symbol_at CloseParen b.0.1) (λ v. Some (Choose c.0.0 a.0.0 b.0.0, v)) (e, rest) b.2 in
       subst (λ (p : Term × List Tok). SpellsExpr p.0 (Word (codes "mux") ∷ (Symbol OpenParen ∷ t)) p.1) (some_same (Choose c.0.0 a.0.0 b.0.0, w.0) (e, rest) w.2)
-        (t, u.0, v.0, refl, operand-comma t c.0 u.0 c.1 u.1, operand-comma u.0 a.0 v.0 a.1 v.1, operand-close v.0 b.0 w.0 b.1 w.1)
+      (t, u.0, v.0, refl, operand-comma t c.0 u.0 c.1 u.1, operand-comma u.0 a.0 v.0 a.1 v.1, operand-close v.0 b.0 w.0 b.1 w.1)
 
   operands-spells : (o : Operation) (t rest : List Tok) (e : Term) → operands_at sub o t ≡ Some (e, rest) → SpellsExpr e (Word (operation_text o) ∷ (Symbol OpenParen ∷ t)) rest
   operands-spells (Unary o) t rest e h = unary-spells o t rest e h

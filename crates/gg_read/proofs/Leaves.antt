@@ -1,7 +1,6 @@
 -- What the smallest readers find is spelt so, and what is spelt so they find.
-use Rattle.std.proofs.Common.{◌≡◌, ℕ, zero, suc, ◌<◌, ◌^◌, List, [], ◌∷◌, length, Bool, true, false, ◌&&◌, Option, None, Some, IsTrue, refl, sym, ap, ◌∙◌, subst, arith}
-use Rattle.std.specs.Prelude.{if◌then◌else◌, codes, nat_lt, ◌==◌}
-use Rattle.std.specs.Bool.{Decides}
+use Rattle.std.proofs.Common.{◌≡◌, ℕ, List, [], ◌∷◌, Bool, true, false, Option, None, Some, IsTrue, refl, sym, ap, ◌∙◌, subst}
+use Rattle.std.specs.Prelude.{if◌then◌else◌, codes}
 use Rattle.std.specs.Str.{bytes_eq}
 use Rattle.std.specs.Str.Parse.{digits_value}
 use Rattle.std.proofs.lemmas.Slice.Eq.{bytes_eq-Decides}
@@ -39,9 +38,9 @@ same_bytes xs = (bytes_eq-Decides xs xs).1 refl
 mark_of : List ℕ → Mark
 mark_of bs =
     if bytes_eq bs (codes "<=") then Connect else (if bytes_eq bs (codes "=>") then Arrow else (if bytes_eq bs (codes "<-") then PartialConnect else (if bytes_eq bs (codes ":") then Colon
-      else (if bytes_eq bs (codes ",") then Comma else (if bytes_eq bs (codes ".") then Dot else (if bytes_eq bs (codes "(") then OpenParen else (if bytes_eq bs (codes ")") then CloseParen
-      else (if bytes_eq bs (codes "<") then Less else (if bytes_eq bs (codes ">") then Greater else (if bytes_eq bs (codes "=") then Equals else (if bytes_eq bs (codes "[") then OpenBracket
-      else (if bytes_eq bs (codes "]") then CloseBracket else (if bytes_eq bs (codes "{") then OpenBrace else (if bytes_eq bs (codes "}") then CloseBrace else OpenAnnotations))))))))))))))
+    else (if bytes_eq bs (codes ",") then Comma else (if bytes_eq bs (codes ".") then Dot else (if bytes_eq bs (codes "(") then OpenParen else (if bytes_eq bs (codes ")") then CloseParen
+    else (if bytes_eq bs (codes "<") then Less else (if bytes_eq bs (codes ">") then Greater else (if bytes_eq bs (codes "=") then Equals else (if bytes_eq bs (codes "[") then OpenBracket
+    else (if bytes_eq bs (codes "]") then CloseBracket else (if bytes_eq bs (codes "{") then OpenBrace else (if bytes_eq bs (codes "}") then CloseBrace else OpenAnnotations))))))))))))))
 
 mark_of-spelling : (m : Mark) → mark_of (spelling m) ≡ m
 unfolding mark_of

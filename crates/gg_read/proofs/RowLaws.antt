@@ -1,5 +1,5 @@
 -- The two laws of a line's row: what is read is spelt so, and what is spelt so is read.
-use Rattle.std.proofs.Common.{◌≡◌, List, [], Option, None, Some, refl}
+use Rattle.std.proofs.Common.{◌≡◌, List, [], None, Some, refl}
 use Rattle.gg_lex.specs.declared.token.Tok.{Tok}
 use Rattle.gg_ast.specs.Row.{Row}
 use Rattle.gg_read.specs.Forms.{SpellsRow}

@@ -1,23 +1,22 @@
 -- A row that the tokens of a line spell is read.
-use Rattle.std.proofs.Common.{◌≡◌, ℕ, zero, suc, ◌+◌, ◌<◌, ◌≤◌, List, [], ◌∷◌, ◌++◌, length, Bool, true, false, ◌||◌, Option, None, Some, refl, sym, ap, ◌∙◌, subst, arith, append_assoc}
+use Rattle.std.proofs.Common.{◌≡◌, ℕ, zero, suc, ◌<◌, ◌≤◌, List, [], ◌∷◌, ◌++◌, length, Bool, true, false, Option, None, Some, refl, ap, ◌∙◌, arith, append_assoc}
 use Rattle.std.specs.Prelude.{if◌then◌else◌, codes, is_some}
 use Rattle.std.specs.Str.{bytes_eq}
 use Rattle.gg_lex.specs.declared.token.Tok.{Tok}
-use Rattle.gg_lex.specs.declared.token.Tok.TheVariants.{Word, Number, Text, Symbol}
-use Rattle.gg_lex.specs.declared.token.Symbol.TheVariants.{Connect, Arrow, Colon, Comma, Dot, OpenParen, CloseParen, Less, Greater, Equals}
+use Rattle.gg_lex.specs.declared.token.Tok.TheVariants.{Word, Number, Symbol}
+use Rattle.gg_lex.specs.declared.token.Symbol.TheVariants.{Connect, Arrow, Colon, Comma, Dot, OpenParen, CloseParen, Equals}
 use Rattle.gg_ast.specs.declared.expression.Reference.{Reference}
 use Rattle.gg_ast.specs.declared.expression.Reference.TheVariants as reference
-use Rattle.gg_ast.specs.declared.module.Direction.{Direction}
 use Rattle.gg_ast.specs.declared.module.GroundType.{GroundType}
 use Rattle.gg_ast.specs.declared.statement.Report.{Report}
 use Rattle.gg_ast.specs.Row.{Row, GivenArgument, GivenTerm, GivenText, VersionRow, CircuitRow, ModuleRow, PortRow, WireRow, NodeRow, RegisterRow, RegisterResetRow, RegisterOpenRow, ResetRow, InstanceRow, MemoryRow, FieldRow, ConnectRow, InvalidRow, SkipRow, StopRow, ReportRow}
 use Rattle.gg_ast.specs.Term.{Term, Ref, Lit, One, Two, Fix, Choose}
 use Rattle.gg_read.specs.declared.words.Keyword.{Keyword}
 use Rattle.gg_read.specs.declared.words.Keyword.TheVariants as keyword
-use Rattle.gg_read.specs.Words.{direction_text, report_text, keyword_of}
+use Rattle.gg_read.specs.Words.{direction_text}
 use Rattle.gg_read.specs.Forms.{IsName, IsNatural, SpellsReference, SpellsType, SpellsExpr, SpellsReset, SpellsLabel, SpellsArgument, SpellsArguments, SpellsRegister, SpellsRow}
-use Rattle.gg_read.specs.Reading.{◌>>=◌, choose, symbol_at, word_at, name_at, natural_at, end_at, type_at, reference_at, one_parameter_at, text_at, is_second, expression_at, last_expression_at, version_at, header_at, declared_at, last_declared_at, node_at, reset_at, reset_row_at, inline_reset_at, with_at, clocked_at, register_at, instance_at, label_at, stop_at, argument_at, arguments_at, report_at, body_at, keyword_at, invalid_at, driven_at, connection_at, is_invalid, is_connection, row_at}
-use Rattle.gg_read.proofs.Leaves.{goes_on, chosen, not_chosen, name_at-here, natural_at-here}
+use Rattle.gg_read.specs.Reading.{◌>>=◌, choose, symbol_at, word_at, name_at, natural_at, end_at, type_at, reference_at, one_parameter_at, text_at, expression_at, last_expression_at, version_at, header_at, declared_at, last_declared_at, node_at, reset_at, clocked_at, instance_at, label_at, stop_at, argument_at, arguments_at, report_at, body_at, keyword_at, driven_at, connection_at, is_invalid, is_connection, row_at}
+use Rattle.gg_read.proofs.Leaves.{goes_on, not_chosen, name_at-here, natural_at-here}
 use Rattle.gg_read.proofs.WordLaws.{keyword_text, keyword_of-here}
 use Rattle.gg_read.proofs.Expressions.{Ends, ends_end, ends_comma, ends_close, expr-read, expr-shorter, type-read, reference-read, one_parameter-read}
 
@@ -35,7 +34,7 @@ last-read e ts h = goes_on (expression_at ts) (λ x. end_at x.1 >>= λ u. Some x
 driven-by : (sink : Reference) (ts rest : List Tok) (row : Row) → is_connection ts ≡ true → symbol_at Dot rest ≡ None → SpellsReference sink ts rest → driven_at sink rest ≡ Some row → row_at ts ≡ Some row
 driven-by sink ts rest row is ends h e =
     ap (λ b. if b then connection_at ts else (keyword_at ts >>= λ k. body_at k.0 k.1)) is
-      ∙ goes_on (reference_at ts) (λ r. driven_at r.0 r.1) (sink, rest) (reference-read sink ts rest ends h) ∙ e
+    ∙ goes_on (reference_at ts) (λ r. driven_at r.0 r.1) (sink, rest) (reference-read sink ts rest ends h) ∙ e
 
 connects : (sink : Reference) (ts t : List Tok) → SpellsReference sink ts (Symbol Connect ∷ t) → is_connection ts ≡ true
 connects (reference.One a) ts t h = rw h.1 refl
@@ -66,7 +65,7 @@ keyword-read k t row other e =
     let tagged : Keyword → Option (Keyword × List Tok) = λ k. Some (k, t) in
     let next : (Keyword × List Tok) → Option Row = λ k. body_at k.0 k.1 in
     ap (λ b. if b then connection_at (Word (keyword_text k) ∷ t) else (keyword_at (Word (keyword_text k) ∷ t) >>= next)) other
-      ∙ ap (λ (o : Option Keyword). (o >>= tagged) >>= next) (keyword_of-here k) ∙ e
+    ∙ ap (λ (o : Option Keyword). (o >>= tagged) >>= next) (keyword_of-here k) ∙ e
 
 named : (w n : List ℕ) (rest : List Tok) → word_at (codes "invalid") rest ≡ None → is_connection (Word w ∷ (Word n ∷ rest)) ≡ false
 named w n rest e = not_invalid (Word w) n rest e
@@ -74,7 +73,7 @@ named w n rest e = not_invalid (Word w) n rest e
 declared-read : (name : List ℕ) (ty : GroundType) (t rest : List Tok) → IsName name → SpellsType ty t rest → declared_at (Word name ∷ (Symbol Colon ∷ t)) ≡ Some ((name, ty), rest)
 declared-read name ty t rest n h =
     goes_on (name_at (Word name ∷ (Symbol Colon ∷ t))) (λ n. symbol_at Colon n.1 >>= λ t. type_at t >>= λ ty. Some ((n.0, ty.0), ty.1)) (name, Symbol Colon ∷ t) (name_at-here name _ n)
-      ∙ goes_on (type_at t) (λ ty. Some ((name, ty.0), ty.1)) (ty, rest) (type-read ty t rest h)
+    ∙ goes_on (type_at t) (λ ty. Some ((name, ty.0), ty.1)) (ty, rest) (type-read ty t rest h)
 
 last_declared-read : (name : List ℕ) (ty : GroundType) (t : List Tok) → IsName name → SpellsType ty t [] → last_declared_at (Word name ∷ (Symbol Colon ∷ t)) ≡ Some (name, ty)
 last_declared-read name ty t n h =
@@ -86,25 +85,25 @@ header-read name n = goes_on (name_at (Word name ∷ (Symbol Colon ∷ []))) (λ
 version-read : (x y z : List ℕ) (a b c : ℕ) → IsNatural x a → IsNatural y b → IsNatural z c → version_at (Word (codes "version") ∷ (Number x ∷ (Symbol Dot ∷ (Number y ∷ (Symbol Dot ∷ (Number z ∷ [])))))) ≡ Some (VersionRow a b c)
 version-read x y z a b c p q r =
     goes_on (natural_at (Number x ∷ (Symbol Dot ∷ (Number y ∷ (Symbol Dot ∷ (Number z ∷ [])))))) (λ a. symbol_at Dot a.1 >>= λ u. natural_at u >>= λ b. symbol_at Dot b.1 >>= λ v. natural_at v >>= λ c. end_at c.1 >>= λ w. Some (VersionRow a.0 b.0 c.0)) (a, Symbol Dot ∷ (Number y ∷ (Symbol Dot ∷ (Number z ∷ [])))) (natural_at-here x a _ p)
-      ∙ goes_on (natural_at (Number y ∷ (Symbol Dot ∷ (Number z ∷ [])))) (λ b. symbol_at Dot b.1 >>= λ v. natural_at v >>= λ c. end_at c.1 >>= λ w. Some (VersionRow a b.0 c.0)) (b, Symbol Dot ∷ (Number z ∷ [])) (natural_at-here y b _ q)
-      ∙ goes_on (natural_at (Number z ∷ [])) (λ c. end_at c.1 >>= λ w. Some (VersionRow a b c.0)) (c, []) (natural_at-here z c _ r)
+    ∙ goes_on (natural_at (Number y ∷ (Symbol Dot ∷ (Number z ∷ [])))) (λ b. symbol_at Dot b.1 >>= λ v. natural_at v >>= λ c. end_at c.1 >>= λ w. Some (VersionRow a b.0 c.0)) (b, Symbol Dot ∷ (Number z ∷ [])) (natural_at-here y b _ q)
+    ∙ goes_on (natural_at (Number z ∷ [])) (λ c. end_at c.1 >>= λ w. Some (VersionRow a b c.0)) (c, []) (natural_at-here z c _ r)
 
 node-read : (name : List ℕ) (e : Term) (t : List Tok) → IsName name → SpellsExpr e t [] → node_at (Word name ∷ (Symbol Equals ∷ t)) ≡ Some (NodeRow name e)
 node-read name e t n h =
     goes_on (name_at (Word name ∷ (Symbol Equals ∷ t))) (λ n. symbol_at Equals n.1 >>= λ t. last_expression_at t >>= λ e. Some (NodeRow n.0 e)) (name, Symbol Equals ∷ t) (name_at-here name _ n)
-      ∙ goes_on (last_expression_at t) (λ e. Some (NodeRow name e)) e (last-read e t h)
+    ∙ goes_on (last_expression_at t) (λ e. Some (NodeRow name e)) e (last-read e t h)
 
 -- behind the word `reset`
 reset-read : (c i : Term) (t u rest : List Tok) → SpellsExpr c t (Symbol Comma ∷ u) → SpellsExpr i u (Symbol CloseParen ∷ rest) → reset_at (Symbol Arrow ∷ (Symbol OpenParen ∷ t)) ≡ Some ((c, i), rest)
 reset-read c i t u rest p q =
     goes_on (expression_at t) (λ c. symbol_at Comma c.1 >>= λ v. expression_at v >>= λ i. symbol_at CloseParen i.1 >>= λ w. Some ((c.0, i.0), w)) (c, Symbol Comma ∷ u) (expression-read c t _ p (ends_comma u))
-      ∙ goes_on (expression_at u) (λ i. symbol_at CloseParen i.1 >>= λ w. Some ((c, i.0), w)) (i, Symbol CloseParen ∷ rest) (expression-read i u _ q (ends_close rest))
+    ∙ goes_on (expression_at u) (λ i. symbol_at CloseParen i.1 >>= λ w. Some ((c, i.0), w)) (i, Symbol CloseParen ∷ rest) (expression-read i u _ q (ends_close rest))
 
 register-read : (name : List ℕ) (ty : GroundType) (clock : Term) (ts rest : List Tok) (row : Row) → Ends rest → SpellsRegister name ty clock ts rest → clocked_at name ty clock rest ≡ Some row → row_at ts ≡ Some row
 register-read name ty clock ts rest row ends h e =
     rw h.3 (keyword-read keyword.Register (Word name ∷ (Symbol Colon ∷ h.0)) row (named (codes "reg") name (Symbol Colon ∷ h.0) refl)
-      (goes_on (declared_at (Word name ∷ (Symbol Colon ∷ h.0))) (λ d. symbol_at Comma d.1 >>= λ t. expression_at t >>= λ c. clocked_at d.0.0 d.0.1 c.0 c.1) ((name, ty), Symbol Comma ∷ h.1) (declared-read name ty h.0 (Symbol Comma ∷ h.1) h.2 h.4)
-        ∙ goes_on (expression_at h.1) (λ c. clocked_at name ty c.0 c.1) (clock, rest) (expression-read clock h.1 rest h.5 ends) ∙ e))
+    (goes_on (declared_at (Word name ∷ (Symbol Colon ∷ h.0))) (λ d. symbol_at Comma d.1 >>= λ t. expression_at t >>= λ c. clocked_at d.0.0 d.0.1 c.0 c.1) ((name, ty), Symbol Comma ∷ h.1) (declared-read name ty h.0 (Symbol Comma ∷ h.1) h.2 h.4)
+    ∙ goes_on (expression_at h.1) (λ c. clocked_at name ty c.0 c.1) (clock, rest) (expression-read clock h.1 rest h.5 ends) ∙ e))
 
 inline-read : (name : List ℕ) (ty : GroundType) (clock c i : Term) (t : List Tok) → SpellsReset c i t (Symbol CloseParen ∷ []) → clocked_at name ty clock (Word (codes "with") ∷ (Symbol Colon ∷ (Symbol OpenParen ∷ t))) ≡ Some (RegisterResetRow name ty clock c i)
 inline-read name ty clock c i t h =
@@ -113,12 +112,12 @@ inline-read name ty clock c i t h =
 reset_row-read : (c i : Term) (ts : List Tok) → SpellsReset c i ts [] → row_at ts ≡ Some (ResetRow c i)
 reset_row-read c i ts h =
     rw h.2 (keyword-read keyword.Reset (Symbol Arrow ∷ (Symbol OpenParen ∷ h.0)) (ResetRow c i) refl
-      (goes_on (reset_at (Symbol Arrow ∷ (Symbol OpenParen ∷ h.0))) (λ r. end_at r.1 >>= λ u. Some (ResetRow r.0.0 r.0.1)) ((c, i), []) (reset-read c i h.0 h.1 [] h.3 h.4)))
+    (goes_on (reset_at (Symbol Arrow ∷ (Symbol OpenParen ∷ h.0))) (λ r. end_at r.1 >>= λ u. Some (ResetRow r.0.0 r.0.1)) ((c, i), []) (reset-read c i h.0 h.1 [] h.3 h.4)))
 
 instance-read : (name m : List ℕ) → IsName name → IsName m → instance_at (Word name ∷ (Word (codes "of") ∷ (Word m ∷ []))) ≡ Some (InstanceRow name m)
 instance-read name m p q =
     goes_on (name_at (Word name ∷ (Word (codes "of") ∷ (Word m ∷ [])))) (λ n. word_at (codes "of") n.1 >>= λ t. name_at t >>= λ m. end_at m.1 >>= λ u. Some (InstanceRow n.0 m.0)) (name, Word (codes "of") ∷ (Word m ∷ [])) (name_at-here name _ p)
-      ∙ goes_on (name_at (Word m ∷ [])) (λ m. end_at m.1 >>= λ u. Some (InstanceRow name m.0)) (m, []) (name_at-here m _ q)
+    ∙ goes_on (name_at (Word m ∷ [])) (λ m. end_at m.1 >>= λ u. Some (InstanceRow name m.0)) (m, []) (name_at-here m _ q)
 
 label-read : (label : Option (List ℕ)) (ts : List Tok) → SpellsLabel label ts → label_at ts ≡ Some label
 label-read None ts h = rw h refl
@@ -127,9 +126,9 @@ label-read (Some name) ts h = rw h.1 (goes_on (name_at (Word name ∷ [])) (λ n
 stop-read : (c e : Term) (n : ℕ) (label : Option (List ℕ)) (t u v : List Tok) (digits : List ℕ) → SpellsExpr c t (Symbol Comma ∷ u) → SpellsExpr e u (Symbol Comma ∷ (Number digits ∷ (Symbol CloseParen ∷ v))) → IsNatural digits n → SpellsLabel label v → stop_at (Symbol OpenParen ∷ t) ≡ Some (StopRow c e n label)
 stop-read c e n label t u v digits p q r s =
     goes_on (expression_at t) (λ c. symbol_at Comma c.1 >>= λ u. expression_at u >>= λ e. one_parameter_at e.1 >>= λ n. label_at n.1 >>= λ l. Some (StopRow c.0 e.0 n.0 l)) (c, Symbol Comma ∷ u) (expression-read c t _ p (ends_comma u))
-      ∙ goes_on (expression_at u) (λ e. one_parameter_at e.1 >>= λ n. label_at n.1 >>= λ l. Some (StopRow c e.0 n.0 l)) (e, Symbol Comma ∷ (Number digits ∷ (Symbol CloseParen ∷ v))) (expression-read e u _ q (ends_comma _))
-      ∙ goes_on (one_parameter_at (Symbol Comma ∷ (Number digits ∷ (Symbol CloseParen ∷ v)))) (λ n. label_at n.1 >>= λ l. Some (StopRow c e n.0 l)) (n, v) (one_parameter-read digits n v r)
-      ∙ goes_on (label_at v) (λ l. Some (StopRow c e n l)) label (label-read label v s)
+    ∙ goes_on (expression_at u) (λ e. one_parameter_at e.1 >>= λ n. label_at n.1 >>= λ l. Some (StopRow c e.0 n.0 l)) (e, Symbol Comma ∷ (Number digits ∷ (Symbol CloseParen ∷ v))) (expression-read e u _ q (ends_comma _))
+    ∙ goes_on (one_parameter_at (Symbol Comma ∷ (Number digits ∷ (Symbol CloseParen ∷ v)))) (λ n. label_at n.1 >>= λ l. Some (StopRow c e n.0 l)) (n, v) (one_parameter-read digits n v r)
+    ∙ goes_on (label_at v) (λ l. Some (StopRow c e n l)) label (label-read label v s)
 
 -- an expression begins with a word
 first_word : (e : Term) (ts rest : List Tok) → SpellsExpr e ts rest → text_at ts ≡ None
@@ -148,7 +147,7 @@ argument-read (GivenTerm e) ts rest ends h =
     let text : (List ℕ × List Tok) → Option (GivenArgument × List Tok) = λ t. Some (GivenText t.0, t.1) in
     let other : Option (GivenArgument × List Tok) = expression_at ts >>= λ e. Some (GivenTerm e.0, e.1) in
     not_chosen (text_at ts) text other (first_word e ts rest h)
-      ∙ goes_on (expression_at ts) (λ e. Some (GivenTerm e.0, e.1)) (e, rest) (expression-read e ts rest h ends)
+    ∙ goes_on (expression_at ts) (λ e. Some (GivenTerm e.0, e.1)) (e, rest) (expression-read e ts rest h ends)
 
 argument-shorter : (a : GivenArgument) (ts rest : List Tok) → SpellsArgument a ts rest → length rest < length ts
 argument-shorter (GivenText x) ts rest h = let e = ap length h in omega arith
@@ -172,13 +171,13 @@ arguments-read (a ∷ (b ∷ more)) zero before ts rest h size = absurd (omega (
 arguments-read (a ∷ (b ∷ more)) (suc n) before ts rest h size =
     let shorter = argument-shorter a ts (Symbol Comma ∷ h.0) h.1 in
     argument-turn n before a ts (Symbol Comma ∷ h.0) (argument-read a ts _ (ends_comma h.0) h.1)
-      ∙ arguments-read (b ∷ more) n (before ++ a ∷ []) h.0 rest h.2 (omega arith)
-      ∙ ap (λ (l : List GivenArgument). Some (l, rest)) (append_assoc before (a ∷ []) (b ∷ more))
+    ∙ arguments-read (b ∷ more) n (before ++ a ∷ []) h.0 rest h.2 (omega arith)
+    ∙ ap (λ (l : List GivenArgument). Some (l, rest)) (append_assoc before (a ∷ []) (b ∷ more))
 
 report-read : (word : Report) (args : List GivenArgument) (label : Option (List ℕ)) (t u : List Tok) → SpellsArguments args t u → SpellsLabel label u → report_at word (Symbol OpenParen ∷ t) ≡ Some (ReportRow word args label)
 report-read word args label t u p q =
     goes_on (arguments_at (length t) [] t) (λ a. label_at a.1 >>= λ l. Some (ReportRow word a.0 l)) (args, u) (arguments-read args (length t) [] t u p (omega arith))
-      ∙ goes_on (label_at u) (λ l. Some (ReportRow word args l)) label (label-read label u q)
+    ∙ goes_on (label_at u) (λ l. Some (ReportRow word args l)) label (label-read label u q)
 
 -- a row that is spelt is read
 pub row-read : (row : Row) (ts : List Tok) → SpellsRow row ts → row_at ts ≡ Some row
@@ -189,10 +188,10 @@ row-read (ModuleRow name) ts h =
     rw h.1 (keyword-read keyword.Module (Word name ∷ (Symbol Colon ∷ [])) (ModuleRow name) (named (codes "module") name (Symbol Colon ∷ []) refl) (goes_on (header_at (Word name ∷ (Symbol Colon ∷ []))) (λ n. Some (ModuleRow n)) name (header-read name h.0)))
 row-read (PortRow direction name ty) ts h =
     rw h.2 (keyword-read (keyword.Port direction) (Word name ∷ (Symbol Colon ∷ h.0)) (PortRow direction name ty) (named (direction_text direction) name (Symbol Colon ∷ h.0) refl)
-      (goes_on (last_declared_at (Word name ∷ (Symbol Colon ∷ h.0))) (λ d. Some (PortRow direction d.0 d.1)) (name, ty) (last_declared-read name ty h.0 h.1 h.3)))
+    (goes_on (last_declared_at (Word name ∷ (Symbol Colon ∷ h.0))) (λ d. Some (PortRow direction d.0 d.1)) (name, ty) (last_declared-read name ty h.0 h.1 h.3)))
 row-read (WireRow name ty) ts h =
     rw h.2 (keyword-read keyword.Wire (Word name ∷ (Symbol Colon ∷ h.0)) (WireRow name ty) (named (codes "wire") name (Symbol Colon ∷ h.0) refl)
-      (goes_on (last_declared_at (Word name ∷ (Symbol Colon ∷ h.0))) (λ d. Some (WireRow d.0 d.1)) (name, ty) (last_declared-read name ty h.0 h.1 h.3)))
+    (goes_on (last_declared_at (Word name ∷ (Symbol Colon ∷ h.0))) (λ d. Some (WireRow d.0 d.1)) (name, ty) (last_declared-read name ty h.0 h.1 h.3)))
 row-read (NodeRow name value) ts h =
     rw h.2 (keyword-read keyword.Node (Word name ∷ (Symbol Equals ∷ h.0)) (NodeRow name value) (named (codes "node") name (Symbol Equals ∷ h.0) refl) (node-read name value h.0 h.1 h.3))
 row-read (RegisterRow name ty clock) ts h = register-read name ty clock ts [] (RegisterRow name ty clock) ends_end h refl

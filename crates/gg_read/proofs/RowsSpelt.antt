@@ -12,7 +12,7 @@ use Rattle.gg_ast.specs.Term.{Term}
 use Rattle.gg_read.specs.declared.words.Keyword.{Keyword}
 use Rattle.gg_read.specs.declared.words.Keyword.TheVariants as keyword
 use Rattle.gg_read.specs.Words.{direction_text, report_text, keyword_of}
-use Rattle.gg_read.specs.Forms.{IsName, IsNatural, SpellsReference, SpellsType, SpellsExpr, SpellsReset, SpellsLabel, SpellsArgument, SpellsArguments, SpellsRegister, SpellsRow}
+use Rattle.gg_read.specs.Forms.{IsName, SpellsReference, SpellsType, SpellsExpr, SpellsReset, SpellsLabel, SpellsArgument, SpellsArguments, SpellsRegister, SpellsRow}
 use Rattle.gg_read.specs.Reading.{◌>>=◌, choose, symbol_at, word_at, name_at, natural_at, end_at, type_at, reference_at, one_parameter_at, text_at, expression_at, last_expression_at, version_at, header_at, declared_at, last_declared_at, node_at, reset_at, reset_row_at, inline_reset_at, with_at, clocked_at, register_at, instance_at, label_at, stop_at, argument_at, arguments_at, report_at, body_at, keyword_at, invalid_at, driven_at, connection_at, is_connection, row_at}
 use Rattle.gg_read.proofs.Leaves.{bound, chosen, not_chosen, some_same, symbol_at-spells, word_at-spells, name_at-spells, natural_at-spells, end_at-spells, text_at-spells}
 use Rattle.gg_read.proofs.WordLaws.{keyword_text, keyword_of-spells}
@@ -39,7 +39,7 @@ invalid-spells sink ts rest row h e =
     let invalid = bound (word_at (codes "invalid") is.0) (λ u. end_at u >>= λ v. Some (InvalidRow sink)) row is.2 in
     let stop = ended invalid.0 (InvalidRow sink) row invalid.2 in
     let tail : rest ≡ Word (codes "is") ∷ (Word (codes "invalid") ∷ []) =
-      word_at-spells (codes "is") rest is.0 is.1 ∙ ap (λ l. Word (codes "is") ∷ l) (word_at-spells (codes "invalid") is.0 invalid.0 invalid.1 ∙ ap (λ l. Word (codes "invalid") ∷ l) stop.0) in
+    word_at-spells (codes "is") rest is.0 is.1 ∙ ap (λ l. Word (codes "is") ∷ l) (word_at-spells (codes "invalid") is.0 invalid.0 invalid.1 ∙ ap (λ l. Word (codes "invalid") ∷ l) stop.0) in
     subst (λ r. SpellsRow r ts) stop.1 (subst (λ l. SpellsReference sink ts l) tail h)
 
 driven-spells : (sink : Reference) (ts rest : List Tok) (row : Row) (o : Option (List Tok)) → symbol_at Connect rest ≡ o → SpellsReference sink ts rest → driven_at sink rest ≡ Some row → SpellsRow row ts
@@ -72,7 +72,7 @@ declared-spells ts rest name ty h =
     let y = bound (type_at c.0) (λ ty. Some ((n.0.0, ty.0), ty.1)) ((name, ty), rest) c.2 in
     let word = name_at-spells ts n.0.0 n.0.1 n.1 in
     subst (λ (p : (List ℕ × GroundType) × List Tok). SpellsDeclared p.0.0 p.0.1 ts p.1) (some_same ((n.0.0, y.0.0), y.0.1) ((name, ty), rest) y.2)
-      (record { named = word.0; t = c.0; tokens = word.1 ∙ ap (λ l. Word n.0.0 ∷ l) (symbol_at-spells Colon n.0.1 c.0 c.1); typed = type-spells c.0 y.0.1 y.0.0 y.1 })
+    (record { named = word.0; t = c.0; tokens = word.1 ∙ ap (λ l. Word n.0.0 ∷ l) (symbol_at-spells Colon n.0.1 c.0 c.1); typed = type-spells c.0 y.0.1 y.0.0 y.1 })
 
 last_declared-spells : (ts : List Tok) (d : List ℕ × GroundType) → last_declared_at ts ≡ Some d → SpellsDeclared d.0 d.1 ts []
 last_declared-spells ts d h =
@@ -112,7 +112,7 @@ node-spells ts row h =
     let e = bound (last_expression_at q.0) (λ e. Some (NodeRow n.0.0 e)) row q.2 in
     let word = name_at-spells ts n.0.0 n.0.1 n.1 in
     subst (λ r. SpellsRow r (Word (codes "node") ∷ ts)) (some_same (NodeRow n.0.0 e.0) row e.2)
-      (q.0, word.0, ap (λ l. Word (codes "node") ∷ l) (word.1 ∙ ap (λ l. Word n.0.0 ∷ l) (symbol_at-spells Equals n.0.1 q.0 q.1)), last-spells q.0 e.0 e.1)
+    (q.0, word.0, ap (λ l. Word (codes "node") ∷ l) (word.1 ∙ ap (λ l. Word n.0.0 ∷ l) (symbol_at-spells Equals n.0.1 q.0 q.1)), last-spells q.0 e.0 e.1)
 
 -- behind the word `reset`
 reset-spells : (ts rest : List Tok) (c i : Term) → reset_at ts ≡ Some ((c, i), rest) → SpellsReset c i (Word (codes "reset") ∷ ts) rest
@@ -123,10 +123,13 @@ reset-spells ts rest c i h =
     let m = bound (symbol_at Comma x.0.1) (λ v. expression_at v >>= λ i. symbol_at CloseParen i.1 >>= λ w. Some ((x.0.0, i.0), w)) ((c, i), rest) x.2 in
     let y = bound (expression_at m.0) (λ i. symbol_at CloseParen i.1 >>= λ w. Some ((x.0.0, i.0), w)) ((c, i), rest) m.2 in
     let z = bound (symbol_at CloseParen y.0.1) (λ w. Some ((x.0.0, y.0.0), w)) ((c, i), rest) y.2 in
-    subst (λ (p : (Term × Term) × List Tok). SpellsReset p.0.0 p.0.1 (Word (codes "reset") ∷ ts) p.1) (some_same ((x.0.0, y.0.0), z.0) ((c, i), rest) z.2)
-      (o.0, m.0, ap (λ l. Word (codes "reset") ∷ l) (symbol_at-spells Arrow ts a.0 a.1 ∙ ap (λ l. Symbol Arrow ∷ l) (symbol_at-spells OpenParen a.0 o.0 o.1)),
-        subst (λ l. SpellsExpr x.0.0 o.0 l) (symbol_at-spells Comma x.0.1 m.0 m.1) (expression-spells o.0 x.0.1 x.0.0 x.1),
-        subst (λ l. SpellsExpr y.0.0 m.0 l) (symbol_at-spells CloseParen y.0.1 z.0 z.1) (expression-spells m.0 y.0.1 y.0.0 y.1))
+    subst (λ (p : (Term × Term) × List Tok). SpellsReset p.0.0 p.0.1 (Word (codes "reset") ∷ ts) p.1) (some_same ((x.0.0, y.0.0), z.0) ((c, i), rest) z.2) (
+      o.0,
+      m.0,
+      ap (λ l. Word (codes "reset") ∷ l) (symbol_at-spells Arrow ts a.0 a.1 ∙ ap (λ l. Symbol Arrow ∷ l) (symbol_at-spells OpenParen a.0 o.0 o.1)),
+      subst (λ l. SpellsExpr x.0.0 o.0 l) (symbol_at-spells Comma x.0.1 m.0 m.1) (expression-spells o.0 x.0.1 x.0.0 x.1),
+      subst (λ l. SpellsExpr y.0.0 m.0 l) (symbol_at-spells CloseParen y.0.1 z.0 z.1) (expression-spells m.0 y.0.1 y.0.0 y.1),
+    )
 
 reset_row-spells : (ts : List Tok) (row : Row) → reset_row_at ts ≡ Some row → SpellsRow row (Word (codes "reset") ∷ ts)
 reset_row-spells ts row h =
@@ -175,7 +178,7 @@ register-spells ts row h =
     let c = bound (expression_at m.0) (λ c. clocked_at d.0.0.0 d.0.0.1 c.0 c.1) row m.2 in
     let known = declared-spells ts d.0.1 d.0.0.0 d.0.0.1 d.1 in
     let register : SpellsRegister d.0.0.0 d.0.0.1 c.0.0 (Word (codes "reg") ∷ ts) c.0.1 =
-      (known.t, m.0, known.named, ap (λ l. Word (codes "reg") ∷ l) known.tokens, subst (λ l. SpellsType d.0.0.1 known.t l) (symbol_at-spells Comma d.0.1 m.0 m.1) known.typed, expression-spells m.0 c.0.1 c.0.0 c.1) in
+    (known.t, m.0, known.named, ap (λ l. Word (codes "reg") ∷ l) known.tokens, subst (λ l. SpellsType d.0.0.1 known.t l) (symbol_at-spells Comma d.0.1 m.0 m.1) known.typed, expression-spells m.0 c.0.1 c.0.0 c.1) in
     clocked-spells d.0.0.0 d.0.0.1 c.0.0 (Word (codes "reg") ∷ ts) c.0.1 row (end_at c.0.1) refl register c.2
 
 instance-spells : (ts : List Tok) (row : Row) → instance_at ts ≡ Some row → SpellsRow row (Word (codes "inst") ∷ ts)
@@ -187,7 +190,7 @@ instance-spells ts row h =
     let word = name_at-spells ts n.0.0 n.0.1 n.1 in
     let other = name_at-spells o.0 m.0.0 m.0.1 m.1 in
     subst (λ r. SpellsRow r (Word (codes "inst") ∷ ts)) stop.1
-      (word.0, other.0, ap (λ l. Word (codes "inst") ∷ l) (word.1 ∙ ap (λ l. Word n.0.0 ∷ l) (word_at-spells (codes "of") n.0.1 o.0 o.1 ∙ ap (λ l. Word (codes "of") ∷ l) (other.1 ∙ ap (λ l. Word m.0.0 ∷ l) stop.0))))
+    (word.0, other.0, ap (λ l. Word (codes "inst") ∷ l) (word.1 ∙ ap (λ l. Word n.0.0 ∷ l) (word_at-spells (codes "of") n.0.1 o.0 o.1 ∙ ap (λ l. Word (codes "of") ∷ l) (other.1 ∙ ap (λ l. Word m.0.0 ∷ l) stop.0))))
 
 label-by : (ts : List Tok) (label : Option (List ℕ)) (o : Option (List Tok)) → end_at ts ≡ o → label_at ts ≡ Some label → SpellsLabel label ts
 label-by ts label (Some v) x e =
@@ -215,10 +218,17 @@ stop-spells ts row h =
     let n = bound (one_parameter_at e.0.1) (λ n. label_at n.1 >>= λ l. Some (StopRow c.0.0 e.0.0 n.0 l)) row e.2 in
     let l = bound (label_at n.0.1) (λ l. Some (StopRow c.0.0 e.0.0 n.0.0 l)) row n.2 in
     let p = one_parameter-spells e.0.1 n.0.1 n.0.0 n.1 in
-    subst (λ r. SpellsRow r (Word (codes "stop") ∷ ts)) (some_same (StopRow c.0.0 e.0.0 n.0.0 l.0) row l.2)
-      (o.0, m.0, p.digits, n.0.1, ap (λ x. Word (codes "stop") ∷ x) (symbol_at-spells OpenParen ts o.0 o.1),
-        subst (λ x. SpellsExpr c.0.0 o.0 x) (symbol_at-spells Comma c.0.1 m.0 m.1) (expression-spells o.0 c.0.1 c.0.0 c.1),
-        subst (λ x. SpellsExpr e.0.0 m.0 x) p.spelt (expression-spells m.0 e.0.1 e.0.0 e.1), p.natural, label-spells n.0.1 l.0 l.1)
+    subst (λ r. SpellsRow r (Word (codes "stop") ∷ ts)) (some_same (StopRow c.0.0 e.0.0 n.0.0 l.0) row l.2) (
+      o.0,
+      m.0,
+      p.digits,
+      n.0.1,
+      ap (λ x. Word (codes "stop") ∷ x) (symbol_at-spells OpenParen ts o.0 o.1),
+      subst (λ x. SpellsExpr c.0.0 o.0 x) (symbol_at-spells Comma c.0.1 m.0 m.1) (expression-spells o.0 c.0.1 c.0.0 c.1),
+      subst (λ x. SpellsExpr e.0.0 m.0 x) p.spelt (expression-spells m.0 e.0.1 e.0.0 e.1),
+      p.natural,
+      label-spells n.0.1 l.0 l.1,
+    )
 
 argument-by : (ts rest : List Tok) (a : GivenArgument) (o : Option (List ℕ × List Tok)) → text_at ts ≡ o → argument_at ts ≡ Some (a, rest) → SpellsArgument a ts rest
 argument-by ts rest a (Some x) t e =
@@ -264,7 +274,7 @@ report-spells word ts row h =
     let l = bound (label_at a.0.1) (λ l. Some (ReportRow word a.0.0 l)) row a.2 in
     let m = arguments-spells (length o.0) [] a.0.0 o.0 a.0.1 a.1 in
     subst (λ r. SpellsRow r (Word (report_text word) ∷ ts)) (some_same (ReportRow word a.0.0 l.0) row l.2)
-      (o.0, a.0.1, ap (λ x. Word (report_text word) ∷ x) (symbol_at-spells OpenParen ts o.0 o.1), subst (λ x. SpellsArguments x o.0 a.0.1) (sym m.whole) m.spelt, label-spells a.0.1 l.0 l.1)
+    (o.0, a.0.1, ap (λ x. Word (report_text word) ∷ x) (symbol_at-spells OpenParen ts o.0 o.1), subst (λ x. SpellsArguments x o.0 a.0.1) (sym m.whole) m.spelt, label-spells a.0.1 l.0 l.1)
 
 body-spells : (k : Keyword) (ts : List Tok) (row : Row) → body_at k ts ≡ Some row → SpellsRow row (Word (keyword_text k) ∷ ts)
 body-spells keyword.Version ts row h = version-spells ts row h
@@ -304,7 +314,7 @@ keyword-spells (Word w ∷ ts) row h =
     let n = bound (keyword_of w) (λ k. Some (k, ts)) k.0 k.1 in
     let same = some_same (n.0, ts) k.0 n.2 in
     let tokens : Word (keyword_text k.0.0) ∷ k.0.1 ≡ Word w ∷ ts =
-      sym (ap (λ x. Word x ∷ ts) (keyword_of-spells w n.0 n.1) ∙ ap (λ (p : Keyword × List Tok). Word (keyword_text p.0) ∷ p.1) same) in
+    sym (ap (λ x. Word x ∷ ts) (keyword_of-spells w n.0 n.1) ∙ ap (λ (p : Keyword × List Tok). Word (keyword_text p.0) ∷ p.1) same) in
     subst (λ l. SpellsRow row l) tokens (body-spells k.0.0 k.0.1 row k.2)
 
 row-by : (ts : List Tok) (row : Row) (b : Bool) → (if b then connection_at ts else (keyword_at ts >>= λ k. body_at k.0 k.1)) ≡ Some row → SpellsRow row ts

@@ -1,5 +1,5 @@
 -- The words of operations and of lines: each names what is spelt so, and nothing else.
-use Rattle.std.proofs.Common.{◌≡◌, ℕ, List, [], ◌∷◌, Bool, true, false, Option, None, Some, refl, sym, ap, ◌∙◌, ◌⊎◌, inl, inr, subst}
+use Rattle.std.proofs.Common.{◌≡◌, ℕ, List, [], ◌∷◌, Bool, true, false, Option, None, Some, refl, ap, ◌∙◌, ◌⊎◌, inl, inr}
 use Rattle.std.specs.Prelude.{if◌then◌else◌, codes, option_map}
 use Rattle.std.specs.Option.{option_or}
 use Rattle.std.specs.Str.{bytes_eq}
@@ -56,14 +56,18 @@ is_mux word o false e h = absurd (cc)
 pub operation_of-spells : (word : List ℕ) (o : Operation) → operation_of word ≡ Some o → word ≡ operation_text o
 operation_of-spells word o h =
     elim (first_or (option_map Unary (find_word word unary_words)) _ o h) [
-      inl a ↦ from_table Unary one_text word unary_words o (λ x. refl) (refl, (refl, (refl, (refl, (refl, (refl, (refl, (refl, tt)))))))) a
+      | inl a ↦ from_table Unary one_text word unary_words o (λ x. refl) (refl, (refl, (refl, (refl, (refl, (refl, (refl, (refl, tt)))))))) a
       | inr b ↦ elim (first_or (option_map Binary (find_word word arithmetic_words)) _ o b) [
-        inl a ↦ from_table Binary two_text word arithmetic_words o (λ x. refl) (refl, (refl, (refl, (refl, (refl, (refl, (refl, (refl, (refl, tt))))))))) a
+        | inl a ↦ from_table Binary two_text word arithmetic_words o (λ x. refl) (refl, (refl, (refl, (refl, (refl, (refl, (refl, (refl, (refl, tt))))))))) a
         | inr c ↦ elim (first_or (option_map Binary (find_word word logic_words)) _ o c) [
-          inl a ↦ from_table Binary two_text word logic_words o (λ x. refl) (refl, (refl, (refl, (refl, (refl, (refl, (refl, (refl, (refl, tt))))))))) a
+          | inl a ↦ from_table Binary two_text word logic_words o (λ x. refl) (refl, (refl, (refl, (refl, (refl, (refl, (refl, (refl, (refl, tt))))))))) a
           | inr d ↦ elim (first_or (option_map Fixed (find_word word fixed_words)) _ o d) [
-            inl a ↦ from_table Fixed fix_text word fixed_words o (λ x. refl) (refl, (refl, (refl, (refl, (refl, (refl, tt)))))) a
-            | inr e ↦ is_mux word o (bytes_eq word (codes "mux")) refl e ] ] ] ]
+            | inl a ↦ from_table Fixed fix_text word fixed_words o (λ x. refl) (refl, (refl, (refl, (refl, (refl, (refl, tt)))))) a
+            | inr e ↦ is_mux word o (bytes_eq word (codes "mux")) refl e
+          ]
+        ]
+      ]
+    ]
 
 pub operation_of-here : (o : Operation) → operation_of (operation_text o) ≡ Some o
 operation_of-here (Unary one.AsUInt) = refl
@@ -118,8 +122,9 @@ keyword_text (keyword.Report word) = report_text word
 pub keyword_of-spells : (word : List ℕ) (k : Keyword) → keyword_of word ≡ Some k → word ≡ keyword_text k
 keyword_of-spells word k h =
     elim (first_or (find_word word head_words) _ k h) [
-      inl a ↦ find_word-spells keyword_text word head_words k (refl, (refl, (refl, (refl, (refl, (refl, (refl, (refl, tt)))))))) a
-      | inr b ↦ find_word-spells keyword_text word tail_words k (refl, (refl, (refl, (refl, (refl, (refl, (refl, (refl, tt)))))))) b ]
+      | inl a ↦ find_word-spells keyword_text word head_words k (refl, (refl, (refl, (refl, (refl, (refl, (refl, (refl, tt)))))))) a
+      | inr b ↦ find_word-spells keyword_text word tail_words k (refl, (refl, (refl, (refl, (refl, (refl, (refl, (refl, tt)))))))) b
+    ]
 
 pub keyword_of-here : (k : Keyword) → keyword_of (keyword_text k) ≡ Some k
 keyword_of-here keyword.Version = refl

@@ -1,6 +1,6 @@
 -- The forms of a line: which tokens spell which row (FIRRTL Specification, "Grammar"). Each definition goes by cases
 -- on what is spelt. What may be followed by more is said of two lists: the tokens, and the rest behind it.
-use Rattle.std.specs.Prelude.{◌≡◌, ℕ, ◌<◌, ◌^◌, Bool, true, false, ◌&&◌, not, IsTrue, List, [], ◌∷◌, length, Option, None, Some, ◌==◌, nat_lt, ◌||◌, codes, if◌then◌else◌}
+use Rattle.std.specs.Prelude.{◌≡◌, ℕ, ◌^◌, Bool, true, false, ◌&&◌, not, IsTrue, List, [], ◌∷◌, Option, None, Some, ◌==◌, nat_lt, ◌||◌, codes}
 use Rattle.std.specs.List.{list_all, list_any}
 use Rattle.std.specs.Char.{is_ascii_digit, is_ascii_hexdigit}
 use Rattle.std.specs.Str.Parse.{digits_value}

@@ -1,12 +1,10 @@
 -- The row that a line which was read holds.
-use Rattle.std.specs.Prelude.{◌≡◌, ℕ, List, [], Option, None, Some, Result, Ok, Err, map}
-use Rattle.gg_ast.specs.declared.statement.Reset.{Reset}
+use Rattle.std.specs.Prelude.{None, Some, map}
 use Rattle.gg_ast.specs.declared.statement.StmtKind.{StmtKind}
 use Rattle.gg_ast.specs.declared.statement.StmtKind.TheVariants as statement
-use Rattle.gg_ast.specs.declared.module.GroundType.{GroundType}
 use Rattle.gg_ast.specs.Row.{Row, VersionRow, CircuitRow, ModuleRow, PortRow, WireRow, NodeRow, RegisterRow, RegisterResetRow, RegisterOpenRow, ResetRow, InstanceRow, MemoryRow, ConnectRow, InvalidRow, SkipRow, StopRow, ReportRow}
 use Rattle.gg_ast.specs.Rows.{given_argument}
-use Rattle.gg_ast.specs.Term.{Term, term}
+use Rattle.gg_ast.specs.Term.{term}
 use Rattle.gg_read.specs.declared.row.LineRow.{LineRow}
 use Rattle.gg_read.specs.declared.row.LineRow.TheVariants as line
 

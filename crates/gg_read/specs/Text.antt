@@ -1,5 +1,5 @@
 -- Which circuit a text spells, and which line is at fault: cases on whole lines (FIRRTL Specification, "Grammar").
-use Rattle.std.specs.Prelude.{◌≡◌, ◌≢◌, ℕ, ◌+◌, ◌<◌, ◌≤◌, ◌⊎◌, List, [], ◌∷◌, ◌++◌, length, take, Option, None, Some, Bool, true, false, codes, if◌then◌else◌}
+use Rattle.std.specs.Prelude.{◌≡◌, ℕ, ◌+◌, ◌<◌, ◌⊎◌, List, [], ◌∷◌, ◌++◌, length, take, Option, None, Some, Bool, true, false, codes, if◌then◌else◌}
 use Rattle.std.specs.Option.{option_or}
 use Rattle.std.specs.List.{list_any}
 use Rattle.std.specs.Str.{bytes_eq, IsUtf8}
@@ -160,7 +160,7 @@ abbrev pub AreRows : Place → ℕ → List LineTokens → List Numbered → Pla
 AreRows place n [] rows last = (rows ≡ []) × (last ≡ place)
 AreRows place n (line ∷ more) rows last =
     (IsBlank line × AreRows place (n + 1) more rows last)
-      ⊎ ((row : Row) × (next : Place) × (others : List Numbered) × IsForm place line row next × (rows ≡ numbered n row ∷ others) × AreRows next (n + 1) more others last)
+    ⊎ ((row : Row) × (next : Place) × (others : List Numbered) × IsForm place line row next × (rows ≡ numbered n row ∷ others) × AreRows next (n + 1) more others last)
 
 abbrev pub is_version : Row → Bool
 is_version (VersionRow a b c) = true
@@ -195,15 +195,15 @@ pub record IsFaultLine (held : List LineTokens) (n : ℕ) (line : LineTokens) : 
   pub read : AreRows AtStart 1 before rows place
   pub number : n ≡ length before + 1
   pub fault : ((rest : List LineTokens) × (held ≡ before ++ line ∷ rest) × IsNoForm place line)
-    ⊎ ((held ≡ before) × (line ≡ record { tokens = []; bad = None }) × (IsEndPlace place → ⊥))
+      ⊎ ((held ≡ before) × (line ≡ record { tokens = []; bad = None }) × (IsEndPlace place → ⊥))
 
 -- the words and symbols of what is left out
 abbrev pub is_outside_word : List ℕ → Bool
 is_outside_word w = list_any (bytes_eq w)
     (codes "when" ∷ codes "else" ∷ codes "extmodule" ∷ codes "intmodule" ∷ codes "cmem" ∷ codes "smem" ∷ codes "infer" ∷ codes "attach"
-      ∷ codes "layer" ∷ codes "layerblock" ∷ codes "group" ∷ codes "define" ∷ codes "parameter" ∷ codes "defname" ∷ codes "Analog" ∷ codes "Fixed"
-      ∷ codes "Interval" ∷ codes "AsyncReset" ∷ codes "Reset" ∷ codes "Probe" ∷ codes "flip" ∷ codes "asClock" ∷ codes "asAsyncReset"
-      ∷ codes "asFixedPoint" ∷ codes "asInterval" ∷ codes "readwriter" ∷ [])
+    ∷ codes "layer" ∷ codes "layerblock" ∷ codes "group" ∷ codes "define" ∷ codes "parameter" ∷ codes "defname" ∷ codes "Analog" ∷ codes "Fixed"
+    ∷ codes "Interval" ∷ codes "AsyncReset" ∷ codes "Reset" ∷ codes "Probe" ∷ codes "flip" ∷ codes "asClock" ∷ codes "asAsyncReset"
+    ∷ codes "asFixedPoint" ∷ codes "asInterval" ∷ codes "readwriter" ∷ [])
 
 -- the outside word that a token is, as it is written
 abbrev pub outside_text : Tok → Option (List ℕ)

@@ -4,7 +4,8 @@
 mod cursor;
 mod digits;
 mod expression;
-mod laws;
+mod forms;
 mod row;
 mod words;
-pub use laws::{one_row, read_is_spelt};
+
+pub use forms::one_row;

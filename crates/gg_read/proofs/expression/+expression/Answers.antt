@@ -1,6 +1,3 @@
-use Rattle.std.proofs.Common.{◌≡◌, sym}
-use Rattle.gg_ast.specs.Term.{term}
-use Rattle.gg_read.specs.Reading.{Reads}
 use Rattle.gg_read.proofs.Depth.{expr_at-level}
 use Rattle.gg_read.proofs.expression.+expression.Goals as goal
 
