@@ -3,3 +3,5 @@ pub mod Forms
 pub mod Text
 pub mod Reading
 pub mod LineRows
+pub mod Causes
+pub mod Stages

@@ -1,5 +1,5 @@
 -- Which circuit a text spells, and which line is at fault: cases on whole lines (FIRRTL Specification, "Grammar").
-use Rattle.std.specs.Prelude.{◌≡◌, ℕ, ◌+◌, ◌<◌, ◌⊎◌, List, [], ◌∷◌, ◌++◌, length, take, Option, None, Some, Bool, true, false, codes, if◌then◌else◌}
+use Rattle.std.specs.Prelude.{◌≡◌, ◌≢◌, ℕ, ◌+◌, ◌<◌, ◌≤◌, ◌⊎◌, List, [], ◌∷◌, ◌++◌, length, take, slice_get, Option, None, Some, Bool, true, false, codes, if◌then◌else◌}
 use Rattle.std.specs.Option.{option_or}
 use Rattle.std.specs.List.{list_any}
 use Rattle.std.specs.Str.{bytes_eq, IsUtf8}
@@ -11,6 +11,8 @@ use Rattle.gg_lex.specs.declared.token.Symbol.TheVariants as mark
 use Rattle.gg_ast.specs.Row.{Row, Numbered, numbered, VersionRow, CircuitRow, ModuleRow, PortRow, WireRow, NodeRow, RegisterRow, RegisterResetRow, RegisterOpenRow, ResetRow, InstanceRow, MemoryRow, FieldRow, ConnectRow, InvalidRow, SkipRow, StopRow, ReportRow}
 use Rattle.gg_ast.specs.Rows.{rows_of}
 use Rattle.gg_ast.specs.Tree.{CircuitTree}
+use Rattle.gg_read.specs.declared.text.ReadFault.{ReadFault}
+use Rattle.gg_read.specs.declared.text.ReadFault.TheVariants.{NotText, Syntax, Outside, TooDeep, NoMemory}
 use Rattle.gg_read.specs.Forms.{SpellsRow}
 
 -- what a line holds: its tokens, up to the first byte that begins none, if there is one
@@ -186,16 +188,17 @@ pub record Spells (text : List ℕ) (circuit : CircuitTree) : Type 0 where
 abbrev pub IsNoForm : Place → LineTokens → Type 0
 IsNoForm place line = (IsBlank line → ⊥) × ((row : Row) (next : Place) → IsForm place line row next → ⊥)
 
--- the fault line of the lines that a text holds: the first that is none of the forms of its place; else, where the
--- text is incomplete, the one behind the last, which holds nothing
-pub record IsFaultLine (held : List LineTokens) (n : ℕ) (line : LineTokens) : Type 0 where
+-- the fault line of a text: the first that is none of the forms of its place; else, where the text is incomplete, the
+-- one behind the last, which holds nothing
+pub record IsFaultLine (text : List ℕ) (n : ℕ) (line : LineTokens) : Type 0 where
   pub before : List LineTokens
+  pub tokens : AreLineTokens (take (length before) (lines text)) before
   pub rows : List Numbered
   pub place : Place
   pub read : AreRows AtStart 1 before rows place
   pub number : n ≡ length before + 1
-  pub fault : ((rest : List LineTokens) × (held ≡ before ++ line ∷ rest) × IsNoForm place line)
-      ⊎ ((held ≡ before) × (line ≡ record { tokens = []; bad = None }) × (IsEndPlace place → ⊥))
+  pub fault : ((l : List ℕ) × (slice_get (lines text) (length before) ≡ Some l) × Lexes l line.tokens line.bad × IsNoForm place line)
+      ⊎ ((length (lines text) ≡ length before) × (line ≡ record { tokens = []; bad = None }) × (IsEndPlace place → ⊥))
 
 -- the words and symbols of what is left out
 abbrev pub is_outside_word : List ℕ → Bool
@@ -220,3 +223,13 @@ outside_text (Symbol other) = None
 abbrev pub first_outside : List Tok → Option (List ℕ)
 first_outside [] = None
 first_outside (t ∷ ts) = option_or (outside_text t) (first_outside ts)
+
+-- why no circuit is read. Want of memory has no cause in the text.
+abbrev pub HasReadFault : List ℕ → ReadFault → Type 0
+HasReadFault bytes NotText = IsUtf8 bytes → ⊥
+HasReadFault bytes (TooDeep n) = IsUtf8 bytes × ((line : LineTokens) × IsFaultLine bytes n line × IsTooDeep line.tokens)
+HasReadFault bytes (Outside n word) =
+    IsUtf8 bytes × ((line : LineTokens) × IsFaultLine bytes n line × (IsTooDeep line.tokens → ⊥) × (first_outside line.tokens ≡ Some word))
+HasReadFault bytes (Syntax n) =
+    IsUtf8 bytes × ((line : LineTokens) × IsFaultLine bytes n line × (IsTooDeep line.tokens → ⊥) × (first_outside line.tokens ≡ None))
+HasReadFault bytes NoMemory = Unit {0}
