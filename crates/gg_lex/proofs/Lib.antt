@@ -6,3 +6,4 @@ pub mod Leads
 pub mod LineEnds
 pub mod Cuts
 pub mod Readings
+pub mod WorkedRows

@@ -3,3 +3,4 @@ pub mod FaultLemmas
 pub mod ScopeSteps
 pub mod MarkLemmas
 pub mod SingleModule
+pub mod WorkedRows

@@ -1,0 +1,55 @@
+-- The definitions of tokens, file information and blanks at small lines. Bytes past letters are given by their numbers:
+-- 9 a tab, 32 a space, 34 a quote, 45 a `-`, 59 a `;`, 64 a `@`, 91 and 93 brackets, 92 a backslash.
+use Rattle.std.proofs.Common.{◌≡◌, ℕ, zero, suc, ◌+◌, ◌<◌, ◌≤◌, true, false, [], ◌∷◌, map, unwrap_or, codes, refl, ap, arith, lit≤}
+use Rattle.gg_lex.specs.Bytes.{starts_word, is_word_byte, is_tail_byte}
+use Rattle.gg_lex.specs.Lines.{after_blanks, ClosesBehind, IsInfo}
+use Rattle.gg_lex.specs.Shapes.{IsQuoted, IsNumber, token_of}
+use Rattle.gg_lex.specs.declared.token.Shape.TheVariants as shape
+use Rattle.gg_lex.specs.declared.token.Tok.TheVariants as tok
+
+-- letters of either case, `_`, `$`, a digit and `-`: which begin a word, stand in it, stand in its tail
+word_starts : map starts_word (codes "aZ_$7-") ≡ true ∷ true ∷ true ∷ false ∷ false ∷ false ∷ []
+word_starts = refl
+
+word_bytes : map is_word_byte (codes "aZ_$7-") ≡ true ∷ true ∷ true ∷ true ∷ true ∷ false ∷ []
+word_bytes = refl
+
+tail_bytes : map is_tail_byte (codes "aZ_$7-") ≡ true ∷ true ∷ false ∷ false ∷ false ∷ true ∷ []
+tail_bytes = refl
+
+-- blanks are spaces and tabs, and no carriage return
+blanks : after_blanks (32 ∷ 9 ∷ 32 ∷ 13 ∷ 32 ∷ []) ≡ 13 ∷ 32 ∷ []
+blanks = refl
+
+-- a text keeps what stands between its quotes, its backslash too; a number keeps its sign and its zeros
+text_kept : token_of shape.Text (34 ∷ 97 ∷ 92 ∷ 34 ∷ 34 ∷ []) ≡ tok.Text (97 ∷ 92 ∷ 34 ∷ [])
+text_kept = refl
+
+number_kept : token_of shape.Number (codes "-007") ≡ tok.Number (codes "-007")
+number_kept = refl
+
+-- a quote may stand behind a backslash, and nowhere else; a backslash takes something with it
+quote_behind : IsQuoted (92 ∷ 34 ∷ [])
+quote_behind = tt
+
+quote_alone : IsQuoted (97 ∷ 34 ∷ []) → ⊥
+quote_alone h = h.1.0 refl
+
+two_backslashes : IsQuoted (92 ∷ 92 ∷ [])
+two_backslashes = tt
+
+backslash_alone : IsQuoted (92 ∷ []) → ⊥
+backslash_alone h = h.1 refl
+
+-- a sign without digits is no number
+sign_alone : IsNumber (45 ∷ []) → ⊥
+sign_alone h = omega (arith, h.0)
+
+-- `@[a]b` begins with four bytes of file information
+first_bracket : (k : ℕ) → 1 ≤ k → k + 2 < 4 → ClosesBehind (64 ∷ 91 ∷ 97 ∷ 93 ∷ 98 ∷ []) k → ⊥
+first_bracket zero low high closes = omega (arith, low)
+first_bracket (suc zero) low high closes = omega (arith, ap (λ byte. unwrap_or byte 0) closes.0)
+first_bracket (suc (suc k)) low high closes = omega (arith, high)
+
+information : IsInfo (64 ∷ 91 ∷ 97 ∷ 93 ∷ 98 ∷ []) 4
+information = record { opens = (refl, refl); last = (2, lit≤ tt, refl, (refl, λ e. omega (arith, ap (λ byte. unwrap_or byte 0) e))); first = first_bracket }
