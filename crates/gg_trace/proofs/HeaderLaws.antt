@@ -3,7 +3,7 @@ use Rattle.std.proofs.Common.{◌≡◌, ◌≢◌, ℕ, ◌+◌, ◌<◌, ◌�
 use Rattle.std.proofs.lemmas.List.{get_or_append_left, get_or_at, length_push, get_or-set_same, get_or-set_other, length-set, length-replicate}
 use Rattle.std.proofs.lemmas.Bool.{false≢true, cases_eq}
 use Rattle.gg_trace.proofs.ListLaws.{next_item}
-use Rattle.gg_trace.specs.declared.port_list.Port.{Port}
+use Rattle.gg_flat.specs.declared.ports.Port.{Port}
 use Rattle.gg_trace.specs.Ports.{name_at, IsNamed, HasDistinctNames}
 use Rattle.gg_trace.specs.Header.{field, MayStand, IsListed, HasHeaderFault}
 use Rattle.gg_trace.specs.Places.{IsPlace, IsHeading}

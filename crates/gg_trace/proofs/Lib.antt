@@ -2,6 +2,7 @@ pub mod FieldLaws
 pub mod LineLaws
 pub mod DigitLaws
 pub mod PortLaws
+pub mod NameLaws
 pub mod HeaderLaws
 pub mod RowLaws
 pub mod TableLaws

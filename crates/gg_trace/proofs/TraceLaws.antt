@@ -2,7 +2,7 @@
 use Rattle.std.proofs.Common.{◌≡◌, ℕ, ◌+◌, ◌*◌, ◌^◌, ◌<◌, ◌≤◌, zero, suc, List, [], ◌∷◌, ◌++◌, map, length, get_or, take, drop, ◌⊎◌, inl, inr, sym, ap, ◌∙◌, subst, arith, add-one, length-drop, length-append}
 use Rattle.std.proofs.lemmas.List.{get_or-drop, get_or-take, take_all, drop_at, take-append-le, drop-append-le}
 use Rattle.std.proofs.lemmas.Bool.{cases_eq}
-use Rattle.gg_trace.specs.declared.port_list.Port.{Port}
+use Rattle.gg_flat.specs.declared.ports.Port.{Port}
 use Rattle.gg_trace.specs.declared.faults.TraceFault.{TraceFault}
 use Rattle.gg_trace.specs.declared.faults.TraceFault.TheVariants.{T1, T2, T3, T4, T5, T6, NoMemory}
 use Rattle.gg_trace.specs.Cells.{IsHexadecimal, hexadecimal, IsCell}

@@ -1,6 +1,6 @@
 -- The header of a trace.
 use Rattle.std.specs.Prelude.{◌≡◌, ◌≢◌, ℕ, ◌<◌, zero, suc, codes, List, [], length, slice_index_or, ◌⊎◌}
-use Rattle.gg_trace.specs.declared.port_list.Port.{Port}
+use Rattle.gg_flat.specs.declared.ports.Port.{Port}
 use Rattle.gg_trace.specs.Ports.{name_at, IsNamed}
 
 -- field f of a line, and the empty text where it has no such field

@@ -1,11 +1,16 @@
 -- What is kept of a header: the port that each field after the first names.
-use Rattle.std.specs.Prelude.{◌≡◌, ◌≢◌, ℕ, ◌+◌, ◌<◌, ◌≤◌, decimal, drop, List, length, slice_index, slice_index_or, slice_set, Bool, true, false, Option, None, Some}
-use Rattle.gg_trace.specs.declared.port_list.Port.{Port}
+use Rattle.std.specs.Prelude.{◌≡◌, ◌≢◌, ℕ, ◌+◌, ◌<◌, ◌≤◌, decimal, drop, length, slice_index, slice_index_or, slice_set, Bool, true, false, Option, None, Some, MatchOption, List}
+use Rattle.std.specs.HashMap.{HashMap, get_by}
+use Rattle.std.specs.Str.{bytes_eq}
+use Rattle.std.specs.declared.hash.FoldHasher.{FoldHasher}
+use Rattle.std.specs.declared.hash.BuildHasherDefault.{BuildHasherDefault}
+use denote.Ref.{Bor}
+use Rattle.gg_flat.specs.declared.ports.Port.{Port}
 use Rattle.gg_trace.specs.declared.faults.TraceFault.{TraceFault}
 use Rattle.gg_trace.specs.declared.faults.TraceFault.TheVariants.{T1, T2, T3, T4, T5, T6, NoMemory}
 use Rattle.gg_trace.specs.declared.cells.CellFault.TheVariants.{TooWide}
 use Rattle.gg_trace.specs.Cells.{IsHexadecimal, hexadecimal, IsCell, HasCellFault}
-use Rattle.gg_trace.specs.Ports.{IsNamed, width_at}
+use Rattle.gg_trace.specs.Ports.{IsNamed, name_at, width_at}
 use Rattle.gg_trace.specs.Header.{field, IsHeader, HasHeaderFault}
 
 -- i is one of the places
@@ -99,3 +104,9 @@ HasRowFault ports places row line (T4 r f) = PassesCycle places row line × HasV
 HasRowFault ports places row line (T5 r c) = (r ≡ row) × (row < 1000000) × (c ≡ length line) × (c ≢ length places + 1)
 HasRowFault ports places row line (T6 r) = (r ≡ row) × (1000000 ≤ row)
 HasRowFault ports places row line NoMemory = ⊥
+
+-- a table by names: a look-up by any bytes finds a port, of the first n, that has this name, or there is none
+abbrev pub TellsPorts : List Port → ℕ → HashMap (Bor (List ℕ)) ℕ (BuildHasherDefault FoldHasher) → Type 0
+TellsPorts ports n table = (name : List ℕ) → MatchOption (get_by (λ k. bytes_eq name k.now) table)
+    ((i : ℕ) → i < n → name_at ports i ≢ name)
+    (λ i. (i < n) × (name_at ports i ≡ name))

@@ -1,6 +1,6 @@
 -- Ports as lists of names and of widths.
 use Rattle.std.specs.Prelude.{◌≡◌, ◌≢◌, ℕ, ◌<◌, List, [], length, map, slice_index_or, slice_index}
-use Rattle.gg_trace.specs.declared.port_list.Port.{Port}
+use Rattle.gg_flat.specs.declared.ports.Port.{Port}
 
 -- the names, in port order
 abbrev pub names : List Port → List (List ℕ)

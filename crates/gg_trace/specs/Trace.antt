@@ -1,6 +1,6 @@
 -- The text of an input trace: its columns, or its first fault.
 use Rattle.std.specs.Prelude.{◌≡◌, ◌≢◌, ℕ, ◌<◌, ◌≤◌, ◌^◌, List, [], length, map, drop, decimal, slice_index, slice_index_or}
-use Rattle.gg_trace.specs.declared.port_list.Port.{Port}
+use Rattle.gg_flat.specs.declared.ports.Port.{Port}
 use Rattle.gg_trace.specs.declared.faults.TraceFault.{TraceFault}
 use Rattle.gg_trace.specs.declared.faults.TraceFault.TheVariants.{T1, T2, T3, T4, T5, T6, NoMemory}
 use Rattle.gg_trace.specs.Fields.{fields, text_lines}

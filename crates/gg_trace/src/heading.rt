@@ -7,7 +7,9 @@ ghost use Rattle.gg_trace.specs.Places.{IsHeading, IfHeaderFault, TakesName};
 
 use crate::faults::TraceFault;
 use crate::field_cuts::Fields;
-use crate::port_list::{Port, place_of, same_bytes};
+use crate::port_table::PortTable;
+use crate::texts::same_bytes;
+use gg_flat::Port;
 use std::alloc::Global;
 
 /// The first port that is not named, if there is one.
@@ -25,12 +27,12 @@ fn first_missing(named: &[bool]) -> Option<usize>
 }
 
 /// The port with this name, which is marked as named; none where there is no such port or it was named before.
-fn take_name(ports: &[Port], name: &[u8], named: &mut Vec<bool>, guess: usize) -> Option<usize>
-    requires size { vec_len named.old ≡ length ports.now }
-    requires distinct { HasDistinctNames ports.now }
-    ensures { TakesName ports.now name.now named.old.items named.new.items result }
+fn take_name(table: &PortTable, name: &[u8], named: &mut Vec<bool>) -> Option<usize>
+    requires size { vec_len named.old ≡ length table.now }
+    requires distinct { HasDistinctNames table.now }
+    ensures { TakesName table.now name.now named.old.items named.new.items result }
 {
-    let place = place_of(ports, name, guess)?;
+    let place = table.place(name)?;
     if named[place] {
         return None;
     }
@@ -38,16 +40,16 @@ fn take_name(ports: &[Port], name: &[u8], named: &mut Vec<bool>, guess: usize) -
     Some(place)
 }
 
-/// The ports that the fields behind the first name, where `header` is the whole header.
-fn read_names(alloc: Global, ports: &[Port], rest: &mut Fields) -> Result<Vec<usize>, TraceFault>
-    requires { HasDistinctNames ports.now }
+/// The ports of a table that the fields behind the first name, where `header` is the whole header.
+fn take_names(alloc: Global, table: &PortTable, rest: &mut Fields) -> Result<Vec<usize>, TraceFault>
+    requires { HasDistinctNames table.now }
     ensures { let header = codes "cycle" ∷ rest.old in
-        MatchResult result (λ places. IsHeading ports.now header places.items) (IfHeaderFault ports.now header) }
+        MatchResult result (λ places. IsHeading table.now header places.items) (IfHeaderFault table.now header) }
 {
     let mut places = Vec::new(alloc);
-    let mut named = vec![in alloc; false; ports.len()]?;
+    let mut named = vec![in alloc; false; table.len()]?;
     while let Some(name) = rest.next() {
-        let Some(place) = take_name(ports, name, &mut named, places.len()) else {
+        let Some(place) = take_name(table, name, &mut named) else {
             return Err(TraceFault::T1 {
                 field: places.len() as u64 + 1,
             });
@@ -60,6 +62,16 @@ fn read_names(alloc: Global, ports: &[Port], rest: &mut Fields) -> Result<Vec<us
         }),
         None => Ok(places),
     }
+}
+
+/// The ports that the fields behind the first name, where `header` is the whole header.
+fn read_names(alloc: Global, ports: &[Port], rest: &mut Fields) -> Result<Vec<usize>, TraceFault>
+    requires { HasDistinctNames ports.now }
+    ensures { let header = codes "cycle" ∷ rest.old in
+        MatchResult result (λ places. IsHeading ports.now header places.items) (IfHeaderFault ports.now header) }
+{
+    let table = PortTable::of(alloc, ports)?;
+    take_names(alloc, &table, rest)
 }
 
 /// The ports that the fields of the header behind the first name.

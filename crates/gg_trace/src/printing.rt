@@ -5,8 +5,8 @@ ghost use Rattle.std.specs.Char.{digit_char};
 ghost use Rattle.gg_trace.specs.Cells.{IsCell, hexadecimal};
 ghost use Rattle.gg_trace.specs.Printing.{hex_digits, digit_count, header_line, row_line};
 
-use crate::port_list::Ports;
 use gg_bits::Name;
+use gg_flat::Ports;
 use itoa::Buffer;
 use std::alloc::{AllocError, Global};
 

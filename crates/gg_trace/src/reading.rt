@@ -9,9 +9,9 @@ ghost use Rattle.gg_trace.specs.Trace.{Columns, HaveWidths, HasFault, IsFirstFau
 use crate::faults::TraceFault;
 use crate::heading::read_header;
 use crate::line_cuts::Lines;
-use crate::port_list::{Port, Ports};
 use crate::row_values::read_row;
 use crate::trace_table::Trace;
+use gg_flat::{Port, Ports};
 use std::alloc::Global;
 
 /// The first line, and an empty one where there is none.

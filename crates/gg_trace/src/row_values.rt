@@ -10,7 +10,8 @@ ghost use Rattle.gg_trace.specs.Places.{ArePlaces, AreCells, AreValues, HasValue
 use crate::cells::{CellFault, value_of};
 use crate::faults::TraceFault;
 use crate::field_cuts::{Fields, count_fields};
-use crate::port_list::{Port, same_bytes};
+use crate::texts::same_bytes;
+use gg_flat::Port;
 use itoa::Buffer;
 
 /// A trace has at most this many rows.

@@ -4,6 +4,7 @@ ghost use Rattle.gg_trace.specs.Ports.{HasDistinctNames};
 
 use crate::*;
 use gg_bits::{Kind, Name, Ty};
+use gg_flat::{Port, Ports};
 use itoa::Buffer;
 use std::alloc::{AllocError, Global};
 use std::test::Fail;

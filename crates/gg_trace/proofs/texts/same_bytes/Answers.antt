@@ -3,7 +3,7 @@ use Rattle.std.specs.Bool.{OnTrue, OnFalse}
 use Rattle.std.proofs.lemmas.Slice.Eq.{slice_eq-Decides}
 use Rattle.std.proofs.lemmas.Bool.{false≢true}
 use Rattle.std.proofs.lemmas.Bool.Decides.{Decides-eqb}
-use Rattle.gg_trace.proofs.port_list.same_bytes.Goals as goal
+use Rattle.gg_trace.proofs.texts.same_bytes.Goals as goal
 
 when_same : (r : Bool) (P : Type 0) → Decides r P → OnTrue r P
 when_same true P h = h.0 refl

@@ -1,11 +1,11 @@
 use Rattle.std.proofs.Common.{◌≡◌, ℕ, ◌∷◌, List, Bool, codes, set, true, false, length, get_or, ◌<◌, arith, sym, subst}
 use Rattle.gg_trace.specs.Header.{HasHeaderFault}
 use Rattle.gg_trace.proofs.HeaderLaws.{ReadsNames, reads_name, name_fault, reads_header, missing_name}
-use Rattle.gg_trace.proofs.heading.read_names.Goals as goal
+use Rattle.gg_trace.proofs.heading.take_names.Goals as goal
 
 pub returns-in_default-take_name : goal.returns-in_default-take_name
 returns-in_default-take_name c =
-    let ports = c.args.ports.now in
+    let ports = c.args.table.now in
     let header = codes "cycle" ∷ c.args.rest.now in
     let reads = subst (λ rest. ReadsNames ports header rest c.loop-name.places.items c.loop-name.named.items) c.in-Some.ensures c.loop-name.invariant in
     let fault = name_fault ports header c.next.new.self c.in-Some.name.now c.loop-name.places.items c.loop-name.named.items reads c.requires c.in_default-take_name.ensures.1 in
@@ -13,7 +13,7 @@ returns-in_default-take_name c =
 
 pub loop-name-preserved : goal.loop-name-preserved
 loop-name-preserved c =
-    let ports = c.args.ports.now in
+    let ports = c.args.table.now in
     let header = codes "cycle" ∷ c.args.rest.now in
     let reads = subst (λ rest. ReadsNames ports header rest c.loop-name.places.items c.loop-name.named.items) c.in-Some.ensures c.loop-name.invariant in
     let taken = c.in-Some-take_name.ensures in
@@ -23,7 +23,7 @@ loop-name-preserved c =
 
 pub returns-in-Some-first_missing : goal.returns-in-Some-first_missing
 returns-in-Some-first_missing c =
-    let ports = c.args.ports.now in
+    let ports = c.args.table.now in
     let header = codes "cycle" ∷ c.args.rest.now in
     let reads = subst (λ rest. ReadsNames ports header rest c.loop-name.places.items c.loop-name.named.items) c.in_default.ensures.0 c.loop-name.invariant in
     let found = subst (λ (marks : List Bool). (c.in-Some-first_missing.field-0 < length marks) × (get_or marks c.in-Some-first_missing.field-0 false ≡ false)) c.deref.ensures.value c.in-Some-first_missing.ensures in
@@ -32,7 +32,7 @@ returns-in-Some-first_missing c =
 
 pub returns-in-None : goal.returns-in-None
 returns-in-None c =
-    let ports = c.args.ports.now in
+    let ports = c.args.table.now in
     let header = codes "cycle" ∷ c.args.rest.now in
     let reads = subst (λ rest. ReadsNames ports header rest c.loop-name.places.items c.loop-name.named.items) c.in_default.ensures.0 c.loop-name.invariant in
     let whole = subst (λ (marks : List Bool). (i : ℕ) → i < length marks → get_or marks i false ≡ true) c.deref.ensures.value c.in-None.ensures in

@@ -1,0 +1,64 @@
+//! The places of ports by their names.
+
+ghost use Rattle.std.specs.Prelude.{◌≡◌, length, MatchOption, IfOk};
+ghost use Rattle.gg_trace.specs.Ports.{IsNamed, NamesNone};
+ghost use Rattle.gg_trace.specs.Places.{TellsPorts};
+
+use gg_flat::Port;
+use std::alloc::{AllocError, Global};
+use std::collections::HashMap;
+use std::marker::Model;
+
+/// The place of each port by its name. A contract sees the list of the ports.
+#[derive(Drop)]
+pub struct PortTable<'a> {
+    ports: &'a [Port],
+    places: HashMap<&'a [u8], usize>,
+}
+
+impl<'a> Model for PortTable<'a> {
+    ghost use Rattle.std.specs.Prelude.{List, length};
+    ghost use Rattle.gg_flat.specs.declared.ports.Port.{Port as PortValue};
+    ghost use Rattle.gg_trace.specs.Places.{TellsPorts};
+
+    ghost Value = { List PortValue };
+
+    ghost view = { λ table. table.ports.now };
+
+    ghost invariant = { λ table. TellsPorts table.ports.now (length table.ports.now) table.places };
+}
+
+/// The place of each port by its name, where the last of some ports with one name counts.
+fn places_of(alloc: Global, ports: &[Port]) -> Result<HashMap<&[u8], usize>, AllocError>
+    ensures { IfOk result (TellsPorts ports.now (length ports.now)) }
+{
+    let mut places = HashMap::new(alloc);
+    for (i, port) in ports.iter().enumerate() {
+        places.insert(port.name.as_bytes(), i)?;
+    }
+    Ok(places)
+}
+
+impl<'a> PortTable<'a> {
+    /// The table of these ports.
+    pub fn of(alloc: Global, ports: &'a [Port]) -> Result<PortTable<'a>, AllocError>
+        ensures { IfOk result (λ table. table ≡ ports.now) }
+    {
+        let places = places_of(alloc, ports)?;
+        Ok(PortTable { ports, places })
+    }
+
+    /// How many ports there are.
+    pub fn len(&self) -> usize
+        ensures { result ≡ length self.now }
+    {
+        self.ports.len()
+    }
+
+    /// The place of the port with this name.
+    pub fn place(&self, name: &[u8]) -> Option<usize>
+        ensures { MatchOption result (NamesNone self.now name.now) (IsNamed self.now name.now) }
+    {
+        self.places.get(name).copied()
+    }
+}
