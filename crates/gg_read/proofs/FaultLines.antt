@@ -1,0 +1,168 @@
+-- A text spells at most one circuit, or has one fault line.
+use Rattle.std.proofs.Common.{◌≡◌, ℕ, zero, suc, ◌+◌, ◌<◌, ◌≤◌, ◌⊎◌, inl, inr, List, [], ◌∷◌, length, take, Option, Some, None, refl, sym, ap, ◌∙◌, subst, arith}
+use Rattle.std.specs.Prelude.{slice_get, unwrap_or}
+use Rattle.std.specs.Str.Lines.{lines}
+use Rattle.gg_lex.specs.declared.token.Tok.{Tok}
+use Rattle.gg_lex.specs.Lines.{Lexes}
+use Rattle.gg_lex.proofs.Readings.{Lexes-same}
+use Rattle.gg_ast.specs.Row.{Row, Numbered, numbered}
+use Rattle.gg_ast.specs.Rows.{rows_of}
+use Rattle.gg_ast.specs.Tree.{CircuitTree}
+use Rattle.gg_read.specs.Reading.{row_at}
+use Rattle.gg_read.specs.Forms.{SpellsRow}
+use Rattle.gg_read.specs.Text.{Place, AtStart, LineTokens, AreLineTokens, AreRows, IsBlank, IsForm, IsNoForm, IsEndPlace, IsFaultLine, Spells, place_after, without_version}
+use Rattle.gg_read.proofs.RowLaws.{spelt-row_at, row_at-nothing}
+
+some_same : {A : Type 0} (x y : A) → Some x ≡ Some y → x ≡ y
+some_same x y e = ap (λ o. unwrap_or o x) e
+
+-- the tokens of a line spell one row at most
+pub same_row : (ts : List Tok) (r s : Row) → SpellsRow r ts → SpellsRow s ts → r ≡ s
+same_row ts r s spelt again = some_same r s (sym (spelt-row_at ts r spelt) ∙ spelt-row_at ts s again)
+
+-- what holds nothing is no row
+pub blank_no_row : (line : LineTokens) (row : Row) → IsBlank line → SpellsRow row line.tokens → ⊥
+blank_no_row line row blank spelt =
+    let found : row_at [] ≡ Some row = subst (λ (ts : List Tok). row_at ts ≡ Some row) blank.0 (spelt-row_at line.tokens row spelt) in
+    let nothing = row_at-nothing in
+    cc
+
+-- a place and a row have one next place at most
+same_next : (place : Place) (line : LineTokens) (r s : Row) (p q : Place) → IsForm place line r p → IsForm place line s q → p ≡ q
+same_next place line r s p q form again =
+    let row : r ≡ s = same_row line.tokens r s form.spelt again.spelt in
+    some_same p q (sym form.there ∙ ap (λ (x : Row). place_after place x) row ∙ again.there)
+
+-- lines are read as rows in one way at most
+AreRows-same : (place : Place) (n : ℕ) (held : List LineTokens) (rows others : List Numbered) (last final : Place) → AreRows place n held rows last → AreRows place n held others final → (rows ≡ others) × (last ≡ final)
+AreRows-same place n [] rows others last final read again = (read.0 ∙ sym again.0, read.1 ∙ sym again.1)
+AreRows-same place n (l ∷ ls) rows others last final (inl (blank, more)) (inl (again, rest)) = AreRows-same place (n + 1) ls rows others last final more rest
+AreRows-same place n (l ∷ ls) rows others last final (inl (blank, more)) (inr (s, q, ss, form, same, rest)) = absurd (blank_no_row l s blank form.spelt)
+AreRows-same place n (l ∷ ls) rows others last final (inr (r, p, rs, form, same, more)) (inl (blank, rest)) = absurd (blank_no_row l r blank form.spelt)
+AreRows-same place n (l ∷ ls) rows others last final (inr (r, p, rs, form, same, more)) (inr (s, q, ss, second, equal, rest)) =
+    let row : r ≡ s = same_row l.tokens r s form.spelt second.spelt in
+    let next : p ≡ q = same_next place l r s p q form second in
+    let tails = AreRows-same q (n + 1) ls rs ss last final (subst (λ (x : Place). AreRows x (n + 1) ls rs last) next more) rest in
+    (same ∙ ap (λ (x : Row). numbered n x ∷ rs) row ∙ ap (λ (x : List Numbered). numbered n s ∷ x) tails.0 ∙ sym equal, tails.1)
+
+line_tokens : List Tok → Option ℕ → LineTokens
+line_tokens ts bad = record { tokens = ts; bad = bad }
+
+same_line : (l : List ℕ) (t u : LineTokens) → Lexes l t.tokens t.bad → Lexes l u.tokens u.bad → t ≡ u
+unfolding line_tokens
+same_line l t u lexed again =
+    let same = Lexes-same l t.tokens u.tokens t.bad u.bad lexed again in
+    let e : line_tokens t.tokens t.bad ≡ line_tokens u.tokens u.bad = ap (λ (ts : List Tok). line_tokens ts t.bad) same.0 ∙ ap (λ (b : Option ℕ). line_tokens u.tokens b) same.1 in
+    e
+
+AreLineTokens-same : (ls : List (List ℕ)) (held others : List LineTokens) → AreLineTokens ls held → AreLineTokens ls others → held ≡ others
+AreLineTokens-same [] [] [] tokens again = refl
+AreLineTokens-same [] [] (u ∷ us) tokens again = absurd again
+AreLineTokens-same [] (t ∷ ts) others tokens again = absurd tokens
+AreLineTokens-same (l ∷ ls) [] others tokens again = absurd tokens
+AreLineTokens-same (l ∷ ls) (t ∷ ts) [] tokens again = absurd again
+AreLineTokens-same (l ∷ ls) (t ∷ ts) (u ∷ us) tokens again =
+    ap (λ (x : LineTokens). x ∷ ts) (same_line l t u tokens.0 again.0) ∙ ap (λ (x : List LineTokens). u ∷ x) (AreLineTokens-same ls ts us tokens.1 again.1)
+
+-- a line at fault is not among lines that are rows
+among_rows : (place : Place) (n : ℕ) (ls : List (List ℕ)) (before held : List LineTokens) (rows others : List Numbered) (mid last : Place) (l : List ℕ) (line : LineTokens) → AreLineTokens (take (length before) ls) before → AreLineTokens (take (length held) ls) held → length before < length held → AreRows place n before rows mid → AreRows place n held others last → slice_get ls (length before) ≡ Some l → Lexes l line.tokens line.bad → IsNoForm mid line → ⊥
+among_rows place n ls before [] rows others mid last l line tokens again less read other there lexed none = omega (arith, less)
+among_rows place n [] before (h ∷ hs) rows others mid last l line tokens again less read other there lexed none = absurd again
+among_rows place n (k ∷ ks) [] (h ∷ hs) rows others mid last l line tokens again less read (inl (blank, more)) there lexed none =
+    let same : k ≡ l = some_same k l there in
+    let equal : h ≡ line = same_line k h line again.0 (subst (λ (x : List ℕ). Lexes x line.tokens line.bad) (sym same) lexed) in
+    none.0 (subst (λ (x : LineTokens). IsBlank x) equal blank)
+among_rows place n (k ∷ ks) [] (h ∷ hs) rows others mid last l line tokens again less read (inr (r, p, rs, form, same_rows, more)) there lexed none =
+    let same : k ≡ l = some_same k l there in
+    let equal : h ≡ line = same_line k h line again.0 (subst (λ (x : List ℕ). Lexes x line.tokens line.bad) (sym same) lexed) in
+    none.1 r p (subst (λ (x : LineTokens). IsForm mid x r p) equal (subst (λ (x : Place). IsForm x h r p) (sym read.1) form))
+among_rows place n (k ∷ ks) (b ∷ bs) (h ∷ hs) rows others mid last l line tokens again less (inl (blank, more)) (inl (blank_too, rest)) there lexed none =
+    among_rows place (n + 1) ks bs hs rows others mid last l line tokens.1 again.1 (omega (arith, less)) more rest there lexed none
+among_rows place n (k ∷ ks) (b ∷ bs) (h ∷ hs) rows others mid last l line tokens again less (inl (blank, more)) (inr (s, q, ss, form, same, rest)) there lexed none =
+    let equal : b ≡ h = same_line k b h tokens.0 again.0 in
+    blank_no_row h s (subst (λ (x : LineTokens). IsBlank x) equal blank) form.spelt
+among_rows place n (k ∷ ks) (b ∷ bs) (h ∷ hs) rows others mid last l line tokens again less (inr (r, p, rs, form, same, more)) (inl (blank, rest)) there lexed none =
+    let equal : b ≡ h = same_line k b h tokens.0 again.0 in
+    blank_no_row b r (subst (λ (x : LineTokens). IsBlank x) (sym equal) blank) form.spelt
+among_rows place n (k ∷ ks) (b ∷ bs) (h ∷ hs) rows others mid last l line tokens again less (inr (r, p, rs, form, same, more)) (inr (s, q, ss, second, same_too, rest)) there lexed none =
+    let equal : b ≡ h = same_line k b h tokens.0 again.0 in
+    let next : p ≡ q = same_next place h r s p q (subst (λ (x : LineTokens). IsForm place x r p) equal form) second in
+    among_rows q (n + 1) ks bs hs rs ss mid last l line tokens.1 again.1 (omega (arith, less)) (subst (λ (x : Place). AreRows x (n + 1) bs rs mid) next more) rest there lexed none
+
+-- as many lines as are read are there
+within : (ls : List (List ℕ)) (held : List LineTokens) → AreLineTokens (take (length held) ls) held → length held ≤ length ls
+within ls [] tokens = omega arith
+within [] (t ∷ ts) tokens = absurd tokens
+within (l ∷ ls) (t ∷ ts) tokens = omega (arith, within ls ts tokens.1)
+
+-- what stands at an index is inside
+inside : (ls : List (List ℕ)) (i : ℕ) (l : List ℕ) → slice_get ls i ≡ Some l → i < length ls
+inside [] i l there = absurd (cc)
+inside (k ∷ ks) zero l there = omega arith
+inside (k ∷ ks) (suc i) l there = omega (arith, inside ks i l there)
+
+-- no fault line stands before another
+no_earlier : (text : List ℕ) (n m : ℕ) (line other : LineTokens) (a : IsFaultLine text n line) (b : IsFaultLine text m other) → length a.before < length b.before → ⊥
+no_earlier text n m line other a b less = by_fault a.fault
+  where
+    by_fault : ((l : List ℕ) × (slice_get (lines text) (length a.before) ≡ Some l) × Lexes l line.tokens line.bad × IsNoForm a.place line)
+        ⊎ ((length (lines text) ≡ length a.before) × (line ≡ record { tokens = []; bad = None }) × (IsEndPlace a.place → ⊥)) → ⊥
+    by_fault (inl (l, there, lexed, none)) =
+        among_rows AtStart 1 (lines text) a.before b.before a.rows b.rows a.place b.place l line a.tokens b.tokens less a.read b.read there lexed none
+    by_fault (inr (end, empty, incomplete)) = omega (arith, end, less, within (lines text) b.before b.tokens)
+
+same_size : (text : List ℕ) (n m : ℕ) (line other : LineTokens) (a : IsFaultLine text n line) (b : IsFaultLine text m other) → length a.before ≡ length b.before
+same_size text n m line other a b =
+    let first : length a.before < length b.before → ⊥ = no_earlier text n m line other a b in
+    let second : length b.before < length a.before → ⊥ = no_earlier text m n other line b a in
+    grind (arith, first, second)
+
+-- a text has one fault line at most
+pub one_fault_line-law : (text : List ℕ) (n m : ℕ) (line other : LineTokens) → IsFaultLine text n line → IsFaultLine text m other → (n ≡ m) × (line ≡ other)
+one_fault_line-law text n m line other a b = (omega (arith, a.number, b.number, size), by_faults a.fault b.fault)
+  where
+    size : length a.before ≡ length b.before
+    size = same_size text n m line other a b
+
+    by_faults : ((l : List ℕ) × (slice_get (lines text) (length a.before) ≡ Some l) × Lexes l line.tokens line.bad × IsNoForm a.place line)
+        ⊎ ((length (lines text) ≡ length a.before) × (line ≡ record { tokens = []; bad = None }) × (IsEndPlace a.place → ⊥))
+        → ((l : List ℕ) × (slice_get (lines text) (length b.before) ≡ Some l) × Lexes l other.tokens other.bad × IsNoForm b.place other)
+        ⊎ ((length (lines text) ≡ length b.before) × (other ≡ record { tokens = []; bad = None }) × (IsEndPlace b.place → ⊥)) → line ≡ other
+    by_faults (inl (l, there, lexed, none)) (inl (k, here, again, none_too)) =
+        let same : l ≡ k = some_same l k (sym there ∙ ap (λ (i : ℕ). slice_get (lines text) i) size ∙ here) in
+        same_line k line other (subst (λ (x : List ℕ). Lexes x line.tokens line.bad) same lexed) again
+    by_faults (inl (l, there, lexed, none)) (inr (end, empty, incomplete)) =
+        absurd (omega (arith, end, size, inside (lines text) (length a.before) l there))
+    by_faults (inr (end, empty, incomplete)) (inl (k, here, again, none)) =
+        absurd (omega (arith, end, size, inside (lines text) (length b.before) k here))
+    by_faults (inr (end, empty, incomplete)) (inr (end_too, empty_too, incomplete_too)) = empty ∙ sym empty_too
+
+lines_held : (ls : List (List ℕ)) (held : List LineTokens) → AreLineTokens ls held → (length ls ≡ length held) × AreLineTokens (take (length held) ls) held
+lines_held [] [] tokens = (refl, tt)
+lines_held [] (t ∷ ts) tokens = absurd tokens
+lines_held (l ∷ ls) [] tokens = absurd tokens
+lines_held (l ∷ ls) (t ∷ ts) tokens = let more = lines_held ls ts tokens.1 in (ap suc more.0, (tokens.0, more.1))
+
+-- a text with a fault line spells no circuit
+pub no_circuit-law : (text : List ℕ) (n : ℕ) (line : LineTokens) (circuit : CircuitTree) → IsFaultLine text n line → Spells text circuit → ⊥
+no_circuit-law text n line circuit a spells = by_fault a.fault
+  where
+    whole : (length (lines text) ≡ length spells.held) × AreLineTokens (take (length spells.held) (lines text)) spells.held
+    whole = lines_held (lines text) spells.held spells.tokens
+
+    by_fault : ((l : List ℕ) × (slice_get (lines text) (length a.before) ≡ Some l) × Lexes l line.tokens line.bad × IsNoForm a.place line)
+        ⊎ ((length (lines text) ≡ length a.before) × (line ≡ record { tokens = []; bad = None }) × (IsEndPlace a.place → ⊥)) → ⊥
+    by_fault (inl (l, there, lexed, none)) =
+        among_rows AtStart 1 (lines text) a.before spells.held a.rows spells.rows a.place spells.last l line a.tokens whole.1 (omega (arith, whole.0, inside (lines text) (length a.before) l there)) a.read spells.read there lexed none
+    by_fault (inr (end, empty, incomplete)) =
+        let size : length a.before ≡ length spells.held = sym end ∙ whole.0 in
+        let same : a.before ≡ spells.held = AreLineTokens-same (take (length spells.held) (lines text)) a.before spells.held (subst (λ (i : ℕ). AreLineTokens (take i (lines text)) a.before) size a.tokens) whole.1 in
+        let rows = AreRows-same AtStart 1 spells.held a.rows spells.rows a.place spells.last (subst (λ (h : List LineTokens). AreRows AtStart 1 h a.rows a.place) same a.read) spells.read in
+        incomplete (subst (λ (p : Place). IsEndPlace p) (sym rows.1) spells.whole)
+
+-- a text spells one circuit at most
+pub one_circuit-law : (text : List ℕ) (c d : CircuitTree) → Spells text c → Spells text d → rows_of c ≡ rows_of d
+one_circuit-law text c d a b =
+    let held : a.held ≡ b.held = AreLineTokens-same (lines text) a.held b.held a.tokens b.tokens in
+    let rows = AreRows-same AtStart 1 b.held a.rows b.rows a.last b.last (subst (λ (h : List LineTokens). AreRows AtStart 1 h a.rows a.last) held a.read) b.read in
+    sym a.circuit_rows ∙ ap (λ (r : List Numbered). without_version r) rows.0 ∙ b.circuit_rows

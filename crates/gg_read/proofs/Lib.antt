@@ -1,0 +1,14 @@
+pub mod Builds
+pub mod Depth
+pub mod DigitRuns
+pub mod Expressions
+pub mod ExpressionsSpelt
+pub mod FaultLines
+pub mod Leaves
+pub mod LineSteps
+pub mod RowLaws
+pub mod RowsRead
+pub mod RowsSpelt
+pub mod TextSteps
+pub mod TokenCounts
+pub mod WordLaws

@@ -1,0 +1,176 @@
+-- One line of a text, and its end.
+use Rattle.std.proofs.Common.{◌≡◌, ℕ, zero, suc, ◌+◌, ◌<◌, List, [], ◌∷◌, ◌++◌, length, take, get_or, false, Option, Some, None, Result, Ok, Err, refl, sym, ap, ◌∙◌, subst, arith}
+use Rattle.std.specs.Prelude.{is_some, IfOk, IfErr, MatchResult}
+use Rattle.std.specs.Str.{IsUtf8}
+use Rattle.std.specs.Str.Lines.{lines}
+use Rattle.std.proofs.lemmas.List.{take_more, length-take-le}
+use Rattle.std.proofs.lemmas.Option.{slice_get_read}
+use Rattle.std.proofs.Math.Seq.{take-length}
+use Rattle.gg_lex.specs.declared.token.Tok.{Tok}
+use Rattle.gg_lex.specs.Lines.{Lexes}
+use Rattle.gg_ast.specs.declared.statement.StmtKind.{StmtKind}
+use Rattle.gg_ast.specs.declared.statement.StmtKind.TheVariants as statement
+use Rattle.gg_ast.specs.Row.{Row, numbered}
+use Rattle.gg_ast.specs.Rows.{rows_of}
+use Rattle.gg_ast.specs.Tree.{CircuitTree}
+use Rattle.gg_read.specs.declared.cursor.Miss.{Miss}
+use Rattle.gg_read.specs.declared.cursor.Miss.TheVariants.{NoForm, NoMemory}
+use Rattle.gg_read.specs.declared.row.LineRow.{LineRow}
+use Rattle.gg_read.specs.declared.row.LineRow.TheVariants as given
+use Rattle.gg_read.specs.declared.stage.Stage.{Stage}
+use Rattle.gg_read.specs.declared.stage.Stage.TheVariants.{Start, Version, Header, Ports, Statements, Open}
+use Rattle.gg_read.specs.declared.text.ReadFault.{ReadFault}
+use Rattle.gg_read.specs.declared.text.ReadFault.TheVariants as because
+use Rattle.gg_read.specs.Causes.{IsFaultOf}
+use Rattle.gg_read.specs.Forms.{SpellsRow}
+use Rattle.gg_read.specs.LineRows.{row_of, statement_row}
+use Rattle.gg_read.specs.Reading.{Finds, row_at}
+use Rattle.gg_read.specs.Stages.{stage_place, IsStage, IsOneLineKind, IsOneLine, Advances, Ends, HasRead, IsWholeRow, IsRowOf, IsRowStep, IsPlaced, IsMissed, IsFaulty, IsStep}
+use Rattle.gg_read.specs.Text.{LineTokens, IsTooDeep, IsBlank, IsFaultLine, Spells, HasReadFault, place_after}
+use Rattle.gg_read.proofs.RowLaws.{row_at-spelt, spelt-row_at}
+use Rattle.gg_read.proofs.LineSteps.{HasRead-row, HasRead-blank, HasRead-fault, HasRead-incomplete, HasRead-whole}
+use Rattle.gg_read.proofs.FaultLines.{same_row, one_circuit-law, one_fault_line-law, no_circuit-law}
+
+pub none_there : (o : Option ℕ) → is_some o ≡ false → o ≡ None
+none_there (Some x) e = absurd (cc)
+none_there None e = refl
+
+one_line_kind : (kind : StmtKind) (ts : List Tok) → SpellsRow (statement_row kind) ts → IsOneLineKind kind
+one_line_kind (statement.Wire name ty) ts spelt = tt
+one_line_kind (statement.Node name value) ts spelt = tt
+one_line_kind (statement.Register name ty clock None) ts spelt = tt
+one_line_kind (statement.Register name ty clock (Some reset)) ts spelt = absurd spelt
+one_line_kind (statement.Instance name m) ts spelt = tt
+one_line_kind (statement.Memory name fields) ts spelt = absurd spelt
+one_line_kind (statement.Connect sink source) ts spelt = tt
+one_line_kind (statement.Invalid sink) ts spelt = tt
+one_line_kind statement.Skip ts spelt = tt
+one_line_kind (statement.Stop clock condition code label) ts spelt = tt
+one_line_kind (statement.Report word arguments label) ts spelt = tt
+
+one_line : (row : LineRow) (ts : List Tok) → SpellsRow (row_of row) ts → IsOneLine row
+one_line (given.Version a b c) ts spelt = tt
+one_line (given.Circuit name) ts spelt = tt
+one_line (given.Module name) ts spelt = tt
+one_line (given.Port direction name ty) ts spelt = tt
+one_line (given.Statement kind) ts spelt = one_line_kind kind ts spelt
+one_line (given.RegisterReset name ty clock condition init) ts spelt = tt
+one_line (given.RegisterOpen name ty clock) ts spelt = tt
+one_line (given.Reset condition init) ts spelt = tt
+
+-- what the reader of rows found
+pub row_found : (line : LineTokens) (result : Result LineRow Miss) → line.bad ≡ None → (IsTooDeep line.tokens → ⊥) → Finds row_of result (row_at line.tokens) → IsRowOf line result
+row_found line (Ok row) whole shallow found =
+    let spelt : SpellsRow (row_of row) line.tokens = row_at-spelt line.tokens (row_of row) found in
+    (record { whole = whole; shallow = shallow; spelt = spelt }, one_line row line.tokens spelt)
+row_found line (Err NoForm) whole shallow found = λ r h. let there = spelt-row_at line.tokens r h.spelt in cc
+row_found line (Err NoMemory) whole shallow found = tt
+
+-- a row, and its place
+pub placed_row : (stage : Stage) (n : ℕ) (line : LineTokens) (row : Row) (result : Result Stage Miss) → IsWholeRow line row → Advances stage (place_after (stage_place stage) row) n (numbered n row ∷ []) result → IsPlaced stage n line result
+placed_row stage n line row (Ok next) whole after =
+    record {
+      row = row;
+      form = record { whole = whole.whole; shallow = whole.shallow; spelt = whole.spelt; there = after.there };
+      stays = after.stays;
+      built = after.built;
+    }
+placed_row stage n line row (Err NoForm) whole none = λ r p form.
+    let same : row ≡ r = same_row line.tokens row r whole.spelt form.spelt in
+    let there : place_after (stage_place stage) row ≡ Some p = ap (λ (x : Row). place_after (stage_place stage) x) same ∙ form.there in
+    cc
+placed_row stage n line row (Err NoMemory) whole none = tt
+
+later : (stage : Stage) (n : ℕ) → IsStage stage n → IsStage stage (n + 1)
+later Start n stays = tt
+later Version n stays = tt
+later (Header circuit) n stays = tt
+later (Ports circuit) n stays = stays
+later (Statements circuit) n stays = stays
+later (Open circuit register) n stays = (stays.0, omega (arith, stays.1))
+
+-- a line that holds nothing
+pub blank_step : (stage : Stage) (n : ℕ) (l : List ℕ) (line : LineTokens) → IsStage stage n → Lexes l line.tokens line.bad → IsBlank line → IsStep stage n l (Ok stage)
+blank_step stage n l line stays lexed blank = (later stage n stays, λ ls number read. HasRead-blank ls stage l line read lexed blank)
+
+-- a line that is a row of its place
+pub row_step : (stage : Stage) (n : ℕ) (l : List ℕ) (line : LineTokens) (next : Stage) → Lexes l line.tokens line.bad → IsRowStep stage n line next → IsStep stage n l (Ok next)
+row_step stage n l line next lexed step = (step.stays, λ ls number read. HasRead-row ls stage next l line step.row n read lexed step.form step.built number)
+
+-- a line that is none
+pub miss_step : (stage : Stage) (n : ℕ) (l : List ℕ) (line : LineTokens) (miss : Miss) (answer : ReadFault) → Lexes l line.tokens line.bad → (IsBlank line → ⊥) → IsPlaced stage n line (Err miss) → IsMissed miss n line.tokens answer → IsStep stage n l (Err answer)
+miss_step stage n l line NoForm because.NotText lexed some none cause = absurd cause
+miss_step stage n l line NoForm (because.Syntax m) lexed some none cause = record { line = line; lexed = lexed; none = (some, none); cause = cause }
+miss_step stage n l line NoForm (because.Outside m word) lexed some none cause = record { line = line; lexed = lexed; none = (some, none); cause = cause }
+miss_step stage n l line NoForm (because.TooDeep m) lexed some none cause = record { line = line; lexed = lexed; none = (some, none); cause = cause }
+miss_step stage n l line NoForm because.NoMemory lexed some none cause = tt
+miss_step stage n l line NoMemory answer lexed some none cause = subst (λ (a : ReadFault). IsStep stage n l (Err a)) (sym cause) tt
+
+-- one turn over the lines of a text
+pub line_turn : (text : List ℕ) (k m n : ℕ) (l : List ℕ) (stage next : Stage) → (k < length (lines text)) × (l ≡ get_or (lines text) k l) → n ≡ k + 1 → m ≡ k + 1 → HasRead (take k (lines text)) stage → ((ls : List (List ℕ)) → n ≡ length ls + 1 → HasRead ls stage → HasRead (ls ++ l ∷ []) next) → HasRead (take m (lines text)) next
+line_turn text k m n l stage next turn number size read step =
+    let before : length (take k (lines text)) ≡ k = length-take-le k (lines text) (omega (arith, turn.0)) in
+    let more : take (k + 1) (lines text) ≡ take k (lines text) ++ l ∷ [] = take_more (lines text) k l turn.0 ∙ ap (λ (x : List ℕ). take k (lines text) ++ x ∷ []) (sym turn.1) in
+    subst (λ (ls : List (List ℕ)). HasRead ls next) (sym more ∙ ap (λ (i : ℕ). take i (lines text)) (sym size)) (step (take k (lines text)) (omega (arith, before, number)) read)
+
+faulty : (text : List ℕ) (k n : ℕ) (l : List ℕ) (stage : Stage) (answer : ReadFault) → (k < length (lines text)) × (l ≡ get_or (lines text) k l) → n ≡ k + 1 → HasRead (take k (lines text)) stage → (f : IsFaulty stage n l answer) → IsFaultLine text n f.line
+faulty text k n l stage answer turn number read f =
+    HasRead-fault text k n stage l f.line read turn.0 (slice_get_read (lines text) (length (lines text)) k l refl turn.0 turn.1) f.lexed f.none number
+
+-- the line at which the reading stops
+pub fault_turn : (text : List ℕ) (k n : ℕ) (l : List ℕ) (stage : Stage) (answer : ReadFault) → IsUtf8 text → (k < length (lines text)) × (l ≡ get_or (lines text) k l) → n ≡ k + 1 → HasRead (take k (lines text)) stage → IsStep stage n l (Err answer) → HasReadFault text answer
+fault_turn text k n l stage because.NotText utf8 turn number read step = absurd step
+fault_turn text k n l stage (because.Syntax m) utf8 turn number read step =
+    (utf8, (step.line, subst (λ (i : ℕ). IsFaultLine text i step.line) (sym step.cause.0) (faulty text k n l stage (because.Syntax m) turn number read step), step.cause.1, step.cause.2))
+fault_turn text k n l stage (because.Outside m word) utf8 turn number read step =
+    (utf8, (step.line, subst (λ (i : ℕ). IsFaultLine text i step.line) (sym step.cause.0) (faulty text k n l stage (because.Outside m word) turn number read step), step.cause.1, step.cause.2))
+fault_turn text k n l stage (because.TooDeep m) utf8 turn number read step =
+    (utf8, (step.line, subst (λ (i : ℕ). IsFaultLine text i step.line) (sym step.cause.0) (faulty text k n l stage (because.TooDeep m) turn number read step), step.cause.1))
+fault_turn text k n l stage because.NoMemory utf8 turn number read step = tt
+
+all_read : (text : List ℕ) (k : ℕ) (stage : Stage) → k ≡ length (lines text) → HasRead (take k (lines text)) stage → HasRead (lines text) stage
+all_read text k stage size read =
+    subst (λ (ls : List (List ℕ)). HasRead ls stage) (ap (λ (i : ℕ). take i (lines text)) size ∙ take-length (lines text)) read
+
+-- the end of a text that is whole
+pub end_circuit : (text : List ℕ) (k n : ℕ) (stage : Stage) (result : Result CircuitTree ReadFault) → IsUtf8 text → k ≡ length (lines text) → HasRead (take k (lines text)) stage → Ends stage n result → IfOk result (λ c. Spells text c)
+end_circuit text k n stage (Ok circuit) utf8 size read ends = HasRead-whole text stage circuit utf8 (all_read text k stage size read) ends.0 ends.1
+end_circuit text k n stage (Err answer) utf8 size read ends = tt
+
+not_deep : IsTooDeep [] → ⊥
+not_deep (zero, h) = omega (arith, h)
+not_deep (suc k, h) = omega (arith, h)
+
+-- the end of a text that is not
+pub end_fault : (text : List ℕ) (k n : ℕ) (stage : Stage) (result : Result CircuitTree ReadFault) → IsUtf8 text → k ≡ length (lines text) → n ≡ k + 1 → HasRead (take k (lines text)) stage → Ends stage n result → IfErr result (λ f. HasReadFault text f)
+end_fault text k n stage (Ok circuit) utf8 size number read ends = tt
+end_fault text k n stage (Err because.NotText) utf8 size number read ends = absurd ends
+end_fault text k n stage (Err (because.Syntax m)) utf8 size number read ends =
+    (utf8, (record { tokens = []; bad = None }, HasRead-incomplete text m stage (all_read text k stage size read) ends.1 (omega (arith, ends.0, number, size)), not_deep, refl))
+end_fault text k n stage (Err (because.Outside m word)) utf8 size number read ends = absurd ends
+end_fault text k n stage (Err (because.TooDeep m)) utf8 size number read ends = absurd ends
+end_fault text k n stage (Err because.NoMemory) utf8 size number read ends = absurd ends
+
+-- a text that spells a circuit has no other answer
+pub only_circuit : (text : List ℕ) (result : Result CircuitTree ReadFault) → IfOk result (λ d. Spells text d) → IfErr result (λ f. HasReadFault text f) → (c : CircuitTree) → Spells text c → MatchResult result (λ d. rows_of d ≡ rows_of c) (λ f. f ≡ because.NoMemory)
+only_circuit text (Ok d) ok err c spells = one_circuit-law text d c ok spells
+only_circuit text (Err because.NotText) ok err c spells = absurd (err spells.utf8)
+only_circuit text (Err (because.Syntax m)) ok err c spells = absurd (no_circuit-law text m err.1.0 c err.1.1 spells)
+only_circuit text (Err (because.Outside m word)) ok err c spells = absurd (no_circuit-law text m err.1.0 c err.1.1 spells)
+only_circuit text (Err (because.TooDeep m)) ok err c spells = absurd (no_circuit-law text m err.1.0 c err.1.1 spells)
+only_circuit text (Err because.NoMemory) ok err c spells = refl
+
+-- nor has a text with a fault line
+pub only_fault : (text : List ℕ) (result : Result CircuitTree ReadFault) → IfOk result (λ d. Spells text d) → IfErr result (λ f. HasReadFault text f) → (n : ℕ) (line : LineTokens) → IsUtf8 text → IsFaultLine text n line → MatchResult result (λ d. ⊥) (λ f. IsFaultOf n line.tokens f)
+only_fault text (Ok d) ok err n line utf8 fault = no_circuit-law text n line d fault ok
+only_fault text (Err because.NotText) ok err n line utf8 fault = absurd (err utf8)
+only_fault text (Err (because.Syntax m)) ok err n line utf8 fault =
+    let same = one_fault_line-law text m n err.1.0 line err.1.1 fault in
+    subst (λ (l : LineTokens). IsFaultOf n l.tokens (because.Syntax m)) same.1 (same.0, err.1.2, err.1.3)
+only_fault text (Err (because.Outside m word)) ok err n line utf8 fault =
+    let same = one_fault_line-law text m n err.1.0 line err.1.1 fault in
+    subst (λ (l : LineTokens). IsFaultOf n l.tokens (because.Outside m word)) same.1 (same.0, err.1.2, err.1.3)
+only_fault text (Err (because.TooDeep m)) ok err n line utf8 fault =
+    let same = one_fault_line-law text m n err.1.0 line err.1.1 fault in
+    subst (λ (l : LineTokens). IsFaultOf n l.tokens (because.TooDeep m)) same.1 (same.0, err.1.2)
+only_fault text (Err because.NoMemory) ok err n line utf8 fault = tt

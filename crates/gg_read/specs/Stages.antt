@@ -1,0 +1,201 @@
+-- What the stages of the reader stand for: the place of the next line, and the rows of the lines before it.
+use Rattle.std.specs.Prelude.{◌≡◌, ℕ, ◌+◌, ◌<◌, List, [], ◌∷◌, ◌++◌, length, Option, None, Some, Result, Ok, Err, Bool, true, false}
+use Rattle.gg_lex.specs.declared.token.Lexed.{Lexed}
+use Rattle.gg_lex.specs.declared.token.Tok.{Tok}
+use Rattle.gg_lex.specs.Lines.{Lexes}
+use Rattle.gg_ast.specs.declared.statement.Reset.{Reset}
+use Rattle.gg_ast.specs.declared.statement.StmtKind.{StmtKind}
+use Rattle.gg_ast.specs.declared.statement.StmtKind.TheVariants as statement
+use Rattle.gg_ast.specs.Row.{Row, Numbered, numbered, RegisterOpenRow, ResetRow}
+use Rattle.gg_ast.specs.Rows.{rows_of}
+use Rattle.gg_ast.specs.Term.{term}
+use Rattle.gg_ast.specs.Tree.{CircuitTree, IsOpenToPorts}
+use Rattle.gg_read.specs.declared.cursor.Miss.{Miss}
+use Rattle.gg_read.specs.declared.cursor.Miss.TheVariants.{NoForm, NoMemory}
+use Rattle.gg_read.specs.declared.row.LineRow.{LineRow}
+use Rattle.gg_read.specs.declared.row.LineRow.TheVariants as given
+use Rattle.gg_read.specs.declared.stage.OpenRegister.{OpenRegister}
+use Rattle.gg_read.specs.declared.stage.Stage.{Stage}
+use Rattle.gg_read.specs.declared.stage.Stage.TheVariants.{Start, Version, Header, Ports, Statements, Open}
+use Rattle.gg_read.specs.declared.text.ReadFault.{ReadFault}
+use Rattle.gg_read.specs.declared.text.ReadFault.TheVariants as because
+use Rattle.gg_read.specs.Causes.{IsFaultOf}
+use Rattle.gg_read.specs.Forms.{SpellsRow}
+use Rattle.gg_read.specs.LineRows.{row_of}
+use Rattle.gg_read.specs.Text.{IsBlank, IsForm, IsNoForm, IsTooDeep, Place, AtStart, AfterVersion, AfterCircuit, InPorts, InStatements, AwaitsReset, LineTokens, AreLineTokens, AreRows, IsEndPlace, without_version, after_version, after_circuit, after_module, after_statement, after_open, after_reset}
+
+-- what a line holds that was lexed
+abbrev pub line_of : Lexed → LineTokens
+line_of lexed = record { tokens = lexed.tokens.items; bad = lexed.bad }
+
+-- the place of the next line
+abbrev pub stage_place : Stage → Place
+stage_place Start = AtStart
+stage_place Version = AfterVersion
+stage_place (Header circuit) = AfterCircuit
+stage_place (Ports circuit) = InPorts
+stage_place (Statements circuit) = InStatements
+stage_place (Open circuit register) = AwaitsReset
+
+-- the row of a register that awaits its reset
+abbrev pub open_row : OpenRegister → Numbered
+open_row register = numbered register.line (RegisterOpenRow register.name register.ty (term register.clock))
+
+-- the row of a reset on a line of its own
+abbrev pub reset_row : Reset → Numbered
+reset_row reset = numbered reset.line (ResetRow (term reset.condition) (term reset.init))
+
+-- the rows of the lines so far, without the version's, are those of the stage's circuit
+abbrev pub IsBuilt : Stage → List Numbered → Type 0
+IsBuilt Start rows = rows ≡ []
+IsBuilt Version rows = without_version rows ≡ []
+IsBuilt (Header circuit) rows = without_version rows ≡ rows_of circuit
+IsBuilt (Ports circuit) rows = without_version rows ≡ rows_of circuit
+IsBuilt (Statements circuit) rows = without_version rows ≡ rows_of circuit
+IsBuilt (Open circuit register) rows = without_version rows ≡ rows_of circuit ++ open_row register ∷ []
+
+-- what holds of a stage before the line of this number: there is a module where one is begun, and a register that
+-- awaits its reset stands before the line
+abbrev pub IsStage : Stage → ℕ → Type 0
+IsStage Start n = Unit {0}
+IsStage Version n = Unit {0}
+IsStage (Header circuit) n = Unit {0}
+IsStage (Ports circuit) n = (0 < length circuit.modules) × IsOpenToPorts circuit.modules
+IsStage (Statements circuit) n = 0 < length circuit.modules
+IsStage (Open circuit register) n = (0 < length circuit.modules) × (register.line < n)
+
+-- a statement of one line: no memory, and no register with a reset
+abbrev pub IsOneLineKind : StmtKind → Type 0
+IsOneLineKind (statement.Wire name ty) = Unit {0}
+IsOneLineKind (statement.Node name value) = Unit {0}
+IsOneLineKind (statement.Register name ty clock None) = Unit {0}
+IsOneLineKind (statement.Register name ty clock (Some reset)) = ⊥
+IsOneLineKind (statement.Instance name m) = Unit {0}
+IsOneLineKind (statement.Memory name fields) = ⊥
+IsOneLineKind (statement.Connect sink source) = Unit {0}
+IsOneLineKind (statement.Invalid sink) = Unit {0}
+IsOneLineKind statement.Skip = Unit {0}
+IsOneLineKind (statement.Stop clock condition code label) = Unit {0}
+IsOneLineKind (statement.Report word arguments label) = Unit {0}
+
+abbrev pub IsOneLine : LineRow → Type 0
+IsOneLine (given.Version a b c) = Unit {0}
+IsOneLine (given.Circuit name) = Unit {0}
+IsOneLine (given.Module name) = Unit {0}
+IsOneLine (given.Port direction name ty) = Unit {0}
+IsOneLine (given.Statement kind) = IsOneLineKind kind
+IsOneLine (given.RegisterReset name ty clock condition init) = Unit {0}
+IsOneLine (given.RegisterOpen name ty clock) = Unit {0}
+IsOneLine (given.Reset condition init) = Unit {0}
+
+-- the stage behind these rows, the last of which stands on line n
+pub record IsAfter (stage : Stage) (to : Option Place) (n : ℕ) (rows : List Numbered) (next : Stage) : Type 0 where
+  pub there : to ≡ Some (stage_place next)
+  pub stays : IsStage next (n + 1)
+  pub built : (before : List Numbered) → IsBuilt stage before → IsBuilt next (before ++ rows)
+
+-- a step over rows, or none where they are no form of the stage's place
+abbrev pub Advances : Stage → Option Place → ℕ → List Numbered → Result Stage Miss → Type 0
+Advances stage to n rows (Ok next) = IsAfter stage to n rows next
+Advances stage to n rows (Err NoForm) = to ≡ None
+Advances stage to n rows (Err NoMemory) = Unit {0}
+
+-- a test tells whether nothing was read yet
+abbrev pub TellsStart : Stage → Bool → Type 0
+TellsStart stage true = (after_version (stage_place stage) ≡ Some AfterVersion) × ((before : List Numbered) → IsBuilt stage before → before ≡ [])
+TellsStart stage false = after_version (stage_place stage) ≡ None
+
+-- a test tells whether nothing was read yet but for the version's line
+abbrev pub TellsBare : Stage → Bool → Type 0
+TellsBare stage true = (after_circuit (stage_place stage) ≡ Some AfterCircuit) × ((before : List Numbered) → IsBuilt stage before → without_version before ≡ [])
+TellsBare stage false = after_circuit (stage_place stage) ≡ None
+
+-- the rows so far, without the version's, are this circuit's
+abbrev pub Holds : Stage → CircuitTree → Type 0
+Holds stage circuit = (before : List Numbered) → IsBuilt stage before → without_version before ≡ rows_of circuit
+
+-- the circuit of a stage behind which a module may begin
+abbrev pub IsWhole : Stage → Result CircuitTree Miss → Type 0
+IsWhole stage (Ok circuit) = (after_module (stage_place stage) ≡ Some InPorts) × Holds stage circuit
+IsWhole stage (Err NoForm) = after_module (stage_place stage) ≡ None
+IsWhole stage (Err NoMemory) = ⊥
+
+-- the circuit of a stage behind which a statement may stand
+abbrev pub IsBody : Stage → Result CircuitTree Miss → Type 0
+IsBody stage (Ok circuit) =
+    (after_statement (stage_place stage) ≡ Some InStatements) × (after_open (stage_place stage) ≡ Some AwaitsReset) × (0 < length circuit.modules) × Holds stage circuit
+IsBody stage (Err NoForm) = (after_statement (stage_place stage) ≡ None) × (after_open (stage_place stage) ≡ None)
+IsBody stage (Err NoMemory) = ⊥
+
+-- the circuit of a stage that awaits a reset, and its register
+abbrev pub IsOpened : Stage → Result (CircuitTree × OpenRegister) Miss → Type 0
+IsOpened stage (Ok parts) = stage ≡ Open parts.0 parts.1
+IsOpened stage (Err NoForm) = after_reset (stage_place stage) ≡ None
+IsOpened stage (Err NoMemory) = ⊥
+
+-- the circuit where the text may end, or else that the line behind the last is at fault
+abbrev pub Ends : Stage → ℕ → Result CircuitTree ReadFault → Type 0
+Ends stage n (Ok circuit) = IsEndPlace (stage_place stage) × Holds stage circuit
+Ends stage n (Err (because.Syntax m)) = (m ≡ n) × (IsEndPlace (stage_place stage) → ⊥)
+Ends stage n (Err because.NotText) = ⊥
+Ends stage n (Err (because.Outside m word)) = ⊥
+Ends stage n (Err (because.TooDeep m)) = ⊥
+Ends stage n (Err because.NoMemory) = ⊥
+
+-- the lines were read up to this stage
+pub record HasRead (ls : List (List ℕ)) (stage : Stage) : Type 0 where
+  pub held : List LineTokens
+  pub tokens : AreLineTokens ls held
+  pub rows : List Numbered
+  pub read : AreRows AtStart 1 held rows (stage_place stage)
+  pub built : IsBuilt stage rows
+
+-- a line is this row, whatever its place
+pub record IsWholeRow (line : LineTokens) (row : Row) : Type 0 where
+  pub whole : line.bad ≡ None
+  pub shallow : IsTooDeep line.tokens → ⊥
+  pub spelt : SpellsRow row line.tokens
+
+-- the row of a line, or that it is none
+abbrev pub IsRowOf : LineTokens → Result LineRow Miss → Type 0
+IsRowOf line (Ok row) = IsWholeRow line (row_of row) × IsOneLine row
+IsRowOf line (Err NoForm) = (row : Row) → IsWholeRow line row → ⊥
+IsRowOf line (Err NoMemory) = Unit {0}
+
+-- the stage behind a line that is a row of its place
+pub record IsRowStep (stage : Stage) (n : ℕ) (line : LineTokens) (next : Stage) : Type 0 where
+  pub row : Row
+  pub form : IsForm (stage_place stage) line row (stage_place next)
+  pub stays : IsStage next (n + 1)
+  pub built : (before : List Numbered) → IsBuilt stage before → IsBuilt next (before ++ numbered n row ∷ [])
+
+abbrev pub IsPlaced : Stage → ℕ → LineTokens → Result Stage Miss → Type 0
+IsPlaced stage n line (Ok next) = IsRowStep stage n line next
+IsPlaced stage n line (Err NoForm) = (row : Row) (next : Place) → IsForm (stage_place stage) line row next → ⊥
+IsPlaced stage n line (Err NoMemory) = Unit {0}
+
+-- the answer for a line that is no row of its place
+abbrev pub IsMissed : Miss → ℕ → List Tok → ReadFault → Type 0
+IsMissed NoForm n ts answer = IsFaultOf n ts answer
+IsMissed NoMemory n ts answer = answer ≡ because.NoMemory
+
+-- a test tells whether a line holds nothing
+abbrev pub TellsBlank : LineTokens → Bool → Type 0
+TellsBlank line true = IsBlank line
+TellsBlank line false = IsBlank line → ⊥
+
+-- a line at fault, and what is answered for it
+pub record IsFaulty (stage : Stage) (n : ℕ) (l : List ℕ) (answer : ReadFault) : Type 0 where
+  pub line : LineTokens
+  pub lexed : Lexes l line.tokens line.bad
+  pub none : IsNoForm (stage_place stage) line
+  pub cause : IsFaultOf n line.tokens answer
+
+-- one more line: the lines were read up to the next stage, or the line is at fault
+abbrev pub IsStep : Stage → ℕ → List ℕ → Result Stage ReadFault → Type 0
+IsStep stage n l (Ok next) = IsStage next (n + 1) × ((ls : List (List ℕ)) → n ≡ length ls + 1 → HasRead ls stage → HasRead (ls ++ l ∷ []) next)
+IsStep stage n l (Err because.NotText) = ⊥
+IsStep stage n l (Err (because.Syntax m)) = IsFaulty stage n l (because.Syntax m)
+IsStep stage n l (Err (because.Outside m word)) = IsFaulty stage n l (because.Outside m word)
+IsStep stage n l (Err (because.TooDeep m)) = IsFaulty stage n l (because.TooDeep m)
+IsStep stage n l (Err because.NoMemory) = Unit {0}

@@ -1,0 +1,235 @@
+-- Which circuit a text spells, and which line is at fault: cases on whole lines (FIRRTL Specification, "Grammar").
+use Rattle.std.specs.Prelude.{◌≡◌, ℕ, ◌+◌, ◌<◌, ◌⊎◌, List, [], ◌∷◌, length, take, slice_get, Option, None, Some, Bool, true, false, codes, if◌then◌else◌}
+use Rattle.std.specs.Option.{option_or}
+use Rattle.std.specs.List.{list_any}
+use Rattle.std.specs.Str.{bytes_eq, IsUtf8}
+use Rattle.std.specs.Str.Lines.{lines}
+use Rattle.gg_lex.specs.Lines.{Lexes}
+use Rattle.gg_lex.specs.declared.token.Tok.{Tok}
+use Rattle.gg_lex.specs.declared.token.Tok.TheVariants.{Word, Number, Text, Symbol}
+use Rattle.gg_lex.specs.declared.token.Symbol.TheVariants as mark
+use Rattle.gg_ast.specs.Row.{Row, Numbered, numbered, VersionRow, CircuitRow, ModuleRow, PortRow, WireRow, NodeRow, RegisterRow, RegisterResetRow, RegisterOpenRow, ResetRow, InstanceRow, MemoryRow, FieldRow, ConnectRow, InvalidRow, SkipRow, StopRow, ReportRow}
+use Rattle.gg_ast.specs.Rows.{rows_of}
+use Rattle.gg_ast.specs.Tree.{CircuitTree}
+use Rattle.gg_read.specs.declared.text.ReadFault.{ReadFault}
+use Rattle.gg_read.specs.declared.text.ReadFault.TheVariants.{NotText, Syntax, Outside, TooDeep, NoMemory}
+use Rattle.gg_read.specs.Forms.{SpellsRow}
+
+-- what a line holds: its tokens, up to the first byte that begins none, if there is one
+pub record LineTokens : Type 0 where
+  pub tokens : List Tok
+  pub bad : Option ℕ
+
+-- these are the tokens of the lines, line by line
+abbrev pub AreLineTokens : List (List ℕ) → List LineTokens → Type 0
+AreLineTokens [] [] = Unit {0}
+AreLineTokens [] (t ∷ ts) = ⊥
+AreLineTokens (l ∷ ls) [] = ⊥
+AreLineTokens (l ∷ ls) (t ∷ ts) = Lexes l t.tokens t.bad × AreLineTokens ls ts
+
+-- the place of a line: what the lines before it were
+pub data Place : Type 0 where
+  -- the beginning of the text
+  AtStart : Place
+  -- behind the version line
+  AfterVersion : Place
+  -- behind the circuit's line
+  AfterCircuit : Place
+  -- behind a module's line or a port
+  InPorts : Place
+  -- behind a statement
+  InStatements : Place
+  -- behind the first line of a register whose reset stands on the next
+  AwaitsReset : Place
+
+-- the place behind a statement's line
+abbrev pub after_statement : Place → Option Place
+after_statement InPorts = Some InStatements
+after_statement InStatements = Some InStatements
+after_statement AtStart = None
+after_statement AfterVersion = None
+after_statement AfterCircuit = None
+after_statement AwaitsReset = None
+
+-- the place behind the first line of a register of two lines
+abbrev pub after_open : Place → Option Place
+after_open InPorts = Some AwaitsReset
+after_open InStatements = Some AwaitsReset
+after_open AtStart = None
+after_open AfterVersion = None
+after_open AfterCircuit = None
+after_open AwaitsReset = None
+
+-- a module's line may stand behind the circuit's line, a module's, a port or a statement
+abbrev pub after_module : Place → Option Place
+after_module AfterCircuit = Some InPorts
+after_module InPorts = Some InPorts
+after_module InStatements = Some InPorts
+after_module AtStart = None
+after_module AfterVersion = None
+after_module AwaitsReset = None
+
+abbrev pub after_version : Place → Option Place
+after_version AtStart = Some AfterVersion
+after_version AfterVersion = None
+after_version AfterCircuit = None
+after_version InPorts = None
+after_version InStatements = None
+after_version AwaitsReset = None
+
+abbrev pub after_circuit : Place → Option Place
+after_circuit AtStart = Some AfterCircuit
+after_circuit AfterVersion = Some AfterCircuit
+after_circuit AfterCircuit = None
+after_circuit InPorts = None
+after_circuit InStatements = None
+after_circuit AwaitsReset = None
+
+abbrev pub after_port : Place → Option Place
+after_port InPorts = Some InPorts
+after_port AtStart = None
+after_port AfterVersion = None
+after_port AfterCircuit = None
+after_port InStatements = None
+after_port AwaitsReset = None
+
+abbrev pub after_reset : Place → Option Place
+after_reset AwaitsReset = Some InStatements
+after_reset AtStart = None
+after_reset AfterVersion = None
+after_reset AfterCircuit = None
+after_reset InPorts = None
+after_reset InStatements = None
+
+-- the place behind a row, where the row is one of the forms of its place
+abbrev pub place_after : Place → Row → Option Place
+place_after place (VersionRow a b c) = after_version place
+place_after place (CircuitRow name) = after_circuit place
+place_after place (ModuleRow name) = after_module place
+place_after place (PortRow direction name ty) = after_port place
+place_after place (WireRow name ty) = after_statement place
+place_after place (NodeRow name value) = after_statement place
+place_after place (RegisterRow name ty clock) = after_statement place
+place_after place (RegisterResetRow name ty clock condition init) = after_statement place
+place_after place (RegisterOpenRow name ty clock) = after_open place
+place_after place (ResetRow condition init) = after_reset place
+place_after place (InstanceRow name m) = after_statement place
+place_after place (MemoryRow name) = None
+place_after place (FieldRow field) = None
+place_after place (ConnectRow sink source) = after_statement place
+place_after place (InvalidRow sink) = after_statement place
+place_after place SkipRow = after_statement place
+place_after place (StopRow clock condition code label) = after_statement place
+place_after place (ReportRow word arguments label) = after_statement place
+
+-- a text may end behind the circuit's line and behind whole modules
+abbrev pub IsEndPlace : Place → Type 0
+IsEndPlace AtStart = ⊥
+IsEndPlace AfterVersion = ⊥
+IsEndPlace AfterCircuit = Unit {0}
+IsEndPlace InPorts = Unit {0}
+IsEndPlace InStatements = Unit {0}
+IsEndPlace AwaitsReset = ⊥
+
+-- how many of the tokens open a bracket, and how many close one
+abbrev pub opened : List Tok → ℕ
+opened [] = 0
+opened (Symbol mark.OpenParen ∷ ts) = 1 + opened ts
+opened (t ∷ ts) = opened ts
+
+abbrev pub closed : List Tok → ℕ
+closed [] = 0
+closed (Symbol mark.CloseParen ∷ ts) = 1 + closed ts
+closed (t ∷ ts) = closed ts
+
+-- at some token the count of `(` less that of `)` rises above 256
+abbrev pub IsTooDeep : List Tok → Type 0
+IsTooDeep ts = (k : ℕ) × (256 + closed (take k ts) < opened (take k ts))
+
+-- a line holds nothing: it has no token, and no byte that begins none
+abbrev pub IsBlank : LineTokens → Type 0
+IsBlank line = (line.tokens ≡ []) × (line.bad ≡ None)
+
+-- a line is this row, and one of the forms of its place; the next line's place is `next`
+pub record IsForm (place : Place) (line : LineTokens) (row : Row) (next : Place) : Type 0 where
+  pub whole : line.bad ≡ None
+  pub shallow : IsTooDeep line.tokens → ⊥
+  pub spelt : SpellsRow row line.tokens
+  pub there : place_after place row ≡ Some next
+
+-- the lines, the first of which has this number, are these rows; the place moves from one to the other
+abbrev pub AreRows : Place → ℕ → List LineTokens → List Numbered → Place → Type 0
+AreRows place n [] rows last = (rows ≡ []) × (last ≡ place)
+AreRows place n (line ∷ more) rows last =
+    (IsBlank line × AreRows place (n + 1) more rows last)
+    ⊎ ((row : Row) × (next : Place) × (others : List Numbered) × IsForm place line row next × (rows ≡ numbered n row ∷ others) × AreRows next (n + 1) more others last)
+
+abbrev pub is_version : Row → Bool
+is_version (VersionRow a b c) = true
+is_version other = false
+
+-- the rows without that of the version, which stands first
+abbrev pub without_version : List Numbered → List Numbered
+without_version [] = []
+without_version (r ∷ rows) = if is_version r.row then rows else r ∷ rows
+
+-- the text spells the circuit: it is UTF-8, and its lines are the circuit's rows, maybe below a version line
+pub record Spells (text : List ℕ) (circuit : CircuitTree) : Type 0 where
+  pub utf8 : IsUtf8 text
+  pub held : List LineTokens
+  pub tokens : AreLineTokens (lines text) held
+  pub last : Place
+  pub rows : List Numbered
+  pub read : AreRows AtStart 1 held rows last
+  pub whole : IsEndPlace last
+  pub circuit_rows : without_version rows ≡ rows_of circuit
+
+-- a line is none of the forms of its place
+abbrev pub IsNoForm : Place → LineTokens → Type 0
+IsNoForm place line = (IsBlank line → ⊥) × ((row : Row) (next : Place) → IsForm place line row next → ⊥)
+
+-- the fault line of a text: the first that is none of the forms of its place; else, where the text is incomplete, the
+-- one behind the last, which holds nothing
+pub record IsFaultLine (text : List ℕ) (n : ℕ) (line : LineTokens) : Type 0 where
+  pub before : List LineTokens
+  pub tokens : AreLineTokens (take (length before) (lines text)) before
+  pub rows : List Numbered
+  pub place : Place
+  pub read : AreRows AtStart 1 before rows place
+  pub number : n ≡ length before + 1
+  pub fault : ((l : List ℕ) × (slice_get (lines text) (length before) ≡ Some l) × Lexes l line.tokens line.bad × IsNoForm place line)
+      ⊎ ((length (lines text) ≡ length before) × (line ≡ record { tokens = []; bad = None }) × (IsEndPlace place → ⊥))
+
+-- the words and symbols of what is left out
+abbrev pub is_outside_word : List ℕ → Bool
+is_outside_word w = list_any (bytes_eq w)
+    (codes "when" ∷ codes "else" ∷ codes "extmodule" ∷ codes "intmodule" ∷ codes "cmem" ∷ codes "smem" ∷ codes "infer" ∷ codes "attach"
+    ∷ codes "layer" ∷ codes "layerblock" ∷ codes "group" ∷ codes "define" ∷ codes "parameter" ∷ codes "defname" ∷ codes "Analog" ∷ codes "Fixed"
+    ∷ codes "Interval" ∷ codes "AsyncReset" ∷ codes "Reset" ∷ codes "Probe" ∷ codes "flip" ∷ codes "asClock" ∷ codes "asAsyncReset"
+    ∷ codes "asFixedPoint" ∷ codes "asInterval" ∷ codes "readwriter" ∷ [])
+
+-- the outside word that a token is, as it is written
+abbrev pub outside_text : Tok → Option (List ℕ)
+outside_text (Word w) = if is_outside_word w then Some w else None
+outside_text (Number digits) = None
+outside_text (Text text) = None
+outside_text (Symbol mark.PartialConnect) = Some (codes "<-")
+outside_text (Symbol mark.OpenBracket) = Some (codes "[")
+outside_text (Symbol mark.OpenBrace) = Some (codes "{")
+outside_text (Symbol mark.OpenAnnotations) = Some (codes "%[")
+outside_text (Symbol other) = None
+
+-- the first of the tokens that is an outside word
+abbrev pub first_outside : List Tok → Option (List ℕ)
+first_outside [] = None
+first_outside (t ∷ ts) = option_or (outside_text t) (first_outside ts)
+
+-- why no circuit is read. Want of memory has no cause in the text.
+abbrev pub HasReadFault : List ℕ → ReadFault → Type 0
+HasReadFault bytes NotText = IsUtf8 bytes → ⊥
+HasReadFault bytes (TooDeep n) = IsUtf8 bytes × ((line : LineTokens) × IsFaultLine bytes n line × IsTooDeep line.tokens)
+HasReadFault bytes (Outside n word) =
+    IsUtf8 bytes × ((line : LineTokens) × IsFaultLine bytes n line × (IsTooDeep line.tokens → ⊥) × (first_outside line.tokens ≡ Some word))
+HasReadFault bytes (Syntax n) =
+    IsUtf8 bytes × ((line : LineTokens) × IsFaultLine bytes n line × (IsTooDeep line.tokens → ⊥) × (first_outside line.tokens ≡ None))
+HasReadFault bytes NoMemory = Unit {0}

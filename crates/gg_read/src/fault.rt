@@ -1,0 +1,140 @@
+//! Why a line is at fault.
+ghost use Rattle.std.specs.Prelude.{◌≡◌, ◌∷◌, [], MatchBool, IfOk};
+ghost use Rattle.gg_read.specs.Causes.{IsFaultOf};
+ghost use Rattle.gg_read.specs.Text.{IsTooDeep, opened, closed, first_outside, outside_text, is_outside_word};
+
+use crate::text::ReadFault;
+use gg_bits::Name;
+use gg_lex::{Symbol, Tok};
+use std::alloc::{AllocError, Global};
+
+/// At most this many brackets are open at any token of a line.
+const DEEPEST: usize = 256;
+
+/// What is answered for the fault line of this number, which holds these tokens.
+pub(crate) fn line_fault(alloc: Global, line: u64, tokens: &[Tok]) -> ReadFault
+    ensures { IsFaultOf line tokens.now result }
+{
+    if is_too_deep(tokens) {
+        return ReadFault::TooDeep { line };
+    }
+    match first_outside(alloc, tokens) {
+        Ok(Some(word)) => ReadFault::Outside { line, word },
+        Ok(None) => ReadFault::Syntax { line },
+        Err(_) => ReadFault::NoMemory,
+    }
+}
+
+/// Whether at some token more than 256 brackets are open.
+pub(crate) fn is_too_deep(tokens: &[Tok]) -> bool
+    ensures { MatchBool result (IsTooDeep tokens.now) (IsTooDeep tokens.now → ⊥) }
+{
+    let mut opened: usize = 0;
+    let mut closed: usize = 0;
+    for token in tokens {
+        opened += opens(token);
+        closed += closes(token);
+        if DEEPEST + closed < opened {
+            return true;
+        }
+    }
+    false
+}
+
+/// How many brackets a token opens.
+fn opens(token: &Tok) -> usize
+    ensures { result ≡ opened (token.now ∷ []) }
+{
+    match token {
+        Tok::Symbol(Symbol::OpenParen) => 1,
+        _ => 0,
+    }
+}
+
+/// How many brackets a token closes.
+fn closes(token: &Tok) -> usize
+    ensures { result ≡ closed (token.now ∷ []) }
+{
+    match token {
+        Tok::Symbol(Symbol::CloseParen) => 1,
+        _ => 0,
+    }
+}
+
+/// The first of the tokens that is a word or a symbol of what is left out, as it is written.
+fn first_outside(alloc: Global, tokens: &[Tok]) -> Result<Option<Name>, AllocError>
+    ensures { IfOk result (λ found. found ≡ first_outside tokens.now) }
+{
+    for token in tokens {
+        if let Some(word) = outside_text(alloc, token)? {
+            return Ok(Some(word));
+        }
+    }
+    Ok(None)
+}
+
+/// The word or symbol of what is left out that a token is, as it is written.
+fn outside_text(alloc: Global, token: &Tok) -> Result<Option<Name>, AllocError>
+    ensures { IfOk result (λ found. found ≡ outside_text token.now) }
+{
+    match token {
+        Tok::Word(word) => {
+            if is_outside_word(word.as_str()) {
+                return Ok(Some(word.clone()?));
+            }
+            Ok(None)
+        }
+        Tok::Symbol(symbol) => outside_symbol(alloc, *symbol),
+        _ => Ok(None),
+    }
+}
+
+/// The symbol of what is left out, as it is written.
+fn outside_symbol(alloc: Global, symbol: Symbol) -> Result<Option<Name>, AllocError>
+    ensures { IfOk result (λ found. found ≡ outside_text (Tok.Symbol symbol)) }
+{
+    match symbol {
+        Symbol::PartialConnect => some_name(alloc, "<-"),
+        Symbol::OpenBracket => some_name(alloc, "["),
+        Symbol::OpenBrace => some_name(alloc, "{"),
+        Symbol::OpenAnnotations => some_name(alloc, "%["),
+        _ => Ok(None),
+    }
+}
+
+/// A name of its own with this text.
+fn some_name(alloc: Global, text: &str) -> Result<Option<Name>, AllocError>
+    ensures { IfOk result (λ found. found ≡ Some text.now) }
+{
+    let owned = String::from_str(alloc, text)?;
+    Ok(Some(Name::from(owned)))
+}
+
+/// Whether a word is one of what is left out.
+fn is_outside_word(word: &str) -> bool
+    ensures { result ≡ is_outside_word word.now }
+{
+    match word {
+        "when"
+        | "else"
+        | "extmodule"
+        | "intmodule"
+        | "cmem"
+        | "smem"
+        | "infer"
+        | "attach"
+        | "layer" => true,
+        "layerblock"
+        | "group"
+        | "define"
+        | "parameter"
+        | "defname"
+        | "Analog"
+        | "Fixed"
+        | "Interval" => true,
+        "AsyncReset" | "Reset" | "Probe" | "flip" | "asClock" | "asAsyncReset" | "asFixedPoint" =>
+            true,
+        "asInterval" | "readwriter" => true,
+        _ => false,
+    }
+}

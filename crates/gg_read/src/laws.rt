@@ -1,0 +1,20 @@
+//! What follows from the definitions alone.
+ghost use Rattle.std.specs.Prelude.{◌≡◌, ℕ, List};
+ghost use Rattle.gg_ast.specs.Rows.{rows_of};
+ghost use Rattle.gg_ast.specs.Tree.{CircuitTree};
+ghost use Rattle.gg_read.specs.Text.{LineTokens, IsFaultLine, Spells};
+
+/// A text spells at most one circuit: two that it spells have the same rows, on the same lines.
+pub fn one_circuit()
+    ensures { (text : List ℕ) (c d : CircuitTree) → Spells text c → Spells text d → rows_of c ≡ rows_of d }
+{}
+
+/// A text has at most one fault line.
+pub fn one_fault_line()
+    ensures { (text : List ℕ) (n m : ℕ) (line other : LineTokens) → IsFaultLine text n line → IsFaultLine text m other → (n ≡ m) × (line ≡ other) }
+{}
+
+/// A text with a fault line spells no circuit.
+pub fn no_circuit()
+    ensures { (text : List ℕ) (n : ℕ) (line : LineTokens) (circuit : CircuitTree) → IsFaultLine text n line → Spells text circuit → ⊥ }
+{}

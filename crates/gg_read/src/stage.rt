@@ -1,0 +1,303 @@
+//! The circuit that is built, row by row, and the place that the rows have reached.
+ghost use Rattle.std.specs.Prelude.{◌≡◌, ℕ, ◌∷◌, [], ◌<◌, length};
+ghost use Rattle.gg_ast.specs.Row.{numbered, VersionRow, CircuitRow, ModuleRow};
+ghost use Rattle.gg_ast.specs.Rows.{port_row, statement_rows};
+ghost use Rattle.gg_ast.specs.Tree.{IsOpenToPorts};
+ghost use Rattle.gg_read.specs.LineRows.{row_of};
+ghost use Rattle.gg_read.specs.Text.{InPorts, InStatements, place_after, after_version, after_circuit, after_module, after_port, after_statement, after_open, after_reset};
+ghost use Rattle.gg_read.specs.Stages.{stage_place, IsStage, IsOneLine, Advances, TellsStart, TellsBare, IsWhole, IsBody, IsOpened, open_row, reset_row, Ends};
+
+use crate::cursor::Miss;
+use crate::row::LineRow;
+use crate::text::ReadFault;
+use gg_ast::{Circuit, Expr, GroundType, Port, Reset, Stmt, StmtKind};
+use gg_bits::Name;
+use std::alloc::Global;
+
+/// A register whose reset stands on the next line.
+#[derive(Drop)]
+pub(crate) struct OpenRegister {
+    /// The line on which the register stands.
+    pub(crate) line: u64,
+    pub(crate) name: Name,
+    pub(crate) ty: GroundType,
+    pub(crate) clock: Expr,
+}
+
+/// The place of the next line, with the circuit that the lines before it make.
+#[derive(Drop)]
+pub(crate) enum Stage {
+    /// At the beginning of the text.
+    Start,
+    /// Behind the version line.
+    Version,
+    /// Behind the circuit's line.
+    Header(Circuit),
+    /// Behind a module's line or a port.
+    Ports(Circuit),
+    /// Behind a statement.
+    Statements(Circuit),
+    /// Behind the first line of a register whose reset stands on the next.
+    Open(Circuit, OpenRegister),
+}
+
+/// The stage behind one more row, which stands on this line.
+///
+/// `NoForm` exactly where the row is none of the forms of its place.
+pub(crate) fn advance(alloc: Global, stage: Stage, line: u64, row: LineRow) -> Result<Stage, Miss>
+    requires stage { IsStage stage line }
+    requires row { IsOneLine row }
+    ensures { Advances stage (place_after (stage_place stage) (row_of row)) line (numbered line (row_of row) ∷ []) result }
+{
+    match row {
+        LineRow::Version(_, _, _) => version(stage),
+        LineRow::Circuit(name) => header(alloc, stage, line, name),
+        LineRow::Module(name) => module(alloc, stage, line, name),
+        LineRow::Port(direction, name, ty) => port(
+            stage,
+            Port {
+                line,
+                name,
+                direction,
+                ty,
+            },
+        ),
+        LineRow::Statement(kind) => statement(stage, Stmt { line, kind }),
+        LineRow::RegisterReset(name, ty, clock, condition, init) => {
+            let reset = Some(Reset {
+                line,
+                condition,
+                init,
+            });
+            let kind = StmtKind::Register {
+                name,
+                ty,
+                clock,
+                reset,
+            };
+            statement(stage, Stmt { line, kind })
+        }
+        LineRow::RegisterOpen(name, ty, clock) => open(
+            stage,
+            OpenRegister {
+                line,
+                name,
+                ty,
+                clock,
+            },
+        ),
+        LineRow::Reset(condition, init) => reset(
+            stage,
+            Reset {
+                line,
+                condition,
+                init,
+            },
+        ),
+    }
+}
+
+/// The version line, which stands at the beginning.
+#[tactic(auto, using(crate::proofs::Builds::version_first))]
+fn version(stage: Stage) -> Result<Stage, Miss>
+    ensures { (line a b c : ℕ) → Advances stage (after_version (stage_place stage)) line (numbered line (VersionRow a b c) ∷ []) result }
+{
+    let is_first = is_start(&stage);
+    drop(stage);
+    if is_first {
+        return Ok(Stage::Version);
+    }
+    Err(Miss::NoForm)
+}
+
+/// Whether nothing was read yet.
+fn is_start(stage: &Stage) -> bool
+    ensures { TellsStart stage.now result }
+{
+    match stage {
+        Stage::Start => true,
+        Stage::Version
+        | Stage::Header(_)
+        | Stage::Ports(_)
+        | Stage::Statements(_)
+        | Stage::Open(_, _) => false,
+    }
+}
+
+/// The circuit's line, which stands at the beginning or behind the version line.
+#[tactic(auto, using(crate::proofs::Builds::header_next))]
+fn header(alloc: Global, stage: Stage, line: u64, name: Name) -> Result<Stage, Miss>
+    ensures { Advances stage (after_circuit (stage_place stage)) line (numbered line (CircuitRow name) ∷ []) result }
+{
+    let is_next = is_bare(&stage);
+    drop(stage);
+    if is_next {
+        return Ok(Stage::Header(Circuit::new(alloc, line, name)));
+    }
+    Err(Miss::NoForm)
+}
+
+/// Whether no circuit was begun yet.
+#[tactic(auto, using(crate::proofs::Builds::nothing_first))]
+fn is_bare(stage: &Stage) -> bool
+    ensures { TellsBare stage.now result }
+{
+    match stage {
+        Stage::Start => true,
+        Stage::Version => true,
+        Stage::Header(_) | Stage::Ports(_) | Stage::Statements(_) | Stage::Open(_, _) => false,
+    }
+}
+
+/// A module's line.
+fn module(alloc: Global, stage: Stage, line: u64, name: Name) -> Result<Stage, Miss>
+    ensures { Advances stage (after_module (stage_place stage)) line (numbered line (ModuleRow name) ∷ []) result }
+{
+    let mut circuit = whole(stage)?;
+    circuit.push_module(alloc, line, name)?;
+    Ok(Stage::Ports(circuit))
+}
+
+/// The circuit behind which a module may begin.
+fn whole(stage: Stage) -> Result<Circuit, Miss>
+    ensures { IsWhole stage result }
+{
+    match stage {
+        Stage::Header(circuit) => Ok(circuit),
+        Stage::Ports(circuit) => Ok(circuit),
+        Stage::Statements(circuit) => Ok(circuit),
+        Stage::Start | Stage::Version | Stage::Open(_, _) => Err(Miss::NoForm),
+    }
+}
+
+/// A port, which stands behind its module's line or another port.
+fn port(stage: Stage, port: Port) -> Result<Stage, Miss>
+    requires { (line : ℕ) × IsStage stage line }
+    ensures { Advances stage (after_port (stage_place stage)) port.line (port_row port ∷ []) result }
+{
+    match stage {
+        Stage::Ports(circuit) => add_port(circuit, port),
+        Stage::Start
+        | Stage::Version
+        | Stage::Header(_)
+        | Stage::Statements(_)
+        | Stage::Open(_, _) => Err(Miss::NoForm),
+    }
+}
+
+/// A port behind the others of the last module.
+fn add_port(circuit: Circuit, port: Port) -> Result<Stage, Miss>
+    requires some { 0 < length circuit.modules }
+    requires ports { IsOpenToPorts circuit.modules }
+    ensures { Advances (Stage.Ports circuit) (Some InPorts) port.line (port_row port ∷ []) result }
+{
+    let mut circuit = circuit;
+    circuit.push_port(port)?;
+    Ok(Stage::Ports(circuit))
+}
+
+/// The circuit behind which a statement may stand.
+fn body(stage: Stage) -> Result<Circuit, Miss>
+    requires { (line : ℕ) × IsStage stage line }
+    ensures { IsBody stage result }
+{
+    match stage {
+        Stage::Ports(circuit) => Ok(circuit),
+        Stage::Statements(circuit) => Ok(circuit),
+        Stage::Start | Stage::Version | Stage::Header(_) | Stage::Open(_, _) => Err(Miss::NoForm),
+    }
+}
+
+/// A statement, which stands behind a port, a module's line or another statement.
+fn statement(stage: Stage, statement: Stmt) -> Result<Stage, Miss>
+    requires { (line : ℕ) × IsStage stage line }
+    ensures { Advances stage (after_statement (stage_place stage)) statement.line (statement_rows statement) result }
+{
+    match body(stage) {
+        Ok(circuit) => add_statement(circuit, statement),
+        Err(miss) => {
+            drop(statement);
+            Err(miss)
+        }
+    }
+}
+
+/// A statement behind the others of the last module.
+fn add_statement(circuit: Circuit, statement: Stmt) -> Result<Stage, Miss>
+    requires { 0 < length circuit.modules }
+    ensures { Advances (Stage.Statements circuit) (Some InStatements) statement.line (statement_rows statement) result }
+{
+    let mut circuit = circuit;
+    circuit.push_statement(statement)?;
+    Ok(Stage::Statements(circuit))
+}
+
+/// The first line of a register whose reset stands on the next.
+fn open(stage: Stage, register: OpenRegister) -> Result<Stage, Miss>
+    requires { (line : ℕ) × IsStage stage line }
+    ensures { Advances stage (after_open (stage_place stage)) register.line (open_row register ∷ []) result }
+{
+    let circuit = body(stage)?;
+    Ok(Stage::Open(circuit, register))
+}
+
+/// The line of a reset, which stands behind its register's.
+fn reset(stage: Stage, reset: Reset) -> Result<Stage, Miss>
+    requires { IsStage stage reset.line }
+    ensures { Advances stage (after_reset (stage_place stage)) reset.line (reset_row reset ∷ []) result }
+{
+    match opened(stage) {
+        Ok((circuit, register)) => close(circuit, register, reset),
+        Err(miss) => {
+            drop(reset);
+            Err(miss)
+        }
+    }
+}
+
+/// The circuit, and the register that awaits its reset.
+fn opened(stage: Stage) -> Result<(Circuit, OpenRegister), Miss>
+    ensures { IsOpened stage result }
+{
+    match stage {
+        Stage::Open(circuit, register) => Ok((circuit, register)),
+        Stage::Start | Stage::Version | Stage::Header(_) | Stage::Ports(_) | Stage::Statements(_) =>
+            Err(Miss::NoForm),
+    }
+}
+
+/// The register that the reset closes, behind the other statements of the last module.
+#[tactic(auto, using(crate::proofs::Builds::rows_closed))]
+fn close(circuit: Circuit, register: OpenRegister, reset: Reset) -> Result<Stage, Miss>
+    requires some { 0 < length circuit.modules }
+    requires after { register.line < reset.line }
+    ensures { Advances (Stage.Open circuit register) (Some InStatements) reset.line (reset_row reset ∷ []) result }
+{
+    let mut circuit = circuit;
+    let OpenRegister {
+        line,
+        name,
+        ty,
+        clock,
+    } = register;
+    let kind = StmtKind::Register {
+        name,
+        ty,
+        clock,
+        reset: Some(reset),
+    };
+    circuit.push_statement(Stmt { line, kind })?;
+    Ok(Stage::Statements(circuit))
+}
+
+/// The circuit, where the text may end here. `line` is the number of the line behind the last.
+pub(crate) fn finish(stage: Stage, line: u64) -> Result<Circuit, ReadFault>
+    ensures { Ends stage line result }
+{
+    match stage {
+        Stage::Header(circuit) => Ok(circuit),
+        Stage::Ports(circuit) => Ok(circuit),
+        Stage::Statements(circuit) => Ok(circuit),
+        Stage::Start | Stage::Version | Stage::Open(_, _) => Err(ReadFault::Syntax { line }),
+    }
+}

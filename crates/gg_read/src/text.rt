@@ -1,0 +1,125 @@
+//! The text of a circuit, line by line.
+ghost use Rattle.std.specs.Prelude.{◌≡◌, ℕ, ◌+◌, ◌<◌, ◌≤◌, ◌^◌, Err, length, IfOk, IfErr, MatchResult};
+ghost use Rattle.std.specs.Str.{IsUtf8};
+ghost use Rattle.gg_ast.specs.Rows.{rows_of};
+ghost use Rattle.gg_ast.specs.Tree.{CircuitTree};
+ghost use Rattle.gg_read.specs.Causes.{IsFaultOf};
+ghost use Rattle.gg_read.specs.Stages.{line_of, IsStage, IsRowOf, IsPlaced, IsStep, IsMissed, TellsBlank};
+ghost use Rattle.gg_read.specs.Text.{LineTokens, IsFaultLine, Spells, HasReadFault};
+
+use crate::cursor::Miss;
+use crate::fault::{is_too_deep, line_fault};
+use crate::row::{LineRow, row};
+use crate::stage::{Stage, advance, finish};
+use gg_ast::Circuit;
+use gg_bits::Name;
+use gg_lex::{Lexed, Tok, lex};
+use std::alloc::Global;
+
+/// Why no circuit was read.
+#[derive(Debug, Drop)]
+pub enum ReadFault {
+    /// The bytes are not UTF-8.
+    NotText,
+    /// This line, counted from 1, is none of the forms of its place.
+    Syntax { line: u64 },
+    /// The same, and this is its first word or symbol of what is left out of the language.
+    Outside { line: u64, word: Name },
+    /// At some token of this line more than 256 brackets are open.
+    TooDeep { line: u64 },
+    /// Memory ran out. The text says nothing of this.
+    NoMemory,
+}
+
+/// The circuit that a text spells (FIRRTL Specification, "Grammar"), or why it spells none.
+///
+/// `NotText` exactly where the bytes are not UTF-8. Else the first line that is none of the forms of its place is at
+/// fault, or the one behind the last where the text is incomplete: `TooDeep` where more than 256 brackets are open
+/// there, else `Outside` with its first word of what is left out, else `Syntax`. The text is passed over once.
+pub fn read_circuit(alloc: Global, bytes: &[u8]) -> Result<Circuit, ReadFault>
+    requires { length bytes.now < 2 ^ 32 }
+    ensures circuit { IfOk result (Spells bytes.now) }
+    ensures fault { IfErr result (HasReadFault bytes.now) }
+
+    // a text that spells a circuit has no other answer, nor one with a fault line, nor bytes that are no text
+    ensures only_circuit { (c : CircuitTree) → Spells bytes.now c → MatchResult result (λ d. rows_of d ≡ rows_of c) (λ fault. fault ≡ ReadFault.NoMemory) }
+    ensures only_fault { (n : ℕ) (line : LineTokens) → IsUtf8 bytes.now → IsFaultLine bytes.now n line → MatchResult result (λ _. ⊥) (IsFaultOf n line.tokens) }
+    ensures only_not_text { (IsUtf8 bytes.now → ⊥) → result ≡ Err ReadFault.NotText }
+{
+    match std::str::from_utf8(bytes) {
+        Ok(text) => read_text(alloc, text),
+        Err(_) => Err(ReadFault::NotText),
+    }
+}
+
+/// The circuit that a text spells, or its fault line.
+fn read_text(alloc: Global, text: &str) -> Result<Circuit, ReadFault>
+    requires { length text.now < 2 ^ 32 }
+    ensures circuit { IfOk result (Spells text.now) }
+    ensures fault { IfErr result (HasReadFault text.now) }
+{
+    let mut stage = Stage::Start;
+    let mut number: u64 = 0;
+    for line in text.lines() {
+        number += 1;
+        stage = next_stage(alloc, stage, number, line)?;
+    }
+    finish(stage, number + 1)
+}
+
+/// The stage behind one more line, or why the line is at fault.
+fn next_stage(alloc: Global, stage: Stage, number: u64, line: &str) -> Result<Stage, ReadFault>
+    requires stage { IsStage stage number }
+    ensures { IsStep stage number line.now result }
+{
+    let lexed = match lex(alloc, line) {
+        Ok(lexed) => lexed,
+        Err(_) => return Err(ReadFault::NoMemory),
+    };
+    if is_blank(&lexed) {
+        return Ok(stage);
+    }
+    match placed(alloc, stage, number, &lexed) {
+        Ok(next) => Ok(next),
+        Err(miss) => Err(missed(alloc, number, lexed.tokens.as_slice(), miss)),
+    }
+}
+
+/// What is answered for a line of this number that is no row of its place.
+fn missed(alloc: Global, number: u64, tokens: &[Tok], miss: Miss) -> ReadFault
+    ensures { IsMissed miss number tokens.now result }
+{
+    match miss {
+        Miss::NoForm => line_fault(alloc, number, tokens),
+        Miss::NoMemory => ReadFault::NoMemory,
+    }
+}
+
+/// Whether a line holds nothing.
+fn is_blank(lexed: &Lexed) -> bool
+    ensures { TellsBlank (line_of lexed.now) result }
+{
+    lexed.tokens.is_empty() && lexed.bad.is_none()
+}
+
+/// The stage behind a line that is a row of its place.
+fn placed(alloc: Global, stage: Stage, number: u64, lexed: &Lexed) -> Result<Stage, Miss>
+    requires stage { IsStage stage number }
+    ensures { IsPlaced stage number (line_of lexed.now) result }
+{
+    let row = whole_row(alloc, lexed)?;
+    advance(alloc, stage, number, row)
+}
+
+/// The row of a line, whatever its place: the whole line spells it, and nowhere are too many brackets open.
+fn whole_row(alloc: Global, lexed: &Lexed) -> Result<LineRow, Miss>
+    ensures { IsRowOf (line_of lexed.now) result }
+{
+    if lexed.bad.is_some() {
+        return Err(Miss::NoForm);
+    }
+    if is_too_deep(lexed.tokens.as_slice()) {
+        return Err(Miss::NoForm);
+    }
+    row(alloc, lexed.tokens.as_slice())
+}
