@@ -3,3 +3,4 @@ pub mod LiteralLemmas
 pub mod StepLemmas
 pub mod ClockLemmas
 pub mod CircuitLemmas
+pub mod WorkedRows

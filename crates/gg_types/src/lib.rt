@@ -17,6 +17,3 @@ mod statement;
 
 pub use circuit::{TypeFault, Typed, types};
 pub use known::Typing;
-
-#[cfg(test)]
-mod tests;
