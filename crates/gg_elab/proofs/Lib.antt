@@ -1,0 +1,21 @@
+pub mod LineLemmas
+pub mod PlaceLemmas
+pub mod NameLemmas
+pub mod DigitLemmas
+pub mod TableLemmas
+pub mod WholeLineLemmas
+pub mod BuildLemmas
+pub mod FlatLemmas
+pub mod AgreementLemmas
+pub mod ScopeAgreement
+pub mod SoundLemmas
+mod WorkedRows
+pub mod ConnectedLemmas
+pub mod DeclaredLemmas
+pub mod FitLemmas
+pub mod StepLemmas
+pub mod DeclareSteps
+pub mod FrontLemmas
+pub mod SoundScope
+pub mod SoundDeclarations
+pub mod FaultlessLemmas

@@ -1,0 +1,13 @@
+-- Modules in which the static checks find no fault.
+use Rattle.std.specs.Prelude.{◌≡◌, []}
+use Rattle.gg_ast.specs.Tree.{ModuleTree}
+use Rattle.gg_shape.specs.Shape.{unknown_names, second_connections, unconnected_sinks, connected_sources}
+use Rattle.gg_elab.specs.Causes.{IsTyped}
+
+-- A module without a fault of its names, its connections and its types, that has neither instances nor memories.
+pub record IsFaultlessModule (m : ModuleTree) : Type 0 where
+  pub typed : IsTyped m
+  pub unknown : unknown_names m ≡ []
+  pub second : second_connections m ≡ []
+  pub unconnected : unconnected_sinks m ≡ []
+  pub sources : connected_sources m ≡ []
