@@ -1,0 +1,10 @@
+pub mod RowLemmas
+pub mod PortLemmas
+pub mod SeenLemmas
+pub mod AlikeLemmas
+pub mod CountLemmas
+pub mod PlaceLemmas
+pub mod OriginLemmas
+pub mod OrderLemmas
+pub mod JudgeLemmas
+pub mod RefusalLemmas

@@ -1,0 +1,5 @@
+-- What the front end's contracts speak of.
+pub mod Plain
+pub mod Ports
+pub mod Meaning
+pub mod Fault

@@ -1,0 +1,21 @@
+//! The front end: from the bytes of a circuit file to a design, which is a well-formed flat circuit with an order of
+//! evaluation.
+//!
+//! - `front` answers a design of the circuit that the bytes mean (`Means`), the fault of reading where the text spells no
+//!   circuit, or `Plain` where it spells one that isn't plain (`IsPlainTree`).
+//! - `ports_agree`: all flat circuits that some bytes mean have the same input ports and output ports.
+#![tactic(auto)]
+
+#[cfg(test)]
+mod fault_tests;
+#[cfg(test)]
+mod flat_tests;
+mod front_end;
+mod laws;
+#[cfg(test)]
+mod reader_tests;
+#[cfg(test)]
+mod tests;
+
+pub use front_end::{FrontFault, front};
+pub use laws::{plainness_agrees, ports_agree};
