@@ -1,0 +1,9 @@
+pub mod EndingLemmas
+pub mod FrontLemmas
+pub mod OrderLemmas
+pub mod OutcomeLemmas
+pub mod PortLemmas
+pub mod PrintingLemmas
+pub mod ReadingLemmas
+pub mod RunLemmas
+pub mod WritingLemmas

@@ -1,0 +1,96 @@
+-- The one order of refusals: what is told decides it.
+use Rattle.std.proofs.Common.{◌≡◌, ℕ, ◌<◌, ◌≤◌, List, sym, ap, ◌∙◌, subst, inl, inr, length, arith}
+use Rattle.gg_io.specs.Told.{Told, Holds, CanHold, CanBeOver}
+use Rattle.golden.specs.Lines.{Said}
+use Rattle.golden.specs.Order.{File, Order, Load, Write, CanBe, IsRefused, StopsAt, IsWritten, IsTold, IsDueOf, DueAt, IsDueText, IsExactFile, IsExact}
+
+module _ (files : List ℕ → Told) where
+  -- the bytes of a told file are those that are told
+  pub told-bytes : (file : File) (bytes other : List ℕ) → IsTold files file bytes → CanBe files file other → other ≡ bytes
+  told-bytes file bytes other told can = let held = can.held in let h : CanHold (Holds bytes) other = subst (λ t. CanHold t other) told held in h
+
+  -- a told file that is over its limit has more bytes
+  pub told-over : (file : File) (bytes : List ℕ) → IsTold files file bytes → CanBeOver (files file.name) file.limit → file.limit < length bytes
+  told-over file bytes told over = let h : CanBeOver (Holds bytes) file.limit = subst (λ t. CanBeOver t file.limit) told over in h
+
+  -- a told file that is to be refused isn't accepted
+  pub due-not_accepted : (file : File) (bytes other : List ℕ) (due : Said) → IsExactFile file → IsTold files file bytes
+      → IsDueOf files file bytes due → CanBe files file other → file.accepts other → ⊥
+  due-not_accepted file bytes other due exact told (inl o) can accepts =
+      let e = told-bytes file bytes other told can in let short = can.within in let fits : length bytes ≤ file.limit = subst (λ (b : List ℕ). length b ≤ file.limit) e short in let long = o.0 in absurd (omega arith)
+  due-not_accepted file bytes other due exact told (inr o) can accepts =
+      exact.apart bytes due (subst file.accepts (told-bytes file bytes other told can) accepts) o.1
+
+  -- what is due isn't written
+  pub written-due : (order : Order) (due : Said) (text : List ℕ) → IsExact order → DueAt files order due → IsWritten files order text → ⊥
+  written-due (Load file next) due text exact (bytes, told, inl d) (other, can, accepts, later) = due-not_accepted file bytes other due exact.0 told d can accepts
+  written-due (Load file next) due text exact (bytes, told, inr (short, accepts, d)) (other, can, accepts', later) =
+      written-due (next bytes) due text (exact.1 bytes) d (subst (λ b. IsWritten files (next b) text) (told-bytes file bytes other told can) later)
+  written-due (Write IsText) due text exact d written = d
+
+  module _ (lost cut : Type 0) where
+    -- a told file that is to be refused is refused so, where no load fails
+    pub refused-due : (file : File) (bytes : List ℕ) (due said : Said) → IsExactFile file → (lost → ⊥) → IsTold files file bytes
+        → IsDueOf files file bytes due → IsRefused files lost cut file said → said ≡ due
+    refused-due file bytes due said exact none told d (inl (inl h)) = absurd (none h.0)
+    refused-due file bytes due said exact none told (inl o) (inl (inr h)) = h.2 ∙ sym o.1
+    refused-due file bytes due said exact none told (inr o) (inl (inr h)) = let long = told-over file bytes told h.1 in let short = o.0 in absurd (omega arith)
+    refused-due file bytes due said exact none told (inl o) (inr (other, can, refuses)) =
+        let e = told-bytes file bytes other told can in let short = can.within in let fits : length bytes ≤ file.limit = subst (λ (b : List ℕ). length b ≤ file.limit) e short in let long = o.0 in absurd (omega arith)
+    refused-due file bytes due said exact none told (inr o) (inr (other, can, refuses)) =
+        exact.once bytes said due (subst (λ b. file.refuses b said) (told-bytes file bytes other told can) refuses) o.1
+
+    -- a told file that is accepted isn't refused, where no load fails
+    pub accepted-not_refused : (file : File) (bytes : List ℕ) (said : Said) → IsExactFile file → (lost → ⊥) → IsTold files file bytes
+        → length bytes ≤ file.limit → file.accepts bytes → IsRefused files lost cut file said → ⊥
+    accepted-not_refused file bytes said exact none told short accepts (inl (inl h)) = none h.0
+    accepted-not_refused file bytes said exact none told short accepts (inl (inr h)) = let long = told-over file bytes told h.1 in absurd (omega arith)
+    accepted-not_refused file bytes said exact none told short accepts (inr (other, can, refuses)) =
+        exact.apart bytes said accepts (subst (λ b. file.refuses b said) (told-bytes file bytes other told can) refuses)
+
+    -- where no load fails, what is due is what is said
+    pub stops-due : (order : Order) (due said : Said) → IsExact order → (lost → ⊥) → DueAt files order due → StopsAt files lost cut order said
+        → said ≡ due
+    stops-due (Load file next) due said exact none (bytes, told, inl d) (inl refused) = refused-due file bytes due said exact.0 none told d refused
+    stops-due (Load file next) due said exact none (bytes, told, inl d) (inr (other, can, accepts, later)) = absurd (due-not_accepted file bytes other due exact.0 told d can accepts)
+    stops-due (Load file next) due said exact none (bytes, told, inr (short, accepts, d)) (inl refused) = absurd (accepted-not_refused file bytes said exact.0 none told short accepts refused)
+    stops-due (Load file next) due said exact none (bytes, told, inr (short, accepts, d)) (inr (other, can, accepts', later)) =
+        stops-due (next bytes) due said (exact.1 bytes) none d (subst (λ b. StopsAt files lost cut (next b) said) (told-bytes file bytes other told can) later)
+    stops-due (Write IsText) due said exact none d stops = absurd stops
+
+    -- where no load fails, files that are told and accepted aren't refused
+    pub stops-due_text : (order : Order) (said : Said) (text : List ℕ) → IsExact order → (lost → ⊥) → IsDueText files order text → StopsAt files lost cut order said → ⊥
+    stops-due_text (Load file next) said text exact none (bytes, told, short, accepts, d) (inl refused) = accepted-not_refused file bytes said exact.0 none told short accepts refused
+    stops-due_text (Load file next) said text exact none (bytes, told, short, accepts, d) (inr (other, can, accepts', later)) =
+        stops-due_text (next bytes) said text (exact.1 bytes) none d (subst (λ b. StopsAt files lost cut (next b) said) (told-bytes file bytes other told can) later)
+    stops-due_text (Write IsText) said text exact none d stops = stops
+
+-- the order's refusals stand where more was lost or cut, as in a longer call
+pub stops-more : (files : List ℕ → Told) (lost lost' cut cut' : Type 0) → (lost → lost') → (cut → cut') → (order : Order) (said : Said)
+    → StopsAt files lost cut order said → StopsAt files lost' cut' order said
+stops-more files lost lost' cut cut' f g (Load file next) said (inl (inl (inl h))) = inl (inl (inl (f h.0, h.1)))
+stops-more files lost lost' cut cut' f g (Load file next) said (inl (inl (inr h))) = inl (inl (inr (g h.0, h.1, h.2)))
+stops-more files lost lost' cut cut' f g (Load file next) said (inl (inr h)) = inl (inr h)
+stops-more files lost lost' cut cut' f g (Load file next) said (inr (bytes, can, accepts, later)) = inr (bytes, can, accepts, stops-more files lost lost' cut cut' f g (next bytes) said later)
+stops-more files lost lost' cut cut' f g (Write IsText) said stops = stops
+
+-- Of what a call says where a file is refused: its status tells why.
+pub data Why (files : List ℕ → Told) (lost cut : Type 0) (order : Order) (said : Said) : Type 0 where
+  Lost : (status : said.status ≡ 3) (rose : lost) → Why files lost cut order said
+  Cut : (status : said.status ≡ 8) (rose : cut) (stops : StopsAt files ⊥ cut order said) → Why files lost cut order said
+  NotPlain : (status : said.status ≡ 1) (stops : StopsAt files ⊥ ⊥ order said) → Why files lost cut order said
+
+pub why-later : (files : List ℕ → Told) (lost cut : Type 0) (file : File) (next : List ℕ → Order) (bytes : List ℕ) (said : Said)
+    → CanBe files file bytes → file.accepts bytes → Why files lost cut (next bytes) said → Why files lost cut (Load file next) said
+why-later files lost cut file next bytes said can accepts (Lost status rose) = Lost status rose
+why-later files lost cut file next bytes said can accepts (Cut status rose stops) = Cut status rose (inr (bytes, can, accepts, stops))
+why-later files lost cut file next bytes said can accepts (NotPlain status stops) = NotPlain status (inr (bytes, can, accepts, stops))
+
+pub why-stops : (files : List ℕ → Told) (lost cut : Type 0) (order : Order) (said : Said) → IsExact order → StopsAt files lost cut order said
+    → Why files lost cut order said
+why-stops files lost cut (Load file next) said exact (inl (inl (inl h))) = Lost (ap (λ (s : Said). s.status) h.1) h.0
+why-stops files lost cut (Load file next) said exact (inl (inl (inr h))) = Cut (ap (λ (s : Said). s.status) h.2) h.0 (inl (inl (inr h)))
+why-stops files lost cut (Load file next) said exact (inl (inr h)) = NotPlain (exact.0.status h.0 said h.2) (inl (inr h))
+why-stops files lost cut (Load file next) said exact (inr (bytes, can, accepts, later)) =
+    why-later files lost cut file next bytes said can accepts (why-stops files lost cut (next bytes) said (exact.1 bytes) later)
+why-stops files lost cut (Write IsText) said exact stops = absurd stops

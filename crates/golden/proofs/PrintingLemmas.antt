@@ -1,0 +1,186 @@
+-- The rows of a run, one by one.
+use Rattle.std.proofs.Common.{◌≡◌, ℕ, zero, suc, ◌+◌, ◌<◌, ◌≤◌, List, [], ◌∷◌, ◌++◌, length, map, refl, sym, ap, ◌∙◌, subst, inl, inr, arith, append_assoc, append-nil}
+use Rattle.std.specs.Prelude.{Option, Result, Ok, Err, slice_index}
+use Rattle.std.specs.Io.KnownBytes.{append_known}
+use Rattle.std.proofs.lemmas.List.{get_or-map}
+use Rattle.std.proofs.Math.Nat.{eq-or-lt_of_le}
+use Rattle.gg_flat.specs.Circuit.{FlatCircuit}
+use Rattle.gg_flat.specs.Line.{value_at}
+use Rattle.gg_flat.specs.Order.{IsOrder}
+use Rattle.gg_flat.specs.Run.{IsRun, row_at, state_at, inputs_at, column}
+use Rattle.gg_flat.specs.Settled.{Settled}
+use Rattle.gg_flat.specs.State.{State, next_state}
+use Rattle.gg_io.specs.Count.{Rose}
+use Rattle.gg_refsim.specs.Cycle.{Simulation, Cycle, outputs}
+use Rattle.gg_flat.specs.declared.ports.Port.{Port}
+use Rattle.gg_trace.specs.Printing.{header_line, row_line, trace_text}
+use Rattle.gg_trace.specs.Table.{Table, row_of}
+use Rattle.golden.specs.declared.stops.Stop.{Stop}
+use Rattle.golden.specs.declared.stops.Stop.TheVariants.{Refused, Unwritten, NoMemory}
+use Rattle.golden.specs.Outcome.{IsFront, StandsFront}
+use Rattle.gg_front.specs.Ports.{out_ports}
+use Rattle.golden.specs.RunText.{out_columns}
+use Rattle.golden.specs.Stops.{Prints}
+use Rattle.golden.proofs.WritingLemmas.{append_known-append, append_known-nil}
+
+-- the first `cycle` rows stand behind the header, and the simulator is in the state before the next, of any run
+pub record PrintedTo (circuit : FlatCircuit) (inputs : Table) (ports : List Port) (before now : Option (List ℕ)) (faults faults' refused refused' : ℕ) (cycle : ℕ) (mono : Simulation) (outs : List ℕ) : Type 0 where
+  pub same : mono.circuit ≡ circuit
+  pub count : length outs ≡ length circuit.outs
+  pub state : (rows : List (List ℕ)) → IsRun circuit inputs.columns inputs.rows rows → mono.state ≡ state_at circuit rows cycle
+  pub written : (rows : List (List ℕ)) (base : Option (List ℕ)) → IsRun circuit inputs.columns inputs.rows rows
+      → before ≡ append_known base (trace_text ports (out_columns circuit rows) 0)
+      → now ≡ append_known base (trace_text ports (out_columns circuit rows) cycle)
+  pub faults_stay_or_rise : faults ≤ faults'
+  pub refused_stay_or_rise : refused ≤ refused'
+
+-- the outputs of a row of a run are a row of their columns
+pub outputs-row : (circuit : FlatCircuit) (rows : List (List ℕ)) (t : ℕ) → t < length rows → (signals : List ℕ)
+    → map (λ s. value_at (row_at rows t) s) signals ≡ row_of (map (column rows) signals) t
+outputs-row circuit rows t lt [] = refl
+outputs-row circuit rows t lt (s ∷ signals) =
+    let head : value_at (row_at rows t) s ≡ slice_index (column rows s) t = sym (get_or-map (λ (row : List ℕ). value_at row s) rows t [] 0 lt) in
+    let rest = outputs-row circuit rows t lt signals in cc
+
+-- a settled row of a state and inputs is the only one
+abbrev pub SettledOnce : Type 0
+SettledOnce = (circuit : FlatCircuit) (order : List ℕ) (state : State) (inputs v w : List ℕ) → IsOrder circuit order → Settled circuit state inputs v → Settled circuit state inputs w → v ≡ w
+
+-- a cycle from the state before cycle t of a run, with its inputs, is cycle t of the run
+pub cycle-row : SettledOnce → (circuit : FlatCircuit) (order : List ℕ) (columns : List (List ℕ)) (n : ℕ) (rows : List (List ℕ)) (t : ℕ)
+    (before after : State) (inputs printed : List ℕ) → IsOrder circuit order → IsRun circuit columns n rows → t < n
+    → before ≡ state_at circuit rows t → inputs ≡ inputs_at columns t → (cycle : Cycle circuit before inputs printed after) → cycle.row ≡ row_at rows t
+cycle-row once circuit order columns n rows t before after inputs printed ordered run lt is given cycle =
+    once circuit order before inputs cycle.row (row_at rows t) ordered cycle.settled
+    (subst (λ (s : State). Settled circuit s inputs (row_at rows t)) (sym is) (subst (λ (i : List ℕ). Settled circuit (state_at circuit rows t) i (row_at rows t)) (sym given) (run.settled t lt)))
+
+-- the front of a text of rows
+pub trace_text-front : (ports : List Port) (columns : List (List ℕ)) (n t : ℕ) → t ≤ n → IsFront (trace_text ports columns t) (trace_text ports columns n)
+trace_text-front ports columns zero t le = let e : t ≡ zero = omega arith in ([], append-nil (trace_text ports columns t) ∙ ap (trace_text ports columns) e)
+trace_text-front ports columns (suc n) t le =
+    elim (eq-or-lt_of_le {n = t} {m = suc n} le) [
+      | inl is ↦ ([], append-nil (trace_text ports columns t) ∙ ap (trace_text ports columns) is)
+      | inr lt ↦
+          let front = trace_text-front ports columns n t (omega arith) in (
+            front.0 ++ row_line ports n (row_of columns n),
+            sym (append_assoc (trace_text ports columns t) front.0 (row_line ports n (row_of columns n)))
+                ∙ ap (λ (x : List ℕ). x ++ row_line ports n (row_of columns n)) front.1,
+          )
+    ]
+
+-- one row behind a text of rows
+pub trace_text-more : (ports : List Port) (columns : List (List ℕ)) (t : ℕ) (values : List ℕ) → values ≡ row_of columns t
+    → trace_text ports columns t ++ row_line ports t values ≡ trace_text ports columns (t + 1)
+trace_text-more ports columns t values e =
+    let turned : suc t ≡ t + 1 = omega arith in
+    ap (λ (v : List ℕ). trace_text ports columns t ++ row_line ports t v) e ∙ ap (trace_text ports columns) turned
+
+-- what a cycle of a run leaves: the next state, and the outputs' row
+pub record Follows (circuit : FlatCircuit) (rows : List (List ℕ)) (t : ℕ) (after : State) (printed : List ℕ) : Type 0 where
+  pub state : after ≡ state_at circuit rows (t + 1)
+  pub row : printed ≡ row_of (out_columns circuit rows) t
+
+pub cycle-follows : SettledOnce → (circuit : FlatCircuit) (order : List ℕ) (columns : List (List ℕ)) (n : ℕ) (rows : List (List ℕ)) (t : ℕ)
+    (before after : State) (inputs printed : List ℕ) → IsOrder circuit order → IsRun circuit columns n rows → t < n
+    → before ≡ state_at circuit rows t → inputs ≡ inputs_at columns t → Cycle circuit before inputs printed after → Follows circuit rows t after printed
+cycle-follows once circuit order columns n rows t before after inputs printed ordered run lt is given cycle =
+    let row = cycle-row once circuit order columns n rows t before after inputs printed ordered run lt is given cycle in
+    let turned : suc t ≡ t + 1 = omega arith in
+    let counted = run.count in
+    let within : t < length rows = omega arith in
+    record {
+      state = cycle.next ∙ ap (λ (s : State). next_state circuit s cycle.row) is ∙ ap (next_state circuit (state_at circuit rows t)) row ∙ ap (state_at circuit rows) turned;
+      row = cycle.outputs_are ∙ ap (outputs circuit) row ∙ outputs-row circuit rows t within circuit.outs;
+    }
+
+-- a count that rose later rose
+pub rose-earlier : (a b c : ℕ) → a ≤ b → Rose b c → Rose a c
+rose-earlier a b c le rose = omega arith
+
+-- a front part of a text, behind another
+pub stands-within : (base now now' : Option (List ℕ)) (text row whole : List ℕ) → now ≡ append_known base text → IsFront (text ++ row) whole
+    → StandsFront now now' row → StandsFront base now' whole
+stands-within base now now' text row whole is front (part, rest, puts) = (
+  text ++ part,
+  (
+    rest.0 ++ front.0,
+    sym (append_assoc (text ++ part) rest.0 front.0)
+        ∙ ap (λ (x : List ℕ). x ++ front.0) (append_assoc text part rest.0 ∙ ap (λ (x : List ℕ). text ++ x) rest.1) ∙ front.1,
+  ),
+  puts ∙ ap (λ (w : Option (List ℕ)). append_known w part) is ∙ append_known-append base text part,
+)
+
+-- where a row stops, a front part of the whole text stands
+pub stop-within : (T : Type 0) (base now now' : Option (List ℕ)) (failed failed' : Type 0) (text row whole : List ℕ) (stop : Stop)
+    → now ≡ append_known base text → (failed → failed') → IsFront (text ++ row) whole
+    → Prints {T = T} now now' failed row (Err stop) → Prints {T = T} base now' failed' whole (Err stop)
+stop-within T base now now' failed failed' text row whole (Refused said) is more front prints = prints
+stop-within T base now now' failed failed' text row whole Unwritten is more front prints = (more prints.0, stands-within base now now' text row whole is front prints.1)
+stop-within T base now now' failed failed' text row whole NoMemory is more front prints = stands-within base now now' text row whole is front prints
+
+module _ (circuit : FlatCircuit) (inputs : Table) (ports : List Port) (before now now' : Option (List ℕ)) (f f' f'' r r' r'' t : ℕ) (mono mono' : Simulation) (outs outs' : List ℕ) where
+  -- one cycle more
+  pub printed-next : SettledOnce → (order : List ℕ) → IsOrder circuit order → t < inputs.rows → (row : List ℕ) → row ≡ row_of inputs.columns t
+      → PrintedTo circuit inputs ports before now f f' r r' t mono outs
+      → mono'.circuit ≡ mono.circuit → Cycle mono.circuit mono.state row outs' mono'.state → now' ≡ append_known now (row_line ports t outs')
+      → f' ≤ f'' → r' ≤ r'' → length outs' ≡ length outs
+      → PrintedTo circuit inputs ports before now' f f'' r r'' (t + 1) mono' outs'
+  printed-next once order ordered lt row given printed same cycle puts fs rs counted =
+      let here : Cycle circuit mono.state row outs' mono'.state = subst (λ (c : FlatCircuit). Cycle c mono.state row outs' mono'.state) printed.same cycle in
+      let follows : (rows : List (List ℕ)) → IsRun circuit inputs.columns inputs.rows rows → Follows circuit rows t mono'.state outs' =
+      λ rows run. cycle-follows once circuit order inputs.columns inputs.rows rows t mono.state mono'.state row outs' ordered run lt (printed.state rows run) given here in
+      let fs' = printed.faults_stay_or_rise in
+      let rs' = printed.refused_stay_or_rise in
+      record {
+        same = same ∙ printed.same;
+        count = counted ∙ printed.count;
+        state = λ rows run. (follows rows run).state;
+        written = λ rows base run begins.
+            puts ∙ ap (λ (w : Option (List ℕ)). append_known w (row_line ports t outs')) (printed.written rows base run begins)
+            ∙ append_known-append base (trace_text ports (out_columns circuit rows) t) (row_line ports t outs')
+            ∙ ap (append_known base) (trace_text-more ports (out_columns circuit rows) t outs' (follows rows run).row);
+        faults_stay_or_rise = omega arith;
+        refused_stay_or_rise = omega arith;
+      }
+
+  -- where a row stops, a front part of the whole text stands
+  pub printed-stop : SettledOnce → (order : List ℕ) → IsOrder circuit order → t < inputs.rows → (row : List ℕ) → row ≡ row_of inputs.columns t
+      → PrintedTo circuit inputs ports before now f f' r r' t mono outs
+      → Cycle mono.circuit mono.state row outs' mono'.state → (T : Type 0) (stop : Stop) → Prints {T = T} now now' (Rose f' f'') (row_line ports t outs') (Err stop)
+      → (rows : List (List ℕ)) (base : Option (List ℕ)) → IsRun circuit inputs.columns inputs.rows rows
+      → before ≡ append_known base (trace_text ports (out_columns circuit rows) 0)
+      → Prints {T = T} base now' (Rose f f'') (trace_text ports (out_columns circuit rows) inputs.rows) (Err stop)
+  printed-stop once order ordered lt row given printed cycle T stop prints rows base run begins =
+      let here : Cycle circuit mono.state row outs' mono'.state = subst (λ (c : FlatCircuit). Cycle c mono.state row outs' mono'.state) printed.same cycle in
+      let follows : Follows circuit rows t mono'.state outs' =
+      cycle-follows once circuit order inputs.columns inputs.rows rows t mono.state mono'.state row outs' ordered run lt (printed.state rows run) given here in
+      let front = trace_text-front ports (out_columns circuit rows) inputs.rows (t + 1) (omega arith) in
+      stop-within T base now now' (Rose f' f'') (Rose f f'') (trace_text ports (out_columns circuit rows) t) (row_line ports t outs')
+      (trace_text ports (out_columns circuit rows) inputs.rows) stop (printed.written rows base run begins)
+      (rose-earlier f f' f'' printed.faults_stay_or_rise)
+      (subst (λ (x : List ℕ). IsFront x (trace_text ports (out_columns circuit rows) inputs.rows)) (sym (trace_text-more ports (out_columns circuit rows) t outs' follows.row)) front)
+      prints
+
+-- what stands after a header that stopped
+pub header-stop : (T : Type 0) (before now : Option (List ℕ)) (failed : Type 0) (ports : List Port) (columns : List (List ℕ)) (n : ℕ) (piece : List ℕ) (stop : Stop)
+    → piece ≡ header_line ports → Prints {T = T} before now failed piece (Err stop) → Prints {T = T} before now failed (trace_text ports columns n) (Err stop)
+header-stop T before now failed ports columns n piece stop e prints =
+    stop-within T before before now failed failed [] (header_line ports) (trace_text ports columns n) stop (sym (append_known-nil before)) (λ x. x)
+    (trace_text-front ports columns n 0 (omega arith)) (subst (λ (p : List ℕ). Prints {T = T} before now failed p (Err stop)) e prints)
+
+-- a failed put is one of the whole call
+pub prints-more : (T : Type 0) (before now : Option (List ℕ)) (failed failed' : Type 0) (text : List ℕ) (r : Result T Stop) → (failed → failed')
+    → Prints before now failed text r → Prints before now failed' text r
+prints-more T before now failed failed' text (Ok done) more prints = prints
+prints-more T before now failed failed' text (Err (Refused said)) more prints = prints
+prints-more T before now failed failed' text (Err Unwritten) more prints = (more prints.0, prints.1)
+prints-more T before now failed failed' text (Err NoMemory) more prints = prints
+
+-- the text of a run, by the ports that were made and the circuit that is simulated
+pub run-prints : (T : Type 0) (before now : Option (List ℕ)) (failed : Type 0) (r : Result T Stop) (circuit simulated : FlatCircuit) (ports : List Port) (columns : List (List ℕ)) (n : ℕ)
+    → simulated ≡ circuit → ports ≡ out_ports circuit → (rows : List (List ℕ)) → IsRun circuit columns n rows
+    → ((rows : List (List ℕ)) → IsRun simulated columns n rows → Prints before now failed (trace_text ports (out_columns simulated rows) n) r)
+    → Prints before now failed (trace_text (out_ports circuit) (out_columns circuit rows) n) r
+run-prints T before now failed r circuit simulated ports columns n e f rows run prints =
+    subst (λ (p : List Port). Prints before now failed (trace_text p (out_columns circuit rows) n) r) f
+    (subst (λ (c : FlatCircuit). IsRun c columns n rows → Prints before now failed (trace_text ports (out_columns c rows) n) r) e (prints rows) run)

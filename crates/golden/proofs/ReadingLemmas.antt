@@ -1,0 +1,60 @@
+-- Why a trace is refused.
+use Rattle.std.proofs.Common.{◌≡◌, ℕ, List, sym, ap, ◌∙◌, subst, length, ◌<◌}
+use Rattle.gg_flat.specs.Circuit.{FlatCircuit}
+use Rattle.gg_flat.specs.WellFormed.{IsWellFormed}
+use Rattle.gg_flat.specs.declared.ports.Port.{Port}
+use Rattle.gg_trace.specs.Ports.{HasDistinctNames}
+use Rattle.gg_trace.specs.Trace.{Columns, HaveWidths}
+use Rattle.gg_trace.specs.Table.{row_of}
+use Rattle.gg_flat.specs.Settled.{IsInputs}
+use Rattle.golden.specs.declared.stops.Stop.{Stop}
+use Rattle.golden.specs.declared.stops.Stop.TheVariants.{Refused, Unwritten, NoMemory}
+use Rattle.golden.specs.Lines.{Said}
+use Rattle.gg_front.specs.Ports.{ports_at, in_ports, out_ports}
+use Rattle.golden.specs.RunText.{Feeds}
+use Rattle.golden.proofs.PortLemmas.{in_ports-distinct, out_ports-count, row-inputs}
+use Rattle.golden.specs.Stops.{IfRefused}
+
+-- what is said of a stop
+pub IfRefused-map : {P Q : Said → Type 0} → ((said : Said) → P said → Q said) → (stop : Stop) → IfRefused P stop → IfRefused Q stop
+IfRefused-map f (Refused said) h = f said h
+IfRefused-map f Unwritten h = h
+IfRefused-map f NoMemory h = h
+
+-- the ports of a circuit's inputs
+pub ports-are : (circuit piece : FlatCircuit) (ins : List ℕ) (ports : List Port) → ports ≡ ports_at piece ins → ins ≡ piece.ins → piece ≡ circuit
+    → ports ≡ in_ports circuit
+ports-are circuit piece ins ports p q r = p ∙ ap (ports_at piece) q ∙ ap (λ (c : FlatCircuit). in_ports c) r
+
+-- their names differ
+pub ports-distinct : (circuit : FlatCircuit) (ports : List Port) → ports ≡ in_ports circuit → IsWellFormed circuit → HasDistinctNames ports
+ports-distinct circuit ports e formed = subst (λ (p : List Port). HasDistinctNames p) (sym e) (in_ports-distinct circuit formed)
+
+-- what the trace gives the inputs is what it gives their ports
+pub feeds-ports : (circuit : FlatCircuit) (ports : List Port) (bytes slice : List ℕ) → ports ≡ in_ports circuit → slice ≡ bytes
+    → (n : ℕ) (columns : List (List ℕ)) → Feeds circuit bytes n columns → Columns ports slice n columns
+feeds-ports circuit ports bytes slice e f n columns feeds =
+    subst (λ (p : List Port). Columns p slice n columns) (sym e) (subst (λ (b : List ℕ). Columns (in_ports circuit) b n columns) (sym f) feeds)
+
+-- and the other way round
+pub ports-feed : (circuit : FlatCircuit) (ports : List Port) (bytes slice : List ℕ) → ports ≡ in_ports circuit → slice ≡ bytes
+    → (n : ℕ) (columns : List (List ℕ)) → Columns ports slice n columns → Feeds circuit bytes n columns
+ports-feed circuit ports bytes slice e f n columns cols =
+    subst (λ (p : List Port). Columns p bytes n columns) e (subst (λ (b : List ℕ). Columns ports b n columns) f cols)
+
+-- the ports of a circuit's outputs
+pub outs-are : (circuit piece : FlatCircuit) (outs : List ℕ) (ports : List Port) → ports ≡ ports_at piece outs → outs ≡ piece.outs → piece ≡ circuit
+    → ports ≡ out_ports circuit
+outs-are circuit piece outs ports p q r = p ∙ ap (ports_at piece) q ∙ ap (λ (c : FlatCircuit). out_ports c) r
+
+-- as many as the simulated circuit has
+pub outs-count : (circuit simulated : FlatCircuit) (ports : List Port) → ports ≡ out_ports circuit → simulated ≡ circuit → IsWellFormed circuit
+    → length ports ≡ length simulated.outs
+outs-count circuit simulated ports p e formed =
+    ap (λ (x : List Port). length x) p ∙ out_ports-count circuit formed ∙ sym (ap (λ (c : FlatCircuit). length c.outs) e)
+
+-- each row of the trace is what the circuit can get
+pub ports-fed : (circuit : FlatCircuit) (ports : List Port) (bytes : List ℕ) (n : ℕ) (columns : List (List ℕ)) → ports ≡ in_ports circuit → IsWellFormed circuit
+    → Columns ports bytes n columns → HaveWidths ports n columns → (t : ℕ) → t < n → IsInputs circuit (row_of columns t)
+ports-fed circuit ports bytes n columns e formed =
+    subst (λ (p : List Port). Columns p bytes n columns → HaveWidths p n columns → (t : ℕ) → t < n → IsInputs circuit (row_of columns t)) (sym e) (row-inputs circuit formed bytes n columns)

@@ -1,0 +1,5 @@
+use Rattle.golden.proofs.RunLemmas.{order-exact}
+use Rattle.golden.proofs.laws.refusals_are_exact.Goals as goal
+
+pub returns : goal.returns
+returns c = order-exact c.no_circuit.ensures c.one_fault_line.ensures

@@ -1,0 +1,37 @@
+use Rattle.std.proofs.Common.{refl}
+use Rattle.std.proofs.lemmas.Result.{err_from_is_err_and}
+use Rattle.golden.proofs.PrintingLemmas.{run-prints}
+use Rattle.golden.proofs.WritingLemmas.{none-front}
+use Rattle.golden.proofs.ReadingLemmas.{outs-are, outs-count}
+use Rattle.golden.proofs.printing.print_run.Goals as goal
+
+pub returns-in_err-ports-clause-prints : goal.returns-in_err-ports-clause-prints
+returns-in_err-ports-clause-prints g c =
+    let p = err_from_is_err_and c.from_residual.result c.from_residual.ensures.1 in
+    rw (p.1, p.2) (
+      _,
+      c.runs_along.ensures c.args.design.circuit c.args.design.order c.args.inputs.now.columns c.args.inputs.now.rows c.piece-piece.ensures.formed c.order.ensures.ordered c.requires.fed,
+      none-front _ _ _ refl,
+    )
+
+pub returns-in_err-mono-clause-prints : goal.returns-in_err-mono-clause-prints
+returns-in_err-mono-clause-prints g c =
+    let p = err_from_is_err_and c.from_residual-in_err-mono.result c.from_residual-in_err-mono.ensures.1 in
+    rw (p.1, p.2) (
+      _,
+      c.runs_along.ensures c.args.design.circuit c.args.design.order c.args.inputs.now.columns c.args.inputs.now.rows c.piece-piece.ensures.formed c.order.ensures.ordered c.requires.fed,
+      none-front _ _ _ refl,
+    )
+
+pub print_all-requires-clause-ports : goal.print_all-requires-clause-ports
+print_all-requires-clause-ports g c =
+    outs-count c.args.design.circuit _ _ (outs-are _ _ _ _ c.in_ok-ports.ensures c.outs.ensures c.piece-piece.ensures.circuit) c.in_ok-mono.ensures.circuit c.piece-piece.ensures.formed
+
+pub returns-clause-prints : goal.returns-clause-prints
+returns-clause-prints g c =
+    let run = c.runs_along.ensures c.args.design.circuit c.args.design.order c.args.inputs.now.columns c.args.inputs.now.rows c.piece-piece.ensures.formed c.order.ensures.ordered c.requires.fed in (
+      _,
+      run,
+      run-prints (Unit {0}) _ _ _ c.print_all.result c.args.design.circuit _ c.in_ok-ports.ports c.args.inputs.now.columns c.args.inputs.now.rows c.in_ok-mono.ensures.circuit
+          (outs-are _ _ _ _ c.in_ok-ports.ensures c.outs.ensures c.piece-piece.ensures.circuit) _ run c.print_all.ensures.prints,
+    )

@@ -1,0 +1,16 @@
+use Rattle.std.proofs.Common.{inr, subst, List, ℕ}
+use Rattle.golden.specs.Run.{TellsCircuit}
+use Rattle.golden.proofs.FrontLemmas.{front-tells}
+use Rattle.golden.proofs.ReadingLemmas.{IfRefused-map}
+use Rattle.golden.proofs.reading.read_circuit.Goals as goal
+
+pub returns-clause-refused : goal.returns-clause-refused
+returns-clause-refused g c =
+    IfRefused-map
+    (λ said h. inr (
+      c.in_ok-bytes.bytes.items,
+      record { held = c.in_ok-bytes.ensures.held; within = c.in_ok-bytes.ensures.within },
+      subst (λ (b : List ℕ). TellsCircuit c.args.name.now b said) c.as_slice.ensures.value
+          (front-tells c.args.name.now c.as_slice.result.now c.in-Err.fault said c.in-Err.ensures.refused h),
+    ))
+    c.stop_at_circuit.result c.stop_at_circuit.ensures

@@ -1,0 +1,8 @@
+-- What the contracts of the program speak of.
+pub mod Lines
+pub mod Order
+pub mod Outcome
+pub mod Run
+pub mod RunText
+pub mod Stops
+pub mod Words

@@ -1,0 +1,54 @@
+-- What a call says where it doesn't write its whole text: its status, and a line on the error sink.
+-- They are this program's own words; the lines are those of docs/FORMATS.md.
+use Rattle.std.specs.Prelude.{◌≡◌, ℕ, List, [], ◌∷◌, ◌++◌, codes, decimal}
+use Rattle.gg_read.specs.declared.text.ReadFault.{ReadFault}
+use Rattle.gg_read.specs.declared.text.ReadFault.TheVariants.{NotText, Syntax, Outside, TooDeep, NoMemory}
+
+-- what a refusal says: its status and its line
+pub record Said : Type 0 where
+  pub status : ℕ
+  pub line : List ℕ
+
+-- a text with the line feed that ends a line
+abbrev pub line_of : List ℕ → List ℕ
+line_of text = text ++ 10 ∷ []
+
+-- the words are no command; what stands behind `golden: words` isn't fixed, and is this for now
+abbrev pub no_command : Said
+no_command = record { status = 2; line = line_of (codes "golden: words: the command is run CIRCUIT PARTITION TRACE") }
+
+-- the file of this name isn't plain
+abbrev pub not_plain : List ℕ → Said
+not_plain name = record { status = 1; line = line_of (codes "golden: plain " ++ name) }
+
+-- the circuit has this fault
+abbrev pub circuit_fault : List ℕ → Said
+circuit_fault text = record { status = 1; line = line_of (codes "golden: circuit: " ++ text) }
+
+-- this names a fault of reading; want of memory is no fault of a text
+abbrev pub IsUnreadText : ReadFault → List ℕ → Type 0
+IsUnreadText NotText text = text ≡ codes "not text"
+IsUnreadText (Syntax n) text = text ≡ codes "syntax line " ++ decimal n
+IsUnreadText (Outside n word) text = text ≡ codes "outside line " ++ decimal n ++ codes " " ++ word
+IsUnreadText (TooDeep n) text = text ≡ codes "too deep line " ++ decimal n
+IsUnreadText NoMemory text = ⊥
+
+-- this is said of a circuit's text with this fault of reading
+abbrev pub TellsUnread : ReadFault → Said → Type 0
+TellsUnread fault said = (text : List ℕ) × IsUnreadText fault text × (said ≡ circuit_fault text)
+
+-- the file of this name can't be loaded
+abbrev pub cannot_load : List ℕ → Said
+cannot_load name = record { status = 3; line = line_of (codes "golden: cannot load " ++ name) }
+
+-- the file of this name has more bytes than this limit
+abbrev pub is_over : List ℕ → ℕ → Said
+is_over name limit = record { status = 8; line = line_of (codes "golden: " ++ name ++ (codes " is over " ++ decimal limit ++ codes " bytes")) }
+
+-- the output can't be written
+abbrev pub cannot_write : Said
+cannot_write = record { status = 4; line = line_of (codes "golden: cannot write") }
+
+-- memory ran out
+abbrev pub out_of_memory : Said
+out_of_memory = record { status = 5; line = line_of (codes "golden: out of memory") }

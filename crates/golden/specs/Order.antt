@@ -1,0 +1,82 @@
+-- The one order of refusals of a command: its files, one after the other, each loaded and then judged, and then its text.
+-- It says nothing of how a file is judged. A new command is a new order, a new fault of a file a new case of `refuses`.
+use Rattle.std.specs.Prelude.{◌≡◌, ℕ, ◌<◌, ◌≤◌, List, length, ◌⊎◌}
+use Rattle.gg_io.specs.Told.{Told, Holds, CanHold, CanBeOver}
+use Rattle.golden.specs.Lines.{Said, cannot_load, is_over}
+
+-- A file of a command: its name, how many bytes it may have, which bytes are accepted, and what is said of bytes that
+-- are refused.
+pub record File : Type 1 where
+  pub name : List ℕ
+  pub limit : ℕ
+  pub accepts : List ℕ → Type 0
+  pub refuses : List ℕ → Said → Type 0
+
+-- A command's order: a file is loaded, and what comes next depends on its bytes; or a text is written.
+pub data Order : Type 1 where
+  Load : (file : File) (next : List ℕ → Order) → Order
+  Write : (IsText : List ℕ → Type 0) → Order
+
+-- Of the bytes of a file one thing is said at most, with status 1, and nothing of bytes that are accepted.
+pub record IsExactFile (file : File) : Type 0 where
+  pub apart : (bytes : List ℕ) (said : Said) → file.accepts bytes → file.refuses bytes said → ⊥
+  pub once : (bytes : List ℕ) (said other : Said) → file.refuses bytes said → file.refuses bytes other → said ≡ other
+  pub status : (bytes : List ℕ) (said : Said) → file.refuses bytes said → said.status ≡ 1
+
+-- and so for each file of an order
+abbrev pub IsExact : Order → Type 0
+IsExact (Load file next) = IsExactFile file × ((bytes : List ℕ) → IsExact (next bytes))
+IsExact (Write IsText) = Unit {0}
+
+-- `files` tells what the shelf holds under each name; `lost` that a load failed, and `cut` that one was cut at its limit.
+module _ (files : List ℕ → Told) where
+  -- these can be the bytes of the file, and they are within its limit
+  pub record CanBe (file : File) (bytes : List ℕ) : Type 0 where
+    pub held : CanHold (files file.name) bytes
+    pub within : length bytes ≤ file.limit
+
+  -- the load of the file says this: it failed, or the file is too long
+  abbrev pub LoadSays : (lost cut : Type 0) → File → Said → Type 0
+  LoadSays lost cut file said =
+      (lost × (said ≡ cannot_load file.name))
+      ⊎ (cut × CanBeOver (files file.name) file.limit × (said ≡ is_over file.name file.limit))
+
+  -- this is said of the file: by its load, or of its bytes
+  abbrev pub IsRefused : (lost cut : Type 0) → File → Said → Type 0
+  IsRefused lost cut file said =
+      LoadSays lost cut file said
+      ⊎ ((bytes : List ℕ) × CanBe file bytes × file.refuses bytes said)
+
+  -- Some file is refused with this, and each file before it is accepted.
+  abbrev pub StopsAt : (lost cut : Type 0) → Order → Said → Type 0
+  StopsAt lost cut (Load file next) said =
+      IsRefused lost cut file said
+      ⊎ ((bytes : List ℕ) × CanBe file bytes × file.accepts bytes × StopsAt lost cut (next bytes) said)
+  StopsAt lost cut (Write IsText) said = ⊥
+
+  -- Each file is accepted, and this is the text.
+  abbrev pub IsWritten : Order → List ℕ → Type 0
+  IsWritten (Load file next) text = (bytes : List ℕ) × CanBe file bytes × file.accepts bytes × IsWritten (next bytes) text
+  IsWritten (Write IsText) text = IsText text
+
+  -- the file is told: these are its bytes
+  abbrev pub IsTold : File → List ℕ → Type 0
+  IsTold file bytes = files file.name ≡ Holds bytes
+
+  -- of told bytes: they are too many, or they are refused
+  abbrev pub IsDueOf : File → List ℕ → Said → Type 0
+  IsDueOf file bytes said =
+      ((file.limit < length bytes) × (said ≡ is_over file.name file.limit))
+      ⊎ ((length bytes ≤ file.limit) × file.refuses bytes said)
+
+  -- The files are told up to one that is refused with this, and each file before it is accepted.
+  abbrev pub DueAt : Order → Said → Type 0
+  DueAt (Load file next) said = (bytes : List ℕ) × IsTold file bytes
+      × (IsDueOf file bytes said ⊎ ((length bytes ≤ file.limit) × file.accepts bytes × DueAt (next bytes) said))
+  DueAt (Write IsText) said = ⊥
+
+  -- Each file is told and accepted, and this is the text.
+  abbrev pub IsDueText : Order → List ℕ → Type 0
+  IsDueText (Load file next) text = (bytes : List ℕ) × IsTold file bytes × (length bytes ≤ file.limit) × file.accepts bytes
+      × IsDueText (next bytes) text
+  IsDueText (Write IsText) text = IsText text

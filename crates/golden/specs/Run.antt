@@ -1,0 +1,65 @@
+-- The command `run`: its three files, and the text that it writes.
+use Rattle.std.specs.Prelude.{◌≡◌, ℕ, List, codes, ◌⊎◌}
+use Rattle.gg_flat.specs.Circuit.{FlatCircuit}
+use Rattle.gg_front.specs.Meaning.{Means}
+use Rattle.gg_front.specs.Fault.{IsReadUnplain}
+use Rattle.gg_front.specs.Plain.{IsPlain}
+use Rattle.gg_read.specs.Text.{HasReadFault}
+use Rattle.gg_read.specs.declared.text.ReadFault.{ReadFault}
+use Rattle.golden.specs.Lines.{Said, line_of, not_plain, TellsUnread}
+use Rattle.golden.specs.Order.{File, Order, Load, Write}
+use Rattle.golden.specs.RunText.{IsTraceOf, IsRunText}
+
+-- a file that is refused, as not plain, exactly where it isn't
+abbrev pub plain_file : (name : List ℕ) (limit : ℕ) (IsPlainFile : List ℕ → Type 0) → File
+plain_file name limit IsPlainFile =
+    record {
+      name = name;
+      limit = limit;
+      accepts = IsPlainFile;
+      refuses = λ bytes said. (¬ IsPlainFile bytes) × (said ≡ not_plain name);
+    }
+
+-- This is said of the bytes of a circuit's file of this name: their fault of reading, or where they are read, that they
+-- aren't plain.
+abbrev pub TellsCircuit : (name bytes : List ℕ) → Said → Type 0
+TellsCircuit name bytes said =
+    ((fault : ReadFault) × HasReadFault bytes fault × TellsUnread fault said)
+    ⊎ (IsReadUnplain bytes × (said ≡ not_plain name))
+
+-- the circuit's file: at most 4,194,304 bytes
+abbrev pub circuit_file : (name : List ℕ) → File
+circuit_file name = record { name = name; limit = 4194304; accepts = IsPlain; refuses = TellsCircuit name }
+
+-- a plain partition: `{}`, with or without a line feed
+abbrev pub IsPlainPartition : List ℕ → Type 0
+IsPlainPartition bytes = (bytes ≡ codes "{}") ⊎ (bytes ≡ line_of (codes "{}"))
+
+-- the partition's file: at most 1,048,576 bytes
+abbrev pub partition_file : (name : List ℕ) → File
+partition_file name = plain_file name 1048576 IsPlainPartition
+
+-- a file of a trace of these: at most 67,108,864 bytes
+abbrev pub trace_file : (IsTrace : List ℕ → Type 0) (name : List ℕ) → File
+trace_file IsTrace name = plain_file name 67108864 IsTrace
+
+-- a trace of the inputs of the circuit that these bytes are
+abbrev pub IsPlainTrace : (circuit trace : List ℕ) → Type 0
+IsPlainTrace circuit trace = (flat : FlatCircuit) × Means circuit flat × IsTraceOf flat trace
+
+-- the text of the run of the circuit that these bytes are
+abbrev pub IsTextOf : (circuit trace text : List ℕ) → Type 0
+IsTextOf circuit trace text = (flat : FlatCircuit) × Means circuit flat × IsRunText flat trace text
+
+-- what is left of the order where the circuit's bytes are known and its partition was accepted
+abbrev pub trace_order : (circuit trace : List ℕ) → Order
+trace_order circuit trace = Load (trace_file (IsPlainTrace circuit) trace) (λ t. Write (IsTextOf circuit t))
+
+-- and where its partition is still to be loaded
+abbrev pub partition_order : (circuit partition trace : List ℕ) → Order
+partition_order circuit partition trace = Load (partition_file partition) (λ _. trace_order circuit trace)
+
+-- The order of `run`: the circuit, the partition and the trace are loaded and judged, each before the next is loaded;
+-- then the text of the circuit's run on the trace is written.
+abbrev pub run_order : (circuit partition trace : List ℕ) → Order
+run_order circuit partition trace = Load (circuit_file circuit) (λ c. partition_order c partition trace)

@@ -1,0 +1,30 @@
+-- The text of a circuit's own run on a trace: what `run` writes.
+-- Source: ICCAD 2019 (Golden Gate) for target cycles as rows; FIRRTL Specification for what a cycle is (crate gg_flat).
+use Rattle.std.specs.Prelude.{◌≡◌, ℕ, List, map}
+use Rattle.gg_flat.specs.Circuit.{FlatCircuit}
+use Rattle.gg_flat.specs.Run.{IsRun, column}
+use Rattle.gg_trace.specs.Trace.{Columns}
+use Rattle.gg_trace.specs.Printing.{trace_text}
+use Rattle.gg_front.specs.Ports.{in_ports, out_ports}
+
+-- the columns of the outputs, in port order
+abbrev pub out_columns : FlatCircuit → List (List ℕ) → List (List ℕ)
+out_columns circuit rows = map (column rows) circuit.outs
+
+-- the trace gives the circuit's inputs these columns, for n cycles
+abbrev pub Feeds : FlatCircuit → List ℕ → ℕ → List (List ℕ) → Type 0
+Feeds circuit trace n columns = Columns (in_ports circuit) trace n columns
+
+-- the trace is a trace of the circuit's inputs
+abbrev pub IsTraceOf : FlatCircuit → List ℕ → Type 0
+IsTraceOf circuit trace = (n : ℕ) × (columns : List (List ℕ)) × Feeds circuit trace n columns
+
+-- The text of the circuit's run: the trace gives its inputs for n cycles, `rows` is its run on them, and the text is a
+-- header and a row for each cycle, of the outputs' columns in the run.
+pub record IsRunText (circuit : FlatCircuit) (trace text : List ℕ) : Type 0 where
+  pub cycles : ℕ
+  pub columns : List (List ℕ)
+  pub rows : List (List ℕ)
+  pub feeds : Feeds circuit trace cycles columns
+  pub run : IsRun circuit columns cycles rows
+  pub is : text ≡ trace_text (out_ports circuit) (out_columns circuit rows) cycles

@@ -1,0 +1,66 @@
+-- How a command stands when its function returns: done, or stopped before its whole text was written.
+use Rattle.std.specs.Prelude.{◌≡◌, ℕ, List, [], Option, Result, Ok, Err, MatchResult, ◌⊎◌, ⊤}
+use Rattle.std.specs.Io.KnownBytes.{append_known}
+use Rattle.gg_io.specs.Told.{Told}
+use Rattle.gg_front.specs.declared.front_end.FrontFault.{FrontFault}
+use Rattle.gg_front.specs.declared.front_end.FrontFault.TheVariants as front
+use Rattle.golden.specs.Lines.{Said, no_command, not_plain, cannot_write, out_of_memory, TellsUnread}
+use Rattle.golden.specs.Order.{Order, StopsAt, IsWritten}
+use Rattle.golden.specs.Outcome.{IsFront, StandsFront}
+use Rattle.golden.specs.Words.{Command, Asks, IsCommand, order_of}
+use Rattle.golden.specs.declared.stops.Stop.{Stop}
+use Rattle.golden.specs.declared.stops.Stop.TheVariants.{Refused, Unwritten, NoMemory}
+
+-- a refusal that says something of this kind, or want of memory
+abbrev pub IfRefused : (Said → Type 0) → Stop → Type 0
+IfRefused P (Refused said) = P said
+IfRefused P Unwritten = ⊥
+IfRefused P NoMemory = ⊤
+
+-- this is said of a circuit's file of this name at which the front end answers this
+abbrev pub TellsFront : List ℕ → FrontFault → Said → Type 0
+TellsFront name (front.Read fault) said = TellsUnread fault said
+TellsFront name front.Plain said = said ≡ not_plain name
+TellsFront name front.NoMemory said = ⊥
+
+-- what is said of the stop
+abbrev pub said_of : Stop → Said
+said_of (Refused said) = said
+said_of Unwritten = cannot_write
+said_of NoMemory = out_of_memory
+
+-- what is said where a command ended so: nothing, with status 0, where it is done
+abbrev pub said_by : {T : Type 0} → Result T Stop → Said
+said_by (Ok done) = record { status = 0; line = [] }
+said_by (Err stop) = said_of stop
+
+-- What stands on a sink after a text was written there, or stopped: all of it, or a front part; `failed` says that a
+-- put failed. A text that is being written is not refused.
+abbrev pub Prints : {T : Type 0} → (before now : Option (List ℕ)) (failed : Type 0) (text : List ℕ) → Result T Stop → Type 0
+Prints before now failed text (Ok done) = now ≡ append_known before text
+Prints before now failed text (Err (Refused said)) = ⊥
+Prints before now failed text (Err Unwritten) = failed × StandsFront before now text
+Prints before now failed text (Err NoMemory) = StandsFront before now text
+
+module _ (files : List ℕ → Told) (lost cut unwritten : Type 0) where
+  -- a command with this order has ended so, and wrote this
+  abbrev pub Ended : {T : Type 0} → Order → List ℕ → Result T Stop → Type 0
+  Ended order text (Ok done) = IsWritten files order text
+  Ended order text (Err (Refused said)) = StopsAt files lost cut order said × (text ≡ [])
+  Ended order text (Err Unwritten) = unwritten × ((whole : List ℕ) × IsWritten files order whole × IsFront text whole)
+  Ended order text (Err NoMemory) = (text ≡ []) ⊎ ((whole : List ℕ) × IsWritten files order whole × IsFront text whole)
+
+  -- and wrote it behind what stood before
+  abbrev pub EndedOn : {T : Type 0} → (before now : Option (List ℕ)) → Order → Result T Stop → Type 0
+  EndedOn before now order result = (text : List ℕ) × (now ≡ append_known before text) × Ended order text result
+
+  -- the words are no command, and that is said
+  abbrev pub IsUnasked : {T : Type 0} → List (List ℕ) → Result T Stop → Type 0
+  IsUnasked words result = (¬ IsCommand words)
+      × MatchResult result (λ _. ⊥) (IfRefused (λ said. said ≡ no_command))
+
+  -- a call with these words has ended so
+  abbrev pub CallEnded : {T : Type 0} → (before now : Option (List ℕ)) → List (List ℕ) → Result T Stop → Type 0
+  CallEnded before now words result =
+      ((command : Command) × Asks words command × EndedOn before now (order_of command) result)
+      ⊎ (IsUnasked words result × (now ≡ before))

@@ -1,0 +1,163 @@
+//! The top call.
+ghost use Rattle.std.specs.Prelude.{◌≡◌, ◌≢◌, ℕ, ◌≤◌, ◌⊎◌, List, length};
+ghost use Rattle.gg_io.specs.Count.{Rose};
+ghost use Rattle.gg_io.specs.Told.{Holds};
+ghost use Rattle.gg_read.specs.Text.{HasReadFault};
+ghost use Rattle.gg_read.specs.declared.text.ReadFault.{ReadFault};
+ghost use Rattle.golden.specs.Lines.{Said, TellsUnread};
+ghost use Rattle.golden.specs.Order.{StopsAt, DueAt, IsDueText};
+ghost use Rattle.golden.specs.Outcome.{Answered, Reports, HasTrouble};
+ghost use Rattle.golden.specs.Stops.{CallEnded, said_by};
+ghost use Rattle.golden.specs.Words.{Command, Run, Asks, IsCommand, order_of, texts};
+
+use crate::laws::refusals_are_exact;
+use crate::run::run;
+use crate::stops::{Stop, stop_unasked};
+use crate::words::{asks_run, word_at};
+use crate::writing::report;
+use gg_io::{Gate, Shelf, Sink};
+use std::alloc::Global;
+
+// The command that the words ask for.
+fn command<S: Shelf, K: Sink>(
+    alloc: Global,
+    words: &[String],
+    shelf: &mut S,
+    out: &mut K,
+) -> Result<(), Stop>
+    ensures ended { CallEnded (S.files shelf.old)
+        (Rose (S.faults shelf.old) (S.faults shelf.new)) (Rose (S.cuts shelf.old) (S.cuts shelf.new)) (Rose (K.faults out.old) (K.faults out.new))
+        (K.written out.old) (K.written out.new) (texts words.now) result }
+    ensures files_stay { S.files shelf.new ≡ S.files shelf.old }
+    ensures faults_stay_or_rise { S.faults shelf.old ≤ S.faults shelf.new }
+    ensures cuts_stay_or_rise { S.cuts shelf.old ≤ S.cuts shelf.new }
+    ensures out_faults_stay_or_rise { K.faults out.old ≤ K.faults out.new }
+    ensures refused_stay_or_rise { K.refused out.old ≤ K.refused out.new }
+{
+    if !asks_run(words) {
+        return Err(stop_unasked(alloc));
+    }
+    run(
+        alloc,
+        word_at(words, 2),
+        word_at(words, 3),
+        word_at(words, 4),
+        shelf,
+        out,
+    )
+}
+
+// Puts the line on how a command ended, if it didn't write its whole text, and gives its status. Where the line can't
+// be put the status is the same.
+fn status_of<E: Sink>(ended: &Result<(), Stop>, err: &mut E) -> u8
+    ensures status { result ≡ (said_by ended.now).status }
+    ensures line { Reports (E.written err.old) (E.written err.new) (HasTrouble (E.faults err.old) (E.faults err.new) (E.refused err.old) (E.refused err.new)) (said_by ended.now).line }
+    ensures faults_stay_or_rise { E.faults err.old ≤ E.faults err.new }
+    ensures refused_stay_or_rise { E.refused err.old ≤ E.refused err.new }
+{
+    match ended {
+        Ok(()) => 0,
+        Err(stop) => report(stop, err),
+    }
+}
+
+// What the words ask for is done, and how it ended is told.
+fn answer<S: Shelf, K: Sink, E: Sink>(
+    alloc: Global,
+    words: &[String],
+    shelf: &mut S,
+    out: &mut K,
+    err: &mut E,
+) -> u8
+    ensures answered { Answered (texts words.now) (S.files shelf.old)
+        (Rose (S.faults shelf.old) (S.faults shelf.new)) (Rose (S.cuts shelf.old) (S.cuts shelf.new)) (Rose (K.faults out.old) (K.faults out.new))
+        (HasTrouble (E.faults err.old) (E.faults err.new) (E.refused err.old) (E.refused err.new))
+        (K.written out.old) (K.written out.new) (E.written err.old) (E.written err.new) result }
+    ensures files_stay { S.files shelf.new ≡ S.files shelf.old }
+    ensures faults_stay_or_rise { S.faults shelf.old ≤ S.faults shelf.new }
+    ensures cuts_stay_or_rise { S.cuts shelf.old ≤ S.cuts shelf.new }
+    ensures out_faults_stay_or_rise { K.faults out.old ≤ K.faults out.new }
+    ensures out_refused_stay_or_rise { K.refused out.old ≤ K.refused out.new }
+    ensures err_faults_stay_or_rise { E.faults err.old ≤ E.faults err.new }
+    ensures err_refused_stay_or_rise { E.refused err.old ≤ E.refused err.new }
+{
+    let ended = command(alloc, words, shelf, out);
+    status_of(&ended, err)
+}
+
+/// A call of the program: what its words ask for, with files from `shelf`, the text on `out` and at most one line on
+/// `err`; the status is the answer. The first of the words is the program's own name. The gate isn't called yet.
+///
+/// `run CIRCUIT PARTITION TRACE` writes the text of the circuit's own run on the trace: a header, then a row for each
+/// cycle. Statuses:
+///
+/// - 0: the text was written whole;
+/// - 1: a circuit isn't read, or a file isn't plain, and each before it was; nothing was written;
+/// - 2: the words are no command; nothing was written;
+/// - 3: a load failed, which the shelf counts as a fault; nothing was written;
+/// - 4: a put on `out` failed, which it counts as a fault; a front part of the text stands there;
+/// - 5: memory ran out; nothing or a front part of the text stands there;
+/// - 8: a file is longer than its limit; nothing was written.
+///
+/// Where the files are told and no load or put fails, the files and the words decide the status, want of memory aside.
+pub fn golden<S: Shelf, K: Sink, E: Sink, G: Gate>(
+    alloc: Global,
+    words: &[String],
+    shelf: &mut S,
+    out: &mut K,
+    err: &mut E,
+    gate: &G,
+) -> u8
+    // The headline: status, text and line are an outcome of the words and the files; at status 0 the text is that of
+    // the circuit's own run.
+    ensures outcome { Answered (texts words.now) (S.files shelf.old)
+        (Rose (S.faults shelf.old) (S.faults shelf.new)) (Rose (S.cuts shelf.old) (S.cuts shelf.new)) (Rose (K.faults out.old) (K.faults out.new))
+        (HasTrouble (E.faults err.old) (E.faults err.new) (E.refused err.old) (E.refused err.new))
+        (K.written out.old) (K.written out.new) (E.written err.old) (E.written err.new) result }
+
+    // The cause of each status, and of status 1 the line too.
+    ensures not_plain { result ≡ 1 → (command : Command) × Asks (texts words.now) command
+        × ((said : Said) × StopsAt (S.files shelf.old) ⊥ ⊥ (order_of command) said
+        × Reports (E.written err.old) (E.written err.new) (HasTrouble (E.faults err.old) (E.faults err.new) (E.refused err.old) (E.refused err.new)) said.line) }
+    ensures no_command { result ≡ 2 → ¬ IsCommand (texts words.now) }
+    ensures lost { result ≡ 3 → Rose (S.faults shelf.old) (S.faults shelf.new) }
+    ensures unwritten { result ≡ 4 → Rose (K.faults out.old) (K.faults out.new) }
+    ensures over { result ≡ 8 → Rose (S.cuts shelf.old) (S.cuts shelf.new) × ((command : Command) × Asks (texts words.now) command
+        × ((said : Said) × StopsAt (S.files shelf.old) ⊥ (Rose (S.cuts shelf.old) (S.cuts shelf.new)) (order_of command) said × (said.status ≡ 8))) }
+    ensures nothing_written { result ≢ 0 → result ≢ 4 → result ≢ 5 → K.written out.new ≡ K.written out.old }
+
+    // Words that are no command are refused as such.
+    ensures unasked { ¬ IsCommand (texts words.now) → (result ≡ 2) ⊎ (result ≡ 5) }
+
+    // Where no load fails, what is due by the files that are told is said.
+    ensures due { (Rose (S.faults shelf.old) (S.faults shelf.new) → ⊥) → (command : Command) (due : Said)
+        → Asks (texts words.now) command → DueAt (S.files shelf.old) (order_of command) due
+        → ((result ≡ due.status)
+        × Reports (E.written err.old) (E.written err.new) (HasTrouble (E.faults err.old) (E.faults err.new) (E.refused err.old) (E.refused err.new)) due.line)
+        ⊎ (result ≡ 5) }
+
+    // So a circuit's file that is told and has a fault of reading is refused with that, whatever the other files are.
+    ensures unread { (Rose (S.faults shelf.old) (S.faults shelf.new) → ⊥) → (circuit partition trace bytes : List ℕ) (fault : ReadFault) (said : Said)
+        → Asks (texts words.now) (Run circuit partition trace) → S.files shelf.old circuit ≡ Holds bytes → length bytes ≤ 4194304
+        → HasReadFault bytes fault → TellsUnread fault said
+        → ((result ≡ 1)
+        × Reports (E.written err.old) (E.written err.new) (HasTrouble (E.faults err.old) (E.faults err.new) (E.refused err.old) (E.refused err.new)) said.line)
+        ⊎ (result ≡ 5) }
+
+    // Where no load and no put fails, files that are told and accepted give their text.
+    ensures complete { (Rose (S.faults shelf.old) (S.faults shelf.new) → ⊥) → (Rose (K.faults out.old) (K.faults out.new) → ⊥)
+        → (command : Command) (whole : List ℕ) → Asks (texts words.now) command → IsDueText (S.files shelf.old) (order_of command) whole
+        → (result ≡ 0) ⊎ (result ≡ 5) }
+
+    ensures files_stay { S.files shelf.new ≡ S.files shelf.old }
+    ensures faults_stay_or_rise { S.faults shelf.old ≤ S.faults shelf.new }
+    ensures cuts_stay_or_rise { S.cuts shelf.old ≤ S.cuts shelf.new }
+    ensures out_faults_stay_or_rise { K.faults out.old ≤ K.faults out.new }
+    ensures out_refused_stay_or_rise { K.refused out.old ≤ K.refused out.new }
+    ensures err_faults_stay_or_rise { E.faults err.old ≤ E.faults err.new }
+    ensures err_refused_stay_or_rise { E.refused err.old ≤ E.refused err.new }
+{
+    let _ = gate;
+    refusals_are_exact();
+    answer(alloc, words, shelf, out, err)
+}

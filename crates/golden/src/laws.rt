@@ -1,0 +1,13 @@
+//! A law of the order of refusals.
+ghost use Rattle.golden.specs.Order.{IsExact};
+ghost use Rattle.golden.specs.Words.{Command, order_of};
+
+use gg_read::{no_circuit, one_fault_line};
+
+/// Of the bytes of each file of a command one thing is said at most, and nothing of bytes that are accepted.
+pub fn refusals_are_exact()
+    ensures { (command : Command) → IsExact (order_of command) }
+{
+    no_circuit();
+    one_fault_line();
+}

@@ -1,0 +1,35 @@
+//! Loading a file.
+ghost use Rattle.std.specs.Prelude.{◌≡◌, ◌-◌, ◌^◌, ◌<◌, ◌≤◌, ◌⊎◌, IfOk, IfErr, length};
+ghost use Rattle.gg_io.specs.Count.{Rose};
+ghost use Rattle.gg_io.specs.Told.{CanHold, CanBeOver};
+ghost use Rattle.golden.specs.Lines.{cannot_load, is_over};
+ghost use Rattle.golden.specs.Stops.{IfRefused};
+
+use crate::stops::{Stop, stop_cannot_load, stop_over};
+use gg_io::{LoadFail, Shelf};
+use std::alloc::Global;
+
+/// The bytes of a file.
+pub(crate) fn load<S: Shelf>(
+    alloc: Global,
+    shelf: &mut S,
+    name: &str,
+    limit: u64,
+) -> Result<Vec<u8>, Stop>
+    requires { limit < 2 ^ 64 - 1 }
+    ensures within { IfOk result (λ bytes. length bytes.items ≤ limit) }
+    ensures held { IfOk result (λ bytes. CanHold (S.files shelf.old name.now) bytes.items) }
+    ensures refused { IfErr result (IfRefused (λ said.
+        (Rose (S.faults shelf.old) (S.faults shelf.new) × (said ≡ cannot_load name.now))
+        ⊎ (Rose (S.cuts shelf.old) (S.cuts shelf.new) × CanBeOver (S.files shelf.old name.now) limit × (said ≡ is_over name.now limit)))) }
+    ensures files_stay { S.files shelf.new ≡ S.files shelf.old }
+    ensures faults_stay_or_rise { S.faults shelf.old ≤ S.faults shelf.new }
+    ensures cuts_stay_or_rise { S.cuts shelf.old ≤ S.cuts shelf.new }
+{
+    match shelf.load(alloc, name, limit) {
+        Ok(bytes) => Ok(bytes),
+        Err(LoadFail::Failed) => Err(stop_cannot_load(alloc, name)),
+        Err(LoadFail::TooLong { .. }) => Err(stop_over(alloc, name, limit)),
+        Err(LoadFail::NoMemory) => Err(Stop::NoMemory),
+    }
+}

@@ -1,0 +1,118 @@
+//! Reading the three files of `run`.
+ghost use Rattle.std.specs.Prelude.{◌≡◌, ◌≢◌, ℕ, ◌<◌, ◌≤◌, ◌↔◌, List, IfOk, IfErr, IsTrue};
+ghost use Rattle.gg_io.specs.Count.{Rose};
+ghost use Rattle.gg_front.specs.Meaning.{Means};
+ghost use Rattle.gg_flat.specs.Settled.{IsInputs};
+ghost use Rattle.gg_trace.specs.Table.{row_of};
+ghost use Rattle.gg_trace.specs.declared.faults.TraceFault.TheVariants.{NoMemory};
+ghost use Rattle.golden.specs.Lines.{not_plain};
+ghost use Rattle.golden.specs.Order.{CanBe, IsRefused};
+ghost use Rattle.golden.specs.Run.{circuit_file, partition_file, trace_file, IsPlainPartition};
+ghost use Rattle.golden.specs.RunText.{Feeds, IsTraceOf};
+ghost use Rattle.golden.specs.Stops.{IfRefused, TellsFront};
+
+use crate::loading::load;
+use crate::ports::ports_of;
+use crate::stops::{Stop, stop_not_plain};
+use crate::unread::stop_unread;
+use gg_front::{FrontFault, front};
+use gg_io::Shelf;
+use gg_order::Design;
+use gg_trace::{Trace, TraceFault, read_trace};
+use std::alloc::Global;
+
+// How many bytes a circuit, a partition and a trace may have.
+const CIRCUIT_LIMIT: u64 = 4_194_304;
+
+const PARTITION_LIMIT: u64 = 1_048_576;
+
+const TRACE_LIMIT: u64 = 67_108_864;
+
+// The stop at a circuit of which the front end answers this.
+fn stop_at_circuit(alloc: Global, name: &str, fault: &FrontFault) -> Stop
+    ensures { IfRefused (TellsFront name.now fault.now) result }
+{
+    match fault {
+        FrontFault::Read(fault) => stop_unread(alloc, fault),
+        FrontFault::Plain => stop_not_plain(alloc, name),
+        FrontFault::NoMemory => Stop::NoMemory,
+    }
+}
+
+/// The design of the circuit's file.
+pub(crate) fn read_circuit<S: Shelf>(
+    alloc: Global,
+    shelf: &mut S,
+    name: &str,
+) -> Result<Design, Stop>
+    ensures accepted { IfOk result (λ design. (bytes : List ℕ) × CanBe (S.files shelf.old) (circuit_file name.now) bytes × Means bytes design.circuit) }
+    ensures refused { IfErr result (IfRefused (IsRefused (S.files shelf.old)
+        (Rose (S.faults shelf.old) (S.faults shelf.new)) (Rose (S.cuts shelf.old) (S.cuts shelf.new)) (circuit_file name.now))) }
+    ensures files_stay { S.files shelf.new ≡ S.files shelf.old }
+    ensures faults_stay_or_rise { S.faults shelf.old ≤ S.faults shelf.new }
+    ensures cuts_stay_or_rise { S.cuts shelf.old ≤ S.cuts shelf.new }
+{
+    let bytes = load(alloc, shelf, name, CIRCUIT_LIMIT)?;
+    match front(alloc, bytes.as_slice()) {
+        Ok(design) => Ok(design),
+        Err(fault) => Err(stop_at_circuit(alloc, name, &fault)),
+    }
+}
+
+// Whether these bytes are a plain partition.
+fn is_plain_partition(bytes: &[u8]) -> bool
+    ensures { IsTrue result ↔ IsPlainPartition bytes.now }
+{
+    bytes == b"{}".as_slice() || bytes == b"{}\n".as_slice()
+}
+
+/// Reads the partition's file, from which nothing is kept.
+pub(crate) fn read_partition<S: Shelf>(alloc: Global, shelf: &mut S, name: &str) -> Result<(), Stop>
+    ensures accepted { IfOk result (λ _. (bytes : List ℕ) × CanBe (S.files shelf.old) (partition_file name.now) bytes × IsPlainPartition bytes) }
+    ensures refused { IfErr result (IfRefused (IsRefused (S.files shelf.old)
+        (Rose (S.faults shelf.old) (S.faults shelf.new)) (Rose (S.cuts shelf.old) (S.cuts shelf.new)) (partition_file name.now))) }
+    ensures files_stay { S.files shelf.new ≡ S.files shelf.old }
+    ensures faults_stay_or_rise { S.faults shelf.old ≤ S.faults shelf.new }
+    ensures cuts_stay_or_rise { S.cuts shelf.old ≤ S.cuts shelf.new }
+{
+    let bytes = load(alloc, shelf, name, PARTITION_LIMIT)?;
+    if !is_plain_partition(bytes.as_slice()) {
+        return Err(stop_not_plain(alloc, name));
+    }
+    Ok(())
+}
+
+// The stop at a faulty trace.
+fn stop_at_trace(alloc: Global, name: &str, fault: TraceFault) -> Stop
+    ensures { IfRefused (λ said. (fault ≢ NoMemory) × (said ≡ not_plain name.now)) result }
+{
+    if let TraceFault::NoMemory = fault {
+        return Stop::NoMemory;
+    }
+    stop_not_plain(alloc, name)
+}
+
+/// The columns that the trace's file gives the inputs of a circuit.
+pub(crate) fn read_inputs<S: Shelf>(
+    alloc: Global,
+    shelf: &mut S,
+    name: &str,
+    design: &Design,
+) -> Result<Trace, Stop>
+    ensures accepted { IfOk result (λ trace. (bytes : List ℕ) × CanBe (S.files shelf.old) (trace_file (IsTraceOf design.now.circuit) name.now) bytes
+        × Feeds design.now.circuit bytes trace.rows trace.columns) }
+    ensures fed { IfOk result (λ trace. (t : ℕ) → t < trace.rows → IsInputs design.now.circuit (row_of trace.columns t)) }
+    ensures refused { IfErr result (IfRefused (IsRefused (S.files shelf.old)
+        (Rose (S.faults shelf.old) (S.faults shelf.new)) (Rose (S.cuts shelf.old) (S.cuts shelf.new)) (trace_file (IsTraceOf design.now.circuit) name.now))) }
+    ensures files_stay { S.files shelf.new ≡ S.files shelf.old }
+    ensures faults_stay_or_rise { S.faults shelf.old ≤ S.faults shelf.new }
+    ensures cuts_stay_or_rise { S.cuts shelf.old ≤ S.cuts shelf.new }
+{
+    let bytes = load(alloc, shelf, name, TRACE_LIMIT)?;
+    let piece = design.piece();
+    let ports = ports_of(alloc, piece, piece.ins())?;
+    match read_trace(alloc, &ports, bytes.as_slice()) {
+        Ok(trace) => Ok(trace),
+        Err(fault) => Err(stop_at_trace(alloc, name, fault)),
+    }
+}

@@ -1,0 +1,80 @@
+//! The command `run`.
+ghost use Rattle.std.specs.Prelude.{◌≡◌, ℕ, ◌≤◌, List};
+ghost use Rattle.gg_io.specs.Count.{Rose};
+ghost use Rattle.gg_front.specs.Meaning.{Means};
+ghost use Rattle.golden.specs.Run.{run_order, partition_order, trace_order};
+ghost use Rattle.golden.specs.Stops.{EndedOn};
+
+use crate::printing::print_run;
+use crate::reading::{read_circuit, read_inputs, read_partition};
+use crate::stops::Stop;
+use gg_front::ports_agree;
+use gg_io::{Shelf, Sink};
+use gg_order::Design;
+use std::alloc::Global;
+
+// `run`, where the circuit is read and the partition is accepted.
+fn run_trace<S: Shelf, K: Sink>(
+    alloc: Global,
+    design: Design,
+    trace: &str,
+    shelf: &mut S,
+    out: &mut K,
+) -> Result<(), Stop>
+    ensures ended { (circuit : List ℕ) → Means circuit design.circuit → EndedOn (S.files shelf.old)
+        (Rose (S.faults shelf.old) (S.faults shelf.new)) (Rose (S.cuts shelf.old) (S.cuts shelf.new)) (Rose (K.faults out.old) (K.faults out.new))
+        (K.written out.old) (K.written out.new) (trace_order circuit trace.now) result }
+    ensures files_stay { S.files shelf.new ≡ S.files shelf.old }
+    ensures faults_stay_or_rise { S.faults shelf.old ≤ S.faults shelf.new }
+    ensures cuts_stay_or_rise { S.cuts shelf.old ≤ S.cuts shelf.new }
+    ensures out_faults_stay_or_rise { K.faults out.old ≤ K.faults out.new }
+    ensures refused_stay_or_rise { K.refused out.old ≤ K.refused out.new }
+{
+    ports_agree();
+    let inputs = read_inputs(alloc, shelf, trace, &design)?;
+    print_run(alloc, design, &inputs, out)
+}
+
+// `run`, where the circuit is read.
+fn run_design<S: Shelf, K: Sink>(
+    alloc: Global,
+    design: Design,
+    partition: &str,
+    trace: &str,
+    shelf: &mut S,
+    out: &mut K,
+) -> Result<(), Stop>
+    ensures ended { (circuit : List ℕ) → Means circuit design.circuit → EndedOn (S.files shelf.old)
+        (Rose (S.faults shelf.old) (S.faults shelf.new)) (Rose (S.cuts shelf.old) (S.cuts shelf.new)) (Rose (K.faults out.old) (K.faults out.new))
+        (K.written out.old) (K.written out.new) (partition_order circuit partition.now trace.now) result }
+    ensures files_stay { S.files shelf.new ≡ S.files shelf.old }
+    ensures faults_stay_or_rise { S.faults shelf.old ≤ S.faults shelf.new }
+    ensures cuts_stay_or_rise { S.cuts shelf.old ≤ S.cuts shelf.new }
+    ensures out_faults_stay_or_rise { K.faults out.old ≤ K.faults out.new }
+    ensures refused_stay_or_rise { K.refused out.old ≤ K.refused out.new }
+{
+    read_partition(alloc, shelf, partition)?;
+    run_trace(alloc, design, trace, shelf, out)
+}
+
+/// `run`: reads the circuit, the partition and the trace, and writes the text of the circuit's run.
+pub(crate) fn run<S: Shelf, K: Sink>(
+    alloc: Global,
+    circuit: &str,
+    partition: &str,
+    trace: &str,
+    shelf: &mut S,
+    out: &mut K,
+) -> Result<(), Stop>
+    ensures ended { EndedOn (S.files shelf.old)
+        (Rose (S.faults shelf.old) (S.faults shelf.new)) (Rose (S.cuts shelf.old) (S.cuts shelf.new)) (Rose (K.faults out.old) (K.faults out.new))
+        (K.written out.old) (K.written out.new) (run_order circuit.now partition.now trace.now) result }
+    ensures files_stay { S.files shelf.new ≡ S.files shelf.old }
+    ensures faults_stay_or_rise { S.faults shelf.old ≤ S.faults shelf.new }
+    ensures cuts_stay_or_rise { S.cuts shelf.old ≤ S.cuts shelf.new }
+    ensures out_faults_stay_or_rise { K.faults out.old ≤ K.faults out.new }
+    ensures refused_stay_or_rise { K.refused out.old ≤ K.refused out.new }
+{
+    let design = read_circuit(alloc, shelf, circuit)?;
+    run_design(alloc, design, partition, trace, shelf, out)
+}

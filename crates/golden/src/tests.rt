@@ -1,0 +1,411 @@
+//! Calls of golden with files and sinks in memory. The expected texts are worked by hand from docs/FORMATS.md.
+use super::{golden, refusals_are_exact};
+use gg_io::{FailingPut, MemFiles, MemShelf, MemSink, NoGate, hold};
+use std::alloc::{AllocError, Global};
+use std::collections::BTreeMap;
+use std::process::Abort;
+use std::test::Fail;
+
+// The counter's lines.
+static COUNTER: [&str; 11] = [
+    "circuit Counter :",
+    "  module Counter :",
+    "    input clock : Clock",
+    "    input reset : UInt<1>",
+    "    output out : UInt<8>",
+    "",
+    "    reg c : UInt<8>, clock with :",
+    "      reset => (UInt<1>(\"h0\"), c) @[Counter.scala 5:20]",
+    "    node n = add(c, UInt<1>(\"h1\"))",
+    "    out <= c",
+    "    c <= mux(reset, UInt<8>(\"h0\"), bits(n, 7, 0))",
+];
+
+const TRACE: &str = "cycle reset\n0 1\n1 0\n2 0\n3 0\n";
+
+const TEXT: &str = "cycle out\n0 00\n1 00\n2 01\n3 02\n";
+
+// Circuits that are plain, a trace of each, and the text of its run.
+static RUNS: [(&str, &str, &str); 10] = [
+    // the counter with lines that end with CR LF, comments, tabs and file information
+    (
+        "circuit Counter :\r\nmodule Counter : ; the top\r\n\tinput clock : Clock\r\ninput reset : UInt<1> @[a b] @[c]\r\noutput out : UInt<8>\r\nreg c : UInt<8> , clock with : (reset => (UInt<1>(\"h0\"), c)) ; @[ no\r\nnode n = add(c,UInt<1>(\"h1\"))\r\nout<=c\r\nc <= mux(reset, UInt<8>(\"h0\"), bits(n, 7, 0))",
+        "cycle \treset\r\n0 1\r\n1 0\r\n2 0\r\n3 0",
+        TEXT,
+    ),
+    // and with a line of the version, and a report
+    (
+        "FIRRTL version 1.2.0\r\ncircuit Counter :\r\n  module Counter :\r\n    input clock : Clock\r\n    input reset : UInt<1>\r\n    output out : UInt<8>\r\n\r\n    reg c : UInt<8>, clock with : (reset => (UInt<1>(\"h0\"), c))\r\n    node n = add(c, UInt<1>(\"h1\"))\r\n    out <= c\r\n    c <= mux(reset, UInt<8>(\"h0\"), bits(n, 7, 0))\r\n    printf(clock, reset, \"x;@[%d]\\n\", c) : p ; done",
+        TRACE,
+        TEXT,
+    ),
+    // a register that isn't reset
+    (
+        "circuit Free :\nmodule Free :\ninput clock : Clock\noutput q : UInt<1>\nreg r : UInt<1>, clock\nq <= r\nr <= not(r)\n",
+        "cycle\n0\n1\n2\n",
+        "cycle q\n0 0\n1 1\n2 0\n",
+    ),
+    // the widest signals
+    (
+        "circuit Wide :\nmodule Wide :\ninput x : UInt<127>\ninput y : UInt<127>\noutput z : UInt<128>\nz <= add(x, y)\n",
+        "cycle x y\n0 7fffffffffffffffffffffffffffffff 7fffffffffffffffffffffffffffffff\n",
+        "cycle z\n0 fffffffffffffffffffffffffffffffe\n",
+    ),
+    (
+        "circuit Wide :\nmodule Wide :\ninput x : SInt<64>\ninput y : SInt<64>\noutput z : SInt<128>\nz <= mul(x, y)\n",
+        "cycle x y\n0 8000000000000000 8000000000000000\n",
+        "cycle z\n0 40000000000000000000000000000000\n",
+    ),
+    // signed numbers: a shift past the width, a quotient and a remainder
+    (
+        "circuit Shift :\nmodule Shift :\noutput z : SInt<1>\noutput w : SInt<8>\nz <= shr(SInt<4>(\"h-3\"), 9)\nw <= shr(SInt<4>(\"h-3\"), 9)\n",
+        "cycle\n0\n",
+        "cycle z w\n0 1 ff\n",
+    ),
+    (
+        "circuit Parts :\nmodule Parts :\ninput x : SInt<4>\ninput y : SInt<4>\noutput q : SInt<5>\noutput r : SInt<4>\nq <= div(x, y)\nr <= rem(x, y)\n",
+        "cycle x y\n0 8 f\n1 9 2\n2 5 0\n",
+        "cycle q r\n0 08 0\n1 1d f\n2 00 0\n",
+    ),
+    // operations on signed numbers, what is invalid, a wire
+    (
+        "circuit A :\nmodule A :\ninput x : SInt<4>\ninput y : SInt<4>\ninput u : UInt<4>\noutput o1 : SInt<8>\noutput o2 : UInt<8>\noutput o3 : UInt<8>\noutput o4 : UInt<5>\noutput o5 : SInt<1>\noutput o6 : UInt<8>\noutput o7 : UInt<1>\noutput o8 : SInt<8>\noutput o9 : UInt<3>\noutput o10 : SInt<5>\nwire w : SInt<6>\nw <= y\no1 <= x\no2 <= u\no3 <= and(x, SInt<8>(\"h-1\"))\no4 <= asUInt(neg(x))\no5 <= shr(x, 9)\no6 <= cat(x, y)\no7 <= lt(x, y)\no8 <= mux(orr(u), x, SInt<8>(-100))\no9 is invalid\no10 <= div(x, y)\n",
+        "cycle x y u\n0 8 f 0\n1 7 2 3\n2 f 0 8\n",
+        "cycle o1 o2 o3 o4 o5 o6 o7 o8 o9 o10\n0 f8 00 f8 08 1 8f 1 9c 0 08\n1 07 03 07 19 0 72 0 07 0 03\n2 ff 08 ff 01 1 f0 1 ff 0 00\n",
+    ),
+    // a reset that wins over a connection, a register of a register, one that is never connected
+    (
+        "circuit B :\nmodule B :\ninput clock : Clock\ninput rst : UInt<1>\ninput d : UInt<4>\noutput a : UInt<4>\noutput b : UInt<4>\noutput c : UInt<8>\noutput e : SInt<8>\nreg r1 : UInt<4>, clock with :\n\n  ; a comment between\n  reset => (rst, UInt<4>(5))\nreg r2 : UInt<4>, clock\nreg r3 : UInt<8>, clock with : (reset => (rst, UInt<2>(3)))\nreg r4 : SInt<8>, clock\nr1 <= d\nr2 <= r1\nr4 <= asSInt(d)\na <= r1\nb <= r2\nc <= r3\ne <= r4\n",
+        "cycle d rst\n0 9 1\n1 7 0\n2 2 0\n",
+        "cycle a b c e\n0 0 0 00 00\n1 5 0 03 f9\n2 7 5 03 07\n",
+    ),
+    // no cycle
+    (
+        "circuit Counter :\n  module Counter :\n    input clock : Clock\n    input reset : UInt<1>\n    output out : UInt<8>\n\n    reg c : UInt<8>, clock with :\n      reset => (UInt<1>(\"h0\"), c)\n    node n = add(c, UInt<1>(\"h1\"))\n    out <= c\n    c <= mux(reset, UInt<8>(\"h0\"), bits(n, 7, 0))\n",
+        "cycle reset",
+        "cycle out\n",
+    ),
+];
+
+// The counter with a line changed, counted from 1 (0: none), the other files, and the line of the refusal.
+static REFUSED: [(usize, &str, &str, &str, &str); 9] = [
+    // the first fault is told: the circuit's before the partition's, the partition's before the trace's
+    (10, "", "[]", "cycle", "golden: plain k1.fir\n"),
+    (
+        9,
+        "node n add(c, c)",
+        "[]",
+        "cycle",
+        "golden: circuit: syntax line 9\n",
+    ),
+    (0, "", "[]", "cycle", "golden: plain p.json\n"),
+    (0, "", "{}", "cycle", "golden: plain k1.trace\n"),
+    (
+        0,
+        "",
+        "{}\n",
+        "cycle reset\n0 1\n1 2\n",
+        "golden: plain k1.trace\n",
+    ),
+    (0, "", "{}\r\n", TRACE, "golden: plain p.json\n"),
+    (
+        3,
+        "input clock : Analog<1>",
+        "{}",
+        TRACE,
+        "golden: circuit: outside line 3 Analog\n",
+    ),
+    (
+        10,
+        "when reset :",
+        "{}",
+        TRACE,
+        "golden: circuit: outside line 10 when\n",
+    ),
+    (1, "circuit Other :", "{}", TRACE, "golden: plain k1.fir\n"),
+];
+
+const RUN: [&str; 5] = ["golden", "run", "k1.fir", "p.json", "k1.trace"];
+
+// The counter's first lines, so many, where this line, counted from 1, is changed.
+fn counter(alloc: Global, lines: usize, changed: usize, text: &str) -> Result<String, AllocError> {
+    let mut out = String::new(alloc);
+    let mut number: usize = 0;
+    for line in COUNTER {
+        if number >= lines {
+            break;
+        }
+        number = number.saturating_add(1);
+        out.push_str(if number == changed { text } else { line })?;
+        out.push_str("\n")?;
+    }
+    Ok(out)
+}
+
+// These files under the names that a call gives.
+fn files_of(
+    alloc: Global,
+    circuit: &[u8],
+    partition: &[u8],
+    trace: &[u8],
+) -> Result<MemFiles, Fail> {
+    let mut files = BTreeMap::new(alloc);
+    hold(&mut files, alloc, "k1.fir", circuit)?;
+    hold(&mut files, alloc, "p.json", partition)?;
+    hold(&mut files, alloc, "k1.trace", trace)?;
+    Ok(files)
+}
+
+// The counter's files.
+fn counter_files(alloc: Global) -> Result<MemFiles, Fail> {
+    let circuit = counter(alloc, 11, 0, "")?;
+    files_of(alloc, circuit.as_bytes(), b"{}", TRACE.as_bytes())
+}
+
+// What a call answered, and what stands on its sinks.
+#[derive(Drop)]
+struct Answer {
+    status: u8,
+    out: Vec<u8>,
+    err: Vec<u8>,
+}
+
+// A call with these words and files, where these loads and puts are to fail.
+fn call(
+    alloc: Global,
+    words: &[&str],
+    files: MemFiles,
+    loads: Vec<u64>,
+    puts: Vec<FailingPut>,
+    err_puts: Vec<FailingPut>,
+) -> Result<Answer, Fail> {
+    let mut owned = Vec::new(alloc);
+    for word in words {
+        owned.push(String::from_str(alloc, *word)?)?;
+    }
+    let mut shelf = MemShelf::new(files, loads);
+    let mut out = MemSink::new(alloc, puts);
+    let mut err = MemSink::new(alloc, err_puts);
+    let status = golden(
+        alloc,
+        owned.as_slice(),
+        &mut shelf,
+        &mut out,
+        &mut err,
+        &NoGate,
+    );
+    Ok(Answer {
+        status,
+        out: out.bytes,
+        err: err.bytes,
+    })
+}
+
+// `run` on these files, where nothing fails.
+fn run(alloc: Global, files: MemFiles) -> Result<Answer, Fail> {
+    call(
+        alloc,
+        &RUN,
+        files,
+        Vec::new(alloc),
+        Vec::new(alloc),
+        Vec::new(alloc),
+    )
+}
+
+fn check(rt: &impl Abort, answer: &Answer, status: u8, out: &str, err: &str) {
+    assert_eq!(rt; answer.out.as_slice(), out.as_bytes());
+    assert_eq!(rt; answer.err.as_slice(), err.as_bytes());
+    assert_eq!(rt; answer.status, status);
+}
+
+#[test]
+fn plain_files_are_run(rt: HostRuntime) -> Result<(), Fail> {
+    let alloc = rt.alloc();
+    for (circuit, trace, out) in &RUNS {
+        let files = files_of(alloc, circuit.as_bytes(), b"{}\n", trace.as_bytes())?;
+        check(&rt, &run(alloc, files)?, 0, out, "");
+    }
+    Ok(())
+}
+
+#[test]
+fn the_first_fault_is_told(rt: HostRuntime) -> Result<(), Fail> {
+    let alloc = rt.alloc();
+    refusals_are_exact();
+    for (line, text, partition, trace, err) in &REFUSED {
+        let circuit = counter(alloc, 11, *line, text)?;
+        let files = files_of(
+            alloc,
+            circuit.as_bytes(),
+            partition.as_bytes(),
+            trace.as_bytes(),
+        )?;
+        check(&rt, &run(alloc, files)?, 1, "", err);
+    }
+    for (lines, err) in [
+        (0, "golden: circuit: syntax line 1\n"),
+        (1, "golden: plain k1.fir\n"),
+        (7, "golden: circuit: syntax line 8\n"),
+    ] {
+        let circuit = counter(alloc, lines, 0, "")?;
+        let files = files_of(alloc, circuit.as_bytes(), b"{}", TRACE.as_bytes())?;
+        check(&rt, &run(alloc, files)?, 1, "", err);
+    }
+    let files = files_of(alloc, b"\xff", b"{}", TRACE.as_bytes())?;
+    check(
+        &rt,
+        &run(alloc, files)?,
+        1,
+        "",
+        "golden: circuit: not text\n",
+    );
+    Ok(())
+}
+
+// The counter with so many nested `not( )` around its output.
+fn nested(alloc: Global, depth: usize) -> Result<String, Fail> {
+    let mut text = String::from_str(alloc, "out <= ")?;
+    for _ in 0..depth {
+        text.push_str("not(")?;
+    }
+    text.push_str("c")?;
+    for _ in 0..depth {
+        text.push_str(")")?;
+    }
+    Ok(counter(alloc, 11, 10, text.as_str())?)
+}
+
+#[test]
+fn brackets_nest_256_deep(rt: HostRuntime) -> Result<(), Fail> {
+    let alloc = rt.alloc();
+    for (depth, status, out, err) in [
+        (256, 0, TEXT, ""),
+        (257, 1, "", "golden: circuit: too deep line 10\n"),
+    ] {
+        let circuit = nested(alloc, depth)?;
+        let files = files_of(alloc, circuit.as_bytes(), b"{}", TRACE.as_bytes())?;
+        check(&rt, &run(alloc, files)?, status, out, err);
+    }
+    Ok(())
+}
+
+// A call with these words is refused as no command.
+fn check_unasked(rt: &impl Abort, alloc: Global, words: &[&str]) -> Result<(), Fail> {
+    let answer = call(
+        alloc,
+        words,
+        counter_files(alloc)?,
+        Vec::new(alloc),
+        Vec::new(alloc),
+        Vec::new(alloc),
+    )?;
+    assert_eq!(rt; answer.status, 2);
+    assert!(rt; answer.out.is_empty());
+    assert!(rt;
+        answer
+            .err
+            .as_slice()
+            .starts_with(b"golden: words".as_slice())
+    );
+    assert_eq!(rt; answer.err.last(), Some(&b'\n'));
+    Ok(())
+}
+
+#[test]
+fn words_that_are_no_command(rt: HostRuntime) -> Result<(), Fail> {
+    let alloc = rt.alloc();
+    check_unasked(&rt, alloc, &["golden", "run", "k1.fir"])?;
+    check_unasked(
+        &rt,
+        alloc,
+        &["golden", "run", "k1.fir", "p.json", "k1.trace", "--mono"],
+    )?;
+    check_unasked(&rt, alloc, &["golden", "run", "k1.fir", "p.json", "-"])?;
+    check_unasked(
+        &rt,
+        alloc,
+        &["golden", "walk", "k1.fir", "p.json", "k1.trace"],
+    )?;
+    check_unasked(&rt, alloc, &["gold", "run", "k1.fir", "p.json", "k1.trace"])?;
+    Ok(())
+}
+
+// A file that is missing or too long, also where the circuit before it is refused; and each load failing in turn.
+#[test]
+fn files_that_are_not_loaded(rt: HostRuntime) -> Result<(), Fail> {
+    let alloc = rt.alloc();
+    for (changed, status, err) in [
+        (0, 3, "golden: cannot load p.json\n"),
+        (10, 1, "golden: plain k1.fir\n"),
+    ] {
+        let mut files = BTreeMap::new(alloc);
+        let circuit = counter(alloc, 11, changed, "")?;
+        hold(&mut files, alloc, "k1.fir", circuit.as_bytes())?;
+        check(&rt, &run(alloc, files)?, status, "", err);
+    }
+    let mut files = counter_files(alloc)?;
+    let long = vec![in alloc; b' '; 1_048_577]?;
+    hold(&mut files, alloc, "p.json", long.as_slice())?;
+    check(
+        &rt,
+        &run(alloc, files)?,
+        8,
+        "",
+        "golden: p.json is over 1048576 bytes\n",
+    );
+    for (load, err) in [
+        (0, "golden: cannot load k1.fir\n"),
+        (1, "golden: cannot load p.json\n"),
+        (2, "golden: cannot load k1.trace\n"),
+    ] {
+        let answer = call(
+            alloc,
+            &RUN,
+            counter_files(alloc)?,
+            vec![in alloc; load]?,
+            Vec::new(alloc),
+            Vec::new(alloc),
+        )?;
+        check(&rt, &answer, 3, "", err);
+    }
+    Ok(())
+}
+
+// Each put on `out` takes three bytes and fails; a failing `err` changes no status.
+#[test]
+fn puts_that_fail(rt: HostRuntime) -> Result<(), Fail> {
+    let alloc = rt.alloc();
+    for (number, out) in [
+        (0, "cyc"),
+        (1, "cycle out\n0 0"),
+        (2, "cycle out\n0 00\n1 0"),
+        (3, "cycle out\n0 00\n1 00\n2 0"),
+        (4, "cycle out\n0 00\n1 00\n2 01\n3 0"),
+    ] {
+        let answer = call(
+            alloc,
+            &RUN,
+            counter_files(alloc)?,
+            Vec::new(alloc),
+            vec![in alloc; FailingPut { number, takes: 3 }]?,
+            Vec::new(alloc),
+        )?;
+        check(&rt, &answer, 4, out, "golden: cannot write\n");
+    }
+    let answer = call(
+        alloc,
+        &RUN,
+        counter_files(alloc)?,
+        vec![in alloc; 1]?,
+        Vec::new(alloc),
+        vec![in alloc;
+            FailingPut {
+                number: 0,
+                takes: 8
+            },
+        ]?,
+    )?;
+    check(&rt, &answer, 3, "", "golden: ");
+    Ok(())
+}
