@@ -1,6 +1,7 @@
 -- The type of each operation's result, and what is wrong where there is none.
 -- Source: FIRRTL Specification, "Primitive Operations": each definition goes by the table of the operation's section
--- there. Where the specification leaves a width without bound, widths here are 1 to 128.
+-- there, but for one: the width of a `Shr` of a UInt is at least 1, as that of an SInt is, where the specification's newer
+-- versions let it be 0. Where the specification leaves a width without bound, widths here are 1 to 128.
 use Rattle.std.specs.Prelude.{ℕ, ◌+◌, ◌-◌, ◌^◌, min, max, Bool, true, false, ◌&&◌, ◌==◌, nat_le, nat_lt, if◌then◌else◌, Result, Ok, Err}
 use Rattle.gg_bits.specs.declared.types.Kind as kinds
 use Rattle.gg_bits.specs.declared.types.Kind.TheVariants.{UInt, SInt}
@@ -121,6 +122,7 @@ params_const Tail s n m = nat_le n s.width
 abbrev pub shape_const : OpN → Shape → ℕ → ℕ → Shape
 shape_const Pad s n m = of_kind s.kind (max s.width n)
 shape_const Shl s n m = of_kind s.kind (s.width + n)
+-- at least one bit for both kinds: no width here is 0
 shape_const Shr s n m = of_kind s.kind (max (s.width - n) 1)
 shape_const Bits s hi lo = uint (hi - lo + 1)
 shape_const Head s n m = uint n

@@ -26,8 +26,8 @@ pub struct Ty {
 #[derive(Clone, Copy, Debug, PartialEq, Eq, Hash)]
 pub struct Val(pub u128);
 
-/// The first thing that is wrong with an operation's operands, in this order: the kinds, the parameters, the width
-/// of the result.
+/// The first thing that is wrong with an operation's operands. Their kinds come first, then the parameters, and the
+/// width of the result last.
 #[derive(Clone, Copy, Debug, PartialEq, Eq, Hash)]
 pub enum Bad {
     /// The operands are of kinds that the operation does not take.
