@@ -18,8 +18,10 @@ const PART: usize = 4096;
 #[derive(Drop)]
 pub struct FileShelf<R: Files + Drop> {
     runtime: R,
-    pub faults: u64,
-    pub cuts: u64,
+    // how many loads answered `Failed`
+    faults: u64,
+    // how many loads answered `TooLong`
+    cuts: u64,
 }
 
 impl<R: Files + Drop> FileShelf<R> {
@@ -36,7 +38,7 @@ impl<R: Files + Drop> FileShelf<R> {
     }
 }
 
-// Reads a part of the file, at most `room` bytes, and adds it to `bytes`. 0 only at the file's end.
+/// Reads a part of the file, at most `room` bytes, and adds it to `bytes`. 0 only at the file's end.
 fn read_part<F: Read>(file: &mut F, room: u64, bytes: &mut Vec<u8>) -> Result<usize, LoadFail>
     requires { 0 < room }
     ensures added { IfOk result (λ n. length bytes.new.items ≡ length bytes.old.items + n) }
@@ -54,7 +56,7 @@ fn read_part<F: Read>(file: &mut F, room: u64, bytes: &mut Vec<u8>) -> Result<us
     Ok(n)
 }
 
-// Reads the file to its end, and at most one byte past the limit.
+/// Reads the file to its end, and at most one byte past the limit.
 fn read_within<F: Read>(alloc: Global, file: &mut F, limit: u64) -> Result<Vec<u8>, LoadFail>
     requires { limit < 2 ^ 64 - 1 }
     ensures within { IfOk result (λ bytes. length bytes.items ≤ limit) }
@@ -75,7 +77,8 @@ fn read_within<F: Read>(alloc: Global, file: &mut F, limit: u64) -> Result<Vec<u
     }
 }
 
-// Opens the file and reads it.
+/// Opens the file and reads it. No clause can name the bytes of a file that is open only within: what was read is all of
+/// them by `read_within`'s clause `whole`.
 fn load_from<R: Files>(
     runtime: &R,
     alloc: Global,
@@ -132,28 +135,27 @@ mod tests {
     use std::io;
     use std::test::Fail;
 
-    // A file whose reads give `left` bytes, three at a time, and then fail or are at the end.
+    /// A file whose reads give the bytes that are left, three at a time, and then fail or are at the end.
     #[derive(Drop)]
     struct Trickle {
-        left: usize,
+        left: &'static [u8],
         is_broken: bool,
     }
 
     impl Read for Trickle {
         fn read(&mut self, buf: &mut [u8]) -> io::Result<usize> {
-            if self.left == 0 && self.is_broken {
+            if self.left.is_empty() && self.is_broken {
                 return Err(io::Error::from(io::ErrorKind::Other));
             }
-            let count = self.left.min(3).min(buf.len());
-            for byte in &mut buf[..count] {
-                *byte = b'x';
-            }
-            self.left -= count;
+            let count = self.left.len().min(3).min(buf.len());
+            let (part, rest) = self.left.split_at(count);
+            buf[..count].copy_from_slice(part);
+            self.left = rest;
             Ok(count)
         }
     }
 
-    // The file is longer than one part.
+    /// The file is longer than one part.
     #[test]
     fn shelf_reads_files_of_the_system(rt: HostRuntime) -> Result<(), Fail> {
         let alloc = rt.alloc();
@@ -174,20 +176,28 @@ mod tests {
         Ok(())
     }
 
+    /// A file's bytes, whether it fails behind them, and why a load of at most eight bytes gives none of them.
+    static READS: [(&[u8], bool, Option<LoadFail>); 6] = [
+        (b"", false, None),
+        (b"1234567", false, None),
+        (b"12345678", false, None),
+        (b"123456789", false, Some(LoadFail::TooLong { taken: 9 })),
+        (b"123456789012", true, Some(LoadFail::TooLong { taken: 9 })),
+        (b"12345678", true, Some(LoadFail::Failed)),
+    ];
+
     #[test]
     fn reads_go_on_to_the_end_or_a_fault(rt: HostRuntime) -> Result<(), Fail> {
         let alloc = rt.alloc();
-        for (left, is_broken, want) in [
-            (0, false, Ok(0)),
-            (7, false, Ok(7)),
-            (8, false, Ok(8)),
-            (9, false, Err(LoadFail::TooLong { taken: 9 })),
-            (20, true, Err(LoadFail::TooLong { taken: 9 })),
-            (8, true, Err(LoadFail::Failed)),
-        ] {
+        for (left, is_broken, want) in READS {
             let mut file = Trickle { left, is_broken };
-            let got = read_within(alloc, &mut file, 8).map(|bytes| bytes.len());
-            assert_eq!(rt; got, want, "{left} bytes");
+            match read_within(alloc, &mut file, 8) {
+                Ok(bytes) => {
+                    assert_eq!(rt; want, None);
+                    assert_eq!(rt; bytes.as_slice(), left);
+                }
+                Err(fail) => assert_eq!(rt; Some(fail), want),
+            }
         }
         Ok(())
     }

@@ -15,7 +15,10 @@ pub enum LoadFail {
     Failed,
     /// The file is longer than the limit. `taken` bytes were read to see it: one more than the limit.
     #[error("the file is longer than its limit: {taken} bytes were read")]
-    TooLong { taken: u64 },
+    TooLong {
+        /// How many bytes were read.
+        taken: u64,
+    },
     /// Memory was refused.
     #[error("out of memory")]
     NoMemory,

@@ -11,9 +11,10 @@
 //! - A put that succeeds adds its whole piece. `Failed` comes only where the faults rose, and leaves a front part
 //!   of the piece; `NoMemory` only where the refused puts rose, and leaves nothing of it.
 //!
-//! [`MemShelf`] and [`MemSink`] are in memory and fail exactly where their lists say; [`SureShelf`] and
-//! [`SureSink`] never fail. [`FileShelf`] and [`StreamSink`] are the real ones: they tell nothing of content, and
-//! are trusted in what the system gives and takes.
+//! [`MemShelf`] and [`MemSink`] are in memory: a shelf fails exactly where its list says or it holds no file of that
+//! name, a sink exactly where its list says. [`SureShelf`] and [`SureSink`] never fail. [`FileShelf`] and
+//! [`StreamSink`] are the real ones: they tell nothing of content, and are trusted in what the system gives and takes.
+//! Their counts can't be changed but by a load or a put.
 #![tactic(auto)]
 
 mod counts;

@@ -13,11 +13,15 @@ use std::alloc::Global;
 /// A shelf in memory: its files by name, and the numbers of the loads that are to fail, counted from 0.
 #[derive(Debug, Drop)]
 pub struct MemShelf {
+    /// The files by name.
     pub files: MemFiles,
+    /// The numbers of the loads that are to fail.
     pub failing: Vec<u64>,
     /// The number of the next load.
     pub loads: u64,
+    /// How many loads answered `Failed`.
     pub faults: u64,
+    /// How many loads answered `TooLong`.
     pub cuts: u64,
 }
 
@@ -36,7 +40,7 @@ impl MemShelf {
     }
 }
 
-// A copy of the bytes, where they are within the limit; else the count of cut loads rises.
+/// A copy of the bytes, where they are within the limit; else the count of cut loads rises.
 fn copy_within(alloc: Global, bytes: &[u8], limit: u64, cuts: &mut u64) -> Result<Vec<u8>, LoadFail>
     requires { limit < 2 ^ 64 - 1 }
     ensures within { IfOk result (λ file. length file.items ≤ limit) }
@@ -94,7 +98,9 @@ impl Shelf for MemShelf {
 /// A shelf in memory that never fails: every name is a file, empty where none is held.
 #[derive(Debug, Drop)]
 pub struct SureShelf {
+    /// The files by name.
     pub files: MemFiles,
+    /// How many loads answered `TooLong`.
     pub cuts: u64,
 }
 
@@ -139,7 +145,7 @@ mod tests {
     use std::collections::BTreeMap;
     use std::test::Fail;
 
-    // The second load is listed as failing.
+    /// The second load is listed as failing.
     #[test]
     fn shelf_fails_where_listed_or_missing(rt: HostRuntime) -> Result<(), Fail> {
         let alloc = rt.alloc();

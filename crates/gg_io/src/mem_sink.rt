@@ -12,7 +12,9 @@ use std::alloc::Global;
 /// A put that is to fail: its number, counted from 0, and how many bytes of its piece are still taken.
 #[derive(Clone, Copy, Debug, PartialEq, Eq)]
 pub struct FailingPut {
+    /// The put's number, counted from 0.
     pub number: u64,
+    /// How many bytes of its piece are taken before it fails; all of them where the piece is no longer.
     pub takes: u64,
 }
 
@@ -20,11 +22,15 @@ pub struct FailingPut {
 /// stands.
 #[derive(Debug, Drop)]
 pub struct MemSink {
+    /// What was written.
     pub bytes: Vec<u8>,
+    /// The puts that are to fail.
     pub failing: Vec<FailingPut>,
     /// The number of the next put.
     pub puts: u64,
+    /// How many puts answered `Failed`.
     pub faults: u64,
+    /// How many puts answered `NoMemory`.
     pub refused: u64,
 }
 
@@ -45,7 +51,7 @@ impl MemSink {
     }
 }
 
-// How many bytes the put of this number still takes before it fails; None where it isn't to fail.
+/// How many bytes the put of this number still takes before it fails; None where it isn't to fail.
 fn taken_before_failure_of(failing: &[FailingPut], number: u64) -> Option<u64>
     ensures { result ≡ taken_before_failure failing.now number }
 {
@@ -53,7 +59,7 @@ fn taken_before_failure_of(failing: &[FailingPut], number: u64) -> Option<u64>
     Some(listed.takes)
 }
 
-// Adds the bytes to what was written, or counts a refused put.
+/// Adds the bytes to what was written, or counts a refused put.
 fn append(written: &mut Vec<u8>, bytes: &[u8], refused: &mut u64) -> Result<(), PutFail>
     ensures whole { OnOk result (written.new.items ≡ written.old.items ++ bytes.now) }
     ensures none { IfErr result (λ e. (e ≡ PutFail.NoMemory) × (written.new.items ≡ written.old.items)) }
@@ -107,7 +113,9 @@ impl Sink for MemSink {
 /// A sink in memory that never fails, but for want of memory.
 #[derive(Debug, Drop)]
 pub struct SureSink {
+    /// What was written.
     pub bytes: Vec<u8>,
+    /// How many puts answered `NoMemory`.
     pub refused: u64,
 }
 
@@ -148,7 +156,7 @@ mod tests {
     use super::*;
     use std::test::Fail;
 
-    // The second put takes 3 bytes and fails, the third takes all of its 2 and fails.
+    /// The second put takes 3 bytes and fails, the third takes all of its 2 and fails.
     #[test]
     fn sink_fails_where_listed(rt: HostRuntime) -> Result<(), Fail> {
         let alloc = rt.alloc();

@@ -1,5 +1,5 @@
 //! The streams of the system.
-ghost use Rattle.std.specs.Prelude.{◌≡◌, ℕ, ◌≤◌, None, length, take, OnOk, OnErr, IfErr};
+ghost use Rattle.std.specs.Prelude.{◌≡◌, ℕ, ◌≤◌, None, ◌++◌, length, take, IfOk, OnOk, OnErr, IfErr};
 ghost use Rattle.std.specs.Io.KnownBytes.{Appends};
 ghost use Rattle.gg_io.specs.PutFail.{HasPutCause, faults_after_put};
 
@@ -10,8 +10,9 @@ use std::io::Write;
 /// A stream of the system, as standard output. As a sink it tells nothing of what was written.
 #[derive(Drop)]
 pub struct StreamSink<W: Write + Drop> {
-    pub stream: W,
-    pub faults: u64,
+    stream: W,
+    // how many puts answered `Failed`
+    faults: u64,
 }
 
 impl<W: Write + Drop> StreamSink<W> {
@@ -23,7 +24,7 @@ impl<W: Write + Drop> StreamSink<W> {
     }
 }
 
-// Writes all of the bytes, or a front part of them. A stream that takes nothing has failed.
+/// Writes all of the bytes, or a front part of them. A stream that takes nothing has failed.
 fn write_whole<W: Write>(stream: &mut W, bytes: &[u8]) -> Result<(), PutFail>
     ensures whole { OnOk result (Appends (W.contents stream.old) (W.contents stream.new) bytes.now) }
     ensures failed { IfErr result (λ e. e ≡ PutFail.Failed) }
@@ -73,12 +74,14 @@ impl<W: Write + Drop> Sink for StreamSink<W> {
 #[cfg(test)]
 mod tests {
     use super::*;
+    use std::alloc::Global;
     use std::io;
     use std::test::Fail;
 
-    // A stream that takes two bytes a write and, once its room is taken, nothing or an error.
+    /// A stream that takes two bytes a write and keeps them, and, once its room is taken, takes nothing or fails.
     #[derive(Drop)]
     struct Narrow {
+        taken: Vec<u8>,
         room: usize,
         is_broken: bool,
     }
@@ -89,6 +92,7 @@ mod tests {
                 return Err(io::Error::from(io::ErrorKind::Other));
             }
             let count = self.room.min(2).min(buf.len());
+            self.taken.extend_from_slice(&buf[..count])?;
             self.room -= count;
             Ok(count)
         }
@@ -98,21 +102,50 @@ mod tests {
         }
     }
 
+    /// How many bytes a stream takes, whether it fails then, and what a put of five bytes answers.
+    static PUTS: [(usize, bool, Result<(), PutFail>); 4] = [
+        (5, true, Ok(())),
+        (5, false, Ok(())),
+        (4, true, Err(PutFail::Failed)),
+        (4, false, Err(PutFail::Failed)),
+    ];
+
     #[test]
     fn sink_writes_whole_pieces_or_fails(rt: HostRuntime) -> Result<(), Fail> {
         StreamSink::new(rt.stdout()).put(b"written to standard output\n")?;
         StreamSink::new(rt.stderr()).put(b"written to standard error\n")?;
-        for (room, is_broken, want) in [
-            (5, true, Ok(())),
-            (5, false, Ok(())),
-            (4, true, Err(PutFail::Failed)),
-            (4, false, Err(PutFail::Failed)),
-        ] {
-            let mut sink = StreamSink::new(Narrow { room, is_broken });
+        for (room, is_broken, want) in PUTS {
+            let taken = Vec::new(rt.alloc());
+            let mut sink = StreamSink::new(Narrow {
+                taken,
+                room,
+                is_broken,
+            });
             assert_eq!(rt; sink.put(b""), Ok(()), "an empty piece");
             assert_eq!(rt; sink.put(b"12345"), want, "room for {room}");
+            assert_eq!(rt; sink.stream.taken.as_slice(), &b"12345"[..room]);
             assert_eq!(rt; sink.faults == 1, want.is_err());
         }
+        Ok(())
+    }
+
+    /// What a `Vec` holds after two puts: where a stream's bytes are known, the clauses of `put` say all of them.
+    fn put_twice(alloc: Global, one: &[u8], two: &[u8]) -> Result<Vec<u8>, PutFail>
+        ensures { IfOk result (λ bytes. bytes.items ≡ one.now ++ two.now) }
+    {
+        let mut sink = StreamSink::new(Vec::new(alloc));
+        sink.put(one)?;
+        sink.put(two)?;
+        let StreamSink { stream, .. } = sink;
+        Ok(stream)
+    }
+
+    #[test]
+    fn sink_over_a_vec(rt: HostRuntime) -> Result<(), Fail> {
+        assert_eq!(rt;
+            put_twice(rt.alloc(), b"one ", b"two")?.as_slice(),
+            b"one two".as_slice()
+        );
         Ok(())
     }
 }
