@@ -6,4 +6,5 @@ pub mod Leads
 pub mod LineEnds
 pub mod Cuts
 pub mod Readings
+pub mod WorkedLines
 pub mod WorkedRows

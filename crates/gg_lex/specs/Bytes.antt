@@ -5,25 +5,60 @@ use Rattle.std.specs.Char.{is_ascii_alphabetic, is_ascii_alphanumeric, is_ascii_
 use Rattle.gg_lex.specs.declared.bytes.Class.{Class}
 use Rattle.gg_lex.specs.declared.bytes.Class.TheVariants.{Blank, WordByte, TailByte, Digit}
 
+-- The characters past letters and digits that classes, texts, comments and file information turn on, by their ASCII
+-- codes.
+abbrev pub tab : ℕ
+tab = 9
+
+abbrev pub space : ℕ
+space = 32
+
+abbrev pub quote : ℕ
+quote = 34
+
+abbrev pub dollar : ℕ
+dollar = 36
+
+abbrev pub minus : ℕ
+minus = 45
+
+abbrev pub semicolon : ℕ
+semicolon = 59
+
+abbrev pub at_sign : ℕ
+at_sign = 64
+
+abbrev pub open_bracket : ℕ
+open_bracket = 91
+
+abbrev pub backslash : ℕ
+backslash = 92
+
+abbrev pub close_bracket : ℕ
+close_bracket = 93
+
+abbrev pub underscore : ℕ
+underscore = 95
+
 -- a space or a tab
 abbrev pub is_blank : ℕ → Bool
-is_blank b = b == 32 || b == 9
+is_blank b = b == space || b == tab
 
 -- a letter or `_`, with which a word begins
 abbrev pub starts_word : ℕ → Bool
-starts_word b = is_ascii_alphabetic b || b == 95
+starts_word b = is_ascii_alphabetic b || b == underscore
 
 -- `-` or a digit, with which a number begins
 abbrev pub begins_number : ℕ → Bool
-begins_number b = b == 45 || is_ascii_digit b
+begins_number b = b == minus || is_ascii_digit b
 
 -- a letter, a digit, `_` or `$`, which stand in a word
 abbrev pub is_word_byte : ℕ → Bool
-is_word_byte b = is_ascii_alphanumeric b || b == 95 || b == 36
+is_word_byte b = is_ascii_alphanumeric b || b == underscore || b == dollar
 
 -- a letter or `-`, which stand in a word's tail, as in `read-under-write`
 abbrev pub is_tail_byte : ℕ → Bool
-is_tail_byte b = is_ascii_alphabetic b || b == 45
+is_tail_byte b = is_ascii_alphabetic b || b == minus
 
 -- what a run of bytes is made of, by its class
 abbrev pub is_in_class : Class → ℕ → Bool

@@ -1,6 +1,6 @@
 -- The longest front of some bytes that has a property, as being a word.
 use Rattle.std.specs.Prelude.{◌≡◌, ◌≢◌, ◌<◌, ℕ, IsFalse, slice_index, ◌≤◌, List, length, take, slice_get, Option, Some, None}
-use Rattle.gg_lex.specs.Bytes.{starts_word, begins_number}
+use Rattle.gg_lex.specs.Bytes.{quote, starts_word, begins_number}
 use Rattle.gg_lex.specs.Shapes.{IsFirst, BeginsNoToken, IsQuoted, spelling}
 use Rattle.gg_lex.specs.declared.token.Front.{Front}
 use Rattle.gg_lex.specs.declared.token.Symbol.{Symbol}
@@ -27,7 +27,7 @@ FindsToken bs (Some front) = IsFirst front.shape bs front.length
 
 -- at this place stands a quote behind bytes that are quoted
 abbrev pub EndsQuoted : List ℕ → ℕ → Type 0
-EndsQuoted bs n = (slice_get bs n ≡ Some 34) × IsQuoted (take n bs)
+EndsQuoted bs n = (slice_get bs n ≡ Some quote) × IsQuoted (take n bs)
 
 -- the only place of a quote that ends what is quoted; there is none
 abbrev pub FindsQuote : List ℕ → Option ℕ → Type 0
@@ -43,4 +43,4 @@ pub record LeadsSymbol (bs : List ℕ) : Type 0 where
   pub nonempty : 0 < length bs
   pub no_word : IsFalse (starts_word (slice_index bs 0))
   pub no_number : IsFalse (begins_number (slice_index bs 0))
-  pub no_text : slice_index bs 0 ≢ 34
+  pub no_text : slice_index bs 0 ≢ quote

@@ -2,7 +2,7 @@
 -- Specification, "Notes on Syntax", "Comments" and "Info").
 use Rattle.std.specs.Prelude.{◌≡◌, ◌≢◌, ℕ, zero, suc, ◌+◌, ◌<◌, ◌≤◌, List, [], ◌∷◌, length, drop, take, Option, Some, None, slice_get}
 use Rattle.std.specs.List.{prefix_len}
-use Rattle.gg_lex.specs.Bytes.{is_blank}
+use Rattle.gg_lex.specs.Bytes.{semicolon, at_sign, open_bracket, backslash, close_bracket, is_blank}
 use Rattle.gg_lex.specs.Shapes.{IsFirst, BeginsNoToken, token_of}
 use Rattle.gg_lex.specs.declared.token.Shape.{Shape}
 use Rattle.gg_lex.specs.declared.token.Tok.{Tok}
@@ -15,11 +15,11 @@ after_blanks bs = drop (prefix_len is_blank bs) bs
 
 -- file information opens here
 abbrev pub OpensInfo : List ℕ → Type 0
-OpensInfo bs = (slice_get bs 0 ≡ Some 64) × (slice_get bs 1 ≡ Some 91)
+OpensInfo bs = (slice_get bs 0 ≡ Some at_sign) × (slice_get bs 1 ≡ Some open_bracket)
 
 -- behind place k stands a `]`, and at k no backslash
 abbrev pub ClosesBehind : List ℕ → ℕ → Type 0
-ClosesBehind bs k = (slice_get bs (k + 1) ≡ Some 93) × (slice_get bs k ≢ Some 92)
+ClosesBehind bs k = (slice_get bs (k + 1) ≡ Some close_bracket) × (slice_get bs k ≢ Some backslash)
 
 -- the first n bytes are one file information: `@[` up to the first `]` that has no backslash before it
 pub record IsInfo (bs : List ℕ) (n : ℕ) : Type 0 where
@@ -30,7 +30,7 @@ pub record IsInfo (bs : List ℕ) (n : ℕ) : Type 0 where
 -- nothing, or a comment, which `;` begins
 abbrev pub IsComment : List ℕ → Type 0
 IsComment [] = Unit {0}
-IsComment (b ∷ bs) = b ≡ 59
+IsComment (b ∷ bs) = b ≡ semicolon
 
 -- so many pieces of file information, and then a comment or nothing; blanks may stand before each
 abbrev pub IsEndWith : ℕ → List ℕ → Type 0

@@ -4,7 +4,7 @@ use Rattle.std.specs.Prelude.{◌≡◌, ◌≢◌, ℕ, ◌-◌, ◌<◌, ◌�
 use Rattle.std.specs.Bool.{MatchBool}
 use Rattle.std.specs.List.{AllPass}
 use Rattle.std.specs.Char.{is_ascii_digit}
-use Rattle.gg_lex.specs.Bytes.{starts_word, is_word_byte, is_tail_byte}
+use Rattle.gg_lex.specs.Bytes.{quote, minus, backslash, starts_word, is_word_byte, is_tail_byte}
 use Rattle.gg_lex.specs.declared.token.Symbol.{Symbol}
 use Rattle.gg_lex.specs.declared.token.Symbol.TheVariants.{Connect, Arrow, PartialConnect, Colon, Comma, Dot, OpenParen, CloseParen, Less, Greater, Equals, OpenBracket, CloseBracket, OpenBrace, CloseBrace, OpenAnnotations}
 use Rattle.gg_lex.specs.declared.token.Shape.{Shape}
@@ -43,18 +43,18 @@ IsDigits bs = (0 < length bs) × AllPass is_ascii_digit bs
 -- a number: `-` or nothing, then digits
 abbrev pub IsNumber : List ℕ → Type 0
 IsNumber [] = ⊥
-IsNumber (b ∷ bs) = MatchBool (b == 45) (IsDigits bs) (IsDigits (b ∷ bs))
+IsNumber (b ∷ bs) = MatchBool (b == minus) (IsDigits bs) (IsDigits (b ∷ bs))
 
 -- what stands between the quotes of a text: no quote but behind a backslash, which takes the next character with it
 -- (the bytes behind the first of a character past ASCII are neither quotes nor backslashes)
 abbrev pub IsQuoted : List ℕ → Type 0
 IsQuoted [] = Unit {0}
-IsQuoted (b ∷ []) = (b ≢ 34) × (b ≢ 92)
-IsQuoted (b ∷ c ∷ bs) = MatchBool (b == 92) (IsQuoted bs) ((b ≢ 34) × IsQuoted (c ∷ bs))
+IsQuoted (b ∷ []) = (b ≢ quote) × (b ≢ backslash)
+IsQuoted (b ∷ c ∷ bs) = MatchBool (b == backslash) (IsQuoted bs) ((b ≢ quote) × IsQuoted (c ∷ bs))
 
 -- a text: a quote, what is quoted, a quote
 abbrev pub IsText : List ℕ → Type 0
-IsText bs = (quoted : List ℕ) × (bs ≡ 34 ∷ (quoted ++ 34 ∷ [])) × IsQuoted quoted
+IsText bs = (quoted : List ℕ) × (bs ≡ quote ∷ (quoted ++ quote ∷ [])) × IsQuoted quoted
 
 -- the bytes are a token of this shape
 abbrev pub IsToken : Shape → List ℕ → Type 0

@@ -11,9 +11,13 @@ use crate::token::{LexFault, Lexed, Piece, Shape, Tok};
 use gg_bits::Name;
 use std::alloc::{AllocError, Global};
 
-/// The tokens of a line.
+/// The tokens of a line, the longest first (FIRRTL Specification, "Notes on Syntax", "Comments", "Info").
 ///
-/// Else `At` the first byte that begins no token, or `NoMemory`.
+/// File information and a comment at the line's end are no tokens.
+///
+/// # Errors
+///
+/// `At` the first byte that begins no token, or `NoMemory`.
 pub fn tokens(alloc: Global, line: &str) -> Result<Vec<Tok>, LexFault>
     ensures tokens { IfOk result (λ tokens. AreTokens tokens.items line.now) }
     ensures fault { IfErr result (λ fault. HasCause fault line.now) }
@@ -34,7 +38,12 @@ pub fn tokens(alloc: Global, line: &str) -> Result<Vec<Tok>, LexFault>
     }
 }
 
-/// The tokens of a line, and the first byte that begins none: then the tokens before it.
+/// The tokens of a line, and the first byte that begins none: then the tokens before it (FIRRTL Specification, "Notes on
+/// Syntax", "Comments", "Info").
+///
+/// # Errors
+///
+/// `AllocError` where memory is refused.
 pub fn lex(alloc: Global, line: &str) -> Result<Lexed, AllocError>
     ensures answer { IfOk result (λ lexed. Lexes line.now lexed.tokens.items lexed.bad) }
     ensures only { IfOk result (λ lexed. (ts : List Tok) (bad : Option ℕ) → Lexes line.now ts bad → (lexed.tokens.items ≡ ts) × (lexed.bad ≡ bad)) }

@@ -1,7 +1,8 @@
-//! Tokens, their shapes and symbols.
+//! Tokens, their shapes and symbols (FIRRTL Specification, "Notes on Syntax").
 use gg_bits::Name;
 
-/// A token of a line. Names, numbers and texts keep their spelling.
+/// A token of a line (FIRRTL Specification, "Notes on Syntax" and the terminals of "Grammar"). Words, numbers and texts
+/// keep their spelling.
 #[derive(Clone, Debug, PartialEq, Eq, Drop)]
 pub enum Tok {
     /// A letter or `_`, then letters, digits, `_` and `$`, then dashes and letters.
@@ -10,6 +11,7 @@ pub enum Tok {
     Number(Name),
     /// What stands between two quotes, its backslashes included.
     Text(Name),
+    /// One of the symbols of the grammar, which are no words.
     Symbol(Symbol),
 }
 
@@ -53,9 +55,13 @@ pub enum Symbol {
 /// Which kind of token some bytes are.
 #[derive(Clone, Copy, Debug, PartialEq, Eq)]
 pub enum Shape {
+    /// The bytes are a `Tok::Word`.
     Word,
+    /// The bytes are a `Tok::Number`, its sign included.
     Number,
+    /// The bytes are a `Tok::Text`, both of its quotes included.
     Text,
+    /// The bytes are how this symbol is written.
     Symbol(Symbol),
 }
 
@@ -78,6 +84,7 @@ pub(crate) struct Piece<'a> {
 /// The tokens of a line, and the first byte that begins none, if there is one: the tokens are those before it.
 #[derive(Debug, Drop)]
 pub struct Lexed {
+    /// The tokens before that byte, or all of the line's, in its order.
     pub tokens: Vec<Tok>,
     /// The place of that byte, counted from 0 in the line.
     pub bad: Option<u64>,
