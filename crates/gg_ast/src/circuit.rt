@@ -2,7 +2,7 @@
 ghost use Rattle.std.specs.Prelude.{◌≡◌, ◌≢◌, ℕ, ◌+◌, ◌<◌, ◌≤◌, ◌^◌, [], ◌∷◌, ◌++◌, length, is_ok, if◌then◌else◌, OnOk, OnErr, List, IfSome, IfNone};
 ghost use Rattle.gg_ast.specs.Tree.{empty_circuit, empty_module, module_names, add_module, add_port, add_statement, IsOpenToPorts};
 ghost use Rattle.gg_ast.specs.Places.{place_of, IsFirstOf, Lacks, TellsPlaces};
-ghost use Rattle.gg_ast.specs.Row.{numbered, ModuleRow};
+ghost use Rattle.gg_ast.specs.Row.{numbered, CircuitRow, ModuleRow};
 ghost use Rattle.gg_ast.specs.Rows.{rows_of, port_row, statement_rows};
 
 use crate::module::{Module, Port};
@@ -42,9 +42,10 @@ impl Model for Circuit {
 }
 
 impl Circuit {
-    /// A circuit without modules, whose header stands on this line.
+    /// A circuit without modules, whose header stands on this line, counted from 1: that is its only row.
     pub fn new(alloc: Global, line: u64, name: Name) -> Circuit
         ensures value { result ≡ empty_circuit line name }
+        ensures rows { rows_of result ≡ numbered line (CircuitRow name) ∷ [] }
     {
         Circuit {
             line,
@@ -88,7 +89,13 @@ impl Circuit {
         }
     }
 
-    /// Adds a module without ports and statements behind the others.
+    /// Adds a module without ports and statements behind the others, which begins on this line, counted from 1.
+    ///
+    /// The circuit has one row more then, the module's, and a port may follow (`IsOpenToPorts`).
+    ///
+    /// # Errors
+    ///
+    /// `AllocError` where memory is refused: the circuit stays as it was.
     pub fn push_module(&mut self, alloc: Global, line: u64, name: Name) -> Result<(), AllocError>
         ensures value { self.new ≡ (if is_ok result then add_module self.old (empty_module line name) else self.old) }
         ensures rows { OnOk result (rows_of self.new ≡ rows_of self.old ++ numbered line (ModuleRow name) ∷ []) }
@@ -101,7 +108,14 @@ impl Circuit {
         Ok(())
     }
 
-    /// Adds a port behind the others of the last module.
+    /// Adds a port behind the others of the last module. There has to be a module.
+    ///
+    /// Where that module has no statement yet, the circuit has one row more then, the port's. Behind a statement the port
+    /// still joins the module's ports, and its row is not the last.
+    ///
+    /// # Errors
+    ///
+    /// `AllocError` where memory is refused: the circuit stays as it was.
     pub fn push_port(&mut self, port: Port) -> Result<(), AllocError>
         requires { 0 < length self.old.modules }
         ensures value { self.new ≡ (if is_ok result then add_port self.old port else self.old) }
@@ -113,7 +127,14 @@ impl Circuit {
         self.modules[last].push_port(port)
     }
 
-    /// Adds a statement behind the others of the last module.
+    /// Adds a statement behind the others of the last module. There has to be a module.
+    ///
+    /// The circuit has the rows of that statement more then: one, or for a memory, and a register whose reset has a line
+    /// of its own, several (`statement_rows`).
+    ///
+    /// # Errors
+    ///
+    /// `AllocError` where memory is refused: the circuit stays as it was.
     pub fn push_statement(&mut self, statement: Stmt) -> Result<(), AllocError>
         requires { 0 < length self.old.modules }
         ensures value { self.new ≡ (if is_ok result then add_statement self.old statement else self.old) }

@@ -12,8 +12,6 @@ mod circuit;
 mod expression;
 mod module;
 mod statement;
-#[cfg(test)]
-mod tests;
 
 pub use circuit::Circuit;
 pub use expression::{Expr, Literal, Radix, Reference};

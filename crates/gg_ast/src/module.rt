@@ -62,8 +62,8 @@ impl Model for Module {
 }
 
 impl Module {
-    /// A module without ports and statements.
-    pub fn new(alloc: Global, line: u64, name: Name) -> Module
+    /// A module without ports and statements, which begins on this line.
+    pub(crate) fn new(alloc: Global, line: u64, name: Name) -> Module
         ensures { result ≡ empty_module line name }
     {
         Module {
@@ -103,7 +103,7 @@ impl Module {
     }
 
     /// Adds a port behind the others. Where memory is refused the module stays as it was.
-    pub fn push_port(&mut self, port: Port) -> Result<(), AllocError>
+    pub(crate) fn push_port(&mut self, port: Port) -> Result<(), AllocError>
         ensures { self.new ≡ (if is_ok result then with_port port self.old else self.old) }
     {
         self.ports.push(port)?;
@@ -111,7 +111,7 @@ impl Module {
     }
 
     /// Adds a statement behind the others. Where memory is refused the module stays as it was.
-    pub fn push_statement(&mut self, statement: Stmt) -> Result<(), AllocError>
+    pub(crate) fn push_statement(&mut self, statement: Stmt) -> Result<(), AllocError>
         ensures { self.new ≡ (if is_ok result then with_statement statement self.old else self.old) }
     {
         self.statements.push(statement)?;
