@@ -1,6 +1,6 @@
 -- The rows of a circuit that is built row by row.
-use Rattle.std.proofs.Common.{◌≡◌, ℕ, ◌<◌, List, [], ◌∷◌, ◌++◌, Bool, true, false, ◌==◌, Some, None, refl, sym, ap, ◌∙◌, arith, append_assoc}
-use Rattle.std.specs.Prelude.{if◌then◌else◌}
+use Rattle.std.proofs.Common.{◌≡◌, ℕ, ◌<◌, List, [], ◌∷◌, ◌++◌, Bool, true, false, ◌==◌, Some, None, Result, refl, sym, ap, ◌∙◌, arith, append_assoc}
+use Rattle.std.specs.Prelude.{if◌then◌else◌, IfSome}
 use Rattle.std.proofs.lemmas.Bool.Decides.{nat_tests}
 use Rattle.gg_ast.specs.declared.statement.Reset.{Reset}
 use Rattle.gg_ast.specs.declared.statement.StmtKind.{StmtKind}
@@ -10,10 +10,12 @@ use Rattle.gg_ast.specs.Rows.{rows_of, register_rows, kind_rows}
 use Rattle.gg_ast.specs.declared.module.GroundType.{GroundType}
 use Rattle.gg_ast.specs.Term.{Term, term}
 use Rattle.gg_ast.specs.Tree.{CircuitTree}
+use Rattle.gg_read.specs.declared.cursor.Miss.{Miss}
 use Rattle.gg_read.specs.declared.stage.OpenRegister.{OpenRegister}
+use Rattle.gg_read.specs.declared.stage.Stage.{Stage}
 use Rattle.gg_read.specs.LineRows.{statement_row}
-use Rattle.gg_read.specs.Text.{Place, is_version, without_version, place_after, after_statement}
-use Rattle.gg_read.specs.Stages.{open_row, reset_row, IsOneLineKind}
+use Rattle.gg_read.specs.Text.{is_version, without_version, place_after, after_statement}
+use Rattle.gg_read.specs.Stages.{stage_place, open_row, reset_row, Advances}
 
 -- what stands behind the version's row stays
 without_version-append : (before rows : List Numbered) (x : Numbered) (xs : List Numbered) → without_version before ≡ x ∷ xs → without_version (before ++ rows) ≡ without_version before ++ rows
@@ -69,29 +71,16 @@ rows_closed circuit next register reset before later pushed e =
     ∙ ap (λ (l : List Numbered). rows_of circuit ++ l) (sym two)
     ∙ sym pushed
 
--- a statement of one line has one row, which is a form of the same places as any statement's
-pub one_line_rows : (n : ℕ) (kind : StmtKind) → IsOneLineKind kind → kind_rows n kind ≡ numbered n (statement_row kind) ∷ []
-one_line_rows n (statement.Wire name ty) one = refl
-one_line_rows n (statement.Node name value) one = refl
-one_line_rows n (statement.Register name ty clock None) one = refl
-one_line_rows n (statement.Register name ty clock (Some reset)) one = absurd one
-one_line_rows n (statement.Instance name m) one = refl
-one_line_rows n (statement.Memory name fields) one = absurd one
-one_line_rows n (statement.Connect sink source) one = refl
-one_line_rows n (statement.Invalid sink) one = refl
-one_line_rows n statement.Skip one = refl
-one_line_rows n (statement.Stop clock condition code label) one = refl
-one_line_rows n (statement.Report word arguments label) one = refl
-
-pub one_line_place : (place : Place) (kind : StmtKind) → IsOneLineKind kind → place_after place (statement_row kind) ≡ after_statement place
-one_line_place place (statement.Wire name ty) one = refl
-one_line_place place (statement.Node name value) one = refl
-one_line_place place (statement.Register name ty clock None) one = refl
-one_line_place place (statement.Register name ty clock (Some reset)) one = absurd one
-one_line_place place (statement.Instance name m) one = refl
-one_line_place place (statement.Memory name fields) one = absurd one
-one_line_place place (statement.Connect sink source) one = refl
-one_line_place place (statement.Invalid sink) one = refl
-one_line_place place statement.Skip one = refl
-one_line_place place (statement.Stop clock condition code label) one = refl
-one_line_place place (statement.Report word arguments label) one = refl
+-- a statement that is one line has one row, which is a form of the same places as any statement's
+pub statement_advances : (stage : Stage) (n : ℕ) (kind : StmtKind) (result : Result Stage Miss) → Advances stage (after_statement (stage_place stage)) n (kind_rows n kind) result → IfSome (statement_row kind) (λ held. Advances stage (place_after (stage_place stage) held) n (numbered n held ∷ []) result)
+statement_advances stage n (statement.Wire name ty) result h = h
+statement_advances stage n (statement.Node name value) result h = h
+statement_advances stage n (statement.Register name ty clock None) result h = h
+statement_advances stage n (statement.Register name ty clock (Some reset)) result h = tt
+statement_advances stage n (statement.Instance name m) result h = h
+statement_advances stage n (statement.Memory name fields) result h = tt
+statement_advances stage n (statement.Connect sink source) result h = h
+statement_advances stage n (statement.Invalid sink) result h = h
+statement_advances stage n statement.Skip result h = h
+statement_advances stage n (statement.Stop clock condition code label) result h = h
+statement_advances stage n (statement.Report word arguments label) result h = h

@@ -12,3 +12,5 @@ pub mod RowsSpelt
 pub mod TextSteps
 pub mod TokenCounts
 pub mod WordLaws
+mod WorkedRows
+mod WorkedText

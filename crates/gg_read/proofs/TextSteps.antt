@@ -1,31 +1,26 @@
 -- One line of a text, and its end.
 use Rattle.std.proofs.Common.{◌≡◌, ℕ, zero, suc, ◌+◌, ◌<◌, List, [], ◌∷◌, ◌++◌, length, take, get_or, false, Option, Some, None, Result, Ok, Err, refl, sym, ap, ◌∙◌, subst, arith}
-use Rattle.std.specs.Prelude.{is_some, IfOk, IfErr, MatchResult}
+use Rattle.std.specs.Prelude.{is_some, IfOk, IfErr, IfSome, MatchOption, MatchResult}
 use Rattle.std.specs.Str.{IsUtf8}
 use Rattle.std.specs.Str.Lines.{lines}
 use Rattle.std.proofs.lemmas.List.{take_more, length-take-le}
 use Rattle.std.proofs.lemmas.Option.{slice_get_read}
 use Rattle.std.proofs.Math.Seq.{take-length}
-use Rattle.gg_lex.specs.declared.token.Tok.{Tok}
 use Rattle.gg_lex.specs.Lines.{Lexes}
-use Rattle.gg_ast.specs.declared.statement.StmtKind.{StmtKind}
-use Rattle.gg_ast.specs.declared.statement.StmtKind.TheVariants as statement
 use Rattle.gg_ast.specs.Row.{Row, numbered}
 use Rattle.gg_ast.specs.Rows.{rows_of}
 use Rattle.gg_ast.specs.Tree.{CircuitTree}
 use Rattle.gg_read.specs.declared.cursor.Miss.{Miss}
 use Rattle.gg_read.specs.declared.cursor.Miss.TheVariants.{NoForm, NoMemory}
 use Rattle.gg_read.specs.declared.row.LineRow.{LineRow}
-use Rattle.gg_read.specs.declared.row.LineRow.TheVariants as given
 use Rattle.gg_read.specs.declared.stage.Stage.{Stage}
 use Rattle.gg_read.specs.declared.stage.Stage.TheVariants.{Start, Version, Header, Ports, Statements, Open}
 use Rattle.gg_read.specs.declared.text.ReadFault.{ReadFault}
 use Rattle.gg_read.specs.declared.text.ReadFault.TheVariants as because
 use Rattle.gg_read.specs.Causes.{IsFaultOf}
-use Rattle.gg_read.specs.Forms.{SpellsRow}
-use Rattle.gg_read.specs.LineRows.{row_of, statement_row}
-use Rattle.gg_read.specs.Reading.{Finds, row_at}
-use Rattle.gg_read.specs.Stages.{stage_place, IsStage, IsOneLineKind, IsOneLine, Advances, Ends, HasRead, IsWholeRow, IsRowOf, IsRowStep, IsPlaced, IsMissed, IsFaulty, IsStep}
+use Rattle.gg_read.specs.LineRows.{row_of, FindsRow}
+use Rattle.gg_read.specs.Reading.{row_at}
+use Rattle.gg_read.specs.Stages.{stage_place, IsStage, Advances, Ends, HasRead, IsWholeRow, IsRowOf, IsRowStep, IsPlaced, IsMissed, IsFaulty, IsStep}
 use Rattle.gg_read.specs.Text.{LineTokens, IsTooDeep, IsBlank, IsFaultLine, Spells, HasReadFault, place_after}
 use Rattle.gg_read.proofs.RowLaws.{row_at-spelt, spelt-row_at}
 use Rattle.gg_read.proofs.LineSteps.{HasRead-row, HasRead-blank, HasRead-fault, HasRead-incomplete, HasRead-whole}
@@ -35,39 +30,18 @@ pub none_there : (o : Option ℕ) → is_some o ≡ false → o ≡ None
 none_there (Some x) e = absurd (cc)
 none_there None e = refl
 
-one_line_kind : (kind : StmtKind) (ts : List Tok) → SpellsRow (statement_row kind) ts → IsOneLineKind kind
-one_line_kind (statement.Wire name ty) ts spelt = tt
-one_line_kind (statement.Node name value) ts spelt = tt
-one_line_kind (statement.Register name ty clock None) ts spelt = tt
-one_line_kind (statement.Register name ty clock (Some reset)) ts spelt = absurd spelt
-one_line_kind (statement.Instance name m) ts spelt = tt
-one_line_kind (statement.Memory name fields) ts spelt = absurd spelt
-one_line_kind (statement.Connect sink source) ts spelt = tt
-one_line_kind (statement.Invalid sink) ts spelt = tt
-one_line_kind statement.Skip ts spelt = tt
-one_line_kind (statement.Stop clock condition code label) ts spelt = tt
-one_line_kind (statement.Report word arguments label) ts spelt = tt
-
-one_line : (row : LineRow) (ts : List Tok) → SpellsRow (row_of row) ts → IsOneLine row
-one_line (given.Version a b c) ts spelt = tt
-one_line (given.Circuit name) ts spelt = tt
-one_line (given.Module name) ts spelt = tt
-one_line (given.Port direction name ty) ts spelt = tt
-one_line (given.Statement kind) ts spelt = one_line_kind kind ts spelt
-one_line (given.RegisterReset name ty clock condition init) ts spelt = tt
-one_line (given.RegisterOpen name ty clock) ts spelt = tt
-one_line (given.Reset condition init) ts spelt = tt
-
 -- what the reader of rows found
-pub row_found : (line : LineTokens) (result : Result LineRow Miss) → line.bad ≡ None → (IsTooDeep line.tokens → ⊥) → Finds row_of result (row_at line.tokens) → IsRowOf line result
-row_found line (Ok row) whole shallow found =
-    let spelt : SpellsRow (row_of row) line.tokens = row_at-spelt line.tokens (row_of row) found in
-    (record { whole = whole; shallow = shallow; spelt = spelt }, one_line row line.tokens spelt)
+row_held : (line : LineTokens) (held : Option Row) → line.bad ≡ None → (IsTooDeep line.tokens → ⊥) → MatchOption held ⊥ (λ row. row_at line.tokens ≡ Some row) → MatchOption held ⊥ (IsWholeRow line)
+row_held line None whole shallow found = found
+row_held line (Some row) whole shallow found = record { whole = whole; shallow = shallow; spelt = row_at-spelt line.tokens row found }
+
+pub row_found : (line : LineTokens) (result : Result LineRow Miss) → line.bad ≡ None → (IsTooDeep line.tokens → ⊥) → FindsRow result (row_at line.tokens) → IsRowOf line result
+row_found line (Ok held) whole shallow found = row_held line (row_of held) whole shallow found
 row_found line (Err NoForm) whole shallow found = λ r h. let there = spelt-row_at line.tokens r h.spelt in cc
 row_found line (Err NoMemory) whole shallow found = tt
 
 -- a row, and its place
-pub placed_row : (stage : Stage) (n : ℕ) (line : LineTokens) (row : Row) (result : Result Stage Miss) → IsWholeRow line row → Advances stage (place_after (stage_place stage) row) n (numbered n row ∷ []) result → IsPlaced stage n line result
+placed_row : (stage : Stage) (n : ℕ) (line : LineTokens) (row : Row) (result : Result Stage Miss) → IsWholeRow line row → Advances stage (place_after (stage_place stage) row) n (numbered n row ∷ []) result → IsPlaced stage n line result
 placed_row stage n line row (Ok next) whole after =
     record {
       row = row;
@@ -80,6 +54,10 @@ placed_row stage n line row (Err NoForm) whole none = λ r p form.
     let there : place_after (stage_place stage) row ≡ Some p = ap (λ (x : Row). place_after (stage_place stage) x) same ∙ form.there in
     cc
 placed_row stage n line row (Err NoMemory) whole none = tt
+
+pub placed_held : (stage : Stage) (n : ℕ) (line : LineTokens) (held : Option Row) (result : Result Stage Miss) → MatchOption held ⊥ (IsWholeRow line) → IfSome held (λ row. Advances stage (place_after (stage_place stage) row) n (numbered n row ∷ []) result) → IsPlaced stage n line result
+placed_held stage n line None result whole after = absurd whole
+placed_held stage n line (Some row) result whole after = placed_row stage n line row result whole after
 
 later : (stage : Stage) (n : ℕ) → IsStage stage n → IsStage stage (n + 1)
 later Start n stays = tt

@@ -153,7 +153,7 @@ SpellsRow (RegisterOpenRow name ty clock) ts = SpellsRegister name ty clock ts (
 SpellsRow (ResetRow condition init) ts = SpellsReset condition init ts []
 SpellsRow (InstanceRow name m) ts =
     IsName name × IsName m × (ts ≡ Word (codes "inst") ∷ (Word name ∷ (Word (codes "of") ∷ (Word m ∷ []))))
--- memories are no form until the request that reads them
+-- a memory and its fields are no form: nothing spells them
 SpellsRow (MemoryRow name) ts = ⊥
 SpellsRow (FieldRow field) ts = ⊥
 SpellsRow (ConnectRow sink source) ts =

@@ -1,34 +1,42 @@
 -- The row that a line which was read holds.
-use Rattle.std.specs.Prelude.{None, Some, map}
+use Rattle.std.specs.Prelude.{◌≡◌, Option, None, Some, Result, Ok, Err, MatchOption, map}
 use Rattle.gg_ast.specs.declared.statement.StmtKind.{StmtKind}
 use Rattle.gg_ast.specs.declared.statement.StmtKind.TheVariants as statement
-use Rattle.gg_ast.specs.Row.{Row, VersionRow, CircuitRow, ModuleRow, PortRow, WireRow, NodeRow, RegisterRow, RegisterResetRow, RegisterOpenRow, ResetRow, InstanceRow, MemoryRow, ConnectRow, InvalidRow, SkipRow, StopRow, ReportRow}
+use Rattle.gg_ast.specs.Row.{Row, VersionRow, CircuitRow, ModuleRow, PortRow, WireRow, NodeRow, RegisterRow, RegisterResetRow, RegisterOpenRow, ResetRow, InstanceRow, ConnectRow, InvalidRow, SkipRow, StopRow, ReportRow}
 use Rattle.gg_ast.specs.Rows.{given_argument}
 use Rattle.gg_ast.specs.Term.{term}
 use Rattle.gg_read.specs.declared.row.LineRow.{LineRow}
 use Rattle.gg_read.specs.declared.row.LineRow.TheVariants as line
+use Rattle.gg_read.specs.declared.cursor.Miss.{Miss}
+use Rattle.gg_read.specs.Reading.{Misses}
 
--- a statement of one line. A register with a reset, and a memory, are no such statement, and no reader makes them one:
--- they count as a memory's row, which nothing spells.
-abbrev pub statement_row : StmtKind → Row
-statement_row (statement.Wire name ty) = WireRow name ty
-statement_row (statement.Node name value) = NodeRow name (term value)
-statement_row (statement.Register name ty clock None) = RegisterRow name ty (term clock)
-statement_row (statement.Register name ty clock (Some reset)) = MemoryRow name
-statement_row (statement.Instance name m) = InstanceRow name m
-statement_row (statement.Memory name fields) = MemoryRow name
-statement_row (statement.Connect sink source) = ConnectRow sink (term source)
-statement_row (statement.Invalid sink) = InvalidRow sink
-statement_row statement.Skip = SkipRow
-statement_row (statement.Stop clock condition code label) = StopRow (term clock) (term condition) code label
-statement_row (statement.Report word arguments label) = ReportRow word (map given_argument arguments.items) label
+-- The row of a statement that stands on one line. A register with a reset has none: its text is one line or two, which
+-- `LineRow` tells apart by variants of their own. A memory has none: it is no form.
+abbrev pub statement_row : StmtKind → Option Row
+statement_row (statement.Wire name ty) = Some (WireRow name ty)
+statement_row (statement.Node name value) = Some (NodeRow name (term value))
+statement_row (statement.Register name ty clock None) = Some (RegisterRow name ty (term clock))
+statement_row (statement.Register name ty clock (Some reset)) = None
+statement_row (statement.Instance name m) = Some (InstanceRow name m)
+statement_row (statement.Memory name fields) = None
+statement_row (statement.Connect sink source) = Some (ConnectRow sink (term source))
+statement_row (statement.Invalid sink) = Some (InvalidRow sink)
+statement_row statement.Skip = Some SkipRow
+statement_row (statement.Stop clock condition code label) = Some (StopRow (term clock) (term condition) code label)
+statement_row (statement.Report word arguments label) = Some (ReportRow word (map given_argument arguments.items) label)
 
-abbrev pub row_of : LineRow → Row
-row_of (line.Version a b c) = VersionRow a b c
-row_of (line.Circuit name) = CircuitRow name
-row_of (line.Module name) = ModuleRow name
-row_of (line.Port direction name ty) = PortRow direction name ty
+-- the row that a line holds, which is none only of such a statement
+abbrev pub row_of : LineRow → Option Row
+row_of (line.Version a b c) = Some (VersionRow a b c)
+row_of (line.Circuit name) = Some (CircuitRow name)
+row_of (line.Module name) = Some (ModuleRow name)
+row_of (line.Port direction name ty) = Some (PortRow direction name ty)
 row_of (line.Statement kind) = statement_row kind
-row_of (line.RegisterReset name ty clock condition init) = RegisterResetRow name ty (term clock) (term condition) (term init)
-row_of (line.RegisterOpen name ty clock) = RegisterOpenRow name ty (term clock)
-row_of (line.Reset condition init) = ResetRow (term condition) (term init)
+row_of (line.RegisterReset name ty clock condition init) = Some (RegisterResetRow name ty (term clock) (term condition) (term init))
+row_of (line.RegisterOpen name ty clock) = Some (RegisterOpenRow name ty (term clock))
+row_of (line.Reset condition init) = Some (ResetRow (term condition) (term init))
+
+-- a reader of a line found this: what it gives holds a row, and that is the row
+abbrev pub FindsRow : Result LineRow Miss → Option Row → Type 0
+FindsRow (Ok held) found = MatchOption (row_of held) ⊥ (λ row. found ≡ Some row)
+FindsRow (Err miss) found = Misses miss found

@@ -1,11 +1,9 @@
 -- What the stages of the reader stand for: the place of the next line, and the rows of the lines before it.
-use Rattle.std.specs.Prelude.{◌≡◌, ℕ, ◌+◌, ◌<◌, List, [], ◌∷◌, ◌++◌, length, Option, None, Some, Result, Ok, Err, Bool, true, false}
+use Rattle.std.specs.Prelude.{◌≡◌, ℕ, ◌+◌, ◌<◌, List, [], ◌∷◌, ◌++◌, length, Option, None, Some, Result, Ok, Err, Bool, true, false, MatchOption}
 use Rattle.gg_lex.specs.declared.token.Lexed.{Lexed}
 use Rattle.gg_lex.specs.declared.token.Tok.{Tok}
 use Rattle.gg_lex.specs.Lines.{Lexes}
 use Rattle.gg_ast.specs.declared.statement.Reset.{Reset}
-use Rattle.gg_ast.specs.declared.statement.StmtKind.{StmtKind}
-use Rattle.gg_ast.specs.declared.statement.StmtKind.TheVariants as statement
 use Rattle.gg_ast.specs.Row.{Row, Numbered, numbered, RegisterOpenRow, ResetRow}
 use Rattle.gg_ast.specs.Rows.{rows_of}
 use Rattle.gg_ast.specs.Term.{term}
@@ -13,7 +11,6 @@ use Rattle.gg_ast.specs.Tree.{CircuitTree, IsOpenToPorts}
 use Rattle.gg_read.specs.declared.cursor.Miss.{Miss}
 use Rattle.gg_read.specs.declared.cursor.Miss.TheVariants.{NoForm, NoMemory}
 use Rattle.gg_read.specs.declared.row.LineRow.{LineRow}
-use Rattle.gg_read.specs.declared.row.LineRow.TheVariants as given
 use Rattle.gg_read.specs.declared.stage.OpenRegister.{OpenRegister}
 use Rattle.gg_read.specs.declared.stage.Stage.{Stage}
 use Rattle.gg_read.specs.declared.stage.Stage.TheVariants.{Start, Version, Header, Ports, Statements, Open}
@@ -63,30 +60,6 @@ IsStage (Header circuit) n = Unit {0}
 IsStage (Ports circuit) n = (0 < length circuit.modules) × IsOpenToPorts circuit.modules
 IsStage (Statements circuit) n = 0 < length circuit.modules
 IsStage (Open circuit register) n = (0 < length circuit.modules) × (register.line < n)
-
--- a statement of one line: no memory, and no register with a reset
-abbrev pub IsOneLineKind : StmtKind → Type 0
-IsOneLineKind (statement.Wire name ty) = Unit {0}
-IsOneLineKind (statement.Node name value) = Unit {0}
-IsOneLineKind (statement.Register name ty clock None) = Unit {0}
-IsOneLineKind (statement.Register name ty clock (Some reset)) = ⊥
-IsOneLineKind (statement.Instance name m) = Unit {0}
-IsOneLineKind (statement.Memory name fields) = ⊥
-IsOneLineKind (statement.Connect sink source) = Unit {0}
-IsOneLineKind (statement.Invalid sink) = Unit {0}
-IsOneLineKind statement.Skip = Unit {0}
-IsOneLineKind (statement.Stop clock condition code label) = Unit {0}
-IsOneLineKind (statement.Report word arguments label) = Unit {0}
-
-abbrev pub IsOneLine : LineRow → Type 0
-IsOneLine (given.Version a b c) = Unit {0}
-IsOneLine (given.Circuit name) = Unit {0}
-IsOneLine (given.Module name) = Unit {0}
-IsOneLine (given.Port direction name ty) = Unit {0}
-IsOneLine (given.Statement kind) = IsOneLineKind kind
-IsOneLine (given.RegisterReset name ty clock condition init) = Unit {0}
-IsOneLine (given.RegisterOpen name ty clock) = Unit {0}
-IsOneLine (given.Reset condition init) = Unit {0}
 
 -- the stage behind these rows, the last of which stands on line n
 pub record IsAfter (stage : Stage) (to : Option Place) (n : ℕ) (rows : List Numbered) (next : Stage) : Type 0 where
@@ -158,7 +131,7 @@ pub record IsWholeRow (line : LineTokens) (row : Row) : Type 0 where
 
 -- the row of a line, or that it is none
 abbrev pub IsRowOf : LineTokens → Result LineRow Miss → Type 0
-IsRowOf line (Ok row) = IsWholeRow line (row_of row) × IsOneLine row
+IsRowOf line (Ok held) = MatchOption (row_of held) ⊥ (IsWholeRow line)
 IsRowOf line (Err NoForm) = (row : Row) → IsWholeRow line row → ⊥
 IsRowOf line (Err NoMemory) = Unit {0}
 

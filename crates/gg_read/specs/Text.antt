@@ -142,7 +142,8 @@ closed [] = 0
 closed (Symbol mark.CloseParen ∷ ts) = 1 + closed ts
 closed (t ∷ ts) = closed ts
 
--- at some token the count of `(` less that of `)` rises above 256
+-- At some token the count of `(` from the line's beginning on, less that of `)`, is above 256. Nothing is said of the
+-- tokens before: the difference may have been below 0, so a `)` and then 257 `(` are not too deep, and 258 are.
 abbrev pub IsTooDeep : List Tok → Type 0
 IsTooDeep ts = (k : ℕ) × (256 + closed (take k ts) < opened (take k ts))
 
@@ -150,7 +151,8 @@ IsTooDeep ts = (k : ℕ) × (256 + closed (take k ts) < opened (take k ts))
 abbrev pub IsBlank : LineTokens → Type 0
 IsBlank line = (line.tokens ≡ []) × (line.bad ≡ None)
 
--- a line is this row, and one of the forms of its place; the next line's place is `next`
+-- A line is this row, and one of the forms of its place; the next line's place is `next`. A line that is too deep is
+-- none, even where its tokens spell a row: the first such line is a fault line.
 pub record IsForm (place : Place) (line : LineTokens) (row : Row) (next : Place) : Type 0 where
   pub whole : line.bad ≡ None
   pub shallow : IsTooDeep line.tokens → ⊥

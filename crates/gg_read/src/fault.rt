@@ -8,7 +8,7 @@ use gg_bits::Name;
 use gg_lex::{Symbol, Tok};
 use std::alloc::{AllocError, Global};
 
-/// At most this many brackets are open at any token of a line.
+/// By at most this many the `(` from a line's beginning up to a token are more than the `)`.
 const DEEPEST: usize = 256;
 
 /// What is answered for the fault line of this number, which holds these tokens.
@@ -25,7 +25,7 @@ pub(crate) fn line_fault(alloc: Global, line: u64, tokens: &[Tok]) -> ReadFault
     }
 }
 
-/// Whether at some token more than 256 brackets are open.
+/// Whether at some token the `(` from the line's beginning on are more than 256 more than the `)`.
 pub(crate) fn is_too_deep(tokens: &[Tok]) -> bool
     ensures { MatchBool result (IsTooDeep tokens.now) (IsTooDeep tokens.now → ⊥) }
 {

@@ -4,7 +4,7 @@ ghost use Rattle.gg_ast.specs.Row.{RegisterResetRow};
 ghost use Rattle.gg_ast.specs.Term.{Term, term};
 ghost use Rattle.gg_ast.specs.Rows.{given_argument};
 ghost use Rattle.gg_read.specs.Reading.{Reads, Finds, expression_at, last_expression_at, version_at, header_at, declared_at, last_declared_at, node_at, reset_at, reset_row_at, inline_reset_at, with_at, clocked_at, register_at, instance_at, label_at, stop_at, argument_at, arguments_at, TakesArgument, report_at, body_at, invalid_at, driven_at, connection_at, row_at};
-ghost use Rattle.gg_read.specs.LineRows.{row_of};
+ghost use Rattle.gg_read.specs.LineRows.{FindsRow};
 
 use crate::cursor::{Cursor, Miss};
 use crate::expression::{expr, ground_type, one_parameter, reference};
@@ -33,7 +33,7 @@ pub(crate) enum LineRow {
 
 /// The row that the tokens of a line spell.
 pub(crate) fn row(alloc: Global, tokens: &[Tok]) -> Result<LineRow, Miss>
-    ensures { Finds row_of result (row_at tokens.now) }
+    ensures { FindsRow result (row_at tokens.now) }
 {
     let mut cursor = Cursor::new(tokens);
     if cursor.is_connection() {
@@ -45,7 +45,7 @@ pub(crate) fn row(alloc: Global, tokens: &[Tok]) -> Result<LineRow, Miss>
 
 /// What stands behind the keyword of a line.
 fn body(alloc: Global, cursor: &mut Cursor, keyword: Keyword) -> Result<LineRow, Miss>
-    ensures { Finds row_of result (body_at keyword cursor.old) }
+    ensures { FindsRow result (body_at keyword cursor.old) }
 {
     match keyword {
         Keyword::Version => version(cursor),
@@ -65,7 +65,7 @@ fn body(alloc: Global, cursor: &mut Cursor, keyword: Keyword) -> Result<LineRow,
 
 /// `version n . n . n`.
 fn version(cursor: &mut Cursor) -> Result<LineRow, Miss>
-    ensures { Finds row_of result (version_at cursor.old) }
+    ensures { FindsRow result (version_at cursor.old) }
 {
     cursor.word("version")?;
     let major = cursor.natural()?;
@@ -108,7 +108,7 @@ fn last_declared(cursor: &mut Cursor) -> Result<(Name, GroundType), Miss>
 
 /// A port, behind its direction.
 fn port(cursor: &mut Cursor, direction: Direction) -> Result<LineRow, Miss>
-    ensures { Finds row_of result (body_at (Keyword.Port direction) cursor.old) }
+    ensures { FindsRow result (body_at (Keyword.Port direction) cursor.old) }
 {
     let (name, ty) = last_declared(cursor)?;
     Ok(LineRow::Port(direction, name, ty))
@@ -116,7 +116,7 @@ fn port(cursor: &mut Cursor, direction: Direction) -> Result<LineRow, Miss>
 
 /// A wire, behind its keyword.
 fn wire(cursor: &mut Cursor) -> Result<LineRow, Miss>
-    ensures { Finds row_of result (body_at Keyword.Wire cursor.old) }
+    ensures { FindsRow result (body_at Keyword.Wire cursor.old) }
 {
     let (name, ty) = last_declared(cursor)?;
     Ok(LineRow::Statement(StmtKind::Wire { name, ty }))
@@ -144,7 +144,7 @@ fn last_expression(alloc: Global, cursor: &mut Cursor) -> Result<Expr, Miss>
 
 /// A node, behind its keyword.
 fn node(alloc: Global, cursor: &mut Cursor) -> Result<LineRow, Miss>
-    ensures { Finds row_of result (node_at cursor.old) }
+    ensures { FindsRow result (node_at cursor.old) }
 {
     let name = cursor.name()?;
     cursor.symbol(Symbol::Equals)?;
@@ -154,7 +154,7 @@ fn node(alloc: Global, cursor: &mut Cursor) -> Result<LineRow, Miss>
 
 /// A register, behind its keyword.
 fn register(alloc: Global, cursor: &mut Cursor) -> Result<LineRow, Miss>
-    ensures { Finds row_of result (register_at cursor.old) }
+    ensures { FindsRow result (register_at cursor.old) }
 {
     let (name, ty) = declared(cursor)?;
     cursor.symbol(Symbol::Comma)?;
@@ -170,7 +170,7 @@ fn clocked(
     ty: GroundType,
     clock: Expr,
 ) -> Result<LineRow, Miss>
-    ensures { Finds row_of result (clocked_at name ty (term clock) cursor.old) }
+    ensures { FindsRow result (clocked_at name ty (term clock) cursor.old) }
 {
     if cursor.is_empty() {
         return Ok(LineRow::Statement(StmtKind::Register {
@@ -191,7 +191,7 @@ fn reset_part(
     ty: GroundType,
     clock: Expr,
 ) -> Result<LineRow, Miss>
-    ensures { Finds row_of result (with_at name ty (term clock) cursor.old) }
+    ensures { FindsRow result (with_at name ty (term clock) cursor.old) }
 {
     if !(cursor.skip_word("with") && cursor.skip(Symbol::Colon)) {
         drop(clock);
@@ -241,7 +241,7 @@ fn reset(alloc: Global, cursor: &mut Cursor) -> Result<(Expr, Expr), Miss>
 
 /// A reset on a line of its own, behind its keyword.
 fn reset_row(alloc: Global, cursor: &mut Cursor) -> Result<LineRow, Miss>
-    ensures { Finds row_of result (reset_row_at cursor.old) }
+    ensures { FindsRow result (reset_row_at cursor.old) }
 {
     let found = reset(alloc, cursor)?;
     if cursor.is_empty() {
@@ -254,7 +254,7 @@ fn reset_row(alloc: Global, cursor: &mut Cursor) -> Result<LineRow, Miss>
 
 /// An instance, behind its keyword.
 fn instance(cursor: &mut Cursor) -> Result<LineRow, Miss>
-    ensures { Finds row_of result (instance_at cursor.old) }
+    ensures { FindsRow result (instance_at cursor.old) }
 {
     let name = cursor.name()?;
     cursor.word("of")?;
@@ -265,7 +265,7 @@ fn instance(cursor: &mut Cursor) -> Result<LineRow, Miss>
 
 /// `skip`, behind its keyword.
 fn skip(cursor: &mut Cursor) -> Result<LineRow, Miss>
-    ensures { Finds row_of result (body_at Keyword.Skip cursor.old) }
+    ensures { FindsRow result (body_at Keyword.Skip cursor.old) }
 {
     cursor.end()?;
     Ok(LineRow::Statement(StmtKind::Skip))
@@ -286,7 +286,7 @@ fn label(cursor: &mut Cursor) -> Result<Option<Name>, Miss>
 
 /// A stop, behind its keyword.
 fn stop(alloc: Global, cursor: &mut Cursor) -> Result<LineRow, Miss>
-    ensures { Finds row_of result (stop_at cursor.old) }
+    ensures { FindsRow result (stop_at cursor.old) }
 {
     cursor.symbol(Symbol::OpenParen)?;
     let clock = expression(alloc, cursor)?;
@@ -357,7 +357,7 @@ fn add_argument(arguments: &mut Vec<Argument>, next: Argument) -> Result<(), Mis
 
 /// A statement without effect, behind its keyword.
 fn report(alloc: Global, cursor: &mut Cursor, word: Report) -> Result<LineRow, Miss>
-    ensures { Finds row_of result (report_at word cursor.old) }
+    ensures { FindsRow result (report_at word cursor.old) }
 {
     cursor.symbol(Symbol::OpenParen)?;
     let arguments = arguments(alloc, cursor)?;
@@ -371,7 +371,7 @@ fn report(alloc: Global, cursor: &mut Cursor, word: Report) -> Result<LineRow, M
 
 /// A connection: a sink, and what drives it.
 fn connection(alloc: Global, cursor: &mut Cursor) -> Result<LineRow, Miss>
-    ensures { Finds row_of result (connection_at cursor.old) }
+    ensures { FindsRow result (connection_at cursor.old) }
 {
     let sink = reference(cursor)?;
     driven(alloc, cursor, sink)
@@ -379,7 +379,7 @@ fn connection(alloc: Global, cursor: &mut Cursor) -> Result<LineRow, Miss>
 
 /// `<= SOURCE`, or `is invalid`.
 fn driven(alloc: Global, cursor: &mut Cursor, sink: Reference) -> Result<LineRow, Miss>
-    ensures { Finds row_of result (driven_at sink cursor.old) }
+    ensures { FindsRow result (driven_at sink cursor.old) }
 {
     if cursor.skip(Symbol::Connect) {
         let source = last_expression(alloc, cursor)?;
@@ -390,7 +390,7 @@ fn driven(alloc: Global, cursor: &mut Cursor, sink: Reference) -> Result<LineRow
 
 /// `is invalid`.
 fn invalid(cursor: &mut Cursor, sink: Reference) -> Result<LineRow, Miss>
-    ensures { Finds row_of result (invalid_at sink cursor.old) }
+    ensures { FindsRow result (invalid_at sink cursor.old) }
 {
     cursor.word("is")?;
     cursor.word("invalid")?;

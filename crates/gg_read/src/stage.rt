@@ -1,11 +1,12 @@
 //! The circuit that is built, row by row, and the place that the rows have reached.
-ghost use Rattle.std.specs.Prelude.{◌≡◌, ℕ, ◌∷◌, [], ◌<◌, length};
-ghost use Rattle.gg_ast.specs.Row.{numbered, VersionRow, CircuitRow, ModuleRow};
+ghost use Rattle.std.specs.Prelude.{◌≡◌, ℕ, ◌∷◌, [], ◌<◌, length, IfSome};
+ghost use Rattle.gg_ast.specs.Row.{numbered, VersionRow, CircuitRow, ModuleRow, RegisterResetRow};
 ghost use Rattle.gg_ast.specs.Rows.{port_row, statement_rows};
+ghost use Rattle.gg_ast.specs.Term.{term};
 ghost use Rattle.gg_ast.specs.Tree.{IsOpenToPorts};
 ghost use Rattle.gg_read.specs.LineRows.{row_of};
 ghost use Rattle.gg_read.specs.Text.{InPorts, InStatements, place_after, after_version, after_circuit, after_module, after_port, after_statement, after_open, after_reset};
-ghost use Rattle.gg_read.specs.Stages.{stage_place, IsStage, IsOneLine, Advances, TellsStart, TellsBare, IsWhole, IsBody, IsOpened, open_row, reset_row, Ends};
+ghost use Rattle.gg_read.specs.Stages.{stage_place, IsStage, Advances, TellsStart, TellsBare, IsWhole, IsBody, IsOpened, open_row, reset_row, Ends};
 
 use crate::cursor::Miss;
 use crate::row::LineRow;
@@ -43,11 +44,11 @@ pub(crate) enum Stage {
 
 /// The stage behind one more row, which stands on this line.
 ///
-/// `NoForm` exactly where the row is none of the forms of its place.
+/// `NoForm` exactly where the row is none of the forms of its place. Of a statement that is no row by itself, as a
+/// register with its reset, nothing is said: no reader of lines gives one.
 pub(crate) fn advance(alloc: Global, stage: Stage, line: u64, row: LineRow) -> Result<Stage, Miss>
     requires stage { IsStage stage line }
-    requires row { IsOneLine row }
-    ensures { Advances stage (place_after (stage_place stage) (row_of row)) line (numbered line (row_of row) ∷ []) result }
+    ensures { IfSome (row_of row) (λ held. Advances stage (place_after (stage_place stage) held) line (numbered line held ∷ []) result) }
 {
     match row {
         LineRow::Version(_, _, _) => version(stage),
@@ -63,20 +64,9 @@ pub(crate) fn advance(alloc: Global, stage: Stage, line: u64, row: LineRow) -> R
             },
         ),
         LineRow::Statement(kind) => statement(stage, Stmt { line, kind }),
-        LineRow::RegisterReset(name, ty, clock, condition, init) => {
-            let reset = Some(Reset {
-                line,
-                condition,
-                init,
-            });
-            let kind = StmtKind::Register {
-                name,
-                ty,
-                clock,
-                reset,
-            };
-            statement(stage, Stmt { line, kind })
-        }
+        LineRow::RegisterReset(name, ty, clock, condition, init) => register(
+            stage, line, name, ty, clock, condition, init,
+        ),
         LineRow::RegisterOpen(name, ty, clock) => open(
             stage,
             OpenRegister {
@@ -95,6 +85,33 @@ pub(crate) fn advance(alloc: Global, stage: Stage, line: u64, row: LineRow) -> R
             },
         ),
     }
+}
+
+/// A register with its reset, both on this line.
+fn register(
+    stage: Stage,
+    line: u64,
+    name: Name,
+    ty: GroundType,
+    clock: Expr,
+    condition: Expr,
+    init: Expr,
+) -> Result<Stage, Miss>
+    requires { (before : ℕ) × IsStage stage before }
+    ensures { Advances stage (after_statement (stage_place stage)) line (numbered line (RegisterResetRow name ty (term clock) (term condition) (term init)) ∷ []) result }
+{
+    let reset = Some(Reset {
+        line,
+        condition,
+        init,
+    });
+    let kind = StmtKind::Register {
+        name,
+        ty,
+        clock,
+        reset,
+    };
+    statement(stage, Stmt { line, kind })
 }
 
 /// The version line, which stands at the beginning.

@@ -25,7 +25,8 @@ pub enum ReadFault {
     Syntax { line: u64 },
     /// The same, and this is its first word or symbol of what is left out of the language.
     Outside { line: u64, word: Name },
-    /// At some token of this line more than 256 brackets are open.
+    /// At some token of this line the `(` from its beginning on are more than 256 more than the `)`. They may be fewer
+    /// before: a `)` and then 257 `(` are not too deep.
     TooDeep { line: u64 },
     /// Memory ran out. The text says nothing of this.
     NoMemory,
@@ -33,9 +34,14 @@ pub enum ReadFault {
 
 /// The circuit that a text spells (FIRRTL Specification, "Grammar"), or why it spells none.
 ///
+/// The bytes are fewer than 2 ^ 32, so that lines and modules can be counted. The text is passed over once.
+///
+/// # Errors
+///
 /// `NotText` exactly where the bytes are not UTF-8. Else the first line that is none of the forms of its place is at
-/// fault, or the one behind the last where the text is incomplete: `TooDeep` where more than 256 brackets are open
-/// there, else `Outside` with its first word of what is left out, else `Syntax`. The text is passed over once.
+/// fault, or the one behind the last where the text is incomplete: `TooDeep` where at some token of it the count of `(`
+/// less that of `)` is above 256 (which no form allows, even where the tokens spell a row), else `Outside` with its first
+/// word of what is left out, else `Syntax`. `NoMemory` where memory is refused: the text says nothing of this.
 pub fn read_circuit(alloc: Global, bytes: &[u8]) -> Result<Circuit, ReadFault>
     requires { length bytes.now < 2 ^ 32 }
     ensures circuit { IfOk result (Spells bytes.now) }

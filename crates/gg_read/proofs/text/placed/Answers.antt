@@ -1,9 +1,9 @@
 use Rattle.gg_read.specs.LineRows.{row_of}
 use Rattle.gg_read.specs.Stages.{line_of}
-use Rattle.gg_read.proofs.TextSteps.{placed_row}
+use Rattle.gg_read.proofs.TextSteps.{placed_held}
 use Rattle.gg_read.proofs.text.placed.Goals as goal
 
 pub returns : goal.returns
 returns c =
     let row = c.in_ok-row.ensures {u = tt} in
-    placed_row c.args.stage c.args.number (line_of c.args.lexed.now) (row_of c.in_ok-row.row) c.advance.result row.0 c.advance.ensures
+    placed_held c.args.stage c.args.number (line_of c.args.lexed.now) (row_of c.in_ok-row.row) c.advance.result row c.advance.ensures

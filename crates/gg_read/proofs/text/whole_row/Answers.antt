@@ -1,8 +1,8 @@
 use Rattle.std.proofs.Common.{◌≡◌, List, false, subst}
 use Rattle.std.specs.Prelude.{is_some}
 use Rattle.gg_lex.specs.declared.token.Tok.{Tok}
-use Rattle.gg_read.specs.LineRows.{row_of}
-use Rattle.gg_read.specs.Reading.{Finds, row_at}
+use Rattle.gg_read.specs.LineRows.{FindsRow}
+use Rattle.gg_read.specs.Reading.{row_at}
 use Rattle.gg_read.specs.Stages.{line_of}
 use Rattle.gg_read.specs.Text.{LineTokens, IsTooDeep}
 use Rattle.gg_read.proofs.TextSteps.{none_there, row_found}
@@ -13,5 +13,5 @@ returns c =
     let line : LineTokens = line_of c.args.lexed.now in
     let none : is_some line.bad ≡ false = cc (c.if-is_some.ensures) in
     let shallow = subst (λ (ts : List Tok). IsTooDeep ts → ⊥) c.as_slice.ensures.value c.if-is_too_deep.ensures in
-    let found = subst (λ (ts : List Tok). Finds row_of c.row.result (row_at ts)) c.as_slice-2.ensures.value c.row.ensures in
+    let found = subst (λ (ts : List Tok). FindsRow c.row.result (row_at ts)) c.as_slice-2.ensures.value c.row.ensures in
     row_found line c.row.result (none_there line.bad none) shallow found
