@@ -84,11 +84,15 @@ pub IsState-at : (circuit : FlatCircuit) (rows : List (List ℕ)) (t : ℕ) → 
 IsState-at circuit rows zero = IsState-opening circuit
 IsState-at circuit rows (suc t) = IsState-next circuit (state_at circuit rows t) _ (IsState-at circuit rows t)
 
--- the rows worked out along an order are a run
-pub IsRun-along : (circuit : FlatCircuit) (order : List ℕ) (columns : List (List ℕ)) (n : ℕ) → IsWellFormed circuit → IsOrder circuit order → IsColumns circuit n columns → IsRun circuit columns n (rows_along circuit order columns n)
-IsRun-along circuit order columns zero formed o typed = IsRun-none circuit columns
-IsRun-along circuit order columns (suc n) formed o typed =
+-- the rows worked out along an order, where the columns have inputs in each cycle
+run-along : (circuit : FlatCircuit) (order : List ℕ) (columns : List (List ℕ)) (n : ℕ) → IsWellFormed circuit → IsOrder circuit order → ((t : ℕ) → t < n → IsInputs circuit (inputs_at columns t)) → IsRun circuit columns n (rows_along circuit order columns n)
+run-along circuit order columns zero formed o typed = IsRun-none circuit columns
+run-along circuit order columns (suc n) formed o typed =
     subst (λ m. IsRun circuit columns m (rows_along circuit order columns (suc n))) (add-one n)
     (IsRun-push circuit columns n (rows_along circuit order columns n) _
-    (IsRun-along circuit order columns n formed o (λ t lt. typed t (omega arith)))
+    (run-along circuit order columns n formed o (λ t lt. typed t (omega arith)))
     (Settled-along circuit order (state_at circuit (rows_along circuit order columns n) n) (inputs_at columns n) formed o (IsState-at circuit (rows_along circuit order columns n) n) (typed n (omega arith))))
+
+-- the rows worked out along an order are a run
+pub IsRun-along : (circuit : FlatCircuit) (order : List ℕ) (columns : List (List ℕ)) (n : ℕ) → IsWellFormed circuit → IsOrder circuit order → IsColumns circuit n columns → IsRun circuit columns n (rows_along circuit order columns n)
+IsRun-along circuit order columns n formed o typed = run-along circuit order columns n formed o typed.inputs

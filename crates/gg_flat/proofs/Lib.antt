@@ -1,5 +1,6 @@
 pub mod PathLemmas
 pub mod AgreeLemmas
+pub mod NameLemmas
 pub mod OrderLemmas
 pub mod UniqueLemmas
 pub mod TypedLemmas
@@ -8,4 +9,7 @@ pub mod LineLemmas
 pub mod AdvanceLemmas
 pub mod RunLemmas
 pub mod AlongLemmas
+pub mod WorkedCircuits
 pub mod WorkedRows
+pub mod WorkedForms
+pub mod FlawedCircuits

@@ -1,6 +1,6 @@
 -- A run of a flat circuit, and the column of a signal.
 -- Source: FIRRTL Specification, "Registers" (one clock: a state at a time); ICCAD 2019 for target cycles as rows.
-use Rattle.std.specs.Prelude.{◌≡◌, ℕ, zero, suc, ◌<◌, List, [], length, map, slice_index_or}
+use Rattle.std.specs.Prelude.{◌≡◌, ℕ, zero, suc, ◌<◌, List, [], length, map, slice_index_or, All}
 use Rattle.gg_flat.specs.Line.{value_at}
 use Rattle.gg_flat.specs.Circuit.{FlatCircuit}
 use Rattle.gg_flat.specs.State.{State, opening, next_state}
@@ -28,6 +28,8 @@ pub record IsRun (circuit : FlatCircuit) (columns : List (List ℕ)) (n : ℕ) (
 abbrev pub column : List (List ℕ) → ℕ → List ℕ
 column rows s = map (λ row. value_at row s) rows
 
--- columns that the circuit can get for n cycles
-abbrev pub IsColumns : FlatCircuit → ℕ → List (List ℕ) → Type 0
-IsColumns circuit n columns = (t : ℕ) → t < n → IsInputs circuit (inputs_at columns t)
+-- Columns that the circuit can get for n cycles: one for each in-signal, each of n values, which are inputs in each cycle.
+pub record IsColumns (circuit : FlatCircuit) (n : ℕ) (columns : List (List ℕ)) : Type 0 where
+  pub count : length columns ≡ length circuit.ins
+  pub height : All (λ column. length column ≡ n) columns
+  pub inputs : (t : ℕ) → t < n → IsInputs circuit (inputs_at columns t)

@@ -18,12 +18,19 @@ fn fits(value: Val, ty: Ty) -> bool
     ty.width == 128 || value.0 < 1 << ty.width
 }
 
+// Whether two types are the same.
+fn same_type(a: Ty, b: Ty) -> bool
+    ensures { IsTrue result ↔ (shape a ≡ shape b) }
+{
+    a.kind == b.kind && a.width == b.width
+}
+
 // Whether an operation's result is of a type.
 fn results_in(found: Result<Ty, Bad>, ty: Ty) -> bool
     ensures { IsTrue result ↔ (shape_of found ≡ Ok (shape ty)) }
 {
     match found {
-        Ok(result) => result.kind == ty.kind && result.width == ty.width,
+        Ok(result) => same_type(result, ty),
         Err(_) => false,
     }
 }
@@ -35,8 +42,7 @@ fn is_typed(signals: &[Signal], signal: u32, ty: Ty) -> bool
     if signal as usize >= signals.len() {
         return false;
     }
-    let found = signals[signal as usize].ty;
-    found.kind == ty.kind && found.width == ty.width
+    same_type(signals[signal as usize].ty, ty)
 }
 
 // Whether a node has the type that it says.
@@ -48,31 +54,25 @@ fn is_node(signals: &[Signal], nodes: &[Node], k: usize) -> bool
     match op_of(nodes, k) {
         Op::Ref(signal) => is_typed(signals, signal, ty),
         Op::Literal(value) => fits(value, ty),
-        Op::One(op, i) => (i as usize) < k
-            && results_in(result1(op, type_of(nodes, i as usize)), ty),
+        Op::One(op, i) => {
+            let i = i as usize;
+            i < k && results_in(result1(op, type_of(nodes, i)), ty)
+        }
         Op::Two(op, i, j) => {
-            (i as usize) < k
-                && (j as usize) < k
-                && results_in(
-                    result2(op, type_of(nodes, i as usize), type_of(nodes, j as usize)),
-                    ty,
-                )
+            let (i, j) = (i as usize, j as usize);
+            i < k && j < k && results_in(result2(op, type_of(nodes, i), type_of(nodes, j)), ty)
         }
         Op::Fix(op, i, n, m) => {
-            (i as usize) < k && results_in(result_const(op, type_of(nodes, i as usize), n, m), ty)
+            let i = i as usize;
+            i < k && results_in(result_const(op, type_of(nodes, i), n, m), ty)
         }
         Op::Mux(c, i, j) => {
-            (c as usize) < k
-                && (i as usize) < k
-                && (j as usize) < k
-                && results_in(
-                    result_mux(
-                        type_of(nodes, c as usize),
-                        type_of(nodes, i as usize),
-                        type_of(nodes, j as usize),
-                    ),
-                    ty,
-                )
+            let (c, i, j) = (c as usize, i as usize, j as usize);
+            if c >= k || i >= k || j >= k {
+                return false;
+            }
+            let (first, second) = (type_of(nodes, i), type_of(nodes, j));
+            results_in(result_mux(type_of(nodes, c), first, second), ty)
         }
     }
 }
@@ -183,16 +183,7 @@ impl Piece {
         }
         true
     }
-}
 
-// Whether two types are the same.
-fn same_type(a: Ty, b: Ty) -> bool
-    ensures { IsTrue result ↔ (shape a ≡ shape b) }
-{
-    a.kind == b.kind && a.width == b.width
-}
-
-impl Piece {
     // Whether every in-signal is a signal that names its place among the in-signals.
     fn are_ins(&self) -> bool
         ensures { IsTrue result ↔ ((place : ℕ) → place < length self.now.ins → (value_at self.now.ins place < length self.now.signals) × (driver_at self.now (value_at self.now.ins place) ≡ Input place)) }
@@ -221,6 +212,7 @@ impl Piece {
     pub fn check(&self) -> bool
         ensures { IsTrue result ↔ IsWellFormed self.now }
     {
+        // for what holds of every piece: each signal has a path of its own, and there is no memory
         let _ = self.signal_count();
         if !self.are_ins() {
             return false;

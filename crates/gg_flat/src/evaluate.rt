@@ -44,35 +44,22 @@ fn node_value(nodes: &[Node], k: usize, signals: &[u128], before: &[u128]) -> u1
         Op::Two(op, i, j) => {
             let first = type_of(nodes, i as usize);
             let second = type_of(nodes, j as usize);
-            apply2(
-                op,
-                first,
-                Val(before[i as usize]),
-                second,
-                Val(before[j as usize]),
-            )
-            .0
+            let a = Val(before[i as usize]);
+            let b = Val(before[j as usize]);
+            apply2(op, first, a, second, b).0
         }
-        Op::Fix(op, i, n, m) => apply_const(
-            op,
-            type_of(nodes, i as usize),
-            Val(before[i as usize]),
-            n,
-            m,
-        )
-        .0,
+        Op::Fix(op, i, n, m) => {
+            let ty = type_of(nodes, i as usize);
+            let a = Val(before[i as usize]);
+            apply_const(op, ty, a, n, m).0
+        }
         Op::Mux(c, i, j) => {
             let first = type_of(nodes, i as usize);
             let second = type_of(nodes, j as usize);
             let condition = Val(before[c as usize]);
-            mux(
-                condition,
-                first,
-                Val(before[i as usize]),
-                second,
-                Val(before[j as usize]),
-            )
-            .0
+            let a = Val(before[i as usize]);
+            let b = Val(before[j as usize]);
+            mux(condition, first, a, second, b).0
         }
     }
 }

@@ -1,5 +1,5 @@
 //! Lines: what a signal is computed by, as a straight list of nodes.
-ghost use Rattle.std.specs.Prelude.{◌≡◌, [], ◌∷◌, ◌++◌, length, OnOk, OnErr, IsTrue, ◌↔◌};
+ghost use Rattle.std.specs.Prelude.{◌≡◌, [], ◌∷◌, ◌++◌, length, OnOk, OnErr};
 
 use gg_bits::{Op1, Op2, OpN, Ty, Val};
 use std::alloc::{AllocError, Global};
@@ -36,7 +36,7 @@ pub struct Node {
 
 /// An expression as a straight list of nodes, each of which names earlier ones; the last is the result.
 ///
-/// A contract sees it as the list of its nodes. It is made of a `Vec` and gives it back without taking memory.
+/// A contract sees it as the list of its nodes.
 #[derive(Debug, Drop)]
 pub struct Line {
     nodes: Vec<Node>,
@@ -62,6 +62,10 @@ impl Line {
     }
 
     /// Adds a node at the end.
+    ///
+    /// # Errors
+    ///
+    /// Where memory is refused. The line is then unchanged.
     pub fn push(&mut self, node: Node) -> Result<(), AllocError>
         ensures ok { OnOk result (self.new ≡ self.old ++ node ∷ []) }
         ensures err { OnErr result (self.new ≡ self.old) }
@@ -77,33 +81,10 @@ impl Line {
         self.nodes.len()
     }
 
-    /// Whether there is no node.
-    pub fn is_empty(&self) -> bool
-        ensures { IsTrue result ↔ (self.now ≡ []) }
-    {
-        self.nodes.is_empty()
-    }
-
     /// The nodes, in order.
     pub fn as_slice(&self) -> &[Node]
         ensures { result.now ≡ self.now }
     {
         self.nodes.as_slice()
-    }
-
-    /// Gives the `Vec` back.
-    pub fn into_vec(self) -> Vec<Node>
-        ensures { result.items ≡ self }
-    {
-        let Line { nodes } = self;
-        nodes
-    }
-}
-
-impl From<Vec<Node>> for Line {
-    ghost from_gives = { λ nodes line. line ≡ nodes.items };
-
-    fn from(nodes: Vec<Node>) -> Line {
-        Line { nodes }
     }
 }

@@ -1,5 +1,5 @@
 //! `Paths`: the paths of a piece's signals, no two of them equal.
-ghost use Rattle.std.specs.Prelude.{◌≡◌, ◌≢◌, ◌<◌, ◌≤◌, ◌↔◌, ◌^◌, ◌-◌, [], ◌∷◌, ◌++◌, length, OnOk, OnErr, IsTrue, IfSome, IfNone, Some, None, Ok, Err, slice_get, option_copied, AllPairs, Contains};
+ghost use Rattle.std.specs.Prelude.{◌≡◌, ◌≢◌, ◌<◌, ◌≤◌, ◌↔◌, ◌^◌, ◌-◌, [], ◌∷◌, ◌++◌, length, OnOk, OnErr, IfSome, IfNone, Some, None, Ok, Err, slice_get, option_copied, AllPairs, Contains};
 ghost use Rattle.gg_flat.specs.declared.paths.AddError.TheVariants.{Doubled, NoMemory};
 
 use gg_bits::Name;
@@ -49,17 +49,10 @@ impl Paths {
     /// How many paths there are.
     pub fn len(&self) -> usize
         ensures count { result ≡ length self.now }
-        ensures named { length self.now < 2 ^ 32 }
+        ensures few { length self.now < 2 ^ 32 }
         ensures distinct { AllPairs (λ a b. a ≢ b) self.now }
     {
         self.names.len()
-    }
-
-    /// Whether there is no path.
-    pub fn is_empty(&self) -> bool
-        ensures { IsTrue result ↔ (self.now ≡ []) }
-    {
-        self.names.len() == 0
     }
 
     /// The number of a path, where it is one of these.
@@ -80,7 +73,11 @@ impl Paths {
         self.names.get_index(number as usize)
     }
 
-    /// Adds a path at the end.
+    /// Adds a path at the end. There are at most 4,294,967,294 paths before.
+    ///
+    /// # Errors
+    ///
+    /// `Doubled`, where the path is one of these; `NoMemory`, where memory is refused. The paths are then unchanged.
     pub fn add(&mut self, path: Name) -> Result<(), AddError>
         requires { length self.old < 2 ^ 32 - 1 }
         ensures ok { OnOk result (self.new ≡ self.old ++ path ∷ []) }

@@ -1,5 +1,5 @@
 //! `Piece`: a flat circuit, built signal by signal.
-ghost use Rattle.std.specs.Prelude.{◌≡◌, ◌≢◌, ◌<◌, ◌-◌, ◌^◌, [], ◌∷◌, ◌++◌, length, Err, OnOk, OnErr, IfSome, IfNone, Some, slice_get, slice_set, AllPairs, Contains, option_copied};
+ghost use Rattle.std.specs.Prelude.{◌≡◌, ◌≢◌, ◌<◌, ◌-◌, ◌^◌, [], ◌∷◌, ◌++◌, length, Err, OnOk, OnErr, IfSome, IfNone, Some, slice_get, AllPairs, Contains, option_copied};
 ghost use Rattle.gg_flat.specs.declared.paths.AddError.TheVariants.{Doubled};
 ghost use Rattle.gg_flat.specs.Circuit.{no_circuit};
 
@@ -115,16 +115,15 @@ impl Piece {
         self.outs.as_slice()
     }
 
-    /// How many signals there are, which is how many paths there are. No piece has a memory yet.
+    /// How many signals there are, which is how many paths there are: fewer than 4,294,967,296. No piece has a memory yet.
     pub fn signal_count(&self) -> usize
         ensures count { result ≡ length self.now.signals }
         ensures paths { length self.now.paths ≡ length self.now.signals }
-        ensures named { length self.now.signals < 2 ^ 32 }
+        ensures few { length self.now.signals < 2 ^ 32 }
         ensures distinct { AllPairs (λ a b. a ≢ b) self.now.paths }
         ensures memories { self.now.memories ≡ [] }
     {
-        let _ = self.paths.len();
-        self.signals.len()
+        self.paths.len()
     }
 
     /// The number of the signal of a path, where there is one.
@@ -142,7 +141,11 @@ impl Piece {
         self.paths.get(signal)
     }
 
-    /// Adds a signal.
+    /// Adds a signal, as the last. There are at most 4,294,967,294 signals before.
+    ///
+    /// # Errors
+    ///
+    /// `Doubled`, where a signal has that path; `NoMemory`, where memory is refused. The piece is then unchanged.
     pub fn add_signal(&mut self, path: Name, signal: Signal) -> Result<(), AddError>
         requires { length self.old.signals < 2 ^ 32 - 1 }
         ensures ok { OnOk result (self.new ≡ record self.old { paths = self.old.paths ++ path ∷ []; signals = self.old.signals ++ signal ∷ [] }) }
@@ -162,7 +165,11 @@ impl Piece {
         }
     }
 
-    /// Adds a register.
+    /// Adds a register, as the last.
+    ///
+    /// # Errors
+    ///
+    /// Where memory is refused. The piece is then unchanged.
     pub fn add_register(&mut self, register: Register) -> Result<(), AllocError>
         ensures ok { OnOk result (self.new ≡ record self.old { registers = self.old.registers ++ register ∷ [] }) }
         ensures err { OnErr result (self.new ≡ self.old) }
@@ -171,7 +178,11 @@ impl Piece {
         Ok(())
     }
 
-    /// Adds a signal to the in-signals.
+    /// Adds a signal, by its number, to the in-signals.
+    ///
+    /// # Errors
+    ///
+    /// Where memory is refused. The piece is then unchanged.
     pub fn add_in(&mut self, signal: u32) -> Result<(), AllocError>
         ensures ok { OnOk result (self.new ≡ record self.old { ins = self.old.ins ++ signal ∷ [] }) }
         ensures err { OnErr result (self.new ≡ self.old) }
@@ -180,28 +191,16 @@ impl Piece {
         Ok(())
     }
 
-    /// Adds a signal to the out-signals.
+    /// Adds a signal, by its number, to the out-signals.
+    ///
+    /// # Errors
+    ///
+    /// Where memory is refused. The piece is then unchanged.
     pub fn add_out(&mut self, signal: u32) -> Result<(), AllocError>
         ensures ok { OnOk result (self.new ≡ record self.old { outs = self.old.outs ++ signal ∷ [] }) }
         ensures err { OnErr result (self.new ≡ self.old) }
     {
         self.outs.push(signal)?;
         Ok(())
-    }
-
-    /// Puts a signal in the place of another. Its path stays.
-    pub fn set_signal(&mut self, number: u32, signal: Signal)
-        requires { number < length self.old.signals }
-        ensures { self.new ≡ record self.old { signals = slice_set self.old.signals number signal } }
-    {
-        self.signals[number as usize] = signal;
-    }
-
-    /// Puts a register in the place of another.
-    pub fn set_register(&mut self, number: u32, register: Register)
-        requires { number < length self.old.registers }
-        ensures { self.new ≡ record self.old { registers = slice_set self.old.registers number register } }
-    {
-        self.registers[number as usize] = register;
     }
 }

@@ -15,7 +15,7 @@ pub struct Port {
 
 /// A list of ports. A contract sees it as the list.
 ///
-/// It is made of a `Vec` and gives it back without taking memory.
+/// It is made of a `Vec` without taking memory.
 #[derive(Debug, Drop)]
 pub struct Ports {
     items: Vec<Port>,
@@ -36,14 +36,6 @@ impl Ports {
         ensures { result.now ≡ self.now }
     {
         self.items.as_slice()
-    }
-
-    /// Gives the `Vec` back.
-    pub fn into_vec(self) -> Vec<Port>
-        ensures { result.items ≡ self }
-    {
-        let Ports { items } = self;
-        items
     }
 }
 

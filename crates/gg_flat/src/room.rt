@@ -70,7 +70,23 @@ impl Piece {
         longest_driver(self.signals()).max(longest_register(self.registers()))
     }
 
+    /// Scratch space with room for each of the piece's lines.
+    ///
+    /// # Errors
+    ///
+    /// Where memory is refused.
+    pub fn scratch(&self, alloc: Global) -> Result<Vec<u128>, AllocError>
+        ensures { IfOk result (λ places. HasRoom self.now (length places.items)) }
+    {
+        let places = zeros(alloc, self.room())?;
+        Ok(places)
+    }
+
     /// A zero for each signal.
+    ///
+    /// # Errors
+    ///
+    /// Where memory is refused.
     pub fn zeros(&self, alloc: Global) -> Result<Vec<u128>, AllocError>
         ensures zeros { IfOk result (λ values. values.items ≡ replicate (length self.now.signals) 0) }
         ensures typed { IfOk result (λ values. AreTyped (signal_shapes self.now) values.items) }

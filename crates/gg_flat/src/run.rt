@@ -1,5 +1,5 @@
 //! Settled cycles and runs, worked out along an order: the plain program beside the definitions.
-ghost use Rattle.std.specs.Prelude.{◌≡◌, ◌<◌, length, IfOk, OnErr};
+ghost use Rattle.std.specs.Prelude.{◌≡◌, ◌<◌, length, All, IfOk, OnErr};
 ghost use Rattle.gg_bits.specs.Shape.{shape, Fits};
 ghost use Rattle.gg_flat.specs.Line.{shape_at, AreTyped};
 ghost use Rattle.gg_flat.specs.Circuit.{signal_shapes, driver_at};
@@ -11,12 +11,15 @@ ghost use Rattle.gg_flat.specs.Order.{IsOrder};
 ghost use Rattle.gg_flat.specs.Room.{HasRoom};
 
 use crate::piece::Piece;
-use crate::state::{State, zeros};
+use crate::state::State;
 use crate::table::{Row, Table};
 use std::alloc::{AllocError, Global};
 
 impl Piece {
     /// The value of a signal's driver, in this state and with these inputs, where the signals have these values.
+    ///
+    /// The piece is well formed; state, inputs and values are of its counts and types, inputs in port order, values by
+    /// the signals' numbers; the scratch space has room for its lines (`scratch`).
     pub fn driver_value(
         &self,
         signal: u32,
@@ -42,6 +45,9 @@ impl Piece {
 
     /// Makes the values of all signals settled, in this state and with these inputs: each signal of the order in turn
     /// gets its driver's value.
+    ///
+    /// The piece is well formed, and the order has each signal once, behind all signals that it reads. State, inputs and
+    /// the values before are of the piece's counts and types; the scratch space has room for its lines (`scratch`).
     pub fn settle(
         &self,
         order: &[u32],
@@ -65,6 +71,12 @@ impl Piece {
     }
 
     /// The values of all signals in a cycle, with the state moved on to the next cycle.
+    ///
+    /// The piece, the order, the state, the inputs and the scratch space are as `settle` wants them.
+    ///
+    /// # Errors
+    ///
+    /// Where memory is refused. The state is then unchanged.
     pub fn cycle(
         &self,
         alloc: Global,
@@ -90,6 +102,13 @@ impl Piece {
     }
 
     /// The rows of a run of this many cycles, where `columns` has the values of each in-signal by cycle.
+    ///
+    /// The piece and the order are as `settle` wants them. There is a column for each in-signal, in port order, and in
+    /// it a value of its type for each cycle.
+    ///
+    /// # Errors
+    ///
+    /// Where memory is refused.
     pub fn run(
         &self,
         alloc: Global,
@@ -103,7 +122,7 @@ impl Piece {
         ensures { IfOk result (λ rows. IsRun self.now columns.now cycles rows) }
     {
         let mut state = State::new(alloc, self)?;
-        let mut space = zeros(alloc, self.room())?;
+        let mut space = self.scratch(alloc)?;
         let scratch = space.as_mut_slice();
         let mut rows = Table::new(alloc);
         for t in 0..cycles {
@@ -115,15 +134,14 @@ impl Piece {
     }
 }
 
-// The inputs of a cycle: what each column has there, or 0 past its end.
+// The inputs of a cycle: what each column has there.
 fn inputs_at(alloc: Global, columns: &[Row], t: usize) -> Result<Vec<u128>, AllocError>
+    requires { All (λ column. t < length column) columns.now }
     ensures { IfOk result (λ inputs. inputs.items ≡ inputs_at columns.now t) }
 {
     let mut inputs = Vec::new(alloc);
     for column in columns {
-        let values = column.as_slice();
-        let value = if t < values.len() { values[t] } else { 0 };
-        inputs.push(value)?;
+        inputs.push(column.as_slice()[t])?;
     }
     Ok(inputs)
 }

@@ -35,7 +35,11 @@ pub(crate) fn zeros(alloc: Global, count: usize) -> Result<Vec<u128>, AllocError
 }
 
 impl State {
-    /// The state before the first cycle: zeros.
+    /// The state before the first cycle: zeros. The piece is well formed.
+    ///
+    /// # Errors
+    ///
+    /// Where memory is refused.
     pub fn new(alloc: Global, piece: &Piece) -> Result<State, AllocError>
         requires { IsWellFormed piece.now }
         ensures opening { IfOk result (λ state. state ≡ opening piece.now) }
@@ -53,7 +57,10 @@ impl State {
         self.registers.as_slice()
     }
 
-    /// The state after a cycle in which the signals have these values.
+    /// Goes to the state after a cycle in which the signals have these values, which stand by the signals' numbers.
+    ///
+    /// The piece is well formed; state and values are of its counts and types; the scratch space has room for its lines
+    /// (`Piece::scratch`).
     pub fn advance(&mut self, piece: &Piece, signals: &[u128], scratch: &mut [u128])
         requires formed { IsWellFormed piece.now }
         requires state { IsState piece.now self.old }

@@ -6,7 +6,7 @@ use std::marker::Model;
 
 /// A list of values: the values of all signals in a cycle, or those of one signal by cycle. A contract sees the list.
 ///
-/// It is made of a `Vec` and gives it back without taking memory.
+/// It is made of a `Vec` without taking memory.
 #[derive(Debug, Drop)]
 pub struct Row {
     values: Vec<u128>,
@@ -27,14 +27,6 @@ impl Row {
     {
         self.values.as_slice()
     }
-
-    /// Gives the `Vec` back.
-    pub fn into_vec(self) -> Vec<u128>
-        ensures { result.items ≡ self }
-    {
-        let Row { values } = self;
-        values
-    }
 }
 
 impl From<Vec<u128>> for Row {
@@ -46,8 +38,6 @@ impl From<Vec<u128>> for Row {
 }
 
 /// A list of rows, or of columns. A contract sees it as a list of lists.
-///
-/// It is made of a `Vec` and gives it back without taking memory.
 #[derive(Debug, Drop)]
 pub struct Table {
     rows: Vec<Row>,
@@ -72,6 +62,10 @@ impl Table {
     }
 
     /// Adds a row at the end.
+    ///
+    /// # Errors
+    ///
+    /// Where memory is refused. The table is then unchanged.
     pub fn push(&mut self, row: Row) -> Result<(), AllocError>
         ensures ok { OnOk result (self.new ≡ self.old ++ row ∷ []) }
         ensures err { OnErr result (self.new ≡ self.old) }
@@ -85,21 +79,5 @@ impl Table {
         ensures { result.now ≡ self.now }
     {
         self.rows.as_slice()
-    }
-
-    /// Gives the `Vec` back.
-    pub fn into_vec(self) -> Vec<Row>
-        ensures { result.items ≡ self }
-    {
-        let Table { rows } = self;
-        rows
-    }
-}
-
-impl From<Vec<Row>> for Table {
-    ghost from_gives = { λ rows table. table ≡ rows.items };
-
-    fn from(rows: Vec<Row>) -> Table {
-        Table { rows }
     }
 }
