@@ -1,16 +1,15 @@
 -- Laws of marks.
-use Rattle.std.proofs.Common.{◌≡◌, ℕ, zero, suc, ◌+◌, ◌<◌, List, [], ◌∷◌, ◌++◌, length, map, take, replicate, Bool, false, refl, sym, ap, ◌∙◌, subst, inl, inr, ◌⊎◌, arith}
-use Rattle.std.specs.Prelude.{slice_index_or, Contains}
-use Rattle.std.proofs.lemmas.List.{map-append, length-map, take_more, get_or-map}
-use Rattle.std.proofs.lemmas.List.Elements.{Contains-append_left, Contains-append_right, Contains-append_cases}
+use Rattle.std.proofs.Common.{◌≡◌, ℕ, zero, suc, ◌+◌, ◌<◌, List, [], ◌∷◌, ◌++◌, length, take, replicate, Bool, false, refl, sym, ap, ◌∙◌, subst, inl, inr, ◌⊎◌, arith}
+use Rattle.std.specs.Prelude.{slice_index_or}
+use Rattle.std.proofs.lemmas.List.{length-map, take_more, get_or-map}
 use Rattle.std.proofs.lemmas.Bool.{cases_lt}
 use Rattle.gg_flat.specs.declared.line.Node.{Node}
-use Rattle.gg_flat.specs.declared.line.Op.{Op}
 use Rattle.gg_flat.specs.declared.line.Op.TheVariants.{Ref}
 use Rattle.gg_flat.specs.declared.piece.Driver.{Driver}
 use Rattle.gg_flat.specs.declared.piece.Driver.TheVariants.{Input}
 use Rattle.gg_flat.specs.declared.piece.Signal.{Signal}
 use Rattle.gg_flat.specs.Reads.{Names, NamesSignal}
+use Rattle.gg_flat.proofs.NameLemmas.{Names-push, Names-new, Names-push_cases}
 use Rattle.gg_order.specs.Marks.{is_marked, driver_of, Marks, IsReadBelow}
 
 -- one set of marks after another
@@ -38,28 +37,6 @@ Marks-same P R a b to from h = record {
 
 pub Names-none : (s : ℕ) → Names [] s → ⊥
 Names-none s h = omega (arith, h.1)
-
-Contains-one : {X : Type 0} (y x : X) → Contains (y ∷ []) x → y ≡ x
-Contains-one y x (zero, lt, is) = is
-Contains-one y x (suc k, lt, is) = absurd (omega arith)
-
-pub Names-push : (nodes : List Node) (n : Node) (s : ℕ) → Names nodes s → Names (nodes ++ n ∷ []) s
-Names-push nodes n s h =
-    let P : List Op → Type 0 = λ l. Contains l (Ref s) in
-    subst P (sym (map-append (λ (m : Node). m.op) nodes (n ∷ []))) (Contains-append_left (map (λ (m : Node). m.op) nodes) (n.op ∷ []) (Ref s) h)
-
-pub Names-new : (nodes : List Node) (n : Node) (s : ℕ) → n.op ≡ Ref s → Names (nodes ++ n ∷ []) s
-Names-new nodes n s is =
-    let P : List Op → Type 0 = λ l. Contains l (Ref s) in
-    subst P (sym (map-append (λ (m : Node). m.op) nodes (n ∷ []))) (Contains-append_right (map (λ (m : Node). m.op) nodes) (n.op ∷ []) (Ref s) (0, omega arith, is))
-
-pub Names-push_cases : (nodes : List Node) (n : Node) (s : ℕ) → Names (nodes ++ n ∷ []) s → Names nodes s ⊎ (n.op ≡ Ref s)
-Names-push_cases nodes n s h =
-    let P : List Op → Type 0 = λ l. Contains l (Ref s) in
-    elim (Contains-append_cases (map (λ (m : Node). m.op) nodes) (n.op ∷ []) (Ref s) (subst P (map-append (λ (m : Node). m.op) nodes (n ∷ [])) h)) [
-      | inl a ↦ inl a
-      | inr b ↦ inr (Contains-one n.op (Ref s) b)
-    ]
 
 -- a node of the list names what it is a reference to
 pub Names-at : (nodes : List Node) (i : ℕ) (n : Node) (s : ℕ) → i < length nodes → n ≡ slice_index_or nodes i n → n.op ≡ Ref s → Names nodes s

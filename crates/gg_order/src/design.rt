@@ -24,7 +24,8 @@ impl Model for Design {
 }
 
 impl Design {
-    /// The design of a circuit and an order of it.
+    /// The design of a circuit and an order of it. The circuit is well formed (`Piece::check` tells), and the order has
+    /// each of its signals once, behind all signals that it reads.
     pub fn new(piece: Piece, order: Vec<u32>) -> Design
         requires formed { IsWellFormed piece }
         requires ordered { IsOrder piece order.items }

@@ -10,8 +10,10 @@ use crate::marks::read_signals;
 use gg_flat::{Driver, Node, Op, Piece};
 use std::alloc::{AllocError, Global};
 
-/// The order by places: first the signals that others read, then the rest, both in the order of their places. There is
-/// none where a signal that is read reads one that doesn't stand before it.
+/// The order by places: first the signals that others read, then the rest, both in the order of their places. It gives
+/// none only where a signal that is read reads one that doesn't stand before it; such a circuit may have another order.
+///
+/// The circuit is well formed.
 ///
 /// # Errors
 ///

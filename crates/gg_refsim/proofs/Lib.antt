@@ -1,2 +1,2 @@
+pub mod CycleLemmas
 pub mod RunLemmas
-pub mod TypedLemmas

@@ -1,5 +1,5 @@
 -- What a simulator keeps between two cycles.
-use Rattle.std.specs.Prelude.{◌≡◌, ℕ, List}
+use Rattle.std.specs.Prelude.{ℕ, List}
 use Rattle.gg_flat.specs.Line.{AreTyped}
 use Rattle.gg_flat.specs.Circuit.{signal_shapes}
 use Rattle.gg_flat.specs.State.{State, IsState}

@@ -1,8 +1,9 @@
 //! `Mono`: the simulator of a whole circuit.
-ghost use Rattle.std.specs.Prelude.{◌≡◌, ℕ, ◌<◌, length, map, replicate, IfOk};
+ghost use Rattle.std.specs.Prelude.{◌≡◌, ℕ, ◌<◌, List, length, map, IfOk};
 ghost use Rattle.gg_flat.specs.Line.{value_at};
-ghost use Rattle.gg_flat.specs.State.{opening, IsState};
+ghost use Rattle.gg_flat.specs.State.{State as StateValue, opening, IsState};
 ghost use Rattle.gg_flat.specs.Settled.{IsInputs};
+ghost use Rattle.gg_flat.specs.Order.{IsOrder};
 ghost use Rattle.gg_flat.specs.WellFormed.{IsWellFormed};
 ghost use Rattle.gg_refsim.specs.Cycle.{Cycle};
 
@@ -24,41 +25,41 @@ impl From<AllocError> for NoMemory {
     }
 }
 
-/// A simulator of a circuit. A contract sees the circuit and the state that it is in.
+/// A simulator of a design's circuit. A contract sees the circuit and the state that it is in.
 #[derive(Drop)]
-pub struct Mono {
-    design: Design,
+pub struct Mono<'a> {
+    design: &'a Design,
     state: State,
     signals: Vec<u128>,
     scratch: Vec<u128>,
 }
 
-impl Model for Mono {
+impl<'a> Model for Mono<'a> {
     ghost use Rattle.std.specs.Prelude.{length};
     ghost use Rattle.gg_refsim.specs.Cycle.{Simulation};
     ghost use Rattle.gg_refsim.specs.Kept.{IsKept};
 
     ghost Value = { Simulation };
 
-    ghost view = { λ mono. record { circuit = mono.design.circuit; state = mono.state } };
+    ghost view = { λ mono. record { circuit = mono.design.now.circuit; state = mono.state } };
 
-    ghost invariant = { λ mono. IsKept mono.design mono.state mono.signals.items (length mono.scratch.items) };
+    ghost invariant = { λ mono. IsKept mono.design.now mono.state mono.signals.items (length mono.scratch.items) };
 }
 
-impl Mono {
+impl<'a> Mono<'a> {
     /// The simulator of a design, in the state before the first cycle.
     ///
     /// # Errors
     ///
     /// `NoMemory`, where memory is refused.
-    pub fn new(alloc: Global, design: Design) -> Result<Mono, NoMemory>
-        ensures circuit { IfOk result (λ mono. mono.circuit ≡ design.circuit) }
-        ensures opening { IfOk result (λ mono. mono.state ≡ opening design.circuit) }
+    pub fn new(alloc: Global, design: &'a Design) -> Result<Mono<'a>, NoMemory>
+        ensures circuit { IfOk result (λ mono. mono.circuit ≡ design.now.circuit) }
+        ensures opening { IfOk result (λ mono. mono.state ≡ opening design.now.circuit) }
     {
         let piece = design.piece();
         let state = State::new(alloc, piece)?;
-        let signals = zeros(alloc, piece.signals().len())?;
-        let scratch = zeros(alloc, piece.room())?;
+        let signals = piece.zeros(alloc)?;
+        let scratch = piece.scratch(alloc)?;
         Ok(Mono {
             design,
             state,
@@ -67,23 +68,27 @@ impl Mono {
         })
     }
 
-    /// The circuit.
+    /// The circuit, which is well formed and has an order of evaluation.
     pub fn piece(&self) -> &Piece
         ensures circuit { result.now ≡ self.now.circuit }
         ensures formed { IsWellFormed self.now.circuit }
+        ensures ordered { (order : List ℕ) × IsOrder self.now.circuit order }
         ensures typed { IsState self.now.circuit self.now.state }
     {
-        let _ = &self.state;
+        // for what the design says of its order
+        let _ = self.design.order();
         self.design.piece()
     }
 
-    /// One cycle, with these inputs in port order: puts the outputs, in port order, into `outs`, and goes to the next
-    /// state. It takes no memory.
+    /// One cycle: puts the outputs, in port order, into `outs`, and goes to the next state. It takes no memory.
+    ///
+    /// The inputs stand in port order: one for each in-signal, of its type. `outs` has a place for each out-signal.
     pub fn cycle(&mut self, inputs: &[u128], outs: &mut [u128])
         requires inputs { IsInputs self.old.circuit inputs.now }
         requires outs { length outs.old ≡ length self.old.circuit.outs }
         ensures circuit { self.new.circuit ≡ self.old.circuit }
         ensures cycle { Cycle self.old.circuit self.old.state inputs.now outs.new self.new.state }
+        ensures only { (printed : List ℕ) (after : StateValue) → Cycle self.old.circuit self.old.state inputs.now printed after → (printed ≡ outs.new) × (after ≡ self.new.state) }
     {
         let piece = self.design.piece();
         piece.settle(
@@ -96,13 +101,6 @@ impl Mono {
         read_outs(piece.outs(), &self.signals, outs);
         self.state.advance(piece, &self.signals, &mut self.scratch);
     }
-}
-
-// This many zeros.
-fn zeros(alloc: Global, count: usize) -> Result<Vec<u128>, AllocError>
-    ensures { IfOk result (λ values. values.items ≡ replicate count 0) }
-{
-    vec![in alloc; 0; count]
 }
 
 // Puts the values of these signals into `outs`.

@@ -1,98 +1,84 @@
-//! What no clause says: that there is a simulator with ample memory. Its values are those of the counter by hand.
+//! What no clause says: that there is a simulator with ample memory.
 ghost use Rattle.std.specs.Prelude.{◌≡◌, ◌∷◌, [], length, IfOk};
 ghost use Rattle.gg_bits.specs.Shape.{uint};
+ghost use Rattle.gg_flat.specs.Circuit.{no_circuit};
 ghost use Rattle.gg_flat.specs.Settled.{in_shapes};
 
 use super::*;
-use gg_bits::{Kind, Name, Op2, OpN, Ty, Val};
-use gg_flat::{Driver, Line, Node, Op, Piece, Register, Reset, Signal};
+use gg_bits::{Kind, Name, Ty};
+use gg_flat::{Driver, Line, Node, Op, Piece, Register, Signal};
 use gg_order::{Design, order_by_places};
 use std::alloc::{AllocError, Global};
 use std::test::Fail;
 
-// The line of these nodes.
-fn line(alloc: Global, nodes: &[(u32, Op)]) -> Result<Line, Fail> {
+// The name of a text.
+fn name(alloc: Global, text: &str) -> Result<Name, AllocError> {
+    Ok(Name::from(String::from_str(alloc, text)?))
+}
+
+// The line that is the signal 0, of one bit.
+fn copy(alloc: Global) -> Result<Line, AllocError> {
     let mut line = Line::new(alloc);
-    for (width, op) in nodes {
-        let width = (*width).clamp(1, 128);
-        line.push(Node {
-            ty: Ty::new(Kind::UInt, width),
-            op: *op,
-        })?;
-    }
+    line.push(Node {
+        ty: Ty::new(Kind::UInt, 1),
+        op: Op::Ref(0),
+    })?;
     Ok(line)
 }
 
-// The register of the counter: 0 where the signal 0 is 1, else one more than the signal 1.
-fn counted(alloc: Global) -> Result<Register, Fail> {
-    let condition = line(alloc, &[(1, Op::Ref(0))])?;
-    let init = line(alloc, &[(8, Op::Literal(Val(0)))])?;
-    let nodes = [
-        (8, Op::Ref(1)),
-        (1, Op::Literal(Val(1))),
-        (9, Op::Two(Op2::Add, 0, 1)),
-        (8, Op::Fix(OpN::Tail, 2, 1, 0)),
-    ];
-    let next = line(alloc, &nodes)?;
-    Ok(Register {
-        ty: Ty::new(Kind::UInt, 8),
-        reset: Some(Reset { condition, init }),
-        next: Some(next),
-    })
-}
-
-// The counter: its input `reset`, its register's signal `count`, and its output `out`, which is `count`.
-fn counter(alloc: Global) -> Result<Piece, Fail>
-    ensures ins { IfOk result (λ piece. in_shapes piece ≡ uint 1 ∷ []) }
-    ensures outs { IfOk result (λ piece. length piece.outs ≡ 1) }
+// Adds a register of one bit that takes the input of each cycle: the signals are the input `in` and the register's `r`,
+// which is the output.
+fn add_delay(alloc: Global, piece: &mut Piece) -> Result<(), Fail>
+    requires { piece.old ≡ no_circuit }
+    ensures ins { IfOk result (λ _. in_shapes piece.new ≡ uint 1 ∷ []) }
+    ensures outs { IfOk result (λ _. length piece.new.outs ≡ 1) }
 {
-    let reset = Signal {
-        ty: Ty::new(Kind::UInt, 1),
-        driver: Driver::Input(0),
-    };
-    let count = Signal {
-        ty: Ty::new(Kind::UInt, 8),
-        driver: Driver::Held(0),
-    };
-    let out = Signal {
-        ty: Ty::new(Kind::UInt, 8),
-        driver: Driver::Computed(line(alloc, &[(8, Op::Ref(1))])?),
-    };
-    let mut piece = Piece::new(alloc);
-    piece.add_signal(Name::from(String::from_str(alloc, "reset")?), reset)?;
-    piece.add_signal(Name::from(String::from_str(alloc, "count")?), count)?;
-    piece.add_signal(Name::from(String::from_str(alloc, "out")?), out)?;
+    let ty = Ty::new(Kind::UInt, 1);
+    let driver = Driver::Input(0);
+    piece.add_signal(name(alloc, "in")?, Signal { ty, driver })?;
+    let driver = Driver::Held(0);
+    piece.add_signal(name(alloc, "r")?, Signal { ty, driver })?;
     piece.add_in(0)?;
-    piece.add_out(2)?;
-    piece.add_register(counted(alloc)?)?;
-    Ok(piece)
+    piece.add_out(1)?;
+    let next = Some(copy(alloc)?);
+    let reset = None;
+    piece.add_register(Register { ty, reset, next })?;
+    Ok(())
 }
 
 // The output of a cycle.
-fn step(mono: &mut Mono, reset: bool) -> u128
+fn step(mono: &mut Mono, input: bool) -> u128
     requires ins { in_shapes mono.old.circuit ≡ uint 1 ∷ [] }
     requires outs { length mono.old.circuit.outs ≡ 1 }
     ensures { mono.new.circuit ≡ mono.old.circuit }
 {
-    let inputs = [u128::from(reset)];
+    let inputs = [u128::from(input)];
     let mut outs = [7];
     mono.cycle(&inputs, &mut outs);
     outs[0]
 }
 
+// The outputs of three cycles, with the inputs 1, 0 and 0.
+fn outputs(alloc: Global, design: &Design) -> Result<(u128, u128, u128), NoMemory>
+    requires ins { in_shapes design.now.circuit ≡ uint 1 ∷ [] }
+    requires outs { length design.now.circuit.outs ≡ 1 }
+{
+    let mut mono = Mono::new(alloc, design)?;
+    let first = step(&mut mono, true);
+    let second = step(&mut mono, false);
+    Ok((first, second, step(&mut mono, false)))
+}
+
 #[test]
-fn counts(rt: HostRuntime) -> Result<(), Fail> {
+fn gives_the_input_before(rt: HostRuntime) -> Result<(), Fail> {
     let alloc = rt.alloc();
-    let piece = counter(alloc)?;
+    let mut piece = Piece::new(alloc);
+    add_delay(alloc, &mut piece)?;
     assert!(rt; piece.check());
     let Some(order) = order_by_places(alloc, &piece)? else {
         return Err(Fail::new("no order"));
     };
-    let mut mono = Mono::new(alloc, Design::new(piece, order))?;
-    assert_eq!(rt; step(&mut mono, true), 0);
-    assert_eq!(rt; step(&mut mono, false), 0);
-    assert_eq!(rt; step(&mut mono, false), 1);
-    assert_eq!(rt; step(&mut mono, false), 2);
-    assert_eq!(rt; mono.piece().signals().len(), 3);
+    let design = Design::new(piece, order);
+    assert_eq!(rt; outputs(alloc, &design), Ok((0, 1, 0)));
     Ok(())
 }

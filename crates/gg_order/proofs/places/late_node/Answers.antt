@@ -2,7 +2,7 @@ use Rattle.std.proofs.Common.{◌≡◌, ◌+◌, List, [], ◌∷◌, ◌++◌,
 use Rattle.std.proofs.lemmas.List.{take_more, take_all}
 use Rattle.gg_flat.specs.declared.line.Node.{Node}
 use Rattle.gg_flat.specs.Reads.{Names}
-use Rattle.gg_order.proofs.MarkLemmas.{Names-push_cases}
+use Rattle.gg_flat.proofs.NameLemmas.{Names-push_cases}
 use Rattle.gg_order.proofs.places.late_node.Goals as goal
 use Rattle.gg_order.proofs.places.late_node.Goals.{in-Ref+else-signal-s, in_default}
 

@@ -1,4 +1,4 @@
-use Rattle.std.proofs.Common.{◌≡◌, ℕ, ◌<◌, length}
+use Rattle.std.proofs.Common.{◌≡◌, ℕ, ◌<◌}
 use Rattle.gg_flat.specs.Line.{value_at}
 use Rattle.gg_refsim.proofs.mono.read_outs.Given as goal
 

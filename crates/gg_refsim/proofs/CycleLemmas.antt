@@ -1,0 +1,19 @@
+-- Where a circuit has an order, a state and inputs have one cycle.
+use Rattle.std.proofs.Common.{◌≡◌, ℕ, List, sym, ap, ◌∙◌}
+use Rattle.gg_flat.specs.Circuit.{FlatCircuit}
+use Rattle.gg_flat.specs.State.{State, next_state}
+use Rattle.gg_flat.specs.Settled.{Settled}
+use Rattle.gg_flat.specs.Order.{IsOrder}
+use Rattle.gg_flat.proofs.UniqueLemmas.{Settled-once}
+use Rattle.gg_refsim.specs.Cycle.{Cycle, outputs}
+
+pub Cycle-once : (circuit : FlatCircuit) (order : List ℕ) (before : State) (inputs printed others : List ℕ) (after next : State) → IsOrder circuit order → Cycle circuit before inputs printed after → Cycle circuit before inputs others next → (printed ≡ others) × (after ≡ next)
+Cycle-once circuit order before inputs printed others after next ordered one other =
+    let same : one.row ≡ other.row = Settled-once circuit order before inputs one.row other.row ordered one.settled other.settled in (
+      one.outputs_are ∙ ap (outputs circuit) same ∙ sym other.outputs_are,
+      one.next ∙ ap (next_state circuit before) same ∙ sym other.next,
+    )
+
+-- a settled row, its outputs and its next state are a cycle
+pub Cycle-of : (circuit : FlatCircuit) (before : State) (inputs row printed : List ℕ) (after : State) → Settled circuit before inputs row → printed ≡ outputs circuit row → after ≡ next_state circuit before row → Cycle circuit before inputs printed after
+Cycle-of circuit before inputs row printed after settled outputs_are next = record { row = row; settled = settled; outputs_are = outputs_are; next = next }
