@@ -4,3 +4,4 @@ pub mod ScopeSteps
 pub mod MarkLemmas
 pub mod SingleModule
 pub mod WorkedRows
+pub mod FaultRows

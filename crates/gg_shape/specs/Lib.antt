@@ -4,3 +4,4 @@ pub mod Namespace
 pub mod Shape
 pub mod Marks
 pub mod Plain
+pub mod FaultText

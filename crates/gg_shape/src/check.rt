@@ -25,6 +25,7 @@ pub fn is_single_module(circuit: &Circuit) -> bool
     }
 }
 
+// Whether no statement is an instance or a memory.
 fn all_flat(statements: &[Stmt]) -> bool
     ensures { result ≡ list_all (λ s. stands_alone s.kind) statements.now }
 {
@@ -36,6 +37,7 @@ fn all_flat(statements: &[Stmt]) -> bool
     true
 }
 
+// Whether a statement is no instance and no memory.
 fn is_flat(kind: &StmtKind) -> bool
     ensures { result ≡ stands_alone kind.now }
 {
@@ -54,6 +56,10 @@ fn is_flat(kind: &StmtKind) -> bool
 
 /// Refuses the first of F1 to F8, by number and then in the order of the text; Ok exactly where a circuit of one module
 /// has none of them.
+///
+/// # Errors
+///
+/// `Refusal::F` with that fault; `Refusal::NoMemory` where memory ran out.
 pub fn shape(alloc: Global, circuit: &Circuit) -> Result<(), ShapeFault>
     requires { IsSingleModule circuit.now }
     ensures { Answers (shape_faults circuit.now) result }

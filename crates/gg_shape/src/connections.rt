@@ -50,6 +50,7 @@ fn connected_once(
     Ok(())
 }
 
+// Whether the sink that a reference names is marked.
 fn is_connected(scope: &Scope, connected: &Vec<bool>, reference: &Reference) -> bool
     requires { length connected.now.items ≡ length scope.now }
     ensures { result ≡ flag_of scope.now connected.now.items reference.now }
@@ -60,6 +61,7 @@ fn is_connected(scope: &Scope, connected: &Vec<bool>, reference: &Reference) -> 
     }
 }
 
+// Whether the place of a name is marked.
 fn is_marked(scope: &Scope, connected: &Vec<bool>, name: &Name) -> bool
     requires { length connected.now.items ≡ length scope.now }
     ensures { result ≡ flag_at connected.now.items (place_of name.now scope.now) }
@@ -134,6 +136,7 @@ pub fn check_unconnected(
     check_wires(scope, connected, statements)
 }
 
+// Refuses the first output port without a connection.
 fn check_ports(scope: &Scope, connected: &Vec<bool>, ports: &[Port]) -> Result<(), Refusal>
     requires { length connected.now.items ≡ length scope.now }
     ensures { Answers (along (unmarked_port scope.now connected.now.items) ports.now) result }
@@ -150,6 +153,7 @@ fn check_ports(scope: &Scope, connected: &Vec<bool>, ports: &[Port]) -> Result<(
     Ok(())
 }
 
+// Refuses the first statement that declares a sink without a connection.
 fn check_wires(scope: &Scope, connected: &Vec<bool>, statements: &[Stmt]) -> Result<(), Refusal>
     requires { length connected.now.items ≡ length scope.now }
     ensures { Answers (along (unmarked_by scope.now connected.now.items) statements.now) result }
@@ -202,6 +206,7 @@ pub fn check_sources(alloc: Global, scope: &Scope, statements: &[Stmt]) -> Resul
     Ok(())
 }
 
+// Refuses a connection of a source.
 fn no_source(alloc: Global, scope: &Scope, statement: &Stmt) -> Result<(), Refusal>
     ensures { Answers (source_to scope.now statement.now.line (connected_by statement.now)) result }
 {
@@ -217,6 +222,7 @@ fn no_source(alloc: Global, scope: &Scope, statement: &Stmt) -> Result<(), Refus
     Ok(())
 }
 
+// Whether what is named is a source: an input port or a node.
 fn is_source(role: Option<Role>) -> bool
     ensures { result ≡ has_own_value role }
 {

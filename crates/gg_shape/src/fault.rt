@@ -2,41 +2,117 @@
 use gg_ast::Report;
 use gg_bits::{Name, Names, Op1, Op2, OpN};
 
-/// A fault of a circuit. Lines are counted from 1; the code at each is what the program prints.
+/// A fault of a circuit. Lines are counted from 1; each text begins with the code that is given here.
 #[derive(Debug, Drop)]
 pub enum Fault {
     /// F1: no module has the circuit's name.
-    MissingTop { name: Name },
-    /// F2: a name is declared a second time, on this line.
-    RepeatedName { line: u64, name: Name },
-    /// F3: a reference, as written, names nothing that has a value.
-    UnknownName { line: u64, name: Name },
-    /// F4: a sink, as written, is connected a second time.
-    SecondConnection { line: u64, name: Name },
-    /// F5: a sink that is declared on this line, and isn't a register, has no connection.
-    Unconnected { line: u64, name: Name },
-    /// F6: a source, as written, is connected.
-    ConnectedSource { line: u64, name: Name },
-    /// F7: these modules hold each other, each the next; the first stands again at the end.
-    ModuleRing { modules: Names },
-    /// F8: the field of the memory that is declared on this line is missing, stands twice or is out of range.
-    MemoryField { line: u64, key: MemoryKey },
-    /// F9: a value of the wrong kind.
-    WrongKind { line: u64, word: Word },
-    /// F10: a type or a result has this width, which is 0 or above 128; 4,294,967,295 stands for any greater one.
-    WrongWidth { line: u64, width: u32 },
-    /// F11: a parameter of this operation is out of range.
-    WrongParameter { line: u64, word: Word },
-    /// F12: a literal's number doesn't fit its type.
-    LiteralTooLarge { line: u64 },
-    /// F13: a value of the first width is connected to a sink of the second, which is less.
-    TooWide { line: u64, source: u32, sink: u32 },
-    /// F14: a clock that comes from no input port, or a port of type Clock that may not be there.
-    WrongClock { line: u64, name: Name },
-    /// F15: a count is above its limit; 18,446,744,073,709,551,615 stands for any greater one.
-    OverLimit { limit: Limit, count: u64 },
-    /// F16: these signals, by their paths, read each other in a ring.
-    Loop { paths: Names },
+    MissingTop {
+        /// The circuit's name.
+        name: Name,
+    },
+    /// F2: a name is declared a second time.
+    RepeatedName {
+        /// The line of the second declaration.
+        line: u64,
+        /// The name.
+        name: Name,
+    },
+    /// F3: a reference names nothing that has a value.
+    UnknownName {
+        /// The line of the reference.
+        line: u64,
+        /// The reference, as written.
+        name: Name,
+    },
+    /// F4: a sink is connected a second time.
+    SecondConnection {
+        /// The line of the second connection.
+        line: u64,
+        /// The sink, as written.
+        name: Name,
+    },
+    /// F5: a sink that isn't a register has no connection.
+    Unconnected {
+        /// The line on which the sink is declared.
+        line: u64,
+        /// The sink.
+        name: Name,
+    },
+    /// F6: a source is connected.
+    ConnectedSource {
+        /// The line of the connection.
+        line: u64,
+        /// The source, as written.
+        name: Name,
+    },
+    /// F7: modules hold each other in a ring.
+    ModuleRing {
+        /// The modules, each of which holds the next; the first stands again at the end.
+        modules: Names,
+    },
+    /// F8: a field of a memory is missing, stands twice or is out of range.
+    MemoryField {
+        /// The line on which the memory is declared.
+        line: u64,
+        /// The field.
+        key: MemoryKey,
+    },
+    /// F9: an operand or what is connected has the wrong kind or is a Clock, a condition isn't `UInt<1>`, a clock's place
+    /// holds no reference of type Clock, or a register is a Clock.
+    WrongKind {
+        /// The line of what is wrong.
+        line: u64,
+        /// The operation or the statement that it stands in.
+        word: Word,
+    },
+    /// F10: the width of a type or a result is 0 or above 128.
+    WrongWidth {
+        /// The line of the type or the operation.
+        line: u64,
+        /// The width in bits; 4,294,967,295 stands for any greater one.
+        width: u32,
+    },
+    /// F11: a parameter of an operation is out of range.
+    WrongParameter {
+        /// The line of the operation.
+        line: u64,
+        /// The operation.
+        word: Word,
+    },
+    /// F12: the number of a literal is too large or too small for its type.
+    LiteralTooLarge {
+        /// The line of the literal.
+        line: u64,
+    },
+    /// F13: a value is connected to a sink of fewer bits.
+    TooWide {
+        /// The line of the connection, or of the reset.
+        line: u64,
+        /// The value's width in bits.
+        source: u32,
+        /// The sink's width in bits.
+        sink: u32,
+    },
+    /// F14: a Clock that is read leads to no input port, a Clock is invalid, an output port is a Clock, or an input port is
+    /// the second Clock of the top.
+    WrongClock {
+        /// The line of the reference, the statement or the port.
+        line: u64,
+        /// The reference, as written, or the port.
+        name: Name,
+    },
+    /// F15: a count is above its limit.
+    OverLimit {
+        /// What is counted.
+        limit: Limit,
+        /// The count; 18,446,744,073,709,551,615 stands for any greater one.
+        count: u64,
+    },
+    /// F16: signals read each other in a ring.
+    Loop {
+        /// The signals' paths.
+        paths: Names,
+    },
 }
 
 /// A field of a memory, by the word that it begins with.

@@ -4,6 +4,8 @@
 //! `shape` answers Ok exactly where a circuit has no fault of F1 to F8, and else the first of them, by number and then
 //! in the order of the text. For now it takes circuits of one module without instances and memories, which
 //! `is_single_module` tells.
+//!
+//! A fault prints as its text: its code, and what it carries.
 #![tactic(auto)]
 
 mod check;

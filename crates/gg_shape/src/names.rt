@@ -11,6 +11,10 @@ use gg_bits::Name;
 use std::alloc::Global;
 
 /// All names that a module declares, in the order of the file; refused at the first that is declared twice.
+///
+/// # Errors
+///
+/// `Refusal::F` with the fault F2 of that name; `Refusal::NoMemory` where memory ran out.
 pub fn declarations<'a>(alloc: Global, top: &'a Module) -> Result<Scope<'a>, Refusal>
     ensures answers { Answers (repeated_names top.now) result }
     ensures scope { IfOk result (λ scope. scope ≡ scope_of top.now) }
@@ -21,6 +25,7 @@ pub fn declarations<'a>(alloc: Global, top: &'a Module) -> Result<Scope<'a>, Ref
     Ok(scope)
 }
 
+// Declares the names of ports.
 fn declare_ports<'a>(scope: &mut Scope<'a>, ports: &'a [Port]) -> Result<(), Refusal>
     requires { scope.old ≡ [] }
     ensures answers { Answers (along repeated_port ports.now) result }
@@ -32,6 +37,7 @@ fn declare_ports<'a>(scope: &mut Scope<'a>, ports: &'a [Port]) -> Result<(), Ref
     Ok(())
 }
 
+// Declares the names of statements, after those of the ports.
 fn declare_statements<'a>(
     scope: &mut Scope<'a>,
     ports: &[Port],
@@ -47,6 +53,7 @@ fn declare_statements<'a>(
     Ok(())
 }
 
+// Declares the name of a statement, if it has one.
 fn declare_statement<'a>(scope: &mut Scope<'a>, statement: &'a Stmt) -> Result<(), Refusal>
     ensures answers { Answers (repeated_in scope.old statement.now.line (declared_by statement.now)) result }
     ensures scope { OnOk result (scope.new ≡ scope.old ++ declared_by statement.now) }

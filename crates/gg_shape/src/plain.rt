@@ -12,7 +12,11 @@ use crate::scope::{Role, Scope};
 use gg_ast::{Argument, Circuit, Expr, Reset, Stmt, StmtKind};
 use std::alloc::{AllocError, Global};
 
-/// Whether no expression of the circuit names an output port or a wire.
+/// Whether no expression of the circuit names an output port or a wire. `shape` has to have found no fault in it before.
+///
+/// # Errors
+///
+/// `AllocError` where memory ran out.
 pub fn names_only_plain(alloc: Global, circuit: &Circuit) -> Result<bool, AllocError>
     requires single { IsSingleModule circuit.now }
     requires shape { shape_faults circuit.now ≡ [] }
@@ -27,6 +31,7 @@ pub fn names_only_plain(alloc: Global, circuit: &Circuit) -> Result<bool, AllocE
     }
 }
 
+// Whether no statement names an output port or a wire in an expression.
 fn all_plain(scope: &Scope, statements: &[Stmt]) -> bool
     ensures { result ≡ list_all (λ s. plain_kind scope.now s.kind) statements.now }
 {
@@ -38,6 +43,7 @@ fn all_plain(scope: &Scope, statements: &[Stmt]) -> bool
     true
 }
 
+// Whether a statement names none in its expressions; what it connects may be one.
 fn is_plain_statement(scope: &Scope, statement: &Stmt) -> bool
     ensures { result ≡ plain_kind scope.now statement.now.kind }
 {
@@ -61,6 +67,7 @@ fn is_plain_statement(scope: &Scope, statement: &Stmt) -> bool
     }
 }
 
+// Whether a reset names none.
 fn is_plain_reset(scope: &Scope, reset: &Option<Reset>) -> bool
     ensures { result ≡ plain_reset scope.now reset.now }
 {
@@ -72,6 +79,7 @@ fn is_plain_reset(scope: &Scope, reset: &Option<Reset>) -> bool
     }
 }
 
+// Whether no argument names one.
 fn are_plain_arguments(scope: &Scope, arguments: &[Argument]) -> bool
     ensures { result ≡ list_all (plain_argument scope.now) arguments.now }
 {
@@ -83,6 +91,7 @@ fn are_plain_arguments(scope: &Scope, arguments: &[Argument]) -> bool
     true
 }
 
+// Whether an argument names none; a text doesn't.
 fn is_plain_argument(scope: &Scope, argument: &Argument) -> bool
     ensures { result ≡ plain_argument scope.now argument.now }
 {
@@ -92,6 +101,7 @@ fn is_plain_argument(scope: &Scope, argument: &Argument) -> bool
     }
 }
 
+// Whether an expression names none.
 fn is_plain_value(scope: &Scope, value: &Expr) -> bool
     ensures { result ≡ plain_term scope.now (term value.now) }
 {
@@ -107,6 +117,7 @@ fn is_plain_value(scope: &Scope, value: &Expr) -> bool
     }
 }
 
+// Whether what is named is neither an output port nor a wire.
 fn is_plain(role: Option<Role>) -> bool
     ensures { result ≡ stands_for_plain role }
 {

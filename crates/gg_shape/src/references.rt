@@ -85,6 +85,7 @@ fn known_by(alloc: Global, scope: &Scope, count: usize, statement: &Stmt) -> Res
     }
 }
 
+// Refuses the first unknown reference of a reset.
 fn known_in_reset(
     alloc: Global,
     scope: &Scope,
@@ -102,6 +103,7 @@ fn known_in_reset(
     }
 }
 
+// Refuses the first unknown reference of the arguments.
 fn known_in_arguments(
     alloc: Global,
     scope: &Scope,
@@ -147,6 +149,7 @@ fn known_in(
     }
 }
 
+// Refuses a reference that names nothing that has a value among the first `count` names.
 fn known(
     alloc: Global,
     scope: &Scope,
@@ -165,6 +168,7 @@ fn known(
     }))
 }
 
+// What a reference names among the first `count` names.
 fn meaning_before(scope: &Scope, count: usize, reference: &Reference) -> Option<Role>
     ensures { result ≡ meaning_of (take count scope.now) reference.now }
 {
@@ -174,6 +178,7 @@ fn meaning_before(scope: &Scope, count: usize, reference: &Reference) -> Option<
     }
 }
 
+// Whether what is named has a value of its own.
 fn has_value(role: Option<Role>) -> bool
     ensures { result ≡ stands_for_value role }
 {
@@ -184,6 +189,10 @@ fn has_value(role: Option<Role>) -> bool
 }
 
 /// The text of a reference: its names with dots between them.
+///
+/// # Errors
+///
+/// `AllocError` where memory ran out.
 pub fn written(alloc: Global, reference: &Reference) -> Result<Name, AllocError>
     ensures { IfOk result (λ name. name ≡ written_text reference.now) }
 {

@@ -63,6 +63,10 @@ impl<'a> Scope<'a> {
     }
 
     /// Declares a name, and answers whether it is new; a name that is there keeps its role.
+    ///
+    /// # Errors
+    ///
+    /// `AllocError` where memory ran out; the scope is as it was.
     pub fn declare(&mut self, name: &'a Name, role: Role) -> Result<bool, AllocError>
         ensures fresh { IfOk result (λ fresh. fresh ≡ not (is_some (role_of name.now self.old))) }
         ensures names { IfOk result (λ fresh. self.new ≡ (if fresh then self.old ++ (name.now, role) ∷ [] else self.old)) }

@@ -1,10 +1,19 @@
 //! How faults are printed.
+ghost use Rattle.std.specs.Prelude.{◌≡◌};
+ghost use Rattle.gg_shape.specs.FaultText.{unary_name, binary_name, fixed_name, word_name, key_name, limit_name};
+
 use crate::fault::{Fault, Limit, MemoryKey, Word};
 use gg_ast::Report;
 use gg_bits::{Op1, Op2, OpN};
 use std::fmt;
 
+/// The fault's code, and what it carries, as the program prints it behind `golden: circuit: `.
 impl fmt::Display for Fault {
+    ghost use Rattle.std.specs.Prelude.{Some};
+    ghost use Rattle.gg_shape.specs.FaultText.{fault_text};
+
+    ghost output = { λ fault. Some (fault_text fault) };
+
     fn fmt<W: fmt::Write>(&self, f: &mut fmt::Formatter<W>) -> fmt::Result {
         match self {
             Fault::MissingTop { name } => write!(f, "F1 {name}"),
@@ -41,7 +50,10 @@ impl fmt::Display for Fault {
     }
 }
 
-fn key_text(key: MemoryKey) -> &'static str {
+// The word that a field of a memory begins with.
+fn key_text(key: MemoryKey) -> &'static str
+    ensures { result.now ≡ key_name key }
+{
     match key {
         MemoryKey::DataType => "data-type",
         MemoryKey::Depth => "depth",
@@ -51,7 +63,10 @@ fn key_text(key: MemoryKey) -> &'static str {
     }
 }
 
-fn limit_text(limit: Limit) -> &'static str {
+// The word of a count.
+fn limit_text(limit: Limit) -> &'static str
+    ensures { result.now ≡ limit_name limit }
+{
     match limit {
         Limit::Depth => "depth",
         Limit::Signals => "signals",
@@ -61,7 +76,10 @@ fn limit_text(limit: Limit) -> &'static str {
     }
 }
 
-fn word_text(word: Word) -> &'static str {
+// The name of an operation, `connect`, or the first word of a statement.
+fn word_text(word: Word) -> &'static str
+    ensures { result.now ≡ word_name word }
+{
     match word {
         Word::Unary(operation) => unary_text(operation),
         Word::Binary(operation) => binary_text(operation),
@@ -78,7 +96,10 @@ fn word_text(word: Word) -> &'static str {
     }
 }
 
-fn unary_text(operation: Op1) -> &'static str {
+// The name of an operation on one value.
+fn unary_text(operation: Op1) -> &'static str
+    ensures { result.now ≡ unary_name operation }
+{
     match operation {
         Op1::AsUInt => "asUInt",
         Op1::AsSInt => "asSInt",
@@ -91,7 +112,10 @@ fn unary_text(operation: Op1) -> &'static str {
     }
 }
 
-fn binary_text(operation: Op2) -> &'static str {
+// The name of an operation on two values.
+fn binary_text(operation: Op2) -> &'static str
+    ensures { result.now ≡ binary_name operation }
+{
     match operation {
         Op2::Add => "add",
         Op2::Sub => "sub",
@@ -114,7 +138,10 @@ fn binary_text(operation: Op2) -> &'static str {
     }
 }
 
-fn fixed_text(operation: OpN) -> &'static str {
+// The name of an operation with parameters.
+fn fixed_text(operation: OpN) -> &'static str
+    ensures { result.now ≡ fixed_name operation }
+{
     match operation {
         OpN::Pad => "pad",
         OpN::Shl => "shl",

@@ -1,0 +1,122 @@
+-- A fault of a circuit in words, as the program prints it: its code, and what it carries, a blank between each two.
+-- Operations and statements are named by the words that they are written with (FIRRTL Specification, "Primitive
+-- Operations", "Statements").
+use Rattle.std.specs.Prelude.{ℕ, List, ◌∷◌, ◌++◌, codes, decimal}
+use Rattle.std.specs.List.{flat_map}
+use Rattle.gg_bits.specs.declared.ops.Op1.{Op1}
+use Rattle.gg_bits.specs.declared.ops.Op1.TheVariants as one
+use Rattle.gg_bits.specs.declared.ops.Op2.{Op2}
+use Rattle.gg_bits.specs.declared.ops.Op2.TheVariants as two
+use Rattle.gg_bits.specs.declared.ops.OpN.{OpN}
+use Rattle.gg_bits.specs.declared.ops.OpN.TheVariants as fix
+use Rattle.gg_ast.specs.declared.statement.Report.TheVariants as report
+use Rattle.gg_shape.specs.declared.fault.Fault.{Fault}
+use Rattle.gg_shape.specs.declared.fault.Fault.TheVariants.{MissingTop, RepeatedName, UnknownName, SecondConnection, Unconnected, ConnectedSource, ModuleRing, MemoryField, WrongKind, WrongWidth, WrongParameter, LiteralTooLarge, TooWide, WrongClock, OverLimit, Loop}
+use Rattle.gg_shape.specs.declared.fault.MemoryKey.{MemoryKey}
+use Rattle.gg_shape.specs.declared.fault.MemoryKey.TheVariants as keys
+use Rattle.gg_shape.specs.declared.fault.Limit.{Limit}
+use Rattle.gg_shape.specs.declared.fault.Limit.TheVariants as limits
+use Rattle.gg_shape.specs.declared.fault.Word.{Word}
+use Rattle.gg_shape.specs.declared.fault.Word.TheVariants as words
+
+-- ---- words
+
+-- the operations on one value
+abbrev pub unary_name : Op1 → List ℕ
+unary_name one.AsUInt = codes "asUInt"
+unary_name one.AsSInt = codes "asSInt"
+unary_name one.Cvt = codes "cvt"
+unary_name one.Neg = codes "neg"
+unary_name one.Not = codes "not"
+unary_name one.Andr = codes "andr"
+unary_name one.Orr = codes "orr"
+unary_name one.Xorr = codes "xorr"
+
+-- the operations on two values
+abbrev pub binary_name : Op2 → List ℕ
+binary_name two.Add = codes "add"
+binary_name two.Sub = codes "sub"
+binary_name two.Mul = codes "mul"
+binary_name two.Div = codes "div"
+binary_name two.Rem = codes "rem"
+binary_name two.Lt = codes "lt"
+binary_name two.Leq = codes "leq"
+binary_name two.Gt = codes "gt"
+binary_name two.Geq = codes "geq"
+binary_name two.Eq = codes "eq"
+binary_name two.Neq = codes "neq"
+binary_name two.Dshl = codes "dshl"
+binary_name two.Dshr = codes "dshr"
+binary_name two.And = codes "and"
+binary_name two.Or = codes "or"
+binary_name two.Xor = codes "xor"
+binary_name two.Cat = codes "cat"
+binary_name two.Validif = codes "validif"
+
+-- the operations on one value with parameters
+abbrev pub fixed_name : OpN → List ℕ
+fixed_name fix.Pad = codes "pad"
+fixed_name fix.Shl = codes "shl"
+fixed_name fix.Shr = codes "shr"
+fixed_name fix.Bits = codes "bits"
+fixed_name fix.Head = codes "head"
+fixed_name fix.Tail = codes "tail"
+
+-- an operation by its name, a connection as `connect`, any other statement by its first word
+abbrev pub word_name : Word → List ℕ
+word_name (words.Unary o) = unary_name o
+word_name (words.Binary o) = binary_name o
+word_name (words.Fixed o) = fixed_name o
+word_name words.Mux = codes "mux"
+word_name words.Connect = codes "connect"
+word_name words.Register = codes "reg"
+word_name words.Memory = codes "mem"
+word_name words.Stop = codes "stop"
+word_name (words.Report report.Printf) = codes "printf"
+word_name (words.Report report.Assert) = codes "assert"
+word_name (words.Report report.Assume) = codes "assume"
+word_name (words.Report report.Cover) = codes "cover"
+
+-- a field of a memory by the word that it begins with
+abbrev pub key_name : MemoryKey → List ℕ
+key_name keys.DataType = codes "data-type"
+key_name keys.Depth = codes "depth"
+key_name keys.ReadLatency = codes "read-latency"
+key_name keys.WriteLatency = codes "write-latency"
+key_name keys.ReadUnderWrite = codes "read-under-write"
+
+-- what is counted
+abbrev pub limit_name : Limit → List ℕ
+limit_name limits.Depth = codes "depth"
+limit_name limits.Signals = codes "signals"
+limit_name limits.Memory = codes "memory"
+limit_name limits.Words = codes "words"
+limit_name limits.Instances = codes "instances"
+
+-- ---- faults
+
+-- a code, and the line that it stands on in decimal
+abbrev pub on_line : List ℕ → ℕ → List ℕ
+on_line code line = code ++ codes " line " ++ decimal line
+
+-- texts, a blank before each
+abbrev pub behind_blanks : List (List ℕ) → List ℕ
+behind_blanks texts = flat_map (λ text. 32 ∷ text) texts
+
+abbrev pub fault_text : Fault → List ℕ
+fault_text (MissingTop name) = codes "F1 " ++ name
+fault_text (RepeatedName line name) = on_line (codes "F2") line ++ 32 ∷ name
+fault_text (UnknownName line name) = on_line (codes "F3") line ++ 32 ∷ name
+fault_text (SecondConnection line name) = on_line (codes "F4") line ++ 32 ∷ name
+fault_text (Unconnected line name) = on_line (codes "F5") line ++ 32 ∷ name
+fault_text (ConnectedSource line name) = on_line (codes "F6") line ++ 32 ∷ name
+fault_text (ModuleRing modules) = codes "F7" ++ behind_blanks modules
+fault_text (MemoryField line key) = on_line (codes "F8") line ++ 32 ∷ key_name key
+fault_text (WrongKind line word) = on_line (codes "F9") line ++ 32 ∷ word_name word
+fault_text (WrongWidth line width) = on_line (codes "F10") line ++ 32 ∷ decimal width
+fault_text (WrongParameter line word) = on_line (codes "F11") line ++ 32 ∷ word_name word
+fault_text (LiteralTooLarge line) = on_line (codes "F12") line
+fault_text (TooWide line source sink) = on_line (codes "F13") line ++ 32 ∷ (decimal source ++ 32 ∷ decimal sink)
+fault_text (WrongClock line name) = on_line (codes "F14") line ++ 32 ∷ name
+fault_text (OverLimit limit count) = codes "F15 " ++ limit_name limit ++ 32 ∷ decimal count
+fault_text (Loop paths) = codes "F16" ++ behind_blanks paths
