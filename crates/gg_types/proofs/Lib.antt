@@ -4,3 +4,4 @@ pub mod StepLemmas
 pub mod ClockLemmas
 pub mod CircuitLemmas
 pub mod WorkedRows
+pub mod LiteralRows

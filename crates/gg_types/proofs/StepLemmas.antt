@@ -1,12 +1,16 @@
 -- How what is known grows from port to port and from statement to statement.
-use Rattle.std.proofs.Common.{◌≡◌, ℕ, ◌+◌, ◌<◌, Bool, true, false, ◌||◌, List, [], ◌∷◌, ◌++◌, length, get_or, take, drop, map, Option, refl, sym, ap, ◌∙◌, append_assoc, length-append, arith}
+use Rattle.std.proofs.Common.{◌≡◌, ℕ, ◌+◌, ◌<◌, Bool, true, false, ◌||◌, List, [], ◌∷◌, ◌++◌, length, get_or, take, drop, map, Option, Some, refl, sym, ap, ◌∙◌, append_assoc, length-append, arith}
 use Rattle.std.proofs.lemmas.List.{take_more, take_at, take-append-drop, map-append, length-map}
 use Rattle.std.proofs.lemmas.List.Folds.{list_any-append}
 use Rattle.std.proofs.lemmas.Grind.{common_steps}
 use Rattle.std.specs.List.{list_any, flat_map}
 use Rattle.gg_ast.specs.declared.module.Port.{Port}
 use Rattle.gg_ast.specs.declared.statement.Stmt.{Stmt}
+use Rattle.gg_shape.specs.declared.fault.Fault.{Fault}
+use Rattle.gg_shape.specs.declared.fault.Refusal.{Refusal}
+use Rattle.gg_shape.specs.declared.fault.Refusal.TheVariants.{F, NoMemory}
 use Rattle.gg_shape.specs.declared.scope.Role.{Role}
+use Rattle.gg_shape.specs.Faults.{first, Refuses}
 use Rattle.gg_shape.specs.Namespace.{declared_by, declared_by_port, scope_after, IsDeclaredNext}
 use Rattle.gg_types.specs.Sorts.{Sort}
 use Rattle.gg_types.specs.Types.{sorts_after, sorts_of_kind, port_sort, is_clock_input}
@@ -64,3 +68,12 @@ port-next ports statements scope i count p all n lt is =
     parts done now rest whole n e l =
         ap (take (n + length now)) e ∙ take_at (done ++ now) rest (n + length now) (length-append done now ∙ ap (λ k. k + length now) l)
         ∙ ap (λ x. x ++ now) (sym (ap (take n) (e ∙ append_assoc done now rest) ∙ take_at done (now ++ rest) n l))
+
+first-front : (xs ys : List Fault) (fault : Fault) → first xs ≡ Some fault → first (xs ++ ys) ≡ Some fault
+first-front [] ys fault h = cc
+first-front (x ∷ xs) ys fault h = h
+
+-- the refusal of a first check stands for what follows too
+pub refused_first : (xs ys : List Fault) (r : Refusal) → Refuses xs r → Refuses (xs ++ ys) r
+refused_first xs ys (F fault) h = first-front xs ys fault h
+refused_first xs ys NoMemory h = tt

@@ -1,36 +1,52 @@
--- The number of a literal (FIRRTL Specification, "Expressions": literals of ground types).
-use Rattle.std.specs.Prelude.{ℕ, ◌+◌, ◌-◌, ◌*◌, ◌^◌, Bool, true, false, List, [], ◌∷◌, ◌==◌, nat_lt, nat_le, if◌then◌else◌}
+-- The number and the pattern of a literal as it is written.
+-- Source: FIRRTL Specification, "Literals" (integer literals: sign, radix and digits; a literal fits its type).
+use Rattle.std.specs.Prelude.{ℕ, zero, suc, ◌+◌, ◌*◌, ℤ, pos, neg_ℤ, Bool, List, [], ◌∷◌, ◌==◌, fold, codes, if◌then◌else◌}
+use Rattle.std.specs.Char.{to_ascii_lowercase}
+use Rattle.std.specs.Ordering.{int_eq}
 use Rattle.gg_bits.specs.declared.types.Kind.{Kind}
-use Rattle.gg_bits.specs.declared.types.Kind.TheVariants.{UInt, SInt}
+use Rattle.gg_bits.specs.Value.{number_of, pattern_of}
 use Rattle.gg_ast.specs.declared.expression.Literal.{Literal}
 use Rattle.gg_ast.specs.declared.expression.Radix.{Radix}
 use Rattle.gg_ast.specs.declared.expression.Radix.TheVariants.{Binary, Octal, Decimal, Hexadecimal}
 
-abbrev pub radix_of : Radix → ℕ
-radix_of Binary = 2
-radix_of Octal = 8
-radix_of Decimal = 10
-radix_of Hexadecimal = 16
+-- how many digits a radix has
+abbrev pub base : Radix → ℕ
+base Binary = 2
+base Octal = 8
+base Decimal = 10
+base Hexadecimal = 16
 
--- what a digit is worth: `0` to `9`, `A` to `F` and `a` to `f`
-abbrev pub digit_value : ℕ → ℕ
-digit_value c = if nat_le 97 c then c - 87 else (if nat_le 65 c then c - 55 else c - 48)
+-- how many stand before the first that is this one; all, where none is
+abbrev pub count_before : ℕ → List ℕ → ℕ
+count_before c [] = zero
+count_before c (d ∷ ds) = if c == d then zero else suc (count_before c ds)
 
--- the number that the digits spell after those that spell `so_far`
-abbrev pub magnitude_from : Radix → ℕ → List ℕ → ℕ
-magnitude_from radix so_far [] = so_far
-magnitude_from radix so_far (c ∷ cs) = magnitude_from radix (so_far * radix_of radix + digit_value c) cs
+-- What a digit is worth: its place among the digits, where letters are of either case. A character that is no digit stands in
+-- no literal that is read; it counts as 16.
+unfoldable pub digit : ℕ → ℕ
+digit c = count_before (to_ascii_lowercase c) (codes "0123456789abcdef")
 
-abbrev pub magnitude : Radix → List ℕ → ℕ
-magnitude radix digits = magnitude_from radix 0 digits
+-- the number that digits spell in a radix, the first the highest
+abbrev pub digits_number : ℕ → List ℕ → ℕ
+digits_number radix digits = fold (λ n c. n * radix + digit c) 0 digits
 
--- Whether a number, by its sign and its size, is one of a type: of a UInt of w bits 0 to 2 ^ w - 1, of an SInt - 2 ^ (w - 1) to
--- 2 ^ (w - 1) - 1.
-abbrev pub fits_in : Kind → ℕ → Bool → ℕ → Bool
-fits_in UInt w true size = size == 0
-fits_in UInt w false size = nat_lt size (2 ^ w)
-fits_in SInt w true size = nat_le size (2 ^ (w - 1))
-fits_in SInt w false size = nat_lt size (2 ^ (w - 1))
+-- a number with a sign
+abbrev pub signed_number : Bool → ℕ → ℤ
+signed_number negative n = if negative then neg_ℤ (pos n) else pos n
 
+-- the number of a literal: its sign, and the number that its digits spell
+abbrev pub literal_number : Literal → ℤ
+literal_number l = signed_number l.negative (digits_number (base l.radix) l.digits)
+
+-- the pattern of a literal
+abbrev pub literal_value : Literal → ℕ
+literal_value l = pattern_of l.width (literal_number l)
+
+-- Whether a pattern of this kind and width stands for the number. No other than the number modulo 2 ^ w can, so it is the one
+-- that is asked.
+abbrev pub is_number_of : Kind → ℕ → ℤ → Bool
+is_number_of kind w z = int_eq (number_of kind w (pattern_of w z)) z
+
+-- a literal fits its type where a pattern of the type stands for its number
 abbrev pub literal_fits : Literal → Bool
-literal_fits l = fits_in l.kind l.width l.negative (magnitude l.radix l.digits)
+literal_fits l = is_number_of l.kind l.width (literal_number l)

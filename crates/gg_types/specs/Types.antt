@@ -121,6 +121,10 @@ abbrev pub literal_faults : ℕ → Literal → List Fault
 literal_faults line l =
     if is_width l.width then fault_if (not (literal_fits l)) (LiteralTooLarge line) else WrongWidth line l.width ∷ []
 
+-- the shape of a literal, if its width is 1 to 128 and its number fits
+abbrev pub literal_shape : Literal → Option Shape
+literal_shape l = if is_width l.width && literal_fits l then Some (of_kind l.kind l.width) else None
+
 abbrev pub literal_sort : Literal → Option Sort
 literal_sort l = if is_width l.width && literal_fits l then Some (Bits (of_kind l.kind l.width)) else None
 
@@ -323,7 +327,8 @@ abbrev pub module_type_faults : Bool → (List ℕ → Bool) → ModuleTree → 
 module_type_faults is_top traced m =
     along (port_faults is_top) m.ports ++ along (faults_of traced (map port_sort m.ports)) m.statements
 
--- the faults of F9 to F14 in the order of the text; the top is the module of the circuit's name
+-- The faults of F9 to F14 in the order of the text, and F3 where a name is not declared, which a circuit without faults of
+-- shape doesn't have. The top is the module of the circuit's name.
 abbrev pub type_faults : CircuitTree → List Fault
 type_faults circuit =
     in_modules (λ m. module_type_faults (bytes_eq circuit.name m.name) (leads_to_input m) m) circuit.modules

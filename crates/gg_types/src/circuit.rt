@@ -25,7 +25,12 @@ pub struct Typed {
     pub types: Vec<Typing>,
 }
 
-/// Refuses the first of F9 to F14 in the order of the text; else the types of all names.
+/// Refuses the first of F9 to F14 in the order of the text; else the types of all names. `gg_shape::shape` has to have
+/// found no fault in the circuit before.
+///
+/// # Errors
+///
+/// `Refusal::F` with that fault; `Refusal::NoMemory` where memory ran out.
 pub fn types(alloc: Global, circuit: &Circuit) -> Result<Typed, TypeFault>
     requires single { IsSingleModule circuit.now }
     requires shape { shape_faults circuit.now ≡ [] }
@@ -39,6 +44,7 @@ pub fn types(alloc: Global, circuit: &Circuit) -> Result<Typed, TypeFault>
     types_of(alloc, is_top, top)
 }
 
+// The types of a module's names, or the first fault in them.
 fn types_of(alloc: Global, is_top: bool, top: &Module) -> Result<Typed, Refusal>
     requires flat { list_all (λ s. is_flat s.kind) top.now.statements ≡ true }
     requires distinct { repeated_names top.now ≡ [] }

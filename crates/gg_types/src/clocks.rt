@@ -85,6 +85,7 @@ fn bare(value: &Expr) -> Option<&Name>
     }
 }
 
+// Notes that a name, if it is followed, leads to another, or to itself where there is none.
 fn lead(scope: &Scope, next: &mut Vec<usize>, name: &Name, to: Option<&Name>)
     requires { length next.old.items ≡ length scope.now }
     ensures { next.new.items ≡ with_driven scope.now next.old.items (Some (name.now, option_copied to.entry)) }
@@ -97,6 +98,7 @@ fn lead(scope: &Scope, next: &mut Vec<usize>, name: &Name, to: Option<&Name>)
     }
 }
 
+// The place of a name; this one where there is none.
 fn place_or(scope: &Scope, place: usize, to: Option<&Name>) -> usize
     ensures { result ≡ next_at scope.now place (option_copied to.entry) }
 {
@@ -106,6 +108,7 @@ fn place_or(scope: &Scope, place: usize, to: Option<&Name>) -> usize
     }
 }
 
+// Whether what is named leads to what drives it: a wire or a node.
 fn is_followed(role: Option<Role>) -> bool
     ensures { result ≡ leads_on role }
 {
@@ -134,6 +137,7 @@ fn after_steps(alloc: Global, next: Vec<usize>, steps: usize) -> Result<Vec<usiz
     Ok(reached)
 }
 
+// The same as `through` where the number of steps is odd, else the first list.
 fn through_if(
     alloc: Global,
     is_odd: bool,
@@ -173,6 +177,7 @@ fn input_flags(alloc: Global, scope: &Scope, reached: &Vec<usize>) -> Result<Vec
     Ok(flags)
 }
 
+// Whether what is named is an input port.
 fn is_input(role: Option<Role>) -> bool
     ensures { result ≡ is_port role }
 {

@@ -11,7 +11,8 @@ ghost use Rattle.gg_shape.specs.declared.fault.Refusal.TheVariants.{F};
 ghost use Rattle.gg_shape.specs.declared.fault.Fault.TheVariants.{WrongKind};
 
 use crate::known::{Known, Typing};
-use crate::literal::fits;
+use crate::literals::literal;
+use crate::places::is_width;
 use gg_ast::{Expr, Literal, Reference};
 use gg_bits::{Bad, Op1, Op2, OpN, Ty, result_const, result_mux, result1, result2};
 use gg_shape::{Fault, Refusal, Word, written};
@@ -24,7 +25,7 @@ pub fn type_of(alloc: Global, known: &Known, line: u64, value: &Expr) -> Result<
 {
     match value {
         Expr::Named(reference) => read(alloc, known, line, reference),
-        Expr::Constant(literal) => constant(line, literal),
+        Expr::Constant(number) => constant(line, number),
         Expr::Unary(operation, a) => {
             let ta = type_of(alloc, known, line, a)?;
             unary(line, *operation, ta)
@@ -67,6 +68,7 @@ fn read(alloc: Global, known: &Known, line: u64, reference: &Reference) -> Resul
     }
 }
 
+// Whether a reference leads to an input port through the drivers of wires and nodes.
 fn leads_to_input(known: &Known, reference: &Reference) -> bool
     ensures { result ≡ is_traced (traced_with known.now.scope known.now.traced.items) reference.now }
 {
@@ -97,22 +99,24 @@ pub fn named(
     }))
 }
 
-fn constant(line: u64, literal: &Literal) -> Result<Typing, Refusal>
-    ensures answers { Answers (literal_faults line literal.now) result }
-    ensures sort { IfOk result (λ t. literal_sort literal.now ≡ Some (sort t)) }
+// The type of a literal.
+fn constant(line: u64, number: &Literal) -> Result<Typing, Refusal>
+    ensures answers { Answers (literal_faults line number.now) result }
+    ensures sort { IfOk result (λ t. literal_sort number.now ≡ Some (sort t)) }
 {
-    if literal.width == 0 || literal.width > Ty::MAX_WIDTH {
+    if !is_width(number.width) {
         return Err(Refusal::F(Fault::WrongWidth {
             line,
-            width: literal.width,
+            width: number.width,
         }));
     }
-    if !fits(literal) {
-        return Err(Refusal::F(Fault::LiteralTooLarge { line }));
+    match literal(number) {
+        Some((ty, _)) => Ok(Typing::Ground(ty)),
+        None => Err(Refusal::F(Fault::LiteralTooLarge { line })),
     }
-    Ok(Typing::Ground(Ty::new(literal.kind, literal.width)))
 }
 
+// The type of an operation on one value, by its operand's type.
 fn unary(line: u64, operation: Op1, ta: Typing) -> Result<Typing, Refusal>
     ensures answers { Answers (result_faults line (words.Unary operation) (result_1 (type1 operation) (Some (sort ta)))) result }
     ensures sort { IfOk result (λ t. result_sort (result_1 (type1 operation) (Some (sort ta))) ≡ Some (sort t)) }
@@ -124,6 +128,7 @@ fn unary(line: u64, operation: Op1, ta: Typing) -> Result<Typing, Refusal>
     }
 }
 
+// The type of an operation on two values, by its operands' types.
 fn binary(line: u64, operation: Op2, ta: Typing, tb: Typing) -> Result<Typing, Refusal>
     ensures answers { Answers (result_faults line (words.Binary operation) (result_2 (type2 operation) (Some (sort ta)) (Some (sort tb)))) result }
     ensures sort { IfOk result (λ t. result_sort (result_2 (type2 operation) (Some (sort ta)) (Some (sort tb))) ≡ Some (sort t)) }
@@ -135,6 +140,7 @@ fn binary(line: u64, operation: Op2, ta: Typing, tb: Typing) -> Result<Typing, R
     }
 }
 
+// The type of an operation with parameters, by its operand's type.
 fn fixed(line: u64, operation: OpN, ta: Typing, n: u32, m: u32) -> Result<Typing, Refusal>
     ensures answers { Answers (result_faults line (words.Fixed operation) (result_1 (λ s. type_const operation s n m) (Some (sort ta)))) result }
     ensures sort { IfOk result (λ t. result_sort (result_1 (λ s. type_const operation s n m) (Some (sort ta))) ≡ Some (sort t)) }
@@ -146,6 +152,7 @@ fn fixed(line: u64, operation: OpN, ta: Typing, n: u32, m: u32) -> Result<Typing
     }
 }
 
+// The type of a multiplexer, by its operands' types.
 fn mux(line: u64, tc: Typing, ta: Typing, tb: Typing) -> Result<Typing, Refusal>
     ensures answers { Answers (result_faults line words.Mux (result_3 type_mux (Some (sort tc)) (Some (sort ta)) (Some (sort tb)))) result }
     ensures sort { IfOk result (λ t. result_sort (result_3 type_mux (Some (sort tc)) (Some (sort ta)) (Some (sort tb))) ≡ Some (sort t)) }

@@ -74,6 +74,7 @@ fn judge_port(is_top: bool, has_clock: bool, port: &Port) -> Result<Typing, Refu
     declared_type(port.line, port.ty)
 }
 
+// Whether an input port of type Clock is among the ports up to this one.
 fn has_clock_after(has_clock: bool, port: &Port) -> bool
     ensures { result ≡ has_clock || takes_clock port.now }
 {

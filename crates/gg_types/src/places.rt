@@ -1,5 +1,5 @@
 //! Declared types, and places with a rule of their own: clocks, conditions, connections.
-ghost use Rattle.std.specs.Prelude.{◌≡◌, true, not, Some, IsOk, IfOk};
+ghost use Rattle.std.specs.Prelude.{◌≡◌, ◌≤◌, ◌++◌, true, not, Some, IsOk, IfOk};
 ghost use Rattle.gg_ast.specs.Term.{term};
 ghost use Rattle.gg_shape.specs.Faults.{Answers};
 ghost use Rattle.gg_bits.specs.Shape.{shape, of_kind};
@@ -14,6 +14,14 @@ use gg_ast::{Expr, GroundType};
 use gg_bits::{Kind, Ty};
 use gg_shape::{Fault, Refusal, Word};
 use std::alloc::Global;
+
+/// Whether a type may have this width: 1 to 128.
+pub fn is_width(width: u32) -> bool
+    ensures exact { result ≡ is_width width }
+    ensures bounds { result ≡ true → (1 ≤ width) × (width ≤ 128) }
+{
+    1 <= width && width <= Ty::MAX_WIDTH
+}
 
 /// The type that a port or a wire is declared with.
 pub fn declared_type(line: u64, ty: GroundType) -> Result<Typing, Refusal>
@@ -45,7 +53,7 @@ fn of_width(line: u64, kind: Kind, width: u32) -> Result<Typing, Refusal>
     ensures within { IsOk result → is_width width ≡ true }
     ensures sort { IfOk result (λ t. sort t ≡ Bits (of_kind kind width)) }
 {
-    if width == 0 || width > Ty::MAX_WIDTH {
+    if !is_width(width) {
         return Err(Refusal::F(Fault::WrongWidth { line, width }));
     }
     Ok(Typing::Ground(Ty::new(kind, width)))
@@ -65,6 +73,7 @@ pub fn clock(
     only_clock(line, word, typing)
 }
 
+// Refuses a type in a clock position that isn't Clock.
 fn only_clock(line: u64, word: Word, typing: Typing) -> Result<(), Refusal>
     ensures { Answers (clock_position line word (Some (sort typing))) result }
 {
@@ -88,6 +97,7 @@ pub fn condition(
     only_condition(line, word, typing)
 }
 
+// Refuses the type of a condition that isn't `UInt<1>`.
 fn only_condition(line: u64, word: Word, typing: Typing) -> Result<(), Refusal>
     ensures { Answers (condition_position line word (Some (sort typing))) result }
 {
@@ -100,6 +110,21 @@ fn only_condition(line: u64, word: Word, typing: Typing) -> Result<(), Refusal>
         ) => Ok(()),
         Typing::Ground(_) | Typing::Clock => wrong_kind(line, word),
     }
+}
+
+/// Refuses the first fault of a clock and the condition after it.
+pub fn clocked(
+    alloc: Global,
+    known: &Known,
+    line: u64,
+    word: Word,
+    tick: &Expr,
+    test: &Expr,
+) -> Result<(), Refusal>
+    ensures { Answers (clock_faults_in (traced_with known.now.scope known.now.traced.items) (sorts_with known.now.scope known.now.types.items) line word (term tick.now) ++ condition_faults_in (traced_with known.now.scope known.now.traced.items) (sorts_with known.now.scope known.now.types.items) line word (term test.now)) result }
+{
+    clock(alloc, known, line, word, tick)?;
+    condition(alloc, known, line, word, test)
 }
 
 /// Refuses a value of a type that may not be connected to a sink.
@@ -115,6 +140,7 @@ pub fn connected(line: u64, word: Word, sink: Typing, source: Typing) -> Result<
     }
 }
 
+// Refuses a ground type that may not be connected to a sink of another.
 fn connected_bits(line: u64, word: Word, sink: Ty, source: Ty) -> Result<(), Refusal>
     ensures { Answers (bits_connected line word (shape sink) (shape source)) result }
 {

@@ -11,7 +11,7 @@ ghost use Rattle.gg_types.specs.Types.{faults_of_kind, sorts_of_kind, register_f
 
 use crate::expression::{named, type_of, wrong_kind};
 use crate::known::{Known, Typing};
-use crate::places::{clock, condition, connected, declared_type, register_type};
+use crate::places::{clock, clocked, condition, connected, declared_type, register_type};
 use gg_ast::{Argument, Expr, GroundType, Reference, Report, Reset, Stmt, StmtKind};
 use gg_shape::{Fault, Refusal, Word, written};
 use std::alloc::Global;
@@ -28,10 +28,7 @@ pub fn judge(alloc: Global, known: &mut Known, statement: &Stmt) -> Result<(), R
 {
     let line = statement.line;
     match &statement.kind {
-        StmtKind::Wire { ty, .. } => {
-            let typing = declared_type(line, *ty)?;
-            declare(known, typing)
-        }
+        StmtKind::Wire { ty, .. } => declare(known, declared_type(line, *ty)?),
         StmtKind::Node { value, .. } => {
             let typing = type_of(alloc, known, line, value)?;
             declare(known, typing)
@@ -46,13 +43,10 @@ pub fn judge(alloc: Global, known: &mut Known, statement: &Stmt) -> Result<(), R
         StmtKind::Invalid { sink } => judge_invalid(alloc, known, line, sink),
         StmtKind::Skip => Ok(()),
         StmtKind::Stop {
-            clock: tick,
-            condition: test,
+            clock,
+            condition,
             ..
-        } => {
-            clock(alloc, known, line, Word::Stop, tick)?;
-            condition(alloc, known, line, Word::Stop, test)
-        }
+        } => clocked(alloc, known, line, Word::Stop, clock, condition),
         StmtKind::Report {
             word,
             arguments,
@@ -76,6 +70,7 @@ pub fn declare(known: &mut Known, typing: Typing) -> Result<(), Refusal>
     }
 }
 
+// Refuses the first fault of a register, or adds its type.
 fn judge_register(
     alloc: Global,
     known: &mut Known,
@@ -96,6 +91,7 @@ fn judge_register(
     judge_reset(alloc, known, typing, reset)
 }
 
+// Refuses the first fault of a reset of a register of this type.
 fn judge_reset(
     alloc: Global,
     known: &Known,
@@ -114,6 +110,7 @@ fn judge_reset(
     }
 }
 
+// Refuses the first fault of a connection.
 fn judge_connection(
     alloc: Global,
     known: &Known,
@@ -128,6 +125,7 @@ fn judge_connection(
     connected(line, Word::Connect, wide, narrow)
 }
 
+// Refuses a Clock that is invalid.
 fn judge_invalid(alloc: Global, known: &Known, line: u64, sink: &Reference) -> Result<(), Refusal>
     ensures { Answers (undeclared (sorts_with known.now.scope known.now.types.items) line sink.now ++ invalid_faults line sink.now (sort_of_reference (sorts_with known.now.scope known.now.types.items) sink.now)) result }
 {
@@ -140,6 +138,8 @@ fn judge_invalid(alloc: Global, known: &Known, line: u64, sink: &Reference) -> R
     }
 }
 
+// Refuses the first fault of the arguments of `printf` and its like, of which the first is a clock.
+#[tactic(auto, using(crate::proofs::StepLemmas::refused_first))]
 fn judge_report(
     alloc: Global,
     known: &Known,
@@ -160,6 +160,7 @@ fn judge_report(
     }
 }
 
+// Refuses the first fault of arguments that are only typed.
 fn judge_arguments(
     alloc: Global,
     known: &Known,
