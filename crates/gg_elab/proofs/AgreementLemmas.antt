@@ -1,26 +1,18 @@
 -- The shape of an expression is the type that the static checks give it.
-use Rattle.std.proofs.Common.{◌≡◌, ℕ, zero, suc, ◌+◌, ◌-◌, ◌*◌, ◌<◌, ◌^◌, List, [], ◌∷◌, ◌++◌, length, Bool, true, false, ◌&&◌, Option, None, Some, Result, Ok, Err, refl, sym, ap, ◌∙◌, subst, arith, nat_lt, nat_le, if◌then◌else◌, lt-ltb, pos, negsuc, neg_ℤ}
-use Rattle.std.specs.Prelude.{fold, option_map, option_and_then, int_le, int_lt}
-use Rattle.std.proofs.lemmas.Bool.Decides.{nat_tests}
-use Rattle.std.proofs.lemmas.Int.{ints}
-use Rattle.std.proofs.lemmas.Nat.{pow_pos}
-use Rattle.gg_bits.specs.declared.types.Kind.{Kind}
-use Rattle.gg_bits.specs.declared.types.Kind.TheVariants.{UInt, SInt}
+use Rattle.std.proofs.Common.{◌≡◌, ℕ, ◌+◌, List, [], ◌∷◌, ◌++◌, length, Bool, true, false, ◌&&◌, Option, None, Some, Result, Ok, Err, refl, sym, ap, ◌∙◌, subst, arith, if◌then◌else◌}
+use Rattle.std.specs.Prelude.{option_map, option_and_then}
 use Rattle.gg_bits.specs.declared.types.Bad.{Bad}
 use Rattle.gg_bits.specs.Shape.{Shape, of_kind, uint}
 use Rattle.gg_bits.specs.ResultType.{type1, type2, type_const, type_mux}
 use Rattle.gg_ast.specs.declared.expression.Literal.{Literal}
-use Rattle.gg_ast.specs.declared.expression.Radix.{Radix}
-use Rattle.gg_ast.specs.declared.expression.Radix.TheVariants.{Binary, Octal, Decimal, Hexadecimal}
 use Rattle.gg_ast.specs.declared.expression.Reference.{Reference}
 use Rattle.gg_ast.specs.declared.expression.Reference.TheVariants as name
 use Rattle.gg_ast.specs.Places.{place_of}
 use Rattle.gg_ast.specs.Term.{Term, Ref, Lit, One, Two, Fix, Choose}
 use Rattle.gg_flat.specs.Line.{shape_at}
-use Rattle.gg_types.specs.Literal.{radix_of, magnitude_from, magnitude, fits_in, literal_fits}
+use Rattle.gg_types.specs.Literal.{literal_fits}
 use Rattle.gg_types.specs.Sorts.{Sort, Bits, ClockSort, entry_of}
-use Rattle.gg_types.specs.Types.{known_sort, read_sort, is_traced, result1, result2, result3, result_sort, is_width, literal_sort, sort_in}
-use Rattle.gg_elab.specs.Literal.{base, digit, digits_number, signed_number, is_number_of, literal_shape}
+use Rattle.gg_types.specs.Types.{known_sort, read_sort, is_traced, result1, result2, result3, result_sort, is_width, literal_shape, literal_sort, sort_in}
 use Rattle.gg_elab.specs.Expression.{Signals, accepted, term_shape}
 use Rattle.gg_elab.specs.Signals.{declare}
 use Rattle.std.proofs.lemmas.List.{length-append, get_or_append_left}
@@ -32,54 +24,12 @@ use Rattle.std.proofs.lemmas.Slice.Eq.{bytes_eq-Decides}
 
 -- ---- literals
 
-base_is : (r : Radix) → base r ≡ radix_of r
-base_is Binary = refl
-base_is Octal = refl
-base_is Decimal = refl
-base_is Hexadecimal = refl
-
-fold_is : (r : Radix) (n : ℕ) (digits : List ℕ) → fold (λ m byte. m * base r + digit byte) n digits ≡ magnitude_from r n digits
-fold_is r n [] = refl
-fold_is r n (d ∷ digits) =
-    fold_is r (n * base r + digit d) digits
-    ∙ ap (λ (b : ℕ). magnitude_from r (n * b + digit d) digits) (base_is r)
-
-digits_are : (r : Radix) (digits : List ℕ) → digits_number (base r) digits ≡ magnitude r digits
-digits_are r digits = fold_is r 0 digits
-
-both_true : (a b : Bool) → a ≡ true → b ≡ true → (a && b) ≡ true
-both_true a b x y = rw (x, y) refl
-
--- a negative number of a signed type
-negative_fits : (half m : ℕ) → 0 < half → nat_le m half ≡ true → (int_le (neg_ℤ (pos half)) (neg_ℤ (pos m)) && int_lt (neg_ℤ (pos m)) (pos half)) ≡ true
-negative_fits zero m some h = absurd (omega arith)
-negative_fits (suc p) zero some h = lt-ltb 0 (suc p) (omega arith)
-negative_fits (suc p) (suc k) some h = both_true (int_le (negsuc p) (negsuc k)) true (grind (arith, nat_tests, ints)) refl
-
-natural_fits : (half m : ℕ) → 0 < half → nat_lt m half ≡ true → (int_le (neg_ℤ (pos half)) (pos m) && nat_lt m half) ≡ true
-natural_fits zero m some h = absurd (omega arith)
-natural_fits (suc p) m some h = h
-
--- where a number fits a type by the checks, a value of the type stands for it
-fits_number : (kind : Kind) (w m : ℕ) (negative : Bool) → fits_in kind w negative m ≡ true → is_number_of kind w (signed_number negative m) ≡ true
-fits_number UInt w zero true h = lt-ltb 0 (2 ^ w) (pow_pos w)
-fits_number UInt w (suc m) true h = absurd (let e : suc m ≡ 0 = grind (arith, nat_tests) in omega arith)
-fits_number UInt w m false h = both_true (nat_le 0 m) (nat_lt m (2 ^ w)) (grind (arith, nat_tests)) h
-fits_number SInt w m true h = negative_fits (2 ^ (w - 1)) m (pow_pos (w - 1)) h
-fits_number SInt w m false h = natural_fits (2 ^ (w - 1)) m (pow_pos (w - 1)) h
-
 literal_agrees : (l : Literal) (s : Shape) → literal_sort l ≡ Some (Bits s) → literal_shape l ≡ Some s
-literal_agrees l s h = go (is_width l.width) (literal_fits l) refl h
+literal_agrees l s h = go (is_width l.width && literal_fits l) h
   where
-    number_is : literal_fits l ≡ true → is_number_of l.kind l.width (signed_number l.negative (digits_number (base l.radix) l.digits)) ≡ true
-    number_is e =
-        fits_number l.kind l.width (digits_number (base l.radix) l.digits) l.negative
-        (ap (λ (m : ℕ). fits_in l.kind l.width l.negative m) (digits_are l.radix l.digits) ∙ e)
-
-    go : (a b : Bool) → literal_fits l ≡ b → (if a && b then Some (Bits (of_kind l.kind l.width)) else None) ≡ Some (Bits s) → (if a && is_number_of l.kind l.width (signed_number l.negative (digits_number (base l.radix) l.digits)) then Some (of_kind l.kind l.width) else None) ≡ Some s
-    go true true e h = let same : of_kind l.kind l.width ≡ s = cc in rw (number_is e) (ap Some same)
-    go true false e h = absurd (cc)
-    go false b e h = absurd (cc)
+    go : (b : Bool) → (if b then Some (Bits (of_kind l.kind l.width)) else None) ≡ Some (Bits s) → (if b then Some (of_kind l.kind l.width) else None) ≡ Some s
+    go true h = let same : of_kind l.kind l.width ≡ s = cc in ap Some same
+    go false h = absurd (cc)
 
 -- ---- names
 

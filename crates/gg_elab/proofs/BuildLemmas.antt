@@ -21,7 +21,7 @@ use Rattle.gg_elab.specs.declared.fault.Stop.{Stop}
 use Rattle.gg_elab.specs.declared.scope.Found.{Found}
 use Rattle.gg_elab.specs.Expression.{Signals}
 use Rattle.gg_elab.specs.Connection.{seen, seen_at}
-use Rattle.gg_elab.specs.FlatModule.{HasLine, IsComputed, IsRegisterWith, HasReset}
+use Rattle.gg_elab.specs.FlatModule.{HasLine, IsComputed, IsRegisterWith, HasReset, HoldInTurn, drivers_of}
 use Rattle.gg_elab.specs.Table.{path_of}
 use Rattle.gg_elab.specs.Signals.{goes, port_names}
 use Rattle.gg_ast.specs.declared.module.Direction.{Direction}
@@ -41,9 +41,6 @@ fresh_next signals table flat name found built next has =
     (subst (λ (l : List (List ℕ)). Contains l name) built.paths has)
 
 -- ---- drivers
-
-drivers_of : List Signal → List Driver
-drivers_of signals = map (λ (s : Signal). s.driver) signals
 
 pub driver_at-old : (flat new : FlatCircuit) (sig : Signal) (s : ℕ) → new.signals ≡ flat.signals ++ sig ∷ [] → s < length flat.signals → driver_at new s ≡ driver_at flat s
 driver_at-old flat new sig s e lt =
@@ -125,6 +122,46 @@ slice_get-last : {A : Type 0} (xs : List A) (y : A) → slice_get (xs ++ y ∷ [
 slice_get-last [] y = refl
 slice_get-last (z ∷ xs) y = slice_get-last xs y
 
+-- ---- registers in turn
+
+-- a signal that holds no register changes nothing
+turn_same : (next count : ℕ) (ds : List Driver) (d : Driver) → HoldInTurn count count (d ∷ []) → HoldInTurn next count ds → HoldInTurn next count (ds ++ d ∷ [])
+turn_same next count [] d own h = subst (λ (k : ℕ). HoldInTurn k count (d ∷ [])) (sym h) own
+turn_same next count (Input place ∷ ds) d own h = turn_same next count ds d own h
+turn_same next count (Held r ∷ ds) d own h = (h.0, turn_same (next + 1) count ds d own h.1)
+turn_same next count (Read memory port ∷ ds) d own h = turn_same next count ds d own h
+turn_same next count (Computed line ∷ ds) d own h = turn_same next count ds d own h
+
+-- a signal that holds the next register
+turn_more : (next count : ℕ) (ds : List Driver) → HoldInTurn next count ds → HoldInTurn next (count + 1) (ds ++ Held count ∷ [])
+turn_more next count [] h = (sym h, ap (λ (k : ℕ). k + 1) h)
+turn_more next count (Input place ∷ ds) h = turn_more next count ds h
+turn_more next count (Held r ∷ ds) h = (h.0, turn_more (next + 1) count ds h.1)
+turn_more next count (Read memory port ∷ ds) h = turn_more next count ds h
+turn_more next count (Computed line ∷ ds) h = turn_more next count ds h
+
+drivers_more : (flat new : FlatCircuit) (sig : Signal) → new.signals ≡ flat.signals ++ sig ∷ [] → drivers_of new ≡ drivers_of flat ++ sig.driver ∷ []
+drivers_more flat new sig all =
+    ap (λ (l : List Signal). map (λ (x : Signal). x.driver) l) all
+    ∙ map-append (λ (x : Signal). x.driver) flat.signals (sig ∷ [])
+
+-- a signal that holds no register was added
+held_same : (flat new : FlatCircuit) (sig : Signal) → new.signals ≡ flat.signals ++ sig ∷ [] → new.registers ≡ flat.registers → HoldInTurn (length flat.registers) (length flat.registers) (sig.driver ∷ []) → HoldInTurn 0 (length flat.registers) (drivers_of flat) → HoldInTurn 0 (length new.registers) (drivers_of new)
+held_same flat new sig all same own h =
+    subst (λ (k : ℕ). HoldInTurn 0 k (drivers_of new)) (sym (ap length same))
+    (subst (λ (l : List Driver). HoldInTurn 0 (length flat.registers) l) (sym (drivers_more flat new sig all))
+    (turn_same 0 (length flat.registers) (drivers_of flat) sig.driver own h))
+
+-- a register was added, and a signal that holds it
+held_more : (flat new : FlatCircuit) (sig : Signal) (reg : Register) → new.signals ≡ flat.signals ++ sig ∷ [] → new.registers ≡ flat.registers ++ reg ∷ [] → sig.driver ≡ Held (length flat.registers) → HoldInTurn 0 (length flat.registers) (drivers_of flat) → HoldInTurn 0 (length new.registers) (drivers_of new)
+held_more flat new sig reg all more drives h =
+    let count : length new.registers ≡ length flat.registers + 1 = ap length more ∙ omega (arith, length-append flat.registers (reg ∷ [])) in
+    let drivers : drivers_of new ≡ drivers_of flat ++ Held (length flat.registers) ∷ [] =
+    drivers_more flat new sig all ∙ ap (λ (d : Driver). drivers_of flat ++ d ∷ []) drives in
+    subst (λ (k : ℕ). HoldInTurn 0 k (drivers_of new)) (sym count)
+    (subst (λ (l : List Driver). HoldInTurn 0 (length flat.registers + 1) l) (sym drivers)
+    (turn_more 0 (length flat.registers) (drivers_of flat) h))
+
 -- ---- one more signal
 
 -- the parts of the flat circuit with one more signal
@@ -136,6 +173,7 @@ pub record Step (signals : Signals) (table : List (Option Source)) (flat new : F
   pub ins : (place : ℕ) → place < length new.ins → ((place < length flat.ins) × (value_at new.ins place ≡ value_at flat.ins place)) ⊎ ((value_at new.ins place ≡ length flat.signals) × (sig.driver ≡ Input place))
   pub outs : new.outs ≡ flat.outs
   pub registers : All (IsRegister (HasType signals.shapes)) new.registers
+  pub held : HoldInTurn 0 (length new.registers) (drivers_of new)
   pub memories : new.memories ≡ flat.memories
 
 pub IsBuilt-step : (signals : Signals) (table : List (Option Source)) (flat new : FlatCircuit) (name : List ℕ) (sig : Signal) (found : Found) → IsBuilt signals table flat → IsNext signals flat name found → sig.ty ≡ found.ty → Step signals table flat new name sig → IsBuilt signals table new
@@ -176,6 +214,7 @@ IsBuilt-step signals table flat new name sig found built next is step = record {
         driver = ap (driver_at new) at ∙ driver_at-old flat new sig (value_at flat.outs place) step.all (computed_within flat (value_at flat.outs place) was.line was.driver) ∙ was.driver;
       };
   registers = step.registers;
+  held = step.held;
   memories = step.memories ∙ built.memories;
 }
   where
@@ -217,6 +256,8 @@ with_line signals table flat name found sig line built next is drives fits sourc
     ins = λ place lt. inl (lt, refl);
     outs = refl;
     registers = built.registers;
+    held = held_same flat (with_signal flat name sig) sig refl refl
+        (subst (λ (d : Driver). HoldInTurn (length flat.registers) (length flat.registers) (d ∷ [])) (sym drives) refl) built.held;
     memories = refl;
   });
   grown = IsGrown-extends signals flat (with_signal flat name sig) (extends_signal flat (with_signal flat name sig) sig refl refl) refl refl;
@@ -283,6 +324,7 @@ with_register signals table flat new name found sig reg number built next is dri
     ins = λ place lt. inl (omega (arith, lt, ap length ins), ap (λ (l : List ℕ). value_at l place) ins);
     outs = outs;
     registers = subst (λ (l : List Register). All (IsRegister (HasType signals.shapes)) l) (sym more) (all_push (IsRegister (HasType signals.shapes)) flat.registers reg built.registers formed);
+    held = held_more flat new sig reg all more (drives ∙ ap Held numbered) built.held;
     memories = ap (λ (k : FlatCircuit). k.memories) e;
   });
   grown = IsGrown-extends signals flat new (extends_register flat new sig reg all more) ins outs;
@@ -337,6 +379,8 @@ with_in signals table flat new name found sig place built next is drives placed 
     ins = λ p lt. ins_at p (omega (arith, lt, ap length more, length-append flat.ins (found.signal ∷ [])));
     outs = ap (λ (k : FlatCircuit). k.outs) e;
     registers = subst (λ (l : List Register). All (IsRegister (HasType signals.shapes)) l) (sym registers) built.registers;
+    held = held_same flat new sig (ap (λ (k : FlatCircuit). k.signals) e) registers
+        (subst (λ (d : Driver). HoldInTurn (length flat.registers) (length flat.registers) (d ∷ [])) (sym drives) refl) built.held;
     memories = ap (λ (k : FlatCircuit). k.memories) e;
   });
   one = ap (λ (k : FlatCircuit). length k.signals) e ∙ omega (arith, length-append flat.signals (sig ∷ []));
@@ -391,6 +435,7 @@ given_out signals table mid new s e built lt by_line =
           (record { line = by_line.line; driver = ap (driver_at mid) (get_or-append_seam mid.outs s [] 0) ∙ by_line.driver })
           p (omega (arith, within, length-append mid.outs (s ∷ [])));
       registers = built.registers;
+      held = built.held;
       memories = built.memories;
     })
 

@@ -64,7 +64,7 @@ scope_after-split ports before after =
 -- ---- lists
 
 -- where a list has no faults, the thing at a place has none
-along_at : {A : Type 0} (f : List A → A → List Fault) (before xs : List A) (k : ℕ) (d : A) → along_from f before xs ≡ [] → k < length xs → f (before ++ take k xs) (slice_index_or xs k d) ≡ []
+pub along_at : {A : Type 0} (f : List A → A → List Fault) (before xs : List A) (k : ℕ) (d : A) → along_from f before xs ≡ [] → k < length xs → f (before ++ take k xs) (slice_index_or xs k d) ≡ []
 along_at f before [] k d h lt = absurd (omega arith)
 along_at f before (x ∷ xs) zero d h lt =
     ap (λ l. f l x) (append-nil before) ∙ (append_none (f before x) (along_from f (before ++ x ∷ []) xs) h).0

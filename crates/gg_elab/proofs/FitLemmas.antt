@@ -89,7 +89,7 @@ follows m table n s k at = go (seen_at table s) refl
         let same : d.driven ≡ c = let e = d.seen in cc in
         subst (λ (x : Connection). CanDrive (signals_of m) x (shape_at (signals_of m).shapes s)) same d.can
 
-not_false : (b : Bool) → not b ≡ false → b ≡ true
+pub not_false : (b : Bool) → not b ≡ false → b ≡ true
 not_false true e = refl
 not_false false e = absurd (true≢false e)
 

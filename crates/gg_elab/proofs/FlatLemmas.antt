@@ -23,6 +23,7 @@ use Rattle.gg_elab.specs.declared.connections.Source.{Source}
 use Rattle.gg_elab.specs.Expression.{Signals}
 use Rattle.gg_elab.specs.Connection.{Connection, ConnectedTo, Zeroed, IsLineFor, IsConnected, seen_at}
 use Rattle.gg_elab.specs.FlatModule.{path_at, IsComputed, OfName, OfSink, IsTrueOf, Gets, IsFlatModule, IsFlat}
+use Rattle.gg_elab.specs.Faultless.{IsFaultless}
 use Rattle.gg_elab.specs.Signals.{signals_of, port_names}
 use Rattle.gg_elab.specs.Table.{path_of, HasSink, HasConnection, Recorded}
 use Rattle.gg_elab.specs.Building.{HasNext, HasSource, IsGiven, IsBuilt, IsSaid}
@@ -107,7 +108,7 @@ connected_by signals statements table flat s r register d whole h is numbered so
 
 -- ---- outputs
 
-slice_get-index : {A : Type 0} (xs : List A) (k : ℕ) (d x : A) → k < length xs → slice_index_or xs k d ≡ x → slice_get xs k ≡ Some x
+pub slice_get-index : {A : Type 0} (xs : List A) (k : ℕ) (d x : A) → k < length xs → slice_index_or xs k d ≡ x → slice_get xs k ≡ Some x
 slice_get-index [] k d x lt h = absurd (omega arith)
 slice_get-index (y ∷ xs) zero d x lt h = ap Some h
 slice_get-index (y ∷ xs) (suc k) d x lt h = slice_get-index xs k d x (omega arith) h
@@ -137,10 +138,11 @@ IsFlatModule-whole m signals table flat is whole said ins outs differ = record {
   statements = λ k d lt. subst (λ (x : Signals). IsTrueOf x flat (slice_index_or m.statements k d).kind) is
       (true_of signals m.statements table flat (slice_index_or m.statements k d).kind whole (said k d lt) (whole.recorded.each k d lt));
   unconnected = λ s r register within drives numbered some. connected_by signals m.statements table flat s r register (driver_at flat s) whole (whole.built.given s within) drives numbered some;
+  held = whole.built.held;
   memories = whole.built.memories;
 }
 
-slice_get-within : {A : Type 0} (xs : List A) (k : ℕ) (x : A) → slice_get xs k ≡ Some x → (k < length xs) × (slice_index_or xs k x ≡ x)
+pub slice_get-within : {A : Type 0} (xs : List A) (k : ℕ) (x : A) → slice_get xs k ≡ Some x → (k < length xs) × (slice_index_or xs k x ≡ x)
 slice_get-within [] k x h = absurd (cc)
 slice_get-within (y ∷ xs) zero x h = (omega arith, cc)
 slice_get-within (y ∷ xs) (suc k) x h = let r = slice_get-within xs k x h in (omega arith, r.1)
@@ -168,11 +170,6 @@ IsWellFormed-whole signals statements table flat whole named distinct = record {
   memories = whole.built.memories;
 }
 
-pub one_module : (l : List ModuleTree) (m : ModuleTree) → length l ≡ 1 → m ≡ slice_index_or l 0 m → l ≡ m ∷ []
-one_module [] m count is = absurd (omega arith)
-one_module (x ∷ []) m count is = ap (λ (y : ModuleTree). y ∷ []) (sym is)
-one_module (x ∷ (y ∷ l)) m count is = absurd (omega arith)
-
-pub IsFlat-ok : {E : Type 0} (r : Result FlatCircuit E) (circuit : CircuitTree) (top : ModuleTree) → circuit.modules ≡ top ∷ [] → top.name ≡ circuit.name → IfOk r (λ flat. IsFlatModule top flat) → IfOk r (λ flat. IsFlat circuit flat)
-IsFlat-ok (Ok flat) circuit top only named h = record { top = top; only = only; named = named; module_flat = h }
-IsFlat-ok (Err e) circuit top only named h = tt
+pub IsFlat-ok : {E : Type 0} (r : Result FlatCircuit E) (circuit : CircuitTree) (top : ModuleTree) → IsFaultless circuit → circuit.modules ≡ top ∷ [] → top.name ≡ circuit.name → IfOk r (λ flat. IsFlatModule top flat) → IfOk r (λ flat. IsFlat circuit flat)
+IsFlat-ok (Ok flat) circuit top ok only named h = record { faultless = ok; top = top; only = only; named = named; module_flat = h }
+IsFlat-ok (Err e) circuit top ok only named h = tt

@@ -1,7 +1,6 @@
 pub mod LineLemmas
 pub mod PlaceLemmas
 pub mod NameLemmas
-pub mod DigitLemmas
 pub mod TableLemmas
 pub mod WholeLineLemmas
 pub mod BuildLemmas
@@ -9,7 +8,7 @@ pub mod FlatLemmas
 pub mod AgreementLemmas
 pub mod ScopeAgreement
 pub mod SoundLemmas
-mod WorkedRows
+mod WorkedCircuits
 pub mod ConnectedLemmas
 pub mod DeclaredLemmas
 pub mod FitLemmas
@@ -19,3 +18,8 @@ pub mod FrontLemmas
 pub mod SoundScope
 pub mod SoundDeclarations
 pub mod FaultlessLemmas
+pub mod NamedLemmas
+pub mod SameLemmas
+pub mod PairLemmas
+pub mod RunLemmas
+pub mod PieceLemmas

@@ -13,7 +13,8 @@ use Rattle.gg_bits.specs.declared.types.Val.{Val}
 use Rattle.gg_ast.specs.declared.expression.Reference.{Reference}
 use Rattle.gg_ast.specs.declared.expression.Literal as literals
 use Rattle.gg_ast.specs.Term as term
-use Rattle.gg_elab.specs.Literal.{literal_shape, literal_value}
+use Rattle.gg_types.specs.Literal.{literal_value}
+use Rattle.gg_types.specs.Types.{literal_shape}
 use Rattle.gg_flat.specs.declared.line.Op.TheVariants as flat
 use Rattle.gg_bits.specs.declared.ops.Op1.{Op1}
 use Rattle.gg_bits.specs.declared.ops.Op2.{Op2}

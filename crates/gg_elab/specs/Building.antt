@@ -19,7 +19,7 @@ use Rattle.gg_elab.specs.declared.connections.Source.{Source}
 use Rattle.gg_elab.specs.Expression.{Signals}
 use Rattle.gg_elab.specs.Signals.{goes}
 use Rattle.gg_elab.specs.Connection.{Connection, IsLineFor, seen_at}
-use Rattle.gg_elab.specs.FlatModule.{HasLine, IsComputed, IsRegisterWith}
+use Rattle.gg_elab.specs.FlatModule.{HasLine, IsComputed, IsRegisterWith, HoldInTurn, drivers_of}
 use Rattle.gg_elab.specs.Fitting.{port_adds, kind_adds}
 use Rattle.gg_elab.specs.Table.{path_of}
 use Rattle.gg_elab.specs.declared.scope.Found.{Found}
@@ -61,6 +61,7 @@ pub record IsBuilt (signals : Signals) (table : List (Option Source)) (flat : Fl
   pub outs : (place : ℕ) → place < length flat.outs → value_at flat.outs place < length flat.signals
   pub computed : (place : ℕ) → place < length flat.outs → IsComputed flat (value_at flat.outs place)
   pub registers : All (IsRegister (HasType signals.shapes)) flat.registers
+  pub held : HoldInTurn 0 (length flat.registers) (drivers_of flat)
   pub memories : flat.memories ≡ []
 
 -- What a declaration says is true of the flat circuit so far.

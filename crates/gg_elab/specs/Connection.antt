@@ -30,12 +30,13 @@ abbrev pub IsLineFor : Signals → Connection → List Node → Type 0
 IsLineFor signals (ConnectedTo e) nodes = IsLineOf signals e nodes
 IsLineFor signals Zeroed nodes = IsZeroLine nodes
 
--- the statement connects the sink of this name
+-- the reference is this name
 abbrev pub IsNamed : List ℕ → Reference → Type 0
 IsNamed n (name.One m) = m ≡ n
 IsNamed n (name.Two i p) = ⊥
 IsNamed n (name.Three m p f) = ⊥
 
+-- the statement connects the sink of this name
 abbrev pub ConnectsName : List ℕ → StmtKind → Type 0
 ConnectsName n (says.Wire w ty) = ⊥
 ConnectsName n (says.Node w value) = ⊥

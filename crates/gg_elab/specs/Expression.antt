@@ -11,7 +11,8 @@ use Rattle.gg_ast.specs.declared.expression.Reference.TheVariants as name
 use Rattle.gg_ast.specs.Term.{Term, Ref, Lit, One, Two, Fix, Choose}
 use Rattle.gg_ast.specs.Places.{place_of}
 use Rattle.gg_flat.specs.Line.{shape_at, value_at}
-use Rattle.gg_elab.specs.Literal.{literal_shape, literal_value}
+use Rattle.gg_types.specs.Literal.{literal_value}
+use Rattle.gg_types.specs.Types.{literal_shape}
 
 -- the signals that expressions name, by their places: the path and the shape of each
 pub record Signals : Type 0 where

@@ -2,7 +2,7 @@
 -- Source: FIRRTL Specification, "Circuits and Modules", "Statements" (wires, registers, nodes), "Connects",
 -- "Invalidates". Each statement says something of the flat circuit; a flat circuit of the module is one of which all that
 -- its ports and statements say is true, and that has nothing more.
-use Rattle.std.specs.Prelude.{◌≡◌, ℕ, ◌<◌, List, [], ◌∷◌, Option, Some, None, MatchOption, length, map, All, slice_get, slice_index_or, IsSome, Contains, ◌⊎◌}
+use Rattle.std.specs.Prelude.{◌≡◌, ℕ, ◌+◌, ◌<◌, List, [], ◌∷◌, Option, Some, None, MatchOption, length, map, All, slice_get, slice_index_or, IsSome, Contains, ◌⊎◌}
 use Rattle.gg_ast.specs.declared.expression.Reference.{Reference}
 use Rattle.gg_ast.specs.declared.expression.Reference.TheVariants as name
 use Rattle.gg_ast.specs.declared.module.Direction.TheVariants as direction
@@ -16,12 +16,14 @@ use Rattle.gg_ast.specs.Tree.{ModuleTree, CircuitTree}
 use Rattle.gg_flat.specs.declared.line.Node.{Node}
 use Rattle.gg_flat.specs.declared.piece.Register.{Register}
 use Rattle.gg_flat.specs.declared.piece.Reset as kept
-use Rattle.gg_flat.specs.declared.piece.Driver.TheVariants.{Held, Computed}
+use Rattle.gg_flat.specs.declared.piece.Driver.{Driver}
+use Rattle.gg_flat.specs.declared.piece.Driver.TheVariants.{Input, Held, Read, Computed}
 use Rattle.gg_flat.specs.Circuit.{FlatCircuit, signal_shapes, driver_at}
 use Rattle.gg_elab.specs.Expression.{Signals}
 use Rattle.gg_elab.specs.Lines.{IsLineOf}
 use Rattle.gg_elab.specs.Signals.{signals_of, port_names}
 use Rattle.gg_elab.specs.Connection.{Connection, ConnectedTo, Zeroed, IsLineFor, IsConnected}
+use Rattle.gg_elab.specs.Faultless.{IsFaultless}
 
 -- the path of a signal
 abbrev pub path_at : FlatCircuit → ℕ → List ℕ
@@ -91,9 +93,23 @@ IsTrueOf signals flat (says.Report word arguments label) = Unit {0}
 abbrev pub KeepsUnconnected : FlatCircuit → List Stmt → Type 0
 KeepsUnconnected flat statements = (s r : ℕ) (register : Register) → s < length flat.signals → driver_at flat s ≡ Held r → slice_get flat.registers r ≡ Some register → IsSome register.next → IsConnected statements (path_at flat s)
 
+-- the drivers of the signals
+abbrev pub drivers_of : FlatCircuit → List Driver
+drivers_of flat = map (λ signal. signal.driver) flat.signals
+
+-- Signals with these drivers hold the registers from `next` on in turn: the first that holds one holds register `next`, the
+-- one after it register `next + 1`, and so on; after the last of them no register is left of the `count` that there are.
+abbrev pub HoldInTurn : ℕ → ℕ → List Driver → Type 0
+HoldInTurn next count [] = next ≡ count
+HoldInTurn next count (Input place ∷ drivers) = HoldInTurn next count drivers
+HoldInTurn next count (Held register ∷ drivers) = (register ≡ next) × HoldInTurn (next + 1) count drivers
+HoldInTurn next count (Read memory port ∷ drivers) = HoldInTurn next count drivers
+HoldInTurn next count (Computed line ∷ drivers) = HoldInTurn next count drivers
+
 -- A flat circuit of a module: its signals are those that the module declares, by name and shape, in the order of the
 -- file; the in-signals and the out-signals are its ports, and an output is computed; all that its statements say is
--- true; and a register that no statement connects keeps its value.
+-- true; a register that no statement connects keeps its value; and the registers are those that the signals hold, each
+-- held once, in the order of the signals.
 pub record IsFlatModule (m : ModuleTree) (flat : FlatCircuit) : Type 0 where
   pub paths : flat.paths ≡ (signals_of m).paths
   pub shapes : signal_shapes flat ≡ (signals_of m).shapes
@@ -102,10 +118,12 @@ pub record IsFlatModule (m : ModuleTree) (flat : FlatCircuit) : Type 0 where
   pub outputs : (n : List ℕ) → Contains (port_names direction.Output m.ports) n → OfName flat n (IsComputed flat)
   pub statements : All (λ statement. IsTrueOf (signals_of m) flat statement.kind) m.statements
   pub unconnected : KeepsUnconnected flat m.statements
+  pub held : HoldInTurn 0 (length flat.registers) (drivers_of flat)
   pub memories : flat.memories ≡ []
 
--- A flat circuit of a circuit that has one module, its top.
+-- A flat circuit of a circuit without faults, which has one module, its top.
 pub record IsFlat (circuit : CircuitTree) (flat : FlatCircuit) : Type 0 where
+  pub faultless : IsFaultless circuit
   pub top : ModuleTree
   pub only : circuit.modules ≡ top ∷ []
   pub named : top.name ≡ circuit.name

@@ -1,12 +1,10 @@
-pub mod Literal
 pub mod Expression
 pub mod Lines
-pub mod Answers
 pub mod Signals
 pub mod Connection
-pub mod FlatModule
 pub mod Causes
-pub mod Fitting
 pub mod Faultless
+pub mod FlatModule
+pub mod Fitting
 pub mod Table
 pub mod Building

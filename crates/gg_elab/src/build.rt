@@ -158,8 +158,8 @@ fn add_sink(
     add_signal(piece, name, found, Driver::Computed(line))
 }
 
-// Adds a node. A source that is connected is a fault.
-fn add_node(
+// Adds the signal of a node. A source that is connected is a fault.
+fn add_node_signal(
     alloc: Global,
     scope: &Scope,
     table: &[Option<Source>],
@@ -295,18 +295,18 @@ fn add_statement(
 {
     match kind {
         StmtKind::Wire { name, .. } => {
-            if is_clock(scope, name) {
+            if is_no_signal(scope, name) {
                 return Ok(());
             }
             let found = next_signal(scope, piece, name)?;
             add_sink(alloc, scope, table, piece, name, found)
         }
         StmtKind::Node { name, value } => {
-            if is_clock(scope, name) {
+            if is_no_signal(scope, name) {
                 return Ok(());
             }
             let found = next_signal(scope, piece, name)?;
-            add_node(alloc, scope, table, piece, name, value, found)
+            add_node_signal(alloc, scope, table, piece, name, value, found)
         }
         StmtKind::Register { name, reset, .. } => {
             let found = next_signal(scope, piece, name)?;
@@ -316,8 +316,8 @@ fn add_statement(
     }
 }
 
-// Whether a name that is declared is no signal: it is a Clock.
-fn is_clock(scope: &Scope, name: &Name) -> bool
+// Whether no signal has this name, which a wire or a node declares: it is a Clock.
+fn is_no_signal(scope: &Scope, name: &Name) -> bool
     ensures { IsTrue result ↔ (place_of name.now scope.now.paths ≡ None) }
 {
     scope.find_name(name).is_none()

@@ -14,6 +14,7 @@ use crate::scope::Scope;
 use gg_ast::{Expr, GroundType, Module, Port, Stmt, StmtKind};
 use gg_bits::{Kind, Name, Ty};
 use gg_flat::Line;
+use gg_types::is_width;
 use std::alloc::Global;
 
 /// The signals of a module, in the order of the file.
@@ -94,7 +95,7 @@ fn sized(kind: Kind, width: u32) -> Result<Ty, Stop>
     ensures width { IfOk result (λ ty. ty.width ≡ width) }
     ensures refused { result ≡ Err Faulty → is_width width ≡ false }
 {
-    if width == 0 || width > Ty::MAX_WIDTH {
+    if !is_width(width) {
         return Err(Stop::Faulty);
     }
     Ok(Ty::new(kind, width))

@@ -7,11 +7,11 @@ ghost use Rattle.gg_elab.specs.Expression.{term_shape};
 ghost use Rattle.gg_elab.specs.Lines.{Added};
 
 use crate::fault::Stop;
-use crate::literal::literal;
 use crate::scope::Scope;
 use gg_ast::Expr;
 use gg_bits::{Ty, result_const, result_mux, result1, result2};
 use gg_flat::{Line, Node, Op};
+use gg_types::literal;
 
 /// The node of a line that stands for an expression.
 #[derive(Clone, Copy)]

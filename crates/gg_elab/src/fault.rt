@@ -1,8 +1,6 @@
 //! Why a circuit has no flat circuit.
 ghost use Rattle.std.specs.Prelude.{◌≡◌};
-ghost use Rattle.gg_elab.specs.declared.fault.ElabFault.TheVariants as answers;
 ghost use Rattle.gg_elab.specs.declared.fault.Stop.TheVariants.{NoMemory};
-ghost use Rattle.gg_elab.specs.Answers.{answer_of};
 
 use std::alloc::AllocError;
 
@@ -10,9 +8,7 @@ use std::alloc::AllocError;
 #[derive(Clone, Copy, Debug, PartialEq, Eq)]
 pub enum ElabFault {
     /// F15: the circuit has this number of signals, which is above 200,000.
-    Signals(u64),
-    /// A name, a type or a connection of the module is at fault.
-    Faulty,
+    TooManySignals(u64),
     /// Memory was refused.
     NoMemory,
 }
@@ -32,16 +28,5 @@ impl From<AllocError> for Stop {
     fn from(error: AllocError) -> Stop {
         let _ = error;
         Stop::NoMemory
-    }
-}
-
-impl From<Stop> for ElabFault {
-    ghost from_gives = { λ stop fault. fault ≡ answer_of stop };
-
-    fn from(stop: Stop) -> ElabFault {
-        match stop {
-            Stop::Faulty => ElabFault::Faulty,
-            Stop::NoMemory => ElabFault::NoMemory,
-        }
     }
 }

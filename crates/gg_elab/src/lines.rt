@@ -18,7 +18,7 @@ use gg_bits::{Kind, Ty, Val};
 use gg_flat::{Line, Node, Op};
 use std::alloc::Global;
 
-/// The line of a node, whose type the scope has. An expression of another type is a fault.
+/// The line of an expression that stands for a value of this type. An expression of another kind, or wider, is a fault.
 pub(crate) fn node_line(alloc: Global, scope: &Scope, e: &Expr, ty: Ty) -> Result<Line, Stop>
     ensures stands { IfOk result (λ line. IsLineOf scope.now (term e.now) line) }
     ensures fits { IfOk result (λ line. IsSource (HasType scope.now.shapes) (shape ty) line) }

@@ -4,7 +4,7 @@ use Rattle.gg_flat.specs.declared.piece.Driver.TheVariants.{Computed}
 use Rattle.gg_elab.specs.Connection.{Connection, seen_at}
 use Rattle.gg_elab.specs.Building.{HasSource}
 use Rattle.gg_elab.proofs.BuildLemmas.{fresh_next, unseen, with_line-ok, has_line-ok}
-use Rattle.gg_elab.proofs.build.add_node.Goals as goal
+use Rattle.gg_elab.proofs.build.add_node_signal.Goals as goal
 
 pub returns-clause-grown : goal.returns-clause-grown
 returns-clause-grown c =

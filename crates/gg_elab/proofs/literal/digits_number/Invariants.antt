@@ -1,6 +1,0 @@
-use Rattle.std.proofs.Common.{◌≡◌, take}
-use Rattle.gg_elab.specs.Literal.{digits_number}
-use Rattle.gg_elab.proofs.literal.digits_number.Given as goal
-
-abbrev pub invariant-loop-byte : goal.invariant-loop-byte
-invariant-loop-byte l = l.number ≡ digits_number l.radix (take l.byte-index l.digits)
