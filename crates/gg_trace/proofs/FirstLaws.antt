@@ -8,6 +8,7 @@ use Rattle.gg_trace.specs.declared.faults.TraceFault.TheVariants.{T1, T2, T3, T4
 use Rattle.gg_trace.specs.Cells.{IsHexadecimal, hexadecimal}
 use Rattle.gg_trace.specs.Ports.{IsNamed, width_at}
 use Rattle.gg_trace.specs.Header.{field, MayStand, IsHeader, HasHeaderFault}
+use Rattle.gg_trace.specs.Table.{row_limit}
 use Rattle.gg_trace.specs.Trace.{header_of, rows_of, row_at, IsValueField, IsRow, Columns, HasValueAt, IsTooWide, HasFault, ReachesRow, ReachesValue, IsFirstFault, IfFirstFault, HaveWidths}
 
 -- a header has no fault
@@ -82,7 +83,7 @@ one_row ports bytes r s here there = by_order (cases_order r s)
     by_order (inr (inr before)) = absurd (there.2 (here.0.before s before))
 
 -- what a fault of a row says is not so where a later fault of it is reached
-limit_clash : (r s : ℕ) → r ≡ s → r ≡ 1000000 → s < 1000000 → ⊥
+limit_clash : (r s : ℕ) → r ≡ s → r ≡ row_limit → s < row_limit → ⊥
 limit_clash r s e limit below = omega (arith, e, limit, below)
 
 count_clash : (bytes : List ℕ) (r s c : ℕ) → r ≡ s → length (row_at bytes r) ≡ c → c ≢ length (header_of bytes) → length (row_at bytes s) ≡ length (header_of bytes) → ⊥

@@ -11,3 +11,5 @@ pub mod TraceLaws
 pub mod FirstLaws
 pub mod PrintLaws
 pub mod PartedLaws
+pub mod LinedLaws
+pub mod WorkedRows

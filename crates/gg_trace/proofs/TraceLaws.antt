@@ -10,7 +10,7 @@ use Rattle.gg_trace.specs.Fields.{fields}
 use Rattle.gg_trace.specs.Ports.{IsNamed, HasDistinctNames, width_at}
 use Rattle.gg_trace.specs.Header.{field}
 use Rattle.gg_trace.specs.Places.{IsHeading, IfHeaderFault, AreCells, PassesCycle, ReadsRow, HasRowFault}
-use Rattle.gg_trace.specs.Table.{table_of}
+use Rattle.gg_trace.specs.Table.{row_limit, table_of}
 use Rattle.gg_trace.specs.Trace.{header_of, rows_of, row_at, IsValueField, IsRow, Columns, HasValueAt, ReachesRow, ReachesValue, IfFirstFault}
 use Rattle.gg_trace.proofs.ListLaws.{next_item}
 use Rattle.gg_trace.proofs.HeaderLaws.{one_port}
@@ -55,7 +55,7 @@ pub record ReadsRows (ports : List Port) (bytes : List ℕ) (lines : List (List 
   pub heading : IsHeading ports (header_of bytes) places
   pub left : drop rows (rows_of bytes) ≡ map fields lines
   pub reached : rows ≤ length (rows_of bytes)
-  pub limit : rows ≤ 1000000
+  pub limit : rows ≤ row_limit
   pub size : length values ≡ length ports
   pub room : length cells ≡ rows * length ports
   pub each : (r : ℕ) → r < rows → ReadsRow ports places r (row_at bytes r) (take (length ports) (drop (r * length ports) cells))
@@ -134,7 +134,7 @@ value_at_cell ports bytes places rows g heading row within = record { row = row;
 
 -- the fault of a row is the text's first
 first_of_row : (ports : List Port) (bytes : List ℕ) (places : List ℕ) (rows : ℕ) (fault : TraceFault) → IsHeading ports (header_of bytes) places → HasDistinctNames ports → ReachesRow ports bytes rows
-    → rows ≤ 1000000 → rows < length (rows_of bytes) → HasRowFault ports places rows (row_at bytes rows) fault → IfFirstFault ports bytes fault
+    → rows ≤ row_limit → rows < length (rows_of bytes) → HasRowFault ports places rows (row_at bytes rows) fault → IfFirstFault ports bytes fault
 first_of_row ports bytes places rows (T1 f) heading distinct before limit row h = absurd h
 first_of_row ports bytes places rows (T2 r) heading distinct before limit row h =
     subst (λ q. IfFirstFault ports bytes (T2 q)) (sym h.0)

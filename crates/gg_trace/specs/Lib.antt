@@ -7,4 +7,5 @@ pub mod Table
 pub mod Trace
 pub mod Printing
 pub mod Parted
+pub mod Lined
 pub mod FaultText

@@ -12,6 +12,7 @@ use Rattle.gg_trace.specs.declared.cells.CellFault.TheVariants.{TooWide}
 use Rattle.gg_trace.specs.Cells.{IsHexadecimal, hexadecimal, IsCell, HasCellFault}
 use Rattle.gg_trace.specs.Ports.{IsNamed, name_at, width_at}
 use Rattle.gg_trace.specs.Header.{field, IsHeader, HasHeaderFault}
+use Rattle.gg_trace.specs.Table.{row_limit}
 
 -- i is one of the places
 pub record IsPlace (places : List ℕ) (i : ℕ) : Type 0 where
@@ -85,7 +86,7 @@ HasValueFault width text row at NoMemory = ⊥
 
 -- the row is below the limit, has the header's count of fields, and begins with its number
 pub record PassesCycle (places : List ℕ) (row : ℕ) (line : List (List ℕ)) : Type 0 where
-  pub limit : row < 1000000
+  pub limit : row < row_limit
   pub count : length line ≡ length places + 1
   pub is : field line 0 ≡ decimal row
 
@@ -98,11 +99,11 @@ pub record ReadsRow (ports : List Port) (places : List ℕ) (row : ℕ) (line : 
 -- the fault is the first of this row
 abbrev pub HasRowFault : List Port → List ℕ → ℕ → List (List ℕ) → TraceFault → Type 0
 HasRowFault ports places row line (T1 f) = ⊥
-HasRowFault ports places row line (T2 r) = (r ≡ row) × (row < 1000000) × (length line ≡ length places + 1) × (field line 0 ≢ decimal row)
+HasRowFault ports places row line (T2 r) = (r ≡ row) × (row < row_limit) × (length line ≡ length places + 1) × (field line 0 ≢ decimal row)
 HasRowFault ports places row line (T3 r f) = PassesCycle places row line × HasValuesFault ports places (drop 1 line) row (T3 r f)
 HasRowFault ports places row line (T4 r f) = PassesCycle places row line × HasValuesFault ports places (drop 1 line) row (T4 r f)
-HasRowFault ports places row line (T5 r c) = (r ≡ row) × (row < 1000000) × (c ≡ length line) × (c ≢ length places + 1)
-HasRowFault ports places row line (T6 r) = (r ≡ row) × (1000000 ≤ row)
+HasRowFault ports places row line (T5 r c) = (r ≡ row) × (row < row_limit) × (c ≡ length line) × (c ≢ length places + 1)
+HasRowFault ports places row line (T6 r) = (r ≡ row) × (row_limit ≤ row)
 HasRowFault ports places row line NoMemory = ⊥
 
 -- a table by names: a look-up by any bytes finds a port, of the first n, that has this name, or there is none

@@ -2,6 +2,10 @@
 use Rattle.std.specs.Prelude.{ℕ, ◌+◌, ◌*◌, List, map, slice_index}
 use Rattle.std.specs.List.{range_with_len}
 
+-- a trace has fewer rows than any that is numbered so: rows are counted from 0
+abbrev pub row_limit : ℕ
+row_limit = 1000000
+
 -- the count of rows, and for each port, in port order, its value in each row
 pub record Table : Type 0 where
   pub rows : ℕ

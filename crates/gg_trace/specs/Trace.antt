@@ -7,6 +7,7 @@ use Rattle.gg_trace.specs.Fields.{fields, text_lines}
 use Rattle.gg_trace.specs.Cells.{IsHexadecimal, hexadecimal, IsCell}
 use Rattle.gg_trace.specs.Ports.{IsNamed, width_at}
 use Rattle.gg_trace.specs.Header.{field, IsHeader, HasHeaderFault}
+use Rattle.gg_trace.specs.Table.{row_limit}
 
 -- the fields of each line
 abbrev pub line_fields : List ℕ → List (List (List ℕ))
@@ -30,7 +31,7 @@ pub record IsValueField (ports : List Port) (header row : List (List ℕ)) (f : 
 
 -- These are the fields of row r: the row's number, and a value for each port that the header names.
 pub record IsRow (ports : List Port) (header : List (List ℕ)) (r : ℕ) (row : List (List ℕ)) : Type 0 where
-  pub limit : r < 1000000
+  pub limit : r < row_limit
   pub count : length row ≡ length header
   pub number : field row 0 ≡ decimal r
   pub values : (f : ℕ) → 0 < f → f < length header → IsValueField ports header row f
@@ -66,7 +67,7 @@ HasFault ports bytes (T2 r) = (r < length (rows_of bytes)) × (field (row_at byt
 HasFault ports bytes (T3 r f) = HasValueAt bytes r f × ¬ IsHexadecimal (field (row_at bytes r) f)
 HasFault ports bytes (T4 r f) = HasValueAt bytes r f × IsTooWide ports bytes r f
 HasFault ports bytes (T5 r c) = (r < length (rows_of bytes)) × (length (row_at bytes r) ≡ c) × (c ≢ length (header_of bytes))
-HasFault ports bytes (T6 r) = (r < length (rows_of bytes)) × (r ≡ 1000000)
+HasFault ports bytes (T6 r) = (r < length (rows_of bytes)) × (r ≡ row_limit)
 HasFault ports bytes NoMemory = ⊥
 
 -- the header and each row before r are good
@@ -77,7 +78,7 @@ pub record ReachesRow (ports : List Port) (bytes : List ℕ) (r : ℕ) : Type 0 
 -- and row r is below the limit
 pub record ReachesCount (ports : List Port) (bytes : List ℕ) (r : ℕ) : Type 0 where
   pub row : ReachesRow ports bytes r
-  pub limit : r < 1000000
+  pub limit : r < row_limit
 
 -- and has the header's count of fields
 pub record ReachesNumber (ports : List Port) (bytes : List ℕ) (r : ℕ) : Type 0 where

@@ -1,6 +1,7 @@
 //! The header: `cycle` and the names of all ports, each once, in any order.
 
 ghost use Rattle.std.specs.Prelude.{◌≡◌, ◌≢◌, ℕ, ◌+◌, ◌<◌, ◌∷◌, ◌++◌, [], false, true, IfOk, IsOk, MatchOption, MatchResult, codes, length, slice_index, slice_index_or, slice_set, vec_len};
+ghost use Rattle.std.specs.Bool.{OnTrue, OnFalse};
 ghost use Rattle.gg_trace.specs.Fields.{fields};
 ghost use Rattle.gg_trace.specs.Ports.{IsNamed, NamesNone, HasDistinctNames};
 ghost use Rattle.gg_trace.specs.Places.{IsHeading, IfHeaderFault, TakesName};
@@ -12,18 +13,12 @@ use crate::texts::same_bytes;
 use gg_flat::Port;
 use std::alloc::Global;
 
-/// The first port that is not named, if there is one.
-fn first_missing(named: &[bool]) -> Option<usize>
-    ensures { MatchOption result
-        ((i : ℕ) → i < length named.now → slice_index_or named.now i false ≡ true)
-        (λ i. (i < length named.now) × (slice_index_or named.now i false ≡ false)) }
+/// Whether each port is named.
+fn all_named(named: &[bool]) -> bool
+    ensures all { OnTrue result ((i : ℕ) → i < length named.now → slice_index_or named.now i false ≡ true) }
+    ensures missing { OnFalse result ((i : ℕ) × (i < length named.now) × (slice_index_or named.now i false ≡ false)) }
 {
-    for (i, is_named) in named.iter().enumerate() {
-        if !*is_named {
-            return Some(i);
-        }
-    }
-    None
+    !named.contains(&false)
 }
 
 /// The port with this name, which is marked as named; none where there is no such port or it was named before.
@@ -40,7 +35,13 @@ fn take_name(table: &PortTable, name: &[u8], named: &mut Vec<bool>) -> Option<us
     Some(place)
 }
 
-/// The ports of a table that the fields behind the first name, where `header` is the whole header.
+/// The places of the ports that the fields behind `cycle` name, field by field. `rest` are these fields: `cycle` and
+/// they are the whole header.
+///
+/// # Errors
+///
+/// T1 of the first field that is no port's name or a name that stood before; else, where names are missing, T1 of the
+/// header's count of fields. `NoMemory` where memory ran out.
 fn take_names(alloc: Global, table: &PortTable, rest: &mut Fields) -> Result<Vec<usize>, TraceFault>
     requires { HasDistinctNames table.now }
     ensures { let header = codes "cycle" ∷ rest.old in
@@ -56,15 +57,19 @@ fn take_names(alloc: Global, table: &PortTable, rest: &mut Fields) -> Result<Vec
         };
         places.push(place)?;
     }
-    match first_missing(&named) {
-        Some(_) => Err(TraceFault::T1 {
+    if !all_named(&named) {
+        return Err(TraceFault::T1 {
             field: places.len() as u64 + 1,
-        }),
-        None => Ok(places),
+        });
     }
+    Ok(places)
 }
 
-/// The ports that the fields behind the first name, where `header` is the whole header.
+/// The places of the ports that the fields behind `cycle` name, as `take_names` answers them over a table.
+///
+/// # Errors
+///
+/// Those of `take_names`.
 fn read_names(alloc: Global, ports: &[Port], rest: &mut Fields) -> Result<Vec<usize>, TraceFault>
     requires { HasDistinctNames ports.now }
     ensures { let header = codes "cycle" ∷ rest.old in
@@ -74,7 +79,12 @@ fn read_names(alloc: Global, ports: &[Port], rest: &mut Fields) -> Result<Vec<us
     take_names(alloc, &table, rest)
 }
 
-/// The ports that the fields of the header behind the first name.
+/// The places of the ports that the header names behind its first field, field by field.
+///
+/// # Errors
+///
+/// T1 of the first field that may not stand there: the first is `cycle`, and each further one is a port's name that did
+/// not stand before. Else, where names are missing, T1 of the count of fields. `NoMemory` where memory ran out.
 pub fn read_header(alloc: Global, ports: &[Port], line: &[u8]) -> Result<Vec<usize>, TraceFault>
     requires { HasDistinctNames ports.now }
     ensures { let header = fields line.now in

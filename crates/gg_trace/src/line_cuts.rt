@@ -1,8 +1,9 @@
 //! The lines of a text, from the first on.
 
-ghost use Rattle.std.specs.Prelude.{◌≡◌, ℕ, ◌∷◌, [], ◌<◌, ◌≤◌, ◌≢◌, MatchOption, length, slice_index};
+ghost use Rattle.std.specs.Prelude.{◌≡◌, ℕ, List, ◌∷◌, [], ◌<◌, ◌≤◌, ◌≢◌, MatchOption, length, slice_index};
 ghost use Rattle.std.specs.Str.Lines.{strip_carriage_return};
 ghost use Rattle.gg_trace.specs.Fields.{text_lines};
+ghost use Rattle.gg_trace.specs.Lined.{AreLines};
 
 use std::marker::Model;
 
@@ -81,3 +82,10 @@ impl<'a> Lines<'a> {
         Some(line)
     }
 }
+
+/// The lines of a text are the one list of lines that it is made of.
+pub fn lines_part_their_text()
+    ensures are { (text : List ℕ) → AreLines text (text_lines text) }
+    ensures only { (text : List ℕ) (others : List (List ℕ)) →
+        AreLines text others → others ≡ text_lines text }
+{}

@@ -49,6 +49,10 @@ fn push_name(text: &mut String, name: &Name) -> Result<(), AllocError>
 }
 
 /// The header of a trace of these ports: `cycle` and their names, one space before each, and a line feed.
+///
+/// # Errors
+///
+/// Memory ran out.
 pub fn header_text(alloc: Global, ports: &Ports) -> Result<Name, AllocError>
     ensures { IfOk result (λ text. text ≡ header_line ports.now) }
 {
@@ -62,6 +66,13 @@ pub fn header_text(alloc: Global, ports: &Ports) -> Result<Name, AllocError>
 
 /// A row of a trace of these ports: the cycle in decimal, then each port's value in lower-case hexadecimal with a
 /// quarter of its width in digits, rounded up; one space before each value, and a line feed.
+///
+/// Each value is one of its port's type, below 2 to the port's width. Of a greater one only so many lowest digits are
+/// written as the width has.
+///
+/// # Errors
+///
+/// Memory ran out.
 pub fn row_text(alloc: Global, ports: &Ports, row: u64, values: &[u128]) -> Result<Name, AllocError>
     requires { length values.now ≡ length ports.now }
     ensures { IfOk result (λ text. text ≡ row_line ports.now row values.now) }

@@ -17,7 +17,11 @@ use itoa::Buffer;
 /// A trace has at most this many rows.
 pub const ROW_LIMIT: u64 = 1_000_000;
 
-/// The value of the field at place `at` of a row.
+/// The value of a field, which is field `at` of row `row`.
+///
+/// # Errors
+///
+/// T3 where it is not hexadecimal, T4 where its number does not fit the width.
 fn read_value(text: &[u8], width: u32, row: u64, at: u64) -> Result<u128, TraceFault>
     requires { width ≤ 128 }
     ensures { MatchResult result
@@ -31,7 +35,12 @@ fn read_value(text: &[u8], width: u32, row: u64, at: u64) -> Result<u128, TraceF
     }
 }
 
-/// The values of a row, each at its port's place.
+/// Writes the values that the fields behind a row's number give, each at its port's place: the field at place g gives
+/// that of port `places[g]`. A fault carries `row`.
+///
+/// # Errors
+///
+/// T3 or T4 of the first field that is no value of its port. The values before it are written.
 fn read_values(
     ports: &[Port],
     places: &[usize],
@@ -65,7 +74,14 @@ fn is_decimal(text: &[u8], number: u64) -> bool
     same_bytes(text, buffer.format(number).as_bytes())
 }
 
-/// The values of a row, each at its port's place.
+/// Writes the values of row `row`, whose text is `line`, each at its port's place: field g + 1 gives that of port
+/// `places[g]`.
+///
+/// # Errors
+///
+/// The first fault of the row, in this order: T6 where the trace has too many rows, T5 where the line has another count
+/// of fields than the header, T2 where its first field is not the row's number, and T3 or T4 of the first field that is no
+/// value of its port. Values before that one may be written.
 pub fn read_row(
     ports: &[Port],
     places: &[usize],

@@ -47,6 +47,46 @@ fn fault_of(alloc: Global, ports: &Ports, text: &[u8]) -> Option<TraceFault>
     read_trace(alloc, ports, text).err()
 }
 
+/// Whether a trace has as many rows as there are values, and these in the column of the port at a place.
+fn has_column(
+    alloc: Global,
+    trace: &Trace,
+    input: usize,
+    values: &[u128],
+) -> Result<bool, AllocError> {
+    if input >= trace.inputs() || trace.rows() != values.len() as u64 {
+        return Ok(false);
+    }
+    let column = trace.column(alloc, input)?;
+    Ok(column.as_slice() == values)
+}
+
+/// Whether a text is read, and gives the port at a place these values.
+fn gives(
+    alloc: Global,
+    ports: &Ports,
+    text: &[u8],
+    input: usize,
+    values: &[u128],
+) -> Result<bool, AllocError>
+    requires { HasDistinctNames ports.now }
+{
+    match read_trace(alloc, ports, text) {
+        Ok(trace) => has_column(alloc, &trace, input, values),
+        Err(_) => Ok(false),
+    }
+}
+
+/// Whether a text is read, and has these values in a row.
+fn gives_row(alloc: Global, ports: &Ports, text: &[u8], row: u64, values: &[u128]) -> bool
+    requires { HasDistinctNames ports.now }
+{
+    match read_trace(alloc, ports, text) {
+        Ok(trace) => row < trace.rows() && trace.row(row) == values,
+        Err(_) => false,
+    }
+}
+
 static ACCEPTED: [(&str, &[u128]); 6] = [
     ("cycle reset\n0 1\n1 0\n2 0\n3 0\n", &[1, 0, 0, 0]),
     ("cycle reset", &[]),
@@ -90,32 +130,28 @@ static REFUSED: [(&[u8], TraceFault); 21] = [
 fn traces_of_a_counter(rt: HostRuntime) -> Result<(), Fail> {
     let alloc = rt.alloc();
     let ports = reset(alloc)?;
-    for (text, values) in ACCEPTED {
-        let Ok(trace) = read_trace(alloc, &ports, text.as_bytes()) else {
-            panic!(rt; "{text:?} is refused");
-        };
-        assert_eq!(rt; trace.inputs(), 1, "{text:?}");
-        let column = trace.column(alloc, 0)?;
-        assert!(rt; column.as_slice() == values, "{text:?}");
-        assert_eq!(rt; trace.rows(), values.len() as u64, "{text:?}");
+    for (text, values) in &ACCEPTED {
+        assert!(rt;
+            gives(alloc, &ports, text.as_bytes(), 0, values)?,
+            "{text:?}"
+        );
     }
-    for (text, fault) in REFUSED {
-        assert_eq!(rt; fault_of(alloc, &ports, text), Some(fault), "{text:?}");
+    for (text, fault) in &REFUSED {
+        assert_eq!(rt; fault_of(alloc, &ports, text), Some(*fault), "{text:?}");
     }
     Ok(())
 }
+
+/// A trace whose names stand in another order than the ports.
+static Y_AND_X: &[u8] = b"cycle y x\n0 f 0A\n1 00 ff";
 
 #[test]
 fn traces_of_two_inputs(rt: HostRuntime) -> Result<(), Fail> {
     let alloc = rt.alloc();
     let ports = x_and_y(alloc)?;
-    let Ok(trace) = read_trace(alloc, &ports, b"cycle y x\n0 f 0A\n1 00 ff") else {
-        panic!(rt; "the names may stand in any order");
-    };
-    assert_eq!(rt; trace.rows(), 2);
-    assert!(rt; trace.rows() < 2 || trace.row(1) == [255, 0].as_slice());
-    assert!(rt; trace.inputs() < 2 || trace.column(alloc, 0)?.as_slice() == [10, 255].as_slice());
-    assert!(rt; trace.inputs() < 2 || trace.column(alloc, 1)?.as_slice() == [15, 0].as_slice());
+    assert!(rt; gives(alloc, &ports, Y_AND_X, 0, &[10, 255])?);
+    assert!(rt; gives(alloc, &ports, Y_AND_X, 1, &[15, 0])?);
+    assert!(rt; gives_row(alloc, &ports, Y_AND_X, 1, &[255, 0]));
     // The first field that is faulty is named, and its digits are judged before its width.
     let wide_and_empty = fault_of(alloc, &ports, b"cycle y x\n0 10 -1\n");
     assert_eq!(rt; wide_and_empty, Some(TraceFault::T4 { row: 0, field: 1 }));
@@ -124,23 +160,48 @@ fn traces_of_two_inputs(rt: HostRuntime) -> Result<(), Fail> {
     Ok(())
 }
 
-/// A trace of a counter with this many rows of 0.
-fn rows_of_zero(alloc: Global, rows: u64) -> Result<String, AllocError> {
-    let mut text = String::from_str(alloc, "cycle reset\n")?;
+/// No ports.
+fn no_ports(alloc: Global) -> Ports
+    ensures { HasDistinctNames result }
+{
+    Ports::from(Vec::new(alloc))
+}
+
+/// A trace of no ports with this many rows.
+fn bare_rows(alloc: Global, rows: u64) -> Result<String, AllocError> {
+    let mut text = String::from_str(alloc, "cycle\n")?;
     for row in 0..rows {
         text.push_str(Buffer::new().format(row))?;
-        text.push_str(" 0\n")?;
+        text.push_str("\n")?;
     }
     Ok(text)
 }
 
+/// How many rows a text has, or its first fault.
+fn rows_of(alloc: Global, ports: &Ports, text: &[u8]) -> Result<u64, TraceFault>
+    requires { HasDistinctNames ports.now }
+{
+    match read_trace(alloc, ports, text) {
+        Ok(trace) => Ok(trace.rows()),
+        Err(fault) => Err(fault),
+    }
+}
+
 #[test]
-fn the_limit_of_rows(rt: HostRuntime) -> Result<(), Fail> {
+fn the_last_row(rt: HostRuntime) -> Result<(), Fail> {
     let alloc = rt.alloc();
-    let ports = reset(alloc)?;
-    let text = rows_of_zero(alloc, 1_000_001)?;
-    let fault = fault_of(alloc, &ports, text.as_bytes());
-    assert_eq!(rt; fault, Some(TraceFault::T6 { row: 1_000_000 }));
+    let text = bare_rows(alloc, 1_000_000)?;
+    let rows = rows_of(alloc, &no_ports(alloc), text.as_bytes());
+    assert_eq!(rt; rows, Ok(1_000_000));
+    Ok(())
+}
+
+#[test]
+fn a_row_too_many(rt: HostRuntime) -> Result<(), Fail> {
+    let alloc = rt.alloc();
+    let text = bare_rows(alloc, 1_000_001)?;
+    let rows = rows_of(alloc, &no_ports(alloc), text.as_bytes());
+    assert_eq!(rt; rows, Err(TraceFault::T6 { row: 1_000_000 }));
     Ok(())
 }
 
@@ -150,21 +211,43 @@ static PRINTED: [(u64, [u128; 2], &str); 3] = [
     (999_999, [255, 8], "999999 ff 8\n"),
 ];
 
+/// Whether this is the header of the ports.
+fn begins_with(alloc: Global, ports: &Ports, text: &str) -> Result<bool, AllocError> {
+    let header = header_text(alloc, ports)?;
+    Ok(header.as_str() == text)
+}
+
+/// Whether there are as many values as ports, and this is their row.
+fn prints(
+    alloc: Global,
+    ports: &Ports,
+    row: u64,
+    values: &[u128],
+    text: &str,
+) -> Result<bool, AllocError> {
+    if values.len() != ports.as_slice().len() {
+        return Ok(false);
+    }
+    let printed = row_text(alloc, ports, row, values)?;
+    Ok(printed.as_str() == text)
+}
+
 #[test]
 fn printed_lines(rt: HostRuntime) -> Result<(), Fail> {
     let alloc = rt.alloc();
     let ports = x_and_y(alloc)?;
-    assert_eq!(rt; header_text(alloc, &ports)?.as_str(), "cycle x y\n");
-    for (row, values, text) in PRINTED {
-        if ports.as_slice().len() == 2 {
-            assert_eq!(rt; row_text(alloc, &ports, row, &values)?.as_str(), text);
-        }
+    assert!(rt; begins_with(alloc, &ports, "cycle x y\n")?);
+    for (row, values, text) in &PRINTED {
+        assert!(rt; prints(alloc, &ports, *row, values, text)?, "{text:?}");
     }
-    let none = Ports::from(Vec::new(alloc));
-    assert_eq!(rt; header_text(alloc, &none)?.as_str(), "cycle\n");
-    if none.as_slice().is_empty() {
-        assert_eq!(rt; row_text(alloc, &none, 7, &[])?.as_str(), "7\n");
-    }
+    Ok(())
+}
+
+#[test]
+fn printed_lines_of_no_ports(rt: HostRuntime) -> Result<(), Fail> {
+    let ports = no_ports(rt.alloc());
+    assert!(rt; begins_with(rt.alloc(), &ports, "cycle\n")?);
+    assert!(rt; prints(rt.alloc(), &ports, 7, &[], "7\n")?);
     Ok(())
 }
 
@@ -183,7 +266,5 @@ fn fault_lines(rt: HostRuntime) -> Result<(), Fail> {
     for (fault, text) in FAULTS {
         assert_eq!(rt; format!(in rt.alloc(); "{fault}")?.as_str(), text);
     }
-    let ports = reset(rt.alloc())?.into_vec();
-    assert_eq!(rt; ports.len(), 1);
     Ok(())
 }

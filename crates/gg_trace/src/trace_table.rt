@@ -2,7 +2,7 @@
 
 ghost use Rattle.std.specs.Prelude.{◌≡◌, ℕ, ◌+◌, ◌*◌, ◌<◌, ◌≤◌, [], IfOk, map, length, slice_index, slice_index_or};
 ghost use Rattle.std.specs.List.{range_with_len};
-ghost use Rattle.gg_trace.specs.Table.{row_of, table_of};
+ghost use Rattle.gg_trace.specs.Table.{row_limit, row_of, table_of};
 
 use std::alloc::{AllocError, Global};
 use std::marker::Model;
@@ -19,20 +19,20 @@ pub struct Trace {
 
 impl Model for Trace {
     ghost use Rattle.std.specs.Prelude.{◌≡◌, ◌*◌, ◌≤◌, length};
-    ghost use Rattle.gg_trace.specs.Table.{Table, table_of};
+    ghost use Rattle.gg_trace.specs.Table.{Table, row_limit, table_of};
 
     ghost Value = { Table };
 
     ghost view = { λ a. table_of a.rows a.inputs a.cells.items };
 
-    ghost invariant = { λ a. (length a.cells.items ≡ a.rows * a.inputs) × (a.rows ≤ 1000000) };
+    ghost invariant = { λ a. (length a.cells.items ≡ a.rows * a.inputs) × (a.rows ≤ row_limit) };
 }
 
 impl Trace {
     /// The trace whose rows, of `inputs` values each, stand one after another.
     pub(crate) fn of(rows: usize, inputs: usize, cells: Vec<u128>) -> Trace
         requires size { length cells.items ≡ rows * inputs }
-        requires limit { rows ≤ 1000000 }
+        requires limit { rows ≤ row_limit }
         ensures { result ≡ table_of rows inputs cells.items }
     {
         Trace {
@@ -45,7 +45,7 @@ impl Trace {
     /// How many rows there are: at most 1,000,000.
     pub fn rows(&self) -> u64
         ensures count { result ≡ self.now.rows }
-        ensures limit { result ≤ 1000000 }
+        ensures limit { result ≤ row_limit }
     {
         self.rows as u64
     }
@@ -69,7 +69,11 @@ impl Trace {
         &self.cells[from..from + self.inputs]
     }
 
-    /// The column of the port at this place.
+    /// The column of the port at this place: its value in each row.
+    ///
+    /// # Errors
+    ///
+    /// Memory ran out.
     pub fn column(&self, alloc: Global, input: usize) -> Result<Vec<u128>, AllocError>
         requires { input < length self.now.columns }
         ensures { IfOk result (λ column. column.items ≡ slice_index_or self.now.columns input []) }

@@ -21,19 +21,19 @@ loop-name-preserved c =
     subst (λ marks. ReadsNames ports header c.next.new.self c.push.new.self.items marks) (sym taken.2)
     (subst (λ places. ReadsNames ports header c.next.new.self places (set c.loop-name.named.items c.in-Some-take_name.place true)) (sym c.in_ok-push.ensures.items) new)
 
-pub returns-in-Some-first_missing : goal.returns-in-Some-first_missing
-returns-in-Some-first_missing c =
+pub returns-then-not-all_named : goal.returns-then-not-all_named
+returns-then-not-all_named c =
     let ports = c.args.table.now in
     let header = codes "cycle" ∷ c.args.rest.now in
     let reads = subst (λ rest. ReadsNames ports header rest c.loop-name.places.items c.loop-name.named.items) c.in_default.ensures.0 c.loop-name.invariant in
-    let found = subst (λ (marks : List Bool). (c.in-Some-first_missing.field-0 < length marks) × (get_or marks c.in-Some-first_missing.field-0 false ≡ false)) c.deref.ensures.value c.in-Some-first_missing.ensures in
-    let fault = missing_name ports header c.loop-name.places.items c.loop-name.named.items c.in-Some-first_missing.field-0 reads c.requires found.0 found.1 in
-    subst (HasHeaderFault ports header) (omega (arith, c.len-in-Some-first_missing.ensures, c.loop-name.places.ok.0)) fault
+    let found = subst (λ (marks : List Bool). (i : ℕ) × (i < length marks) × (get_or marks i false ≡ false)) c.deref.ensures.value c.if-not-all_named.ensures.missing in
+    let fault = missing_name ports header c.loop-name.places.items c.loop-name.named.items found.0 reads c.requires found.1 found.2 in
+    subst (HasHeaderFault ports header) (omega (arith, c.len-then-not-all_named.ensures, c.loop-name.places.ok.0)) fault
 
-pub returns-in-None : goal.returns-in-None
-returns-in-None c =
+pub returns : goal.returns
+returns c =
     let ports = c.args.table.now in
     let header = codes "cycle" ∷ c.args.rest.now in
     let reads = subst (λ rest. ReadsNames ports header rest c.loop-name.places.items c.loop-name.named.items) c.in_default.ensures.0 c.loop-name.invariant in
-    let whole = subst (λ (marks : List Bool). (i : ℕ) → i < length marks → get_or marks i false ≡ true) c.deref.ensures.value c.in-None.ensures in
+    let whole = subst (λ (marks : List Bool). (i : ℕ) → i < length marks → get_or marks i false ≡ true) c.deref.ensures.value c.if-not-all_named.ensures.all in
     reads_header ports header c.loop-name.places.items c.loop-name.named.items reads c.requires whole
