@@ -35,20 +35,20 @@ abbrev pub rest_seen : List Seen → List Seen
 rest_seen [] = []
 rest_seen (s ∷ ss) = ss
 
-head-alike : (s t : Stmt) (ss ts : List Stmt) → Alike (s ∷ ss) (t ∷ ts) → see s ≡ see t
+pub head-alike : (s t : Stmt) (ss ts : List Stmt) → Alike (s ∷ ss) (t ∷ ts) → see s ≡ see t
 head-alike s t ss ts e = ap (first_seen (see s)) e
 
-rest-alike : (s t : Stmt) (ss ts : List Stmt) → Alike (s ∷ ss) (t ∷ ts) → Alike ss ts
+pub rest-alike : (s t : Stmt) (ss ts : List Stmt) → Alike (s ∷ ss) (t ∷ ts) → Alike ss ts
 rest-alike s t ss ts e = ap rest_seen e
 
 abbrev pub is_none : List Seen → Bool
 is_none [] = true
 is_none (s ∷ ss) = false
 
-longer : {P : Type 0} (s : Stmt) (ss : List Stmt) → Alike (s ∷ ss) [] → P
+pub longer : {P : Type 0} (s : Stmt) (ss : List Stmt) → Alike (s ∷ ss) [] → P
 longer s ss e = let d : false ≡ true = ap is_none e in absurd (cc)
 
-shorter : {P : Type 0} (t : Stmt) (ts : List Stmt) → Alike [] (t ∷ ts) → P
+pub shorter : {P : Type 0} (t : Stmt) (ts : List Stmt) → Alike [] (t ∷ ts) → P
 shorter t ts e = let d : true ≡ false = ap is_none e in absurd (cc)
 
 more-alike : (ss ts : List Stmt) (s t : Stmt) → Alike ss ts → see s ≡ see t → Alike (ss ++ s ∷ []) (ts ++ t ∷ [])
@@ -284,7 +284,7 @@ type-same line line' name m n a =
     ∙ ap (λ (traced : List ℕ → Bool). module_type_faults (bytes_eq name n.name) traced m) (traced-same m n a)
     ∙ typed-same (bytes_eq name n.name) (leads_to_input n) m n a)
 
-look-alike : (m n : ModuleTree) → DeclareAlike (m ∷ []) (n ∷ []) → seen_rows (rows_of_modules (m ∷ [])) ≡ seen_rows (rows_of_modules (n ∷ [])) → LookAlike m n
+pub look-alike : (m n : ModuleTree) → DeclareAlike (m ∷ []) (n ∷ []) → seen_rows (rows_of_modules (m ∷ [])) ≡ seen_rows (rows_of_modules (n ∷ [])) → LookAlike m n
 look-alike m n d e = record {
   name = (same-tops m n d.tops).name;
   ports = (same-tops m n d.tops).ports;
@@ -304,7 +304,7 @@ plain-one line line' name m n a p = record {
 }
 
 -- as many modules
-as-many : (ms ns : List ModuleTree) → DeclareAlike ms ns → length ms ≡ length ns
+pub as-many : (ms ns : List ModuleTree) → DeclareAlike ms ns → length ms ≡ length ns
 as-many ms ns d =
     sym (beginnings-tops ms) ∙ ap beginnings (sym (tops-modules ms) ∙ d.tops ∙ tops-modules ns) ∙ beginnings-tops ns
 

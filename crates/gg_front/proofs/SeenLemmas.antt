@@ -1,4 +1,5 @@
--- What the static checks see of a statement: nothing of where its expressions lie in memory. The rows of a module tell it.
+-- What the static checks see of a statement, and what it says of a flat circuit: nothing of where its expressions lie in
+-- memory. The rows of a module tell it.
 use Rattle.std.proofs.Common.{◌≡◌, ℕ, List, [], ◌∷◌, ◌++◌, Option, None, Some, Bool, true, false, refl, sym, ◌∙◌, ap, map, ◌&&◌, ◌==◌, if◌then◌else◌, append_assoc}
 use borrow.Author.Tests.{eqb-true}
 use Rattle.std.specs.List.{list_all}
@@ -38,7 +39,38 @@ Roles = List (List ℕ × Role)
 abbrev pub Sorts : Type 0
 Sorts = List (List ℕ × Option Sort)
 
--- what the checks see of a statement
+-- a reset without pointers
+pub record GivenReset : Type 0 where
+  pub line : ℕ
+  pub condition : Term
+  pub init : Term
+
+abbrev pub given_reset : Option Reset → Option GivenReset
+given_reset None = None
+given_reset (Some r) = Some (record { line = r.line; condition = term r.condition; init = term r.init })
+
+-- what a statement says of a flat circuit
+pub data Said : Type 0 where
+  SaysWire : List ℕ → Said
+  SaysNode : List ℕ → Term → Said
+  SaysRegister : List ℕ → Option GivenReset → Said
+  SaysConnect : Reference → Term → Said
+  SaysInvalid : Reference → Said
+  SaysNothing : Said
+
+abbrev pub said_by : StmtKind → Said
+said_by (says.Wire name ty) = SaysWire name
+said_by (says.Node name value) = SaysNode name (term value)
+said_by (says.Register name ty clock reset) = SaysRegister name (given_reset reset)
+said_by (says.Instance name m) = SaysNothing
+said_by (says.Memory name fields) = SaysNothing
+said_by (says.Connect sink source) = SaysConnect sink (term source)
+said_by (says.Invalid sink) = SaysInvalid sink
+said_by says.Skip = SaysNothing
+said_by (says.Stop clock condition code label) = SaysNothing
+said_by (says.Report word arguments label) = SaysNothing
+
+-- what the checks see of a statement, and what it says of a flat circuit
 pub record Seen : Type 0 where
   pub line : ℕ
   pub declared : Roles
@@ -49,6 +81,7 @@ pub record Seen : Type 0 where
   pub driven : Option (List ℕ × Option (List ℕ))
   pub faults : (List ℕ → Bool) → Sorts → List Fault
   pub sorts : (List ℕ → Bool) → Sorts → Sorts
+  pub said : Said
 
 abbrev pub see_kind : ℕ → StmtKind → Seen
 see_kind line kind = record {
@@ -61,22 +94,13 @@ see_kind line kind = record {
   driven = driven_by kind;
   faults = λ traced scope. faults_of_kind traced scope line kind;
   sorts = λ traced scope. sorts_of_kind traced scope kind;
+  said = said_by kind;
 }
 
 abbrev pub see : Stmt → Seen
 see s = see_kind s.line s.kind
 
 -- ---- the same, by rows
-
--- a reset without pointers
-pub record GivenReset : Type 0 where
-  pub line : ℕ
-  pub condition : Term
-  pub init : Term
-
-abbrev pub given_reset : Option Reset → Option GivenReset
-given_reset None = None
-given_reset (Some r) = Some (record { line = r.line; condition = term r.condition; init = term r.init })
 
 abbrev pub unknown_reset : Roles → Option GivenReset → List Fault
 unknown_reset scope None = []
@@ -123,6 +147,7 @@ seen_wire line name ty = record {
   driven = None;
   faults = λ traced scope. width_faults line ty;
   sorts = λ traced scope. (name, declared_sort ty) ∷ [];
+  said = SaysWire name;
 }
 
 abbrev pub seen_node : ℕ → List ℕ → Term → Seen
@@ -136,6 +161,7 @@ seen_node line name t = record {
   driven = Some (name, bare t);
   faults = λ traced scope. faults_in traced scope line t;
   sorts = λ traced scope. (name, sort_in traced scope t) ∷ [];
+  said = SaysNode name t;
 }
 
 abbrev pub seen_register : ℕ → List ℕ → GroundType → Term → Option GivenReset → Seen
@@ -151,6 +177,7 @@ seen_register line name ty clock reset = record {
       ++ (clock_faults_in traced scope line words.Register clock
       ++ faults_reset traced (scope ++ (name, register_sort ty) ∷ []) (register_sort ty) reset);
   sorts = λ traced scope. (name, register_sort ty) ∷ [];
+  said = SaysRegister name reset;
 }
 
 abbrev pub seen_instance : ℕ → List ℕ → Seen
@@ -164,6 +191,7 @@ seen_instance line name = record {
   driven = None;
   faults = λ traced scope. [];
   sorts = λ traced scope. (name, None) ∷ [];
+  said = SaysNothing;
 }
 
 abbrev pub seen_memory : ℕ → List ℕ → Seen
@@ -177,6 +205,7 @@ seen_memory line name = record {
   driven = None;
   faults = λ traced scope. [];
   sorts = λ traced scope. (name, None) ∷ [];
+  said = SaysNothing;
 }
 
 abbrev pub seen_connect : ℕ → Reference → Term → Seen
@@ -190,6 +219,7 @@ seen_connect line sink t = record {
   driven = driven_reference sink (bare t);
   faults = λ traced scope. connection_faults traced scope line sink t;
   sorts = λ traced scope. [];
+  said = SaysConnect sink t;
 }
 
 abbrev pub seen_invalid : ℕ → Reference → Seen
@@ -203,6 +233,7 @@ seen_invalid line sink = record {
   driven = driven_reference sink None;
   faults = λ traced scope. undeclared scope line sink ++ invalid_faults line sink (sort_of_reference scope sink);
   sorts = λ traced scope. [];
+  said = SaysInvalid sink;
 }
 
 abbrev pub seen_skip : ℕ → Seen
@@ -216,6 +247,7 @@ seen_skip line = record {
   driven = None;
   faults = λ traced scope. [];
   sorts = λ traced scope. [];
+  said = SaysNothing;
 }
 
 abbrev pub seen_stop : ℕ → Term → Term → Seen
@@ -229,6 +261,7 @@ seen_stop line clock condition = record {
   driven = None;
   faults = λ traced scope. clock_faults_in traced scope line words.Stop clock ++ condition_faults_in traced scope line words.Stop condition;
   sorts = λ traced scope. [];
+  said = SaysNothing;
 }
 
 abbrev pub seen_report : ℕ → Report → List GivenArgument → Seen
@@ -242,6 +275,7 @@ seen_report line word given = record {
   driven = None;
   faults = λ traced scope. report_given traced scope line (words.Report word) given;
   sorts = λ traced scope. [];
+  said = SaysNothing;
 }
 
 -- the reset that a row gives the register before it
@@ -312,6 +346,7 @@ seen_reporting line unknown plain faults = record {
   driven = None;
   faults = faults;
   sorts = λ traced scope. [];
+  said = SaysNothing;
 }
 
 see-report : (line : ℕ) (word : Report) (arguments : List Argument) → seen_report line word (map given_argument arguments) ≡ seen_reporting line (λ scope. unknown_in_arguments scope line arguments) (λ scope. list_all (plain_argument scope) arguments) (λ traced scope. report_faults traced scope line (words.Report word) arguments)

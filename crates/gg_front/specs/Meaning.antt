@@ -1,5 +1,5 @@
--- What the bytes of a circuit file mean: a flat circuit. It is not the only one: expressions may be laid out as lines of
--- nodes in more than one way, and registers numbered.
+-- What the bytes of a circuit file mean: a flat circuit. It is not the only one, since expressions may be laid out as lines
+-- of nodes in more than one way; but all of them have the same runs.
 use Rattle.std.specs.Prelude.{ℕ, List}
 use Rattle.gg_ast.specs.Tree.{CircuitTree}
 use Rattle.gg_elab.specs.FlatModule.{IsFlat}

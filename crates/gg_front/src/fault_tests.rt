@@ -1,11 +1,8 @@
 //! The counter with each fault once, as the static checks tell it. The tests stand here, above the checks' own crates, since
 //! a circuit is written here as its text.
-ghost use Rattle.std.specs.Prelude.{◌<◌, ◌^◌, length};
-
-use crate::tests::counter;
+use crate::fixtures::{circuit_of, counter};
 use gg_ast::Circuit;
 use gg_bits::{Kind, Ty};
-use gg_read::read_circuit;
 use gg_shape::{Fault, Refusal, is_single_module, names_only_plain, shape};
 use gg_types::{Typing, types};
 use std::alloc::{AllocError, Global};
@@ -49,45 +46,84 @@ fn first_fault(alloc: Global, circuit: &Circuit) -> Result<Option<Fault>, AllocE
     }
 }
 
-/// The counter with another text on one of its lines, read.
-pub(crate) fn changed(
-    alloc: Global,
-    line: usize,
-    text: &str,
-) -> Result<Option<Circuit>, AllocError> {
-    let bytes = counter(alloc, line, text)?;
-    if bytes.as_bytes().len() >= 4_294_967_296 {
-        return Ok(None);
+/// The text of the first fault, and none where there is no fault.
+fn fault_text(alloc: Global, circuit: &Circuit) -> Result<String, AllocError> {
+    match first_fault(alloc, circuit)? {
+        Some(fault) => format!(in alloc; "{fault}"),
+        None => Ok(String::new(alloc)),
     }
-    Ok(read_circuit(alloc, bytes.as_bytes()).ok())
+}
+
+/// The text of the first fault of the circuit that these bytes spell.
+fn told(alloc: Global, bytes: &[u8]) -> Result<String, AllocError> {
+    match circuit_of(alloc, bytes) {
+        Some(circuit) => fault_text(alloc, &circuit),
+        None => String::from_str(alloc, "not read"),
+    }
 }
 
 #[test]
 fn each_fault_is_told_by_its_line(rt: HostRuntime) -> Result<(), Fail> {
     let alloc = rt.alloc();
-    for (line, text, wanted) in FAULTS {
-        let circuit = changed(alloc, line, text)?.ok_or("not read")?;
-        let shown = match first_fault(alloc, &circuit)? {
-            Some(fault) => format!(in alloc; "{fault}")?,
-            None => String::new(alloc),
-        };
-        assert_eq!(rt; shown.as_str(), wanted);
+    for (line, text, wanted) in &FAULTS {
+        let bytes = counter(alloc, 11, *line, text)?;
+        let shown = told(alloc, bytes.as_bytes())?;
+        assert_eq!(rt; shown.as_str(), *wanted);
     }
     Ok(())
+}
+
+/// The types of the names of a circuit without faults, in the order of their declarations; none of another circuit.
+fn typings(alloc: Global, circuit: &Circuit) -> Option<Vec<Typing>> {
+    if !is_single_module(circuit) {
+        return None;
+    }
+    if shape(alloc, circuit).is_err() {
+        return None;
+    }
+    match types(alloc, circuit) {
+        Ok(typed) => Some(typed.types),
+        Err(_) => None,
+    }
 }
 
 #[test]
 fn the_counter_has_types(rt: HostRuntime) -> Result<(), Fail> {
     let alloc = rt.alloc();
-    let circuit = changed(alloc, 0, "")?.ok_or("not read")?;
-    assert!(rt; is_single_module(&circuit));
-    assert!(rt; shape(alloc, &circuit).is_ok());
-    assert!(rt; names_only_plain(alloc, &circuit)?);
-    let typed = types(alloc, &circuit).ok().ok_or("faulty")?;
+    let bytes = counter(alloc, 11, 0, "")?;
+    let typed = match circuit_of(alloc, bytes.as_bytes()) {
+        Some(circuit) => typings(alloc, &circuit),
+        None => None,
+    };
     let bits = |width: u32| Typing::Ground(Ty::new(Kind::UInt, width));
     assert_eq!(rt;
-        typed.types.as_slice(),
-        [Typing::Clock, bits(1), bits(8), bits(8), bits(9)].as_slice()
+        typed.as_ref().map(|typed| typed.as_slice()),
+        Some([Typing::Clock, bits(1), bits(8), bits(8), bits(9)].as_slice())
     );
+    Ok(())
+}
+
+/// Whether the circuit's expressions name no output port and no wire; false where memory is refused.
+fn is_named_plainly(alloc: Global, circuit: &Circuit) -> bool {
+    if !is_single_module(circuit) {
+        return false;
+    }
+    if shape(alloc, circuit).is_err() {
+        return false;
+    }
+    matches!(names_only_plain(alloc, circuit), Ok(true))
+}
+
+#[test]
+fn the_counter_names_no_output(rt: HostRuntime) -> Result<(), Fail> {
+    let alloc = rt.alloc();
+    for (line, text, wanted) in [(0, "", true), (11, "c <= out", false)] {
+        let bytes = counter(alloc, 11, line, text)?;
+        let plain = match circuit_of(alloc, bytes.as_bytes()) {
+            Some(circuit) => is_named_plainly(alloc, &circuit),
+            None => false,
+        };
+        assert_eq!(rt; plain, wanted);
+    }
     Ok(())
 }

@@ -138,8 +138,7 @@ fn flat_circuit(alloc: Global, circuit: &Circuit) -> Result<Piece, FrontFault>
 {
     match flatten(alloc, circuit) {
         Ok(piece) => Ok(piece),
-        Err(ElabFault::Signals(_)) => Err(FrontFault::Plain),
-        Err(ElabFault::Faulty) => unreachable!(),
+        Err(ElabFault::TooManySignals(_)) => Err(FrontFault::Plain),
         Err(ElabFault::NoMemory) => Err(FrontFault::NoMemory),
     }
 }

@@ -2,56 +2,56 @@
 //! crate, since a crate with tests is proved twice, and the reader is a large one.
 ghost use Rattle.std.specs.Prelude.{◌<◌, ◌^◌, length};
 
-use crate::tests::{COUNTER, told_unread};
+use crate::fixtures::{counter, told_unread};
 use gg_ast::{Circuit, Report, Stmt, StmtKind};
 use gg_read::read_circuit;
 use std::alloc::{AllocError, Global};
 use std::test::Fail;
 
-/// How many of the counter's lines are taken, the place of the line that another text replaces, counted from 0, that
-/// text, and what is read.
+/// How many of the counter's lines are taken, the line that another text replaces, counted from 1 (0: none), that text,
+/// and what is read.
 static COUNTERS: [(usize, usize, &str, &str); 26] = [
     (
         11,
-        11,
+        0,
         "",
         "Counter 1 / Counter 2 3 4 5 7 reg 9 node 10 <= 11 <=",
     ),
     (
         11,
-        5,
+        6,
         " ; nothing",
         "Counter 1 / Counter 2 3 4 5 7 reg 9 node 10 <= 11 <=",
     ),
-    (11, 5, "FIRRTL version 1.2.0", "syntax line 6"),
-    (11, 2, "input clock : Analog<1>", "outside line 3 Analog"),
-    (11, 7, "skip", "syntax line 8"),
-    (11, 8, "input a : Clock", "syntax line 9"),
-    (11, 8, "node n add(c, c)", "syntax line 9"),
-    (11, 8, "node n = bits(c, 1)", "syntax line 9"),
-    (11, 8, "node n = UInt<8>(\"b2\")", "syntax line 9"),
-    (11, 8, "node n = UInt<8>(\"h\")", "syntax line 9"),
-    (11, 8, "n-a is invalid", "syntax line 9"),
-    (11, 8, "stop(clock, reset, 4294967296)", "syntax line 9"),
-    (11, 8, "printf()", "syntax line 9"),
-    (11, 8, "mem m :", "syntax line 9"),
-    (11, 8, "skip @[x] when", "syntax line 9"),
-    (11, 8, "when #", "outside line 9 when"),
-    (11, 8, "# when", "syntax line 9"),
-    (11, 8, "#", "syntax line 9"),
-    (11, 8, "a <- b[0]", "outside line 9 <-"),
-    (11, 8, "skip %[", "outside line 9 %["),
-    (11, 9, "when reset :", "outside line 10 when"),
+    (11, 6, "FIRRTL version 1.2.0", "syntax line 6"),
+    (11, 3, "input clock : Analog<1>", "outside line 3 Analog"),
+    (11, 8, "skip", "syntax line 8"),
+    (11, 9, "input a : Clock", "syntax line 9"),
+    (11, 9, "node n add(c, c)", "syntax line 9"),
+    (11, 9, "node n = bits(c, 1)", "syntax line 9"),
+    (11, 9, "node n = UInt<8>(\"b2\")", "syntax line 9"),
+    (11, 9, "node n = UInt<8>(\"h\")", "syntax line 9"),
+    (11, 9, "n-a is invalid", "syntax line 9"),
+    (11, 9, "stop(clock, reset, 4294967296)", "syntax line 9"),
+    (11, 9, "printf()", "syntax line 9"),
+    (11, 9, "mem m :", "syntax line 9"),
+    (11, 9, "skip @[x] when", "syntax line 9"),
+    (11, 9, "when #", "outside line 9 when"),
+    (11, 9, "# when", "syntax line 9"),
+    (11, 9, "#", "syntax line 9"),
+    (11, 9, "a <- b[0]", "outside line 9 <-"),
+    (11, 9, "skip %[", "outside line 9 %["),
+    (11, 10, "when reset :", "outside line 10 when"),
     (
         11,
-        8,
+        9,
         "when <= c",
         "Counter 1 / Counter 2 3 4 5 7 reg 9 <= 10 <= 11 <=",
     ),
-    (0, 11, "", "syntax line 1"),
-    (1, 11, "", "Counter 1"),
-    (2, 11, "", "Counter 1 / Counter 2"),
-    (7, 11, "", "syntax line 8"),
+    (0, 0, "", "syntax line 1"),
+    (1, 0, "", "Counter 1"),
+    (2, 0, "", "Counter 1 / Counter 2"),
+    (7, 0, "", "syntax line 8"),
 ];
 
 /// What a statement is.
@@ -75,16 +75,19 @@ fn word(kind: &StmtKind) -> &'static str {
     }
 }
 
-/// A circuit's lines: its own, and of each module its own, its ports' and its statements'.
+/// A circuit's lines: its own, and of each module its own, its ports' and its statements'. A module whose name another
+/// one before it has is shown with that one's place, to which the name leads.
 fn shown(alloc: Global, circuit: &Circuit) -> Result<String, AllocError> {
     let name = circuit.name();
     let line = circuit.line();
     let mut out = format!(in alloc; "{name} {line}")?;
-    for module in circuit.modules() {
+    for (place, module) in circuit.modules().iter().enumerate() {
         let name = module.name();
         let line = module.line();
         let header = format!(in alloc; " / {name} {line}")?;
         out.push_str(header.as_str())?;
+        let found = shown_place(alloc, circuit, name.as_str(), place)?;
+        out.push_str(found.as_str())?;
         for port in module.ports() {
             let line = port.line;
             let port = format!(in alloc; " {line}")?;
@@ -98,6 +101,23 @@ fn shown(alloc: Global, circuit: &Circuit) -> Result<String, AllocError> {
     Ok(out)
 }
 
+/// Where a module's name leads, unless it leads to the module itself, at this place.
+fn shown_place(
+    alloc: Global,
+    circuit: &Circuit,
+    name: &str,
+    place: usize,
+) -> Result<String, AllocError> {
+    if circuit.modules().len() > 4_294_967_296 {
+        return String::from_str(alloc, " is one of too many");
+    }
+    match circuit.module(name) {
+        Some(first) if first as usize == place => Ok(String::new(alloc)),
+        Some(first) => format!(in alloc; " is {first}"),
+        None => String::from_str(alloc, " is nowhere"),
+    }
+}
+
 /// A statement's line, and what it is.
 fn shown_statement(alloc: Global, statement: &Stmt) -> Result<String, AllocError> {
     let line = statement.line;
@@ -106,7 +126,7 @@ fn shown_statement(alloc: Global, statement: &Stmt) -> Result<String, AllocError
 }
 
 /// What is read of the bytes.
-fn told(alloc: Global, bytes: &[u8]) -> Result<String, AllocError> {
+fn read_told(alloc: Global, bytes: &[u8]) -> Result<String, AllocError> {
     if bytes.len() >= 4_294_967_296 {
         return String::from_str(alloc, "too long");
     }
@@ -114,18 +134,6 @@ fn told(alloc: Global, bytes: &[u8]) -> Result<String, AllocError> {
         Ok(circuit) => shown(alloc, &circuit),
         Err(fault) => told_unread(alloc, fault),
     }
-}
-
-/// The first lines of the counter, with another text on one of them.
-fn counter(alloc: Global, count: usize, changed: usize, text: &str) -> Result<String, AllocError> {
-    let mut out = String::new(alloc);
-    for (at, line) in COUNTER.iter().enumerate() {
-        if at < count {
-            out.push_str(if at == changed { text } else { *line })?;
-            out.push_str("\n")?;
-        }
-    }
-    Ok(out)
 }
 
 /// The connection of `out` to so many times `not` of `c`.
@@ -144,10 +152,10 @@ fn nested(alloc: Global, depth: usize) -> Result<String, AllocError> {
 #[test]
 fn counters_are_read(rt: HostRuntime) -> Result<(), Fail> {
     let alloc = rt.alloc();
-    for (count, changed, text, want) in COUNTERS {
-        let circuit = counter(alloc, count, changed, text)?;
-        let found = told(alloc, circuit.as_bytes())?;
-        assert_eq!(rt; found.as_str(), want, "{text}");
+    for (count, changed, text, want) in &COUNTERS {
+        let circuit = counter(alloc, *count, *changed, text)?;
+        let found = read_told(alloc, circuit.as_bytes())?;
+        assert_eq!(rt; found.as_str(), *want, "{text}");
     }
     Ok(())
 }
@@ -161,15 +169,15 @@ fn brackets_are_counted(rt: HostRuntime) -> Result<(), Fail> {
     ];
     for (depth, want) in rows {
         let line = nested(alloc, depth)?;
-        let text = counter(alloc, 11, 9, line.as_str())?;
-        let found = told(alloc, text.as_bytes())?;
+        let text = counter(alloc, 11, 10, line.as_str())?;
+        let found = read_told(alloc, text.as_bytes())?;
         assert_eq!(rt; found.as_str(), want);
     }
     Ok(())
 }
 
 /// Whole texts, and what is read of them.
-static TEXTS: [(&[u8], &str); 10] = [
+static TEXTS: [(&[u8], &str); 11] = [
     (&[0xff], "not text"),
     (
         b"FIRRTL version 1.2.0\r\ncircuit Counter :\r\nmodule Counter :\r\ninput clock : Clock\r\ninput reset : UInt<1>\r\noutput out : UInt<8>\r\n\r\nreg c : UInt<8>, clock with : (reset => (UInt<1>(\"h0\"), c))\r\nnode n = add(c, UInt<1>(\"h1\"))\r\nout <= c\r\nc <= mux(reset, UInt<8>(\"h0\"), bits(n, 7, 0))\r\nprintf(clock, reset, \"x;@[%d]\\n\", c) : p ; done",
@@ -187,6 +195,10 @@ static TEXTS: [(&[u8], &str); 10] = [
         b"circuit O :\nmodule O :\nnode a = mux(andr(orr(xorr(i))), add(sub(mul(div(rem(i, i), i), i), i), i), cat(dshl(dshr(i, i), i), validif(i, i)))\nnode b = mux(lt(leq(gt(geq(eq(neq(i, i), i), i), i), i), i), and(or(xor(i, i), i), i), not(neg(cvt(asUInt(asSInt(i))))))\nnode c = bits(head(tail(shl(shr(pad(i, 1), 0), 2), 3), 4), 5, 0)\nnode d = mux(UInt<1>(\"b01\"), SInt<4>(\"o-7\"), mux(SInt<0>(-3), UInt<8>(\"hFf\"), UInt<4294967295>(99)))",
         "O 1 / O 2 3 node 4 node 5 node 6 node",
     ),
+    (
+        b"circuit A :\nmodule B :\nmodule A :\nskip\nmodule B :\nmodule A :",
+        "A 1 / B 2 / A 3 4 skip / B 5 is 0 / A 6 is 1",
+    ),
     (b"FIRRTL version 1.2.0\n", "syntax line 2"),
     (b"circuit A :\ncircuit B :\n", "syntax line 2"),
     (b"circuit A :\nskip", "syntax line 2"),
@@ -200,9 +212,9 @@ static TEXTS: [(&[u8], &str); 10] = [
 #[test]
 fn texts_are_read(rt: HostRuntime) -> Result<(), Fail> {
     let alloc = rt.alloc();
-    for (text, want) in TEXTS {
-        let found = told(alloc, text)?;
-        assert_eq!(rt; found.as_str(), want);
+    for (text, want) in &TEXTS {
+        let found = read_told(alloc, text)?;
+        assert_eq!(rt; found.as_str(), *want);
     }
     Ok(())
 }
