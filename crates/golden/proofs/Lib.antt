@@ -6,4 +6,5 @@ pub mod PortLemmas
 pub mod PrintingLemmas
 pub mod ReadingLemmas
 pub mod RunLemmas
+pub mod TextLemmas
 pub mod WritingLemmas

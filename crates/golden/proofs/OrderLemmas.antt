@@ -2,7 +2,7 @@
 use Rattle.std.proofs.Common.{◌≡◌, ℕ, ◌<◌, ◌≤◌, List, sym, ap, ◌∙◌, subst, inl, inr, length, arith}
 use Rattle.gg_io.specs.Told.{Told, Holds, CanHold, CanBeOver}
 use Rattle.golden.specs.Lines.{Said}
-use Rattle.golden.specs.Order.{File, Order, Load, Write, CanBe, IsRefused, StopsAt, IsWritten, IsTold, IsDueOf, DueAt, IsDueText, IsExactFile, IsExact}
+use Rattle.golden.specs.Order.{File, Order, Load, Write, CanBe, IsRefused, StopsAt, IsWritten, IsTold, IsDueOf, DueAt, IsDueAccepted, IsExactFile, IsExact}
 
 module _ (files : List ℕ → Told) where
   -- the bytes of a told file are those that are told
@@ -59,11 +59,11 @@ module _ (files : List ℕ → Told) where
     stops-due (Write IsText) due said exact none d stops = absurd stops
 
     -- where no load fails, files that are told and accepted aren't refused
-    pub stops-due_text : (order : Order) (said : Said) (text : List ℕ) → IsExact order → (lost → ⊥) → IsDueText files order text → StopsAt files lost cut order said → ⊥
-    stops-due_text (Load file next) said text exact none (bytes, told, short, accepts, d) (inl refused) = accepted-not_refused file bytes said exact.0 none told short accepts refused
-    stops-due_text (Load file next) said text exact none (bytes, told, short, accepts, d) (inr (other, can, accepts', later)) =
-        stops-due_text (next bytes) said text (exact.1 bytes) none d (subst (λ b. StopsAt files lost cut (next b) said) (told-bytes file bytes other told can) later)
-    stops-due_text (Write IsText) said text exact none d stops = stops
+    pub stops-accepted : (order : Order) (said : Said) → IsExact order → (lost → ⊥) → IsDueAccepted files order → StopsAt files lost cut order said → ⊥
+    stops-accepted (Load file next) said exact none (bytes, told, short, accepts, d) (inl refused) = accepted-not_refused file bytes said exact.0 none told short accepts refused
+    stops-accepted (Load file next) said exact none (bytes, told, short, accepts, d) (inr (other, can, accepts', later)) =
+        stops-accepted (next bytes) said (exact.1 bytes) none d (subst (λ b. StopsAt files lost cut (next b) said) (told-bytes file bytes other told can) later)
+    stops-accepted (Write IsText) said exact none d stops = stops
 
 -- the order's refusals stand where more was lost or cut, as in a longer call
 pub stops-more : (files : List ℕ → Told) (lost lost' cut cut' : Type 0) → (lost → lost') → (cut → cut') → (order : Order) (said : Said)

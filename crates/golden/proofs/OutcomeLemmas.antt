@@ -6,10 +6,10 @@ use Rattle.gg_io.specs.Told.{Told, Holds}
 use Rattle.gg_read.specs.Text.{HasReadFault}
 use Rattle.gg_read.specs.declared.text.ReadFault.{ReadFault}
 use Rattle.golden.specs.Lines.{Said, TellsUnread}
-use Rattle.golden.specs.Order.{Order, StopsAt, IsWritten, DueAt, IsDueText, IsExact}
+use Rattle.golden.specs.Order.{Order, StopsAt, IsWritten, DueAt, IsDueAccepted, IsExact}
 use Rattle.golden.specs.Outcome.{Ends, Refused, Done, Unwritten, WantsMemory, EndsUnasked, NoCommand, WantsMemoryToo, Outcome, Asked, Unasked, Answered, Reports}
 use Rattle.golden.specs.Words.{Command, Run, Asks, IsCommand, order_of}
-use Rattle.golden.proofs.OrderLemmas.{Why, Lost, Cut, NotPlain, why-stops, stops-due, written-due, stops-due_text}
+use Rattle.golden.proofs.OrderLemmas.{Why, Lost, Cut, NotPlain, why-stops, stops-due, written-due, stops-accepted}
 use Rattle.golden.proofs.WritingLemmas.{append_known-nil}
 
 -- the words ask for one command at most
@@ -144,19 +144,19 @@ module _ (files : List ℕ → Told) (lost cut unwritten : Type 0) where
         due-ends (order_of command) due (exact command) (subst (λ (c : Command). DueAt files (order_of c) due) same d) none (ends-why (order_of command) status text line ends)
     due-said exact (Unasked unasked ends) none other due others d = absurd (unasked (other, others))
 
-    complete-ends : (order : Order) (whole : List ℕ) → IsExact order → IsDueText files order whole → (lost → ⊥) → (unwritten → ⊥) → WhyEnds order status text line
+    complete-ends : (order : Order) → IsExact order → IsDueAccepted files order → (lost → ⊥) → (unwritten → ⊥) → WhyEnds order status text line
         → (status ≡ 0) ⊎ (status ≡ 5)
-    complete-ends order whole exact d none wrote (Stopped said stops is tells nothing) = absurd (stops-due_text files lost cut order said whole exact none d stops)
-    complete-ends order whole exact d none wrote (Wrote written is) = inl is
-    complete-ends order whole exact d none wrote (Failed failed part written is) = absurd (wrote failed)
-    complete-ends order whole exact d none wrote (Wanted is) = inr is
+    complete-ends order exact d none wrote (Stopped said stops is tells nothing) = absurd (stops-accepted files lost cut order said exact none d stops)
+    complete-ends order exact d none wrote (Wrote written is) = inl is
+    complete-ends order exact d none wrote (Failed failed part written is) = absurd (wrote failed)
+    complete-ends order exact d none wrote (Wanted is) = inr is
 
     complete-status : ExactOrders → Outcome words files lost cut unwritten status text line → (lost → ⊥) → (unwritten → ⊥)
-        → (command : Command) (whole : List ℕ) → Asks words command → IsDueText files (order_of command) whole → (status ≡ 0) ⊎ (status ≡ 5)
-    complete-status exact (Asked command asks ends) none wrote other whole others d =
+        → (command : Command) → Asks words command → IsDueAccepted files (order_of command) → (status ≡ 0) ⊎ (status ≡ 5)
+    complete-status exact (Asked command asks ends) none wrote other others d =
         let same = asks-once words other command others asks in
-        complete-ends (order_of command) whole (exact command) (subst (λ (c : Command). IsDueText files (order_of c) whole) same d) none wrote (ends-why (order_of command) status text line ends)
-    complete-status exact (Unasked unasked ends) none wrote other whole others d = absurd (unasked (other, others))
+        complete-ends (order_of command) (exact command) (subst (λ (c : Command). IsDueAccepted files (order_of c)) same d) none wrote (ends-why (order_of command) status text line ends)
+    complete-status exact (Unasked unasked ends) none wrote other others d = absurd (unasked (other, others))
 
 -- the clauses of a call that answered this status
 module _ {words : List (List ℕ)} {files : List ℕ → Told} {lost cut unwritten trouble : Type 0} {out out' err err' : Option (List ℕ)} {status : ℕ} (a : Answered words files lost cut unwritten trouble out out' err err' status) where
@@ -214,7 +214,7 @@ module _ {words : List (List ℕ)} {files : List ℕ → Told} {lost cut unwritt
         status-one said (ap (λ (s : Said). s.status) tells.2)
         (answered-due none (Run circuit partition trace) said asks (bytes, told, inl (inr (short, inl (fault, has, tells)))))
 
-    pub answered-complete : (lost → ⊥) → (unwritten → ⊥) → (command : Command) (whole : List ℕ) → Asks words command → IsDueText files (order_of command) whole
+    pub answered-complete : (lost → ⊥) → (unwritten → ⊥) → (command : Command) → Asks words command → IsDueAccepted files (order_of command)
         → (status ≡ 0) ⊎ (status ≡ 5)
     answered-complete = complete-status files lost cut unwritten words status a.text a.line exact a.outcome
 

@@ -3,7 +3,7 @@ use Rattle.std.proofs.Common.{◌≡◌, ℕ, zero, suc, ◌+◌, ◌<◌, ◌^�
 use Rattle.std.specs.Prelude.{Option, slice_get, slice_index, slice_index_or}
 use Rattle.std.specs.List.{cons_option}
 use Rattle.std.proofs.lemmas.Option.{slice_get_cases, get_or_from_slice_get}
-use Rattle.std.proofs.lemmas.List.{get_or-map, length-map, take_more}
+use Rattle.std.proofs.lemmas.List.{get_or-map, get_or_default, length-map, take_more}
 use Rattle.std.proofs.lemmas.List.Elements.{filter_map-append}
 use Rattle.std.proofs.lemmas.Bool.{cases_order}
 use Rattle.gg_bits.specs.Shape.{Shape, shape, uint}
@@ -11,6 +11,7 @@ use Rattle.gg_flat.specs.declared.piece.Signal.{Signal}
 use Rattle.gg_flat.specs.declared.piece.Driver.TheVariants.{Input}
 use Rattle.gg_flat.specs.Circuit.{FlatCircuit, signal_shapes, driver_at}
 use Rattle.gg_flat.specs.Line.{shape_at, value_at}
+use Rattle.gg_flat.specs.Run.{IsColumns}
 use Rattle.gg_flat.specs.Settled.{IsInputs, in_shapes}
 use Rattle.gg_flat.specs.WellFormed.{IsWellFormed}
 use Rattle.gg_flat.specs.declared.ports.Port.{Port}
@@ -143,6 +144,18 @@ module _ (circuit : FlatCircuit) where
               let width : width_at (in_ports circuit) i ≡ (shape_at (in_shapes circuit) i).width =
               are.wide i ki ∙ sym (ap (λ (z : Shape). z.width) (get_or-map (shape_at (signal_shapes circuit)) circuit.ins i 0 (uint 0) ki)) in
               subst (λ (w : ℕ). value_at (row_of columns t) i < 2 ^ w) width (subst (λ (v : ℕ). v < 2 ^ width_at (in_ports circuit) i) (sym value) bound);
+        }
+
+    -- what a trace gives the inputs is columns that the circuit can get
+    pub trace-columns : (bytes : List ℕ) (n : ℕ) (columns : List (List ℕ)) → Columns (in_ports circuit) bytes n columns
+        → HaveWidths (in_ports circuit) n columns → IsColumns circuit n columns
+    trace-columns bytes n columns cols fit =
+        let counted = ins-are.count in
+        let wide = cols.width in
+        record {
+          count = wide ∙ counted;
+          height = λ i d lt. ap (λ (column : List ℕ). length column) (get_or_default columns i d [] lt) ∙ cols.height i (omega (arith, lt));
+          inputs = row-inputs bytes n columns cols fit;
         }
 
     -- there are as many output ports as outputs

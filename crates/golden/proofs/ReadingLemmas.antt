@@ -1,18 +1,17 @@
 -- Why a trace is refused.
-use Rattle.std.proofs.Common.{◌≡◌, ℕ, List, sym, ap, ◌∙◌, subst, length, ◌<◌}
+use Rattle.std.proofs.Common.{◌≡◌, ℕ, List, sym, ap, ◌∙◌, subst, length}
 use Rattle.gg_flat.specs.Circuit.{FlatCircuit}
 use Rattle.gg_flat.specs.WellFormed.{IsWellFormed}
 use Rattle.gg_flat.specs.declared.ports.Port.{Port}
 use Rattle.gg_trace.specs.Ports.{HasDistinctNames}
 use Rattle.gg_trace.specs.Trace.{Columns, HaveWidths}
-use Rattle.gg_trace.specs.Table.{row_of}
-use Rattle.gg_flat.specs.Settled.{IsInputs}
+use Rattle.gg_flat.specs.Run.{IsColumns}
 use Rattle.golden.specs.declared.stops.Stop.{Stop}
 use Rattle.golden.specs.declared.stops.Stop.TheVariants.{Refused, Unwritten, NoMemory}
 use Rattle.golden.specs.Lines.{Said}
 use Rattle.gg_front.specs.Ports.{ports_at, in_ports, out_ports}
 use Rattle.golden.specs.RunText.{Feeds}
-use Rattle.golden.proofs.PortLemmas.{in_ports-distinct, out_ports-count, row-inputs}
+use Rattle.golden.proofs.PortLemmas.{in_ports-distinct, out_ports-count, trace-columns}
 use Rattle.golden.specs.Stops.{IfRefused}
 
 -- what is said of a stop
@@ -53,8 +52,8 @@ pub outs-count : (circuit simulated : FlatCircuit) (ports : List Port) → ports
 outs-count circuit simulated ports p e formed =
     ap (λ (x : List Port). length x) p ∙ out_ports-count circuit formed ∙ sym (ap (λ (c : FlatCircuit). length c.outs) e)
 
--- each row of the trace is what the circuit can get
+-- what the trace gives is columns that the circuit can get
 pub ports-fed : (circuit : FlatCircuit) (ports : List Port) (bytes : List ℕ) (n : ℕ) (columns : List (List ℕ)) → ports ≡ in_ports circuit → IsWellFormed circuit
-    → Columns ports bytes n columns → HaveWidths ports n columns → (t : ℕ) → t < n → IsInputs circuit (row_of columns t)
+    → Columns ports bytes n columns → HaveWidths ports n columns → IsColumns circuit n columns
 ports-fed circuit ports bytes n columns e formed =
-    subst (λ (p : List Port). Columns p bytes n columns → HaveWidths p n columns → (t : ℕ) → t < n → IsInputs circuit (row_of columns t)) (sym e) (row-inputs circuit formed bytes n columns)
+    subst (λ (p : List Port). Columns p bytes n columns → HaveWidths p n columns → IsColumns circuit n columns) (sym e) (trace-columns circuit formed bytes n columns)

@@ -5,4 +5,5 @@ pub mod Outcome
 pub mod Run
 pub mod RunText
 pub mod Stops
+pub mod WentOn
 pub mod Words

@@ -75,8 +75,8 @@ module _ (files : List ℕ → Told) where
       × (IsDueOf file bytes said ⊎ ((length bytes ≤ file.limit) × file.accepts bytes × DueAt (next bytes) said))
   DueAt (Write IsText) said = ⊥
 
-  -- Each file is told and accepted, and this is the text.
-  abbrev pub IsDueText : Order → List ℕ → Type 0
-  IsDueText (Load file next) text = (bytes : List ℕ) × IsTold file bytes × (length bytes ≤ file.limit) × file.accepts bytes
-      × IsDueText (next bytes) text
-  IsDueText (Write IsText) text = IsText text
+  -- Each file is told, within its limit and accepted: nothing is to be refused.
+  abbrev pub IsDueAccepted : Order → Type 0
+  IsDueAccepted (Load file next) = (bytes : List ℕ) × IsTold file bytes × (length bytes ≤ file.limit) × file.accepts bytes
+      × IsDueAccepted (next bytes)
+  IsDueAccepted (Write IsText) = Unit {0}

@@ -47,13 +47,19 @@ trace_file IsTrace name = plain_file name 67108864 IsTrace
 abbrev pub IsPlainTrace : (circuit trace : List ℕ) → Type 0
 IsPlainTrace circuit trace = (flat : FlatCircuit) × Means circuit flat × IsTraceOf flat trace
 
--- the text of the run of the circuit that these bytes are
+-- the text of a run of a flat circuit that these bytes mean, on this trace
 abbrev pub IsTextOf : (circuit trace text : List ℕ) → Type 0
 IsTextOf circuit trace text = (flat : FlatCircuit) × Means circuit flat × IsRunText flat trace text
 
+-- The text of the circuit's own run on the trace: it is the text of such a run, and each text of such a run is this one,
+-- whichever flat circuit the bytes are taken to mean.
+pub record IsOnlyText (circuit trace text : List ℕ) : Type 0 where
+  pub is : IsTextOf circuit trace text
+  pub only : (other : List ℕ) → IsTextOf circuit trace other → other ≡ text
+
 -- what is left of the order where the circuit's bytes are known and its partition was accepted
 abbrev pub trace_order : (circuit trace : List ℕ) → Order
-trace_order circuit trace = Load (trace_file (IsPlainTrace circuit) trace) (λ t. Write (IsTextOf circuit t))
+trace_order circuit trace = Load (trace_file (IsPlainTrace circuit) trace) (λ t. Write (IsOnlyText circuit t))
 
 -- and where its partition is still to be loaded
 abbrev pub partition_order : (circuit partition trace : List ℕ) → Order

@@ -15,6 +15,11 @@ out_columns circuit rows = map (column rows) circuit.outs
 abbrev pub Feeds : FlatCircuit → List ℕ → ℕ → List (List ℕ) → Type 0
 Feeds circuit trace n columns = Columns (in_ports circuit) trace n columns
 
+-- The trace gives the circuit's inputs these columns, for n cycles, and no others.
+pub record FeedsOnly (circuit : FlatCircuit) (trace : List ℕ) (n : ℕ) (columns : List (List ℕ)) : Type 0 where
+  pub feeds : Feeds circuit trace n columns
+  pub only : (m : ℕ) (others : List (List ℕ)) → Feeds circuit trace m others → (n ≡ m) × (columns ≡ others)
+
 -- the trace is a trace of the circuit's inputs
 abbrev pub IsTraceOf : FlatCircuit → List ℕ → Type 0
 IsTraceOf circuit trace = (n : ℕ) × (columns : List (List ℕ)) × Feeds circuit trace n columns

@@ -1,13 +1,12 @@
 -- How a command stands when its function returns: done, or stopped before its whole text was written.
-use Rattle.std.specs.Prelude.{◌≡◌, ℕ, List, [], Option, Result, Ok, Err, MatchResult, ◌⊎◌, ⊤}
+use Rattle.std.specs.Prelude.{◌≡◌, ℕ, List, [], Option, Result, Ok, Err, ⊤}
 use Rattle.std.specs.Io.KnownBytes.{append_known}
 use Rattle.gg_io.specs.Told.{Told}
 use Rattle.gg_front.specs.declared.front_end.FrontFault.{FrontFault}
 use Rattle.gg_front.specs.declared.front_end.FrontFault.TheVariants as front
-use Rattle.golden.specs.Lines.{Said, no_command, not_plain, cannot_write, out_of_memory, TellsUnread}
-use Rattle.golden.specs.Order.{Order, StopsAt, IsWritten}
-use Rattle.golden.specs.Outcome.{IsFront, StandsFront}
-use Rattle.golden.specs.Words.{Command, Asks, IsCommand, order_of}
+use Rattle.golden.specs.Lines.{Said, not_plain, cannot_write, out_of_memory, TellsUnread}
+use Rattle.golden.specs.Order.{Order}
+use Rattle.golden.specs.Outcome.{StandsFront, Ends, Outcome}
 use Rattle.golden.specs.declared.stops.Stop.{Stop}
 use Rattle.golden.specs.declared.stops.Stop.TheVariants.{Refused, Unwritten, NoMemory}
 
@@ -43,24 +42,12 @@ Prints before now failed text (Err Unwritten) = failed × StandsFront before now
 Prints before now failed text (Err NoMemory) = StandsFront before now text
 
 module _ (files : List ℕ → Told) (lost cut unwritten : Type 0) where
-  -- a command with this order has ended so, and wrote this
-  abbrev pub Ended : {T : Type 0} → Order → List ℕ → Result T Stop → Type 0
-  Ended order text (Ok done) = IsWritten files order text
-  Ended order text (Err (Refused said)) = StopsAt files lost cut order said × (text ≡ [])
-  Ended order text (Err Unwritten) = unwritten × ((whole : List ℕ) × IsWritten files order whole × IsFront text whole)
-  Ended order text (Err NoMemory) = (text ≡ []) ⊎ ((whole : List ℕ) × IsWritten files order whole × IsFront text whole)
-
-  -- and wrote it behind what stood before
+  -- a command with this order has ended so, and wrote its text behind what stood before
   abbrev pub EndedOn : {T : Type 0} → (before now : Option (List ℕ)) → Order → Result T Stop → Type 0
-  EndedOn before now order result = (text : List ℕ) × (now ≡ append_known before text) × Ended order text result
+  EndedOn before now order result = (text : List ℕ) × (now ≡ append_known before text)
+      × Ends files lost cut unwritten order (said_by result).status text (said_by result).line
 
-  -- the words are no command, and that is said
-  abbrev pub IsUnasked : {T : Type 0} → List (List ℕ) → Result T Stop → Type 0
-  IsUnasked words result = (¬ IsCommand words)
-      × MatchResult result (λ _. ⊥) (IfRefused (λ said. said ≡ no_command))
-
-  -- a call with these words has ended so
+  -- a call with these words has ended so, and wrote its text behind what stood before
   abbrev pub CallEnded : {T : Type 0} → (before now : Option (List ℕ)) → List (List ℕ) → Result T Stop → Type 0
-  CallEnded before now words result =
-      ((command : Command) × Asks words command × EndedOn before now (order_of command) result)
-      ⊎ (IsUnasked words result × (now ≡ before))
+  CallEnded before now words result = (text : List ℕ) × (now ≡ append_known before text)
+      × Outcome words files lost cut unwritten (said_by result).status text (said_by result).line

@@ -5,9 +5,10 @@ ghost use Rattle.gg_io.specs.Told.{Holds};
 ghost use Rattle.gg_read.specs.Text.{HasReadFault};
 ghost use Rattle.gg_read.specs.declared.text.ReadFault.{ReadFault};
 ghost use Rattle.golden.specs.Lines.{Said, TellsUnread};
-ghost use Rattle.golden.specs.Order.{StopsAt, DueAt, IsDueText};
+ghost use Rattle.golden.specs.Order.{StopsAt, DueAt, IsDueAccepted};
 ghost use Rattle.golden.specs.Outcome.{Answered, Reports, HasTrouble};
 ghost use Rattle.golden.specs.Stops.{CallEnded, said_by};
+ghost use Rattle.golden.specs.WentOn.{ShelfWentOn, SinkWentOn};
 ghost use Rattle.golden.specs.Words.{Command, Run, Asks, IsCommand, order_of, texts};
 
 use crate::laws::refusals_are_exact;
@@ -28,11 +29,8 @@ fn command<S: Shelf, K: Sink>(
     ensures ended { CallEnded (S.files shelf.old)
         (Rose (S.faults shelf.old) (S.faults shelf.new)) (Rose (S.cuts shelf.old) (S.cuts shelf.new)) (Rose (K.faults out.old) (K.faults out.new))
         (K.written out.old) (K.written out.new) (texts words.now) result }
-    ensures files_stay { S.files shelf.new ≡ S.files shelf.old }
-    ensures faults_stay_or_rise { S.faults shelf.old ≤ S.faults shelf.new }
-    ensures cuts_stay_or_rise { S.cuts shelf.old ≤ S.cuts shelf.new }
-    ensures out_faults_stay_or_rise { K.faults out.old ≤ K.faults out.new }
-    ensures refused_stay_or_rise { K.refused out.old ≤ K.refused out.new }
+    ensures shelf { ShelfWentOn (S.files shelf.old) (S.files shelf.new) (S.faults shelf.old) (S.faults shelf.new) (S.cuts shelf.old) (S.cuts shelf.new) }
+    ensures out { SinkWentOn (K.faults out.old) (K.faults out.new) (K.refused out.old) (K.refused out.new) }
 {
     if !asks_run(words) {
         return Err(stop_unasked(alloc));
@@ -52,8 +50,7 @@ fn command<S: Shelf, K: Sink>(
 fn status_of<E: Sink>(ended: &Result<(), Stop>, err: &mut E) -> u8
     ensures status { result ≡ (said_by ended.now).status }
     ensures line { Reports (E.written err.old) (E.written err.new) (HasTrouble (E.faults err.old) (E.faults err.new) (E.refused err.old) (E.refused err.new)) (said_by ended.now).line }
-    ensures faults_stay_or_rise { E.faults err.old ≤ E.faults err.new }
-    ensures refused_stay_or_rise { E.refused err.old ≤ E.refused err.new }
+    ensures err { SinkWentOn (E.faults err.old) (E.faults err.new) (E.refused err.old) (E.refused err.new) }
 {
     match ended {
         Ok(()) => 0,
@@ -73,20 +70,18 @@ fn answer<S: Shelf, K: Sink, E: Sink>(
         (Rose (S.faults shelf.old) (S.faults shelf.new)) (Rose (S.cuts shelf.old) (S.cuts shelf.new)) (Rose (K.faults out.old) (K.faults out.new))
         (HasTrouble (E.faults err.old) (E.faults err.new) (E.refused err.old) (E.refused err.new))
         (K.written out.old) (K.written out.new) (E.written err.old) (E.written err.new) result }
-    ensures files_stay { S.files shelf.new ≡ S.files shelf.old }
-    ensures faults_stay_or_rise { S.faults shelf.old ≤ S.faults shelf.new }
-    ensures cuts_stay_or_rise { S.cuts shelf.old ≤ S.cuts shelf.new }
-    ensures out_faults_stay_or_rise { K.faults out.old ≤ K.faults out.new }
-    ensures out_refused_stay_or_rise { K.refused out.old ≤ K.refused out.new }
-    ensures err_faults_stay_or_rise { E.faults err.old ≤ E.faults err.new }
-    ensures err_refused_stay_or_rise { E.refused err.old ≤ E.refused err.new }
+    ensures shelf { ShelfWentOn (S.files shelf.old) (S.files shelf.new) (S.faults shelf.old) (S.faults shelf.new) (S.cuts shelf.old) (S.cuts shelf.new) }
+    ensures out { SinkWentOn (K.faults out.old) (K.faults out.new) (K.refused out.old) (K.refused out.new) }
+    ensures err { SinkWentOn (E.faults err.old) (E.faults err.new) (E.refused err.old) (E.refused err.new) }
 {
     let ended = command(alloc, words, shelf, out);
     status_of(&ended, err)
 }
 
 /// A call of the program: what its words ask for, with files from `shelf`, the text on `out` and at most one line on
-/// `err`; the status is the answer. The first of the words is the program's own name. The gate isn't called yet.
+/// `err`; the status is the answer. The first of the words is the program's own name. All memory comes from `alloc`: the
+/// files, one at a time, what is made of them, and the lines of refusals; where it is refused the status is 5. The gate
+/// isn't called yet.
 ///
 /// `run CIRCUIT PARTITION TRACE` writes the text of the circuit's own run on the trace: a header, then a row for each
 /// cycle. Statuses:
@@ -109,7 +104,7 @@ pub fn golden<S: Shelf, K: Sink, E: Sink, G: Gate>(
     gate: &G,
 ) -> u8
     // The headline: status, text and line are an outcome of the words and the files; at status 0 the text is that of
-    // the circuit's own run.
+    // the circuit's own run, and there is no other.
     ensures outcome { Answered (texts words.now) (S.files shelf.old)
         (Rose (S.faults shelf.old) (S.faults shelf.new)) (Rose (S.cuts shelf.old) (S.cuts shelf.new)) (Rose (K.faults out.old) (K.faults out.new))
         (HasTrouble (E.faults err.old) (E.faults err.new) (E.refused err.old) (E.refused err.new))
@@ -144,9 +139,9 @@ pub fn golden<S: Shelf, K: Sink, E: Sink, G: Gate>(
         × Reports (E.written err.old) (E.written err.new) (HasTrouble (E.faults err.old) (E.faults err.new) (E.refused err.old) (E.refused err.new)) said.line)
         ⊎ (result ≡ 5) }
 
-    // Where no load and no put fails, files that are told and accepted give their text.
+    // Where no load and no put fails, files that are told and accepted are run: `outcome` then names the text.
     ensures complete { (Rose (S.faults shelf.old) (S.faults shelf.new) → ⊥) → (Rose (K.faults out.old) (K.faults out.new) → ⊥)
-        → (command : Command) (whole : List ℕ) → Asks (texts words.now) command → IsDueText (S.files shelf.old) (order_of command) whole
+        → (command : Command) → Asks (texts words.now) command → IsDueAccepted (S.files shelf.old) (order_of command)
         → (result ≡ 0) ⊎ (result ≡ 5) }
 
     ensures files_stay { S.files shelf.new ≡ S.files shelf.old }

@@ -4,6 +4,7 @@ ghost use Rattle.gg_io.specs.Count.{Rose};
 ghost use Rattle.gg_io.specs.Told.{CanHold, CanBeOver};
 ghost use Rattle.golden.specs.Lines.{cannot_load, is_over};
 ghost use Rattle.golden.specs.Stops.{IfRefused};
+ghost use Rattle.golden.specs.WentOn.{ShelfWentOn};
 
 use crate::stops::{Stop, stop_cannot_load, stop_over};
 use gg_io::{LoadFail, Shelf};
@@ -22,9 +23,7 @@ pub(crate) fn load<S: Shelf>(
     ensures refused { IfErr result (IfRefused (λ said.
         (Rose (S.faults shelf.old) (S.faults shelf.new) × (said ≡ cannot_load name.now))
         ⊎ (Rose (S.cuts shelf.old) (S.cuts shelf.new) × CanBeOver (S.files shelf.old name.now) limit × (said ≡ is_over name.now limit)))) }
-    ensures files_stay { S.files shelf.new ≡ S.files shelf.old }
-    ensures faults_stay_or_rise { S.faults shelf.old ≤ S.faults shelf.new }
-    ensures cuts_stay_or_rise { S.cuts shelf.old ≤ S.cuts shelf.new }
+    ensures shelf { ShelfWentOn (S.files shelf.old) (S.files shelf.new) (S.faults shelf.old) (S.faults shelf.new) (S.cuts shelf.old) (S.cuts shelf.new) }
 {
     match shelf.load(alloc, name, limit) {
         Ok(bytes) => Ok(bytes),

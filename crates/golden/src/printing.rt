@@ -1,17 +1,17 @@
 //! Printing the run of a circuit.
-ghost use Rattle.std.specs.Prelude.{◌≡◌, ℕ, ◌<◌, ◌≤◌, List, length, Option};
+ghost use Rattle.std.specs.Prelude.{◌≡◌, ℕ, List, length, Option};
 ghost use Rattle.std.specs.Io.KnownBytes.{append_known};
 ghost use Rattle.gg_flat.specs.Order.{IsOrder};
-ghost use Rattle.gg_flat.specs.Run.{IsRun};
+ghost use Rattle.gg_flat.specs.Run.{IsRun, IsColumns};
 ghost use Rattle.gg_flat.specs.Settled.{IsInputs};
 ghost use Rattle.gg_flat.specs.State.{opening};
 ghost use Rattle.gg_io.specs.Count.{Rose};
 ghost use Rattle.gg_refsim.specs.Cycle.{Cycle};
 ghost use Rattle.gg_trace.specs.Printing.{row_line, trace_text};
-ghost use Rattle.gg_trace.specs.Table.{row_of};
 ghost use Rattle.gg_front.specs.Ports.{out_ports};
 ghost use Rattle.golden.specs.RunText.{out_columns};
 ghost use Rattle.golden.specs.Stops.{Prints};
+ghost use Rattle.golden.specs.WentOn.{SinkWentOn};
 
 use crate::ports::ports_of;
 use crate::stops::Stop;
@@ -26,7 +26,7 @@ use std::alloc::Global;
 // One cycle, and its row.
 fn print_row<K: Sink>(
     alloc: Global,
-    mono: &mut Mono,
+    mono: &mut Mono<'_>,
     ports: &Ports,
     cycle: u64,
     inputs: &[u128],
@@ -39,8 +39,7 @@ fn print_row<K: Sink>(
     ensures circuit { mono.new.circuit ≡ mono.old.circuit }
     ensures cycle { Cycle mono.old.circuit mono.old.state inputs.now outs.new mono.new.state }
     ensures prints { Prints (K.written out.old) (K.written out.new) (Rose (K.faults out.old) (K.faults out.new)) (row_line ports.now cycle outs.new) result }
-    ensures faults_stay_or_rise { K.faults out.old ≤ K.faults out.new }
-    ensures refused_stay_or_rise { K.refused out.old ≤ K.refused out.new }
+    ensures out { SinkWentOn (K.faults out.old) (K.faults out.new) (K.refused out.old) (K.refused out.new) }
 {
     mono.cycle(inputs, outs);
     let text = row_text(alloc, ports, cycle, outs)?;
@@ -50,7 +49,7 @@ fn print_row<K: Sink>(
 // The rows of a run, behind its header.
 fn print_rows<K: Sink>(
     alloc: Global,
-    mono: &mut Mono,
+    mono: &mut Mono<'_>,
     ports: &Ports,
     inputs: &Trace,
     outs: &mut [u128],
@@ -58,14 +57,13 @@ fn print_rows<K: Sink>(
 ) -> Result<(), Stop>
     requires opening { mono.old.state ≡ opening mono.old.circuit }
     requires ordered { (order : List ℕ) × IsOrder mono.old.circuit order }
-    requires fed { (t : ℕ) → t < inputs.now.rows → IsInputs mono.old.circuit (row_of inputs.now.columns t) }
+    requires fed { IsColumns mono.old.circuit inputs.now.rows inputs.now.columns }
     requires outs { length outs.old ≡ length mono.old.circuit.outs }
     requires ports { length ports.now ≡ length mono.old.circuit.outs }
     ensures prints { (rows : List (List ℕ)) (base : Option (List ℕ)) → IsRun mono.old.circuit inputs.now.columns inputs.now.rows rows
         → K.written out.old ≡ append_known base (trace_text ports.now (out_columns mono.old.circuit rows) 0)
         → Prints base (K.written out.new) (Rose (K.faults out.old) (K.faults out.new)) (trace_text ports.now (out_columns mono.old.circuit rows) inputs.now.rows) result }
-    ensures faults_stay_or_rise { K.faults out.old ≤ K.faults out.new }
-    ensures refused_stay_or_rise { K.refused out.old ≤ K.refused out.new }
+    ensures out { SinkWentOn (K.faults out.old) (K.faults out.new) (K.refused out.old) (K.refused out.new) }
 {
     settled_once();
     for cycle in 0..inputs.rows() {
@@ -77,19 +75,17 @@ fn print_rows<K: Sink>(
 // The header and the rows of a run.
 fn print_all<K: Sink>(
     alloc: Global,
-    mono: &mut Mono,
+    mono: &mut Mono<'_>,
     ports: &Ports,
     inputs: &Trace,
     out: &mut K,
 ) -> Result<(), Stop>
     requires opening { mono.old.state ≡ opening mono.old.circuit }
-    requires ordered { (order : List ℕ) × IsOrder mono.old.circuit order }
-    requires fed { (t : ℕ) → t < inputs.now.rows → IsInputs mono.old.circuit (row_of inputs.now.columns t) }
+    requires fed { IsColumns mono.old.circuit inputs.now.rows inputs.now.columns }
     requires ports { length ports.now ≡ length mono.old.circuit.outs }
     ensures prints { (rows : List (List ℕ)) → IsRun mono.old.circuit inputs.now.columns inputs.now.rows rows
         → Prints (K.written out.old) (K.written out.new) (Rose (K.faults out.old) (K.faults out.new)) (trace_text ports.now (out_columns mono.old.circuit rows) inputs.now.rows) result }
-    ensures faults_stay_or_rise { K.faults out.old ≤ K.faults out.new }
-    ensures refused_stay_or_rise { K.refused out.old ≤ K.refused out.new }
+    ensures out { SinkWentOn (K.faults out.old) (K.faults out.new) (K.refused out.old) (K.refused out.new) }
 {
     let mut outs = vec![in alloc; 0u128; mono.piece().outs().len()]?;
     let header = header_text(alloc, ports)?;
@@ -100,17 +96,17 @@ fn print_all<K: Sink>(
 /// Prints the run of a design on these inputs.
 pub(crate) fn print_run<K: Sink>(
     alloc: Global,
-    design: Design,
+    design: &Design,
     inputs: &Trace,
     out: &mut K,
 ) -> Result<(), Stop>
-    requires fed { (t : ℕ) → t < inputs.now.rows → IsInputs design.circuit (row_of inputs.now.columns t) }
-    ensures prints { (rows : List (List ℕ)) × IsRun design.circuit inputs.now.columns inputs.now.rows rows
-        × Prints (K.written out.old) (K.written out.new) (Rose (K.faults out.old) (K.faults out.new)) (trace_text (out_ports design.circuit) (out_columns design.circuit rows) inputs.now.rows) result }
-    ensures faults_stay_or_rise { K.faults out.old ≤ K.faults out.new }
-    ensures refused_stay_or_rise { K.refused out.old ≤ K.refused out.new }
+    requires fed { IsColumns design.now.circuit inputs.now.rows inputs.now.columns }
+    ensures prints { (rows : List (List ℕ)) × IsRun design.now.circuit inputs.now.columns inputs.now.rows rows
+        × Prints (K.written out.old) (K.written out.new) (Rose (K.faults out.old) (K.faults out.new)) (trace_text (out_ports design.now.circuit) (out_columns design.now.circuit rows) inputs.now.rows) result }
+    ensures out { SinkWentOn (K.faults out.old) (K.faults out.new) (K.refused out.old) (K.refused out.new) }
 {
     runs_along();
+    // for what the design says of its order
     let _ = design.order();
     let piece = design.piece();
     let ports = ports_of(alloc, piece, piece.outs())?;

@@ -1,15 +1,15 @@
 //! Reading the three files of `run`.
-ghost use Rattle.std.specs.Prelude.{◌≡◌, ◌≢◌, ℕ, ◌<◌, ◌≤◌, ◌↔◌, List, IfOk, IfErr, IsTrue};
+ghost use Rattle.std.specs.Prelude.{◌≡◌, ◌≢◌, ℕ, ◌↔◌, List, IfOk, IfErr, IsTrue};
 ghost use Rattle.gg_io.specs.Count.{Rose};
 ghost use Rattle.gg_front.specs.Meaning.{Means};
-ghost use Rattle.gg_flat.specs.Settled.{IsInputs};
-ghost use Rattle.gg_trace.specs.Table.{row_of};
+ghost use Rattle.gg_flat.specs.Run.{IsColumns};
 ghost use Rattle.gg_trace.specs.declared.faults.TraceFault.TheVariants.{NoMemory};
 ghost use Rattle.golden.specs.Lines.{not_plain};
 ghost use Rattle.golden.specs.Order.{CanBe, IsRefused};
 ghost use Rattle.golden.specs.Run.{circuit_file, partition_file, trace_file, IsPlainPartition};
-ghost use Rattle.golden.specs.RunText.{Feeds, IsTraceOf};
+ghost use Rattle.golden.specs.RunText.{FeedsOnly, IsTraceOf};
 ghost use Rattle.golden.specs.Stops.{IfRefused, TellsFront};
+ghost use Rattle.golden.specs.WentOn.{ShelfWentOn};
 
 use crate::loading::load;
 use crate::ports::ports_of;
@@ -48,9 +48,7 @@ pub(crate) fn read_circuit<S: Shelf>(
     ensures accepted { IfOk result (λ design. (bytes : List ℕ) × CanBe (S.files shelf.old) (circuit_file name.now) bytes × Means bytes design.circuit) }
     ensures refused { IfErr result (IfRefused (IsRefused (S.files shelf.old)
         (Rose (S.faults shelf.old) (S.faults shelf.new)) (Rose (S.cuts shelf.old) (S.cuts shelf.new)) (circuit_file name.now))) }
-    ensures files_stay { S.files shelf.new ≡ S.files shelf.old }
-    ensures faults_stay_or_rise { S.faults shelf.old ≤ S.faults shelf.new }
-    ensures cuts_stay_or_rise { S.cuts shelf.old ≤ S.cuts shelf.new }
+    ensures shelf { ShelfWentOn (S.files shelf.old) (S.files shelf.new) (S.faults shelf.old) (S.faults shelf.new) (S.cuts shelf.old) (S.cuts shelf.new) }
 {
     let bytes = load(alloc, shelf, name, CIRCUIT_LIMIT)?;
     match front(alloc, bytes.as_slice()) {
@@ -71,9 +69,7 @@ pub(crate) fn read_partition<S: Shelf>(alloc: Global, shelf: &mut S, name: &str)
     ensures accepted { IfOk result (λ _. (bytes : List ℕ) × CanBe (S.files shelf.old) (partition_file name.now) bytes × IsPlainPartition bytes) }
     ensures refused { IfErr result (IfRefused (IsRefused (S.files shelf.old)
         (Rose (S.faults shelf.old) (S.faults shelf.new)) (Rose (S.cuts shelf.old) (S.cuts shelf.new)) (partition_file name.now))) }
-    ensures files_stay { S.files shelf.new ≡ S.files shelf.old }
-    ensures faults_stay_or_rise { S.faults shelf.old ≤ S.faults shelf.new }
-    ensures cuts_stay_or_rise { S.cuts shelf.old ≤ S.cuts shelf.new }
+    ensures shelf { ShelfWentOn (S.files shelf.old) (S.files shelf.new) (S.faults shelf.old) (S.faults shelf.new) (S.cuts shelf.old) (S.cuts shelf.new) }
 {
     let bytes = load(alloc, shelf, name, PARTITION_LIMIT)?;
     if !is_plain_partition(bytes.as_slice()) {
@@ -100,13 +96,11 @@ pub(crate) fn read_inputs<S: Shelf>(
     design: &Design,
 ) -> Result<Trace, Stop>
     ensures accepted { IfOk result (λ trace. (bytes : List ℕ) × CanBe (S.files shelf.old) (trace_file (IsTraceOf design.now.circuit) name.now) bytes
-        × Feeds design.now.circuit bytes trace.rows trace.columns) }
-    ensures fed { IfOk result (λ trace. (t : ℕ) → t < trace.rows → IsInputs design.now.circuit (row_of trace.columns t)) }
+        × FeedsOnly design.now.circuit bytes trace.rows trace.columns) }
+    ensures fed { IfOk result (λ trace. IsColumns design.now.circuit trace.rows trace.columns) }
     ensures refused { IfErr result (IfRefused (IsRefused (S.files shelf.old)
         (Rose (S.faults shelf.old) (S.faults shelf.new)) (Rose (S.cuts shelf.old) (S.cuts shelf.new)) (trace_file (IsTraceOf design.now.circuit) name.now))) }
-    ensures files_stay { S.files shelf.new ≡ S.files shelf.old }
-    ensures faults_stay_or_rise { S.faults shelf.old ≤ S.faults shelf.new }
-    ensures cuts_stay_or_rise { S.cuts shelf.old ≤ S.cuts shelf.new }
+    ensures shelf { ShelfWentOn (S.files shelf.old) (S.files shelf.new) (S.faults shelf.old) (S.faults shelf.new) (S.cuts shelf.old) (S.cuts shelf.new) }
 {
     let bytes = load(alloc, shelf, name, TRACE_LIMIT)?;
     let piece = design.piece();

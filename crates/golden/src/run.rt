@@ -1,14 +1,16 @@
 //! The command `run`.
-ghost use Rattle.std.specs.Prelude.{◌≡◌, ℕ, ◌≤◌, List};
+ghost use Rattle.std.specs.Prelude.{◌≡◌, ℕ, List};
 ghost use Rattle.gg_io.specs.Count.{Rose};
 ghost use Rattle.gg_front.specs.Meaning.{Means};
 ghost use Rattle.golden.specs.Run.{run_order, partition_order, trace_order};
 ghost use Rattle.golden.specs.Stops.{EndedOn};
+ghost use Rattle.golden.specs.WentOn.{ShelfWentOn, SinkWentOn};
 
 use crate::printing::print_run;
 use crate::reading::{read_circuit, read_inputs, read_partition};
 use crate::stops::Stop;
-use gg_front::ports_agree;
+use gg_flat::run_once;
+use gg_front::{one_run, ports_agree};
 use gg_io::{Shelf, Sink};
 use gg_order::Design;
 use std::alloc::Global;
@@ -16,42 +18,40 @@ use std::alloc::Global;
 // `run`, where the circuit is read and the partition is accepted.
 fn run_trace<S: Shelf, K: Sink>(
     alloc: Global,
-    design: Design,
+    design: &Design,
     trace: &str,
     shelf: &mut S,
     out: &mut K,
 ) -> Result<(), Stop>
-    ensures ended { (circuit : List ℕ) → Means circuit design.circuit → EndedOn (S.files shelf.old)
+    ensures ended { (circuit : List ℕ) → Means circuit design.now.circuit → EndedOn (S.files shelf.old)
         (Rose (S.faults shelf.old) (S.faults shelf.new)) (Rose (S.cuts shelf.old) (S.cuts shelf.new)) (Rose (K.faults out.old) (K.faults out.new))
         (K.written out.old) (K.written out.new) (trace_order circuit trace.now) result }
-    ensures files_stay { S.files shelf.new ≡ S.files shelf.old }
-    ensures faults_stay_or_rise { S.faults shelf.old ≤ S.faults shelf.new }
-    ensures cuts_stay_or_rise { S.cuts shelf.old ≤ S.cuts shelf.new }
-    ensures out_faults_stay_or_rise { K.faults out.old ≤ K.faults out.new }
-    ensures refused_stay_or_rise { K.refused out.old ≤ K.refused out.new }
+    ensures shelf { ShelfWentOn (S.files shelf.old) (S.files shelf.new) (S.faults shelf.old) (S.faults shelf.new) (S.cuts shelf.old) (S.cuts shelf.new) }
+    ensures out { SinkWentOn (K.faults out.old) (K.faults out.new) (K.refused out.old) (K.refused out.new) }
 {
     ports_agree();
-    let inputs = read_inputs(alloc, shelf, trace, &design)?;
+    one_run();
+    run_once();
+    // for what the design says of its order
+    let _ = design.order();
+    let inputs = read_inputs(alloc, shelf, trace, design)?;
     print_run(alloc, design, &inputs, out)
 }
 
 // `run`, where the circuit is read.
 fn run_design<S: Shelf, K: Sink>(
     alloc: Global,
-    design: Design,
+    design: &Design,
     partition: &str,
     trace: &str,
     shelf: &mut S,
     out: &mut K,
 ) -> Result<(), Stop>
-    ensures ended { (circuit : List ℕ) → Means circuit design.circuit → EndedOn (S.files shelf.old)
+    ensures ended { (circuit : List ℕ) → Means circuit design.now.circuit → EndedOn (S.files shelf.old)
         (Rose (S.faults shelf.old) (S.faults shelf.new)) (Rose (S.cuts shelf.old) (S.cuts shelf.new)) (Rose (K.faults out.old) (K.faults out.new))
         (K.written out.old) (K.written out.new) (partition_order circuit partition.now trace.now) result }
-    ensures files_stay { S.files shelf.new ≡ S.files shelf.old }
-    ensures faults_stay_or_rise { S.faults shelf.old ≤ S.faults shelf.new }
-    ensures cuts_stay_or_rise { S.cuts shelf.old ≤ S.cuts shelf.new }
-    ensures out_faults_stay_or_rise { K.faults out.old ≤ K.faults out.new }
-    ensures refused_stay_or_rise { K.refused out.old ≤ K.refused out.new }
+    ensures shelf { ShelfWentOn (S.files shelf.old) (S.files shelf.new) (S.faults shelf.old) (S.faults shelf.new) (S.cuts shelf.old) (S.cuts shelf.new) }
+    ensures out { SinkWentOn (K.faults out.old) (K.faults out.new) (K.refused out.old) (K.refused out.new) }
 {
     read_partition(alloc, shelf, partition)?;
     run_trace(alloc, design, trace, shelf, out)
@@ -69,12 +69,9 @@ pub(crate) fn run<S: Shelf, K: Sink>(
     ensures ended { EndedOn (S.files shelf.old)
         (Rose (S.faults shelf.old) (S.faults shelf.new)) (Rose (S.cuts shelf.old) (S.cuts shelf.new)) (Rose (K.faults out.old) (K.faults out.new))
         (K.written out.old) (K.written out.new) (run_order circuit.now partition.now trace.now) result }
-    ensures files_stay { S.files shelf.new ≡ S.files shelf.old }
-    ensures faults_stay_or_rise { S.faults shelf.old ≤ S.faults shelf.new }
-    ensures cuts_stay_or_rise { S.cuts shelf.old ≤ S.cuts shelf.new }
-    ensures out_faults_stay_or_rise { K.faults out.old ≤ K.faults out.new }
-    ensures refused_stay_or_rise { K.refused out.old ≤ K.refused out.new }
+    ensures shelf { ShelfWentOn (S.files shelf.old) (S.files shelf.new) (S.faults shelf.old) (S.faults shelf.new) (S.cuts shelf.old) (S.cuts shelf.new) }
+    ensures out { SinkWentOn (K.faults out.old) (K.faults out.new) (K.refused out.old) (K.refused out.new) }
 {
     let design = read_circuit(alloc, shelf, circuit)?;
-    run_design(alloc, design, partition, trace, shelf, out)
+    run_design(alloc, &design, partition, trace, shelf, out)
 }

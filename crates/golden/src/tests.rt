@@ -1,6 +1,10 @@
 //! Calls of golden with files and sinks in memory. The expected texts are worked by hand from docs/FORMATS.md.
-use super::{golden, refusals_are_exact};
-use gg_io::{FailingPut, MemFiles, MemShelf, MemSink, NoGate, hold};
+ghost use Rattle.std.specs.Prelude.{None};
+
+use super::golden;
+use gg_io::{
+    FailingPut, MemFiles, MemShelf, MemSink, NoGate, PutFail, Sink, SureShelf, SureSink, hold,
+};
 use std::alloc::{AllocError, Global};
 use std::collections::BTreeMap;
 use std::process::Abort;
@@ -26,7 +30,7 @@ const TRACE: &str = "cycle reset\n0 1\n1 0\n2 0\n3 0\n";
 const TEXT: &str = "cycle out\n0 00\n1 00\n2 01\n3 02\n";
 
 // Circuits that are plain, a trace of each, and the text of its run.
-static RUNS: [(&str, &str, &str); 10] = [
+static RUNS: [(&str, &str, &str); 11] = [
     // the counter with lines that end with CR LF, comments, tabs and file information
     (
         "circuit Counter :\r\nmodule Counter : ; the top\r\n\tinput clock : Clock\r\ninput reset : UInt<1> @[a b] @[c]\r\noutput out : UInt<8>\r\nreg c : UInt<8> , clock with : (reset => (UInt<1>(\"h0\"), c)) ; @[ no\r\nnode n = add(c,UInt<1>(\"h1\"))\r\nout<=c\r\nc <= mux(reset, UInt<8>(\"h0\"), bits(n, 7, 0))",
@@ -85,34 +89,45 @@ static RUNS: [(&str, &str, &str); 10] = [
         "cycle reset",
         "cycle out\n",
     ),
+    // each operation that no circuit above has, on unsigned numbers and on signed ones; the values come from a script
+    // that works the table of operations of docs/FORMATS.md out in Python's whole numbers
+    (
+        "circuit Operations :\nmodule Operations :\ninput x : SInt<4>\ninput z : SInt<6>\ninput u : UInt<4>\ninput v : UInt<6>\ninput a : UInt<3>\ninput c : UInt<1>\noutput sub_u : UInt<7>\noutput leq_u : UInt<1>\noutput gt_u : UInt<1>\noutput geq_u : UInt<1>\noutput eq_u : UInt<1>\noutput neq_u : UInt<1>\noutput dshl_u : UInt<11>\noutput dshr_u : UInt<6>\noutput or_u : UInt<6>\noutput xor_u : UInt<6>\noutput cvt_u : SInt<5>\noutput andr_u : UInt<1>\noutput xorr_u : UInt<1>\noutput pad_u : UInt<7>\noutput shl_u : UInt<7>\noutput head_u : UInt<2>\noutput tail_u : UInt<4>\noutput vif_u : UInt<6>\noutput sub_s : SInt<7>\noutput leq_s : UInt<1>\noutput gt_s : UInt<1>\noutput geq_s : UInt<1>\noutput eq_s : UInt<1>\noutput neq_s : UInt<1>\noutput dshl_s : SInt<11>\noutput dshr_s : SInt<6>\noutput or_s : UInt<6>\noutput xor_s : UInt<6>\noutput cvt_s : SInt<4>\noutput andr_s : UInt<1>\noutput xorr_s : UInt<1>\noutput pad_s : SInt<7>\noutput shl_s : SInt<7>\noutput head_s : UInt<2>\noutput tail_s : UInt<4>\noutput vif_s : SInt<6>\nsub_u <= sub(u, v)\nleq_u <= leq(u, v)\ngt_u <= gt(u, v)\ngeq_u <= geq(u, v)\neq_u <= eq(u, v)\nneq_u <= neq(u, v)\ndshl_u <= dshl(u, a)\ndshr_u <= dshr(v, a)\nor_u <= or(u, v)\nxor_u <= xor(u, v)\ncvt_u <= cvt(u)\nandr_u <= andr(u)\nxorr_u <= xorr(u)\npad_u <= pad(u, 7)\nshl_u <= shl(u, 3)\nhead_u <= head(v, 2)\ntail_u <= tail(v, 2)\nvif_u <= validif(c, v)\nsub_s <= sub(x, z)\nleq_s <= leq(x, z)\ngt_s <= gt(x, z)\ngeq_s <= geq(x, z)\neq_s <= eq(x, z)\nneq_s <= neq(x, z)\ndshl_s <= dshl(x, a)\ndshr_s <= dshr(z, a)\nor_s <= or(x, z)\nxor_s <= xor(x, z)\ncvt_s <= cvt(x)\nandr_s <= andr(x)\nxorr_s <= xorr(x)\npad_s <= pad(x, 7)\nshl_s <= shl(x, 3)\nhead_s <= head(z, 2)\ntail_s <= tail(z, 2)\nvif_s <= validif(c, z)\n",
+        "cycle x z u v a c\n0 0 00 0 00 0 0\n1 8 20 f 3f 7 1\n2 7 1f f 0f 1 0\n3 f 3f 6 29 2 1\n4 d 05 9 09 3 0\n5 b 3a 3 30 5 1\n",
+        "cycle sub_u leq_u gt_u geq_u eq_u neq_u dshl_u dshr_u or_u xor_u cvt_u andr_u xorr_u pad_u shl_u head_u tail_u vif_u sub_s leq_s gt_s geq_s eq_s neq_s dshl_s dshr_s or_s xor_s cvt_s andr_s xorr_s pad_s shl_s head_s tail_s vif_s\n0 00 1 0 1 1 0 000 00 00 00 00 0 0 00 00 0 0 00 00 1 0 1 1 0 000 00 00 00 0 0 0 00 00 0 0 00\n1 50 1 0 0 0 1 780 00 3f 30 0f 1 0 0f 78 3 f 3f 18 0 1 1 0 1 400 3f 38 18 8 0 1 78 40 2 0 20\n2 00 1 0 1 1 0 01e 07 0f 00 0f 1 0 0f 78 0 f 0f 68 1 0 0 0 1 00e 0f 1f 18 7 0 1 07 38 1 f 1f\n3 5d 1 0 0 0 1 018 0a 2f 2f 06 0 0 06 30 2 9 29 00 1 0 1 1 0 7fc 3f 3f 00 f 1 0 7f 78 3 f 3f\n4 00 1 0 1 1 0 048 01 09 00 09 0 0 09 48 0 9 09 78 1 0 0 0 1 7e8 00 3d 38 d 0 1 7d 68 0 5 05\n5 53 1 0 0 0 1 060 01 33 33 03 0 0 03 18 3 0 30 01 0 1 1 0 1 760 3f 3b 01 b 0 1 7b 58 3 a 3a\n",
+    ),
 ];
 
-// The counter with a line changed, counted from 1 (0: none), the other files, and the line of the refusal.
-static REFUSED: [(usize, &str, &str, &str, &str); 9] = [
+// The counter with a line changed, counted from 1 (0: none), the other files, how many files are loaded, and the line of
+// the refusal.
+static REFUSED: [(usize, &str, &str, &str, u64, &str); 9] = [
     // the first fault is told: the circuit's before the partition's, the partition's before the trace's
-    (10, "", "[]", "cycle", "golden: plain k1.fir\n"),
+    (10, "", "[]", "cycle", 1, "golden: plain k1.fir\n"),
     (
         9,
         "node n add(c, c)",
         "[]",
         "cycle",
+        1,
         "golden: circuit: syntax line 9\n",
     ),
-    (0, "", "[]", "cycle", "golden: plain p.json\n"),
-    (0, "", "{}", "cycle", "golden: plain k1.trace\n"),
+    (0, "", "[]", "cycle", 2, "golden: plain p.json\n"),
+    (0, "", "{}", "cycle", 3, "golden: plain k1.trace\n"),
     (
         0,
         "",
         "{}\n",
         "cycle reset\n0 1\n1 2\n",
+        3,
         "golden: plain k1.trace\n",
     ),
-    (0, "", "{}\r\n", TRACE, "golden: plain p.json\n"),
+    (0, "", "{}\r\n", TRACE, 2, "golden: plain p.json\n"),
     (
         3,
         "input clock : Analog<1>",
         "{}",
         TRACE,
+        1,
         "golden: circuit: outside line 3 Analog\n",
     ),
     (
@@ -120,9 +135,17 @@ static REFUSED: [(usize, &str, &str, &str, &str); 9] = [
         "when reset :",
         "{}",
         TRACE,
+        1,
         "golden: circuit: outside line 10 when\n",
     ),
-    (1, "circuit Other :", "{}", TRACE, "golden: plain k1.fir\n"),
+    (
+        1,
+        "circuit Other :",
+        "{}",
+        TRACE,
+        1,
+        "golden: plain k1.fir\n",
+    ),
 ];
 
 const RUN: [&str; 5] = ["golden", "run", "k1.fir", "p.json", "k1.trace"];
@@ -162,12 +185,23 @@ fn counter_files(alloc: Global) -> Result<MemFiles, Fail> {
     files_of(alloc, circuit.as_bytes(), b"{}", TRACE.as_bytes())
 }
 
-// What a call answered, and what stands on its sinks.
+// What a call answered, how many loads and puts on `out` it made, and what stands on its sinks.
 #[derive(Drop)]
 struct Answer {
     status: u8,
+    loads: u64,
+    puts: u64,
     out: Vec<u8>,
     err: Vec<u8>,
+}
+
+// The words of a call.
+fn owned(alloc: Global, words: &[&str]) -> Result<Vec<String>, AllocError> {
+    let mut owned = Vec::new(alloc);
+    for word in words {
+        owned.push(String::from_str(alloc, *word)?)?;
+    }
+    Ok(owned)
 }
 
 // A call with these words and files, where these loads and puts are to fail.
@@ -179,16 +213,13 @@ fn call(
     puts: Vec<FailingPut>,
     err_puts: Vec<FailingPut>,
 ) -> Result<Answer, Fail> {
-    let mut owned = Vec::new(alloc);
-    for word in words {
-        owned.push(String::from_str(alloc, *word)?)?;
-    }
+    let words = owned(alloc, words)?;
     let mut shelf = MemShelf::new(files, loads);
     let mut out = MemSink::new(alloc, puts);
     let mut err = MemSink::new(alloc, err_puts);
     let status = golden(
         alloc,
-        owned.as_slice(),
+        words.as_slice(),
         &mut shelf,
         &mut out,
         &mut err,
@@ -196,6 +227,8 @@ fn call(
     );
     Ok(Answer {
         status,
+        loads: shelf.loads,
+        puts: out.puts,
         out: out.bytes,
         err: err.bytes,
     })
@@ -213,10 +246,14 @@ fn run(alloc: Global, files: MemFiles) -> Result<Answer, Fail> {
     )
 }
 
-fn check(rt: &impl Abort, answer: &Answer, status: u8, out: &str, err: &str) {
+// A call answered this status after so many loads. Each line on `out` is a put of its own, also where the last of them
+// fails.
+fn check(rt: &impl Abort, answer: &Answer, status: u8, loads: u64, out: &str, err: &str) {
     assert_eq!(rt; answer.out.as_slice(), out.as_bytes());
     assert_eq!(rt; answer.err.as_slice(), err.as_bytes());
     assert_eq!(rt; answer.status, status);
+    assert_eq!(rt; answer.loads, loads);
+    assert_eq!(rt; answer.puts, out.lines().count() as u64);
 }
 
 #[test]
@@ -224,7 +261,7 @@ fn plain_files_are_run(rt: HostRuntime) -> Result<(), Fail> {
     let alloc = rt.alloc();
     for (circuit, trace, out) in &RUNS {
         let files = files_of(alloc, circuit.as_bytes(), b"{}\n", trace.as_bytes())?;
-        check(&rt, &run(alloc, files)?, 0, out, "");
+        check(&rt, &run(alloc, files)?, 0, 3, out, "");
     }
     Ok(())
 }
@@ -232,8 +269,7 @@ fn plain_files_are_run(rt: HostRuntime) -> Result<(), Fail> {
 #[test]
 fn the_first_fault_is_told(rt: HostRuntime) -> Result<(), Fail> {
     let alloc = rt.alloc();
-    refusals_are_exact();
-    for (line, text, partition, trace, err) in &REFUSED {
+    for (line, text, partition, trace, loads, err) in &REFUSED {
         let circuit = counter(alloc, 11, *line, text)?;
         let files = files_of(
             alloc,
@@ -241,7 +277,7 @@ fn the_first_fault_is_told(rt: HostRuntime) -> Result<(), Fail> {
             partition.as_bytes(),
             trace.as_bytes(),
         )?;
-        check(&rt, &run(alloc, files)?, 1, "", err);
+        check(&rt, &run(alloc, files)?, 1, *loads, "", err);
     }
     for (lines, err) in [
         (0, "golden: circuit: syntax line 1\n"),
@@ -250,43 +286,17 @@ fn the_first_fault_is_told(rt: HostRuntime) -> Result<(), Fail> {
     ] {
         let circuit = counter(alloc, lines, 0, "")?;
         let files = files_of(alloc, circuit.as_bytes(), b"{}", TRACE.as_bytes())?;
-        check(&rt, &run(alloc, files)?, 1, "", err);
+        check(&rt, &run(alloc, files)?, 1, 1, "", err);
     }
     let files = files_of(alloc, b"\xff", b"{}", TRACE.as_bytes())?;
     check(
         &rt,
         &run(alloc, files)?,
         1,
+        1,
         "",
         "golden: circuit: not text\n",
     );
-    Ok(())
-}
-
-// The counter with so many nested `not( )` around its output.
-fn nested(alloc: Global, depth: usize) -> Result<String, Fail> {
-    let mut text = String::from_str(alloc, "out <= ")?;
-    for _ in 0..depth {
-        text.push_str("not(")?;
-    }
-    text.push_str("c")?;
-    for _ in 0..depth {
-        text.push_str(")")?;
-    }
-    Ok(counter(alloc, 11, 10, text.as_str())?)
-}
-
-#[test]
-fn brackets_nest_256_deep(rt: HostRuntime) -> Result<(), Fail> {
-    let alloc = rt.alloc();
-    for (depth, status, out, err) in [
-        (256, 0, TEXT, ""),
-        (257, 1, "", "golden: circuit: too deep line 10\n"),
-    ] {
-        let circuit = nested(alloc, depth)?;
-        let files = files_of(alloc, circuit.as_bytes(), b"{}", TRACE.as_bytes())?;
-        check(&rt, &run(alloc, files)?, status, out, err);
-    }
     Ok(())
 }
 
@@ -301,6 +311,7 @@ fn check_unasked(rt: &impl Abort, alloc: Global, words: &[&str]) -> Result<(), F
         Vec::new(alloc),
     )?;
     assert_eq!(rt; answer.status, 2);
+    assert_eq!(rt; (answer.loads, answer.puts), (0, 0));
     assert!(rt; answer.out.is_empty());
     assert!(rt;
         answer
@@ -331,43 +342,136 @@ fn words_that_are_no_command(rt: HostRuntime) -> Result<(), Fail> {
     Ok(())
 }
 
-// A file that is missing or too long, also where the circuit before it is refused; and each load failing in turn.
+// A file that is missing, also where the circuit before it is refused; and each load failing in turn.
 #[test]
 fn files_that_are_not_loaded(rt: HostRuntime) -> Result<(), Fail> {
     let alloc = rt.alloc();
-    for (changed, status, err) in [
-        (0, 3, "golden: cannot load p.json\n"),
-        (10, 1, "golden: plain k1.fir\n"),
+    for (changed, status, loads, err) in [
+        (0, 3, 2, "golden: cannot load p.json\n"),
+        (10, 1, 1, "golden: plain k1.fir\n"),
     ] {
         let mut files = BTreeMap::new(alloc);
         let circuit = counter(alloc, 11, changed, "")?;
         hold(&mut files, alloc, "k1.fir", circuit.as_bytes())?;
-        check(&rt, &run(alloc, files)?, status, "", err);
+        check(&rt, &run(alloc, files)?, status, loads, "", err);
     }
-    let mut files = counter_files(alloc)?;
-    let long = vec![in alloc; b' '; 1_048_577]?;
-    hold(&mut files, alloc, "p.json", long.as_slice())?;
-    check(
-        &rt,
-        &run(alloc, files)?,
-        8,
-        "",
-        "golden: p.json is over 1048576 bytes\n",
-    );
-    for (load, err) in [
-        (0, "golden: cannot load k1.fir\n"),
-        (1, "golden: cannot load p.json\n"),
-        (2, "golden: cannot load k1.trace\n"),
+    for (failing, loads, err) in [
+        (0, 1, "golden: cannot load k1.fir\n"),
+        (1, 2, "golden: cannot load p.json\n"),
+        (2, 3, "golden: cannot load k1.trace\n"),
     ] {
         let answer = call(
             alloc,
             &RUN,
             counter_files(alloc)?,
-            vec![in alloc; load]?,
+            vec![in alloc; failing]?,
             Vec::new(alloc),
             Vec::new(alloc),
         )?;
-        check(&rt, &answer, 3, "", err);
+        check(&rt, &answer, 3, loads, "", err);
+    }
+    Ok(())
+}
+
+// Files of blanks, each one byte past its limit, and how many files are loaded.
+static OVER: [(&str, usize, u64, &str); 3] = [
+    (
+        "k1.fir",
+        4_194_305,
+        1,
+        "golden: k1.fir is over 4194304 bytes\n",
+    ),
+    (
+        "p.json",
+        1_048_577,
+        2,
+        "golden: p.json is over 1048576 bytes\n",
+    ),
+    (
+        "k1.trace",
+        67_108_865,
+        3,
+        "golden: k1.trace is over 67108864 bytes\n",
+    ),
+];
+
+#[test]
+fn files_past_their_limits(rt: HostRuntime) -> Result<(), Fail> {
+    let alloc = rt.alloc();
+    for (name, size, loads, err) in OVER {
+        let mut files = counter_files(alloc)?;
+        let blanks = vec![in alloc; b' '; size]?;
+        hold(&mut files, alloc, name, blanks.as_slice())?;
+        check(&rt, &run(alloc, files)?, 8, loads, "", err);
+    }
+    Ok(())
+}
+
+// The counter with blanks behind it, up to the limit of a circuit.
+#[test]
+fn a_circuit_of_its_limit(rt: HostRuntime) -> Result<(), Fail> {
+    let alloc = rt.alloc();
+    let circuit = counter(alloc, 11, 0, "")?;
+    let mut bytes = Vec::from_slice(alloc, circuit.as_bytes())?;
+    bytes.resize(4_194_304, b' ')?;
+    let files = files_of(alloc, bytes.as_slice(), b"{}", TRACE.as_bytes())?;
+    check(&rt, &run(alloc, files)?, 0, 3, TEXT, "");
+    Ok(())
+}
+
+// A sink that has memory for so many puts. It tells nothing of what was written, and keeps it for the test to see.
+#[derive(Drop)]
+struct FullSink {
+    bytes: Vec<u8>,
+    room: u64,
+    refused: u64,
+}
+
+impl Sink for FullSink {
+    ghost written = { λ _. None };
+
+    ghost faults = { λ _. 0 };
+
+    ghost refused = { λ s. s.refused };
+
+    fn put(&mut self, bytes: &[u8]) -> Result<(), PutFail> {
+        if self.room == 0 || self.bytes.extend_from_slice(bytes).is_err() {
+            self.refused = self.refused.saturating_add(1);
+            return Err(PutFail::NoMemory);
+        }
+        self.room -= 1;
+        Ok(())
+    }
+}
+
+// A put on `out` that is refused memory ends the call with what was written before, whole.
+#[test]
+fn puts_that_find_no_memory(rt: HostRuntime) -> Result<(), Fail> {
+    let alloc = rt.alloc();
+    let words = owned(alloc, &RUN)?;
+    for (room, status, text, line) in [
+        (0, 5, "", "golden: out of memory\n"),
+        (2, 5, "cycle out\n0 00\n", "golden: out of memory\n"),
+        (5, 0, TEXT, ""),
+    ] {
+        let mut shelf = SureShelf::new(counter_files(alloc)?);
+        let mut out = FullSink {
+            bytes: Vec::new(alloc),
+            room,
+            refused: 0,
+        };
+        let mut err = SureSink::new(alloc);
+        let answered = golden(
+            alloc,
+            words.as_slice(),
+            &mut shelf,
+            &mut out,
+            &mut err,
+            &NoGate,
+        );
+        assert_eq!(rt; answered, status);
+        assert_eq!(rt; out.bytes.as_slice(), text.as_bytes());
+        assert_eq!(rt; err.bytes.as_slice(), line.as_bytes());
     }
     Ok(())
 }
@@ -391,7 +495,7 @@ fn puts_that_fail(rt: HostRuntime) -> Result<(), Fail> {
             vec![in alloc; FailingPut { number, takes: 3 }]?,
             Vec::new(alloc),
         )?;
-        check(&rt, &answer, 4, out, "golden: cannot write\n");
+        check(&rt, &answer, 4, 3, out, "golden: cannot write\n");
     }
     let answer = call(
         alloc,
@@ -406,6 +510,6 @@ fn puts_that_fail(rt: HostRuntime) -> Result<(), Fail> {
             },
         ]?,
     )?;
-    check(&rt, &answer, 3, "", "golden: ");
+    check(&rt, &answer, 3, 2, "", "golden: ");
     Ok(())
 }

@@ -1,8 +1,9 @@
 //! Writing text.
-ghost use Rattle.std.specs.Prelude.{◌≡◌, ◌≤◌};
+ghost use Rattle.std.specs.Prelude.{◌≡◌};
 ghost use Rattle.gg_io.specs.Count.{Rose};
 ghost use Rattle.golden.specs.Stops.{Prints, said_of};
 ghost use Rattle.golden.specs.Outcome.{Reports, HasTrouble};
+ghost use Rattle.golden.specs.WentOn.{SinkWentOn};
 
 use crate::stops::Stop;
 use gg_io::{PutFail, Sink};
@@ -10,8 +11,7 @@ use gg_io::{PutFail, Sink};
 /// Puts one piece of the text.
 pub(crate) fn put<K: Sink>(out: &mut K, piece: &[u8]) -> Result<(), Stop>
     ensures prints { Prints (K.written out.old) (K.written out.new) (Rose (K.faults out.old) (K.faults out.new)) piece.now result }
-    ensures faults_stay_or_rise { K.faults out.old ≤ K.faults out.new }
-    ensures refused_stay_or_rise { K.refused out.old ≤ K.refused out.new }
+    ensures out { SinkWentOn (K.faults out.old) (K.faults out.new) (K.refused out.old) (K.refused out.new) }
 {
     match out.put(piece) {
         Ok(()) => Ok(()),
@@ -24,8 +24,7 @@ pub(crate) fn put<K: Sink>(out: &mut K, piece: &[u8]) -> Result<(), Stop>
 pub(crate) fn report<E: Sink>(stop: &Stop, err: &mut E) -> u8
     ensures status { result ≡ (said_of stop.now).status }
     ensures line { Reports (E.written err.old) (E.written err.new) (HasTrouble (E.faults err.old) (E.faults err.new) (E.refused err.old) (E.refused err.new)) (said_of stop.now).line }
-    ensures faults_stay_or_rise { E.faults err.old ≤ E.faults err.new }
-    ensures refused_stay_or_rise { E.refused err.old ≤ E.refused err.new }
+    ensures err { SinkWentOn (E.faults err.old) (E.faults err.new) (E.refused err.old) (E.refused err.new) }
 {
     let _ = err.put(stop.line());
     stop.status()

@@ -8,7 +8,8 @@ use std::alloc::Global;
 use std::process::ExitCode;
 use std::{env, io};
 
-// The status and the line where the words find no memory.
+// The status and the line where the words find no memory: those of `out_of_memory` in golden's specs, written again since
+// `golden` can't be called without words.
 const OUT_OF_MEMORY: u8 = 5;
 
 const OUT_OF_MEMORY_LINE: &[u8] = b"golden: out of memory\n";

@@ -19,6 +19,6 @@ returns-in_err-put-clause-prints g c =
 
 pub returns-clause-prints : goal.returns-clause-prints
 returns-clause-prints g c =
-    λ rows run. prints-more (Unit {0}) _ _ _ _ _ c.print_rows.result (rose-earlier _ _ _ c.put.ensures.faults_stay_or_rise)
+    λ rows run. prints-more (Unit {0}) _ _ _ _ _ c.print_rows.result (rose-earlier _ _ _ c.put.ensures.out.faults_stay_or_rise)
     (c.print_rows.ensures.prints rows (g.K.Sink.written c.args.out.now) run
     (c.in_ok-put.ensures.prints ∙ ap (append_known (g.K.Sink.written c.args.out.now)) (c.as_bytes.ensures ∙ c.in_ok-header.ensures)))

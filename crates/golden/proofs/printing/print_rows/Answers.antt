@@ -1,7 +1,17 @@
-use Rattle.std.proofs.Common.{◌≡◌, ◌<◌, arith}
+use Rattle.std.proofs.Common.{◌≡◌, ◌<◌, ℕ, List, sym, subst, arith}
 use Rattle.std.proofs.lemmas.Result.{err_from_is_err_and}
+use Rattle.gg_flat.specs.Circuit.{FlatCircuit}
+use Rattle.gg_flat.specs.Settled.{IsInputs}
 use Rattle.golden.proofs.PrintingLemmas.{printed-next, printed-stop}
 use Rattle.golden.proofs.printing.print_rows.Goals as goal
+
+pub print_row-requires-clause-inputs : goal.print_row-requires-clause-inputs
+print_row-requires-clause-inputs g c =
+    let below = c.loop-cycle-test.true in
+    let count = c.rows-cycle-end.ensures.count in
+    let lt : c.loop-cycle.cycle < c.args.inputs.now.rows = omega arith in
+    subst (λ (circuit : FlatCircuit). IsInputs circuit c.row.result.now) (sym c.loop-cycle.invariant.same)
+    (subst (λ (row : List ℕ). IsInputs c.args.mono.now.circuit row) (sym c.row.ensures.values) (c.requires.fed.inputs c.loop-cycle.cycle lt))
 
 pub returns-in_err-print_row-clause-prints : goal.returns-in_err-print_row-clause-prints
 returns-in_err-print_row-clause-prints g c =
@@ -20,7 +30,7 @@ loop-cycle-preserved g c =
     let lt : c.loop-cycle.cycle < c.args.inputs.now.rows = omega arith in
     printed-next _ _ _ _ _ _ _ _ _ _ _ _ _ _ _ _ _ c.settled_once.ensures c.requires.ordered.0 c.requires.ordered.1 lt c.row.result.now c.row.ensures.values
     c.loop-cycle.invariant c.print_row.ensures.circuit c.print_row.ensures.cycle c.in_ok-print_row.ensures.prints
-    c.print_row.ensures.faults_stay_or_rise c.print_row.ensures.refused_stay_or_rise c.print_row.auto.outs
+    c.print_row.ensures.out.faults_stay_or_rise c.print_row.ensures.out.refused_stay_or_rise c.print_row.auto.outs
 
 pub returns-clause-prints : goal.returns-clause-prints
 returns-clause-prints g c =

@@ -24,6 +24,6 @@ returns-clause-ended g c =
     (Rose (g.K.Sink.faults c.args.out.now) (g.K.Sink.faults c.run_design.new.out)) (Unit {0}) (g.K.Sink.written c.args.out.now) (g.K.Sink.written c.run_design.new.out)
     (g.S.Shelf.files c.read_circuit.new.shelf)
     (Rose (g.S.Shelf.faults c.read_circuit.new.shelf) (g.S.Shelf.faults c.run_design.new.shelf)) (Rose (g.S.Shelf.cuts c.read_circuit.new.shelf) (g.S.Shelf.cuts c.run_design.new.shelf))
-    c.read_circuit.ensures.files_stay (rose-earlier _ _ _ c.read_circuit.ensures.faults_stay_or_rise) (rose-earlier _ _ _ c.read_circuit.ensures.cuts_stay_or_rise)
+    c.read_circuit.ensures.shelf.files_stay (rose-earlier _ _ _ c.read_circuit.ensures.shelf.faults_stay_or_rise) (rose-earlier _ _ _ c.read_circuit.ensures.shelf.cuts_stay_or_rise)
     (circuit_file c.args.circuit.now) (λ b. partition_order b c.args.partition.now c.args.trace.now)
     accepted.0 accepted.1 (means-plain accepted.0 c.in_ok-design.design.circuit accepted.2) c.run_design.result (c.run_design.ensures.ended accepted.0 accepted.2)

@@ -23,6 +23,6 @@ returns-clause-ended g c =
     (Rose (g.K.Sink.faults c.args.out.now) (g.K.Sink.faults c.run_trace.new.out)) (Unit {0}) (g.K.Sink.written c.args.out.now) (g.K.Sink.written c.run_trace.new.out)
     (g.S.Shelf.files c.read_partition.new.shelf)
     (Rose (g.S.Shelf.faults c.read_partition.new.shelf) (g.S.Shelf.faults c.run_trace.new.shelf)) (Rose (g.S.Shelf.cuts c.read_partition.new.shelf) (g.S.Shelf.cuts c.run_trace.new.shelf))
-    c.read_partition.ensures.files_stay (rose-earlier _ _ _ c.read_partition.ensures.faults_stay_or_rise) (rose-earlier _ _ _ c.read_partition.ensures.cuts_stay_or_rise)
+    c.read_partition.ensures.shelf.files_stay (rose-earlier _ _ _ c.read_partition.ensures.shelf.faults_stay_or_rise) (rose-earlier _ _ _ c.read_partition.ensures.shelf.cuts_stay_or_rise)
     (partition_file c.args.partition.now) (λ _. trace_order circuit c.args.trace.now)
     accepted.0 accepted.1 accepted.2 c.run_trace.result (c.run_trace.ensures.ended circuit means)

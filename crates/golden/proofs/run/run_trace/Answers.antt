@@ -2,9 +2,10 @@ use Rattle.std.proofs.Common.{refl}
 use Rattle.std.proofs.lemmas.Result.{err_from_is_err_and}
 use Rattle.gg_io.specs.Count.{Rose}
 use Rattle.golden.specs.Order.{Write}
-use Rattle.golden.specs.Run.{trace_file, trace_order, IsPlainTrace, IsTextOf}
+use Rattle.golden.specs.Run.{trace_file, trace_order, IsPlainTrace, IsOnlyText}
 use Rattle.golden.proofs.EndingLemmas.{refused-ends, printed-ends, trace-refused}
 use Rattle.golden.proofs.ReadingLemmas.{IfRefused-map}
+use Rattle.golden.proofs.TextLemmas.{only-text}
 use Rattle.golden.proofs.run.run_trace.Goals as goal
 
 pub returns-in_err-inputs-clause-ended : goal.returns-in_err-inputs-clause-ended
@@ -14,11 +15,11 @@ returns-in_err-inputs-clause-ended g c =
     (refused-ends (g.S.Shelf.files c.args.shelf.now)
     (Rose (g.S.Shelf.faults c.args.shelf.now) (g.S.Shelf.faults c.read_inputs.new.shelf)) (Rose (g.S.Shelf.cuts c.args.shelf.now) (g.S.Shelf.cuts c.read_inputs.new.shelf))
     (Rose (g.K.Sink.faults c.args.out.now) (g.K.Sink.faults c.args.out.now)) (Unit {0}) (g.K.Sink.written c.args.out.now)
-    (trace_file (IsPlainTrace circuit) c.args.trace.now) (λ t. Write (IsTextOf circuit t)) c.in_err-inputs.field-0.0
+    (trace_file (IsPlainTrace circuit) c.args.trace.now) (λ t. Write (IsOnlyText circuit t)) c.in_err-inputs.field-0.0
     (IfRefused-map
     (trace-refused c.ports_agree.ensures.ins (g.S.Shelf.files c.args.shelf.now)
     (Rose (g.S.Shelf.faults c.args.shelf.now) (g.S.Shelf.faults c.read_inputs.new.shelf)) (Rose (g.S.Shelf.cuts c.args.shelf.now) (g.S.Shelf.cuts c.read_inputs.new.shelf))
-    circuit c.args.design.circuit c.args.trace.now means)
+    circuit c.args.design.now.circuit c.args.trace.now means)
     c.in_err-inputs.field-0.0 c.in_err-inputs.ensures.refused))
 
 pub returns-clause-ended : goal.returns-clause-ended
@@ -32,18 +33,23 @@ returns-clause-ended g c =
     (trace_order circuit c.args.trace.now) _ c.print_run.result (
       accepted.0,
       record { held = accepted.1.held; within = accepted.1.within },
-      (c.args.design.circuit, means, (c.in_ok-inputs.inputs.rows, c.in_ok-inputs.inputs.columns, accepted.2)),
-      (
-        c.args.design.circuit,
-        means,
-        record {
-          cycles = c.in_ok-inputs.inputs.rows;
-          columns = c.in_ok-inputs.inputs.columns;
-          rows = prints.0;
-          feeds = accepted.2;
-          run = prints.1;
-          is = refl;
-        },
-      ),
+      (c.args.design.now.circuit, means, (c.in_ok-inputs.inputs.rows, c.in_ok-inputs.inputs.columns, accepted.2.feeds)),
+      record {
+        is = (
+          c.args.design.now.circuit,
+          means,
+          record {
+            cycles = c.in_ok-inputs.inputs.rows;
+            columns = c.in_ok-inputs.inputs.columns;
+            rows = prints.0;
+            feeds = accepted.2.feeds;
+            run = prints.1;
+            is = refl;
+          },
+        );
+        only =
+            only-text c.ports_agree.ensures.ins c.ports_agree.ensures.outs c.one_run.ensures.outs c.one_run.ensures.runs c.run_once.ensures circuit accepted.0 c.args.design.now.circuit c.args.design.now.order
+            c.order.ensures.ordered means c.in_ok-inputs.inputs.rows c.in_ok-inputs.inputs.columns prints.0 prints.1 accepted.2;
+      },
     )
     prints.2
