@@ -3,3 +3,4 @@ pub mod Shape
 pub mod ResultType
 pub mod Meaning
 pub mod Spelling
+pub mod BadText

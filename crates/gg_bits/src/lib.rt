@@ -27,7 +27,7 @@ mod unary;
 
 pub use binary::{apply2, result2};
 pub use choice::{mux, result_mux};
-pub use lists::{Ids, Names};
+pub use lists::{Ids, Items, Names};
 pub use name::Name;
 pub use ops::{Op1, Op2, OpN};
 pub use parametric::{apply_const, result_const};
