@@ -1,2 +1,5 @@
 pub mod LastModule
 pub mod NamePlaces
+pub mod TreeOf
+pub mod KeptNames
+pub mod WorkedNames

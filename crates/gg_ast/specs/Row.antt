@@ -3,14 +3,10 @@ use Rattle.std.specs.Prelude.{ℕ, List, Option}
 use Rattle.gg_ast.specs.declared.expression.Reference.{Reference}
 use Rattle.gg_ast.specs.declared.module.Direction.{Direction}
 use Rattle.gg_ast.specs.declared.module.GroundType.{GroundType}
+use Rattle.gg_ast.specs.declared.statement.Argument.{Argument}
 use Rattle.gg_ast.specs.declared.statement.MemoryField.{MemoryField}
 use Rattle.gg_ast.specs.declared.statement.Report.{Report}
 use Rattle.gg_ast.specs.Term.{Term}
-
--- an argument of printf, assert, assume or cover: an expression or a text
-pub data GivenArgument : Type 0 where
-  GivenTerm : Term → GivenArgument
-  GivenText : List ℕ → GivenArgument
 
 pub data Row : Type 0 where
   -- FIRRTL version n . n . n
@@ -48,7 +44,7 @@ pub data Row : Type 0 where
   -- stop ( CLOCK , CONDITION , CODE ), maybe with : NAME
   StopRow : Term → Term → ℕ → Option (List ℕ) → Row
   -- printf, assert, assume or cover ( ARGUMENTS ), maybe with : NAME
-  ReportRow : Report → List GivenArgument → Option (List ℕ) → Row
+  ReportRow : Report → List Argument → Option (List ℕ) → Row
 
 -- a row with its line, counted from 1
 pub record Numbered : Type 0 where

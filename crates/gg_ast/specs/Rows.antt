@@ -2,15 +2,13 @@
 use Rattle.std.specs.Prelude.{ℕ, List, [], ◌∷◌, ◌++◌, Option, None, Some, ◌==◌, if◌then◌else◌, map}
 use Rattle.gg_ast.specs.declared.module.GroundType.{GroundType}
 use Rattle.gg_ast.specs.declared.module.Port.{Port}
-use Rattle.gg_ast.specs.declared.statement.Argument.{Argument}
-use Rattle.gg_ast.specs.declared.statement.Argument.TheVariants.{Value, Text}
 use Rattle.gg_ast.specs.declared.statement.Field.{Field}
 use Rattle.gg_ast.specs.declared.statement.Reset.{Reset}
 use Rattle.gg_ast.specs.declared.statement.Stmt.{Stmt}
 use Rattle.gg_ast.specs.declared.statement.StmtKind.{StmtKind}
 use Rattle.gg_ast.specs.declared.statement.StmtKind.TheVariants.{Wire, Node, Register, Instance, Memory, Connect, Invalid, Skip, Stop, Report}
-use Rattle.gg_ast.specs.Row.{Numbered, numbered, GivenArgument, GivenTerm, GivenText, CircuitRow, ModuleRow, PortRow, WireRow, NodeRow, RegisterRow, RegisterResetRow, RegisterOpenRow, ResetRow, InstanceRow, MemoryRow, FieldRow, ConnectRow, InvalidRow, SkipRow, StopRow, ReportRow}
-use Rattle.gg_ast.specs.Term.{Term, term}
+use Rattle.gg_ast.specs.Row.{Numbered, numbered, CircuitRow, ModuleRow, PortRow, WireRow, NodeRow, RegisterRow, RegisterResetRow, RegisterOpenRow, ResetRow, InstanceRow, MemoryRow, FieldRow, ConnectRow, InvalidRow, SkipRow, StopRow, ReportRow}
+use Rattle.gg_ast.specs.Term.{Term}
 use Rattle.gg_ast.specs.Tree.{ModuleTree, CircuitTree}
 
 abbrev pub port_row : Port → Numbered
@@ -19,30 +17,26 @@ port_row port = numbered port.line (PortRow port.direction port.name port.ty)
 abbrev pub field_row : Field → Numbered
 field_row field = numbered field.line (FieldRow field.kind)
 
-abbrev pub given_argument : Argument → GivenArgument
-given_argument (Value e) = GivenTerm (term e)
-given_argument (Text t) = GivenText t
-
 -- a register has one row, or two where its reset stands on a line of its own
 abbrev pub register_rows : ℕ → List ℕ → GroundType → Term → Option Reset → List Numbered
 register_rows line name ty clock None = numbered line (RegisterRow name ty clock) ∷ []
 register_rows line name ty clock (Some reset) =
     if reset.line == line
-    then numbered line (RegisterResetRow name ty clock (term reset.condition) (term reset.init)) ∷ []
-    else numbered line (RegisterOpenRow name ty clock) ∷ (numbered reset.line (ResetRow (term reset.condition) (term reset.init)) ∷ [])
+    then numbered line (RegisterResetRow name ty clock reset.condition reset.init) ∷ []
+    else numbered line (RegisterOpenRow name ty clock) ∷ (numbered reset.line (ResetRow reset.condition reset.init) ∷ [])
 
 -- a memory has a row for each of its fields after its own; any other statement has one row
 abbrev pub kind_rows : ℕ → StmtKind → List Numbered
 kind_rows line (Wire name ty) = numbered line (WireRow name ty) ∷ []
-kind_rows line (Node name value) = numbered line (NodeRow name (term value)) ∷ []
-kind_rows line (Register name ty clock reset) = register_rows line name ty (term clock) reset
+kind_rows line (Node name value) = numbered line (NodeRow name value) ∷ []
+kind_rows line (Register name ty clock reset) = register_rows line name ty clock reset
 kind_rows line (Instance name m) = numbered line (InstanceRow name m) ∷ []
-kind_rows line (Memory name fields) = numbered line (MemoryRow name) ∷ map field_row fields.items
-kind_rows line (Connect sink source) = numbered line (ConnectRow sink (term source)) ∷ []
+kind_rows line (Memory name fields) = numbered line (MemoryRow name) ∷ map field_row fields
+kind_rows line (Connect sink source) = numbered line (ConnectRow sink source) ∷ []
 kind_rows line (Invalid sink) = numbered line (InvalidRow sink) ∷ []
 kind_rows line Skip = numbered line SkipRow ∷ []
-kind_rows line (Stop clock condition code label) = numbered line (StopRow (term clock) (term condition) code label) ∷ []
-kind_rows line (Report word arguments label) = numbered line (ReportRow word (map given_argument arguments.items) label) ∷ []
+kind_rows line (Stop clock condition code label) = numbered line (StopRow clock condition code label) ∷ []
+kind_rows line (Report word arguments label) = numbered line (ReportRow word arguments label) ∷ []
 
 abbrev pub statement_rows : Stmt → List Numbered
 statement_rows s = kind_rows s.line s.kind

@@ -1,8 +1,6 @@
--- An expression without pointers, which is what clauses and definitions speak of: two expressions are the same where
--- their terms are equal (FIRRTL Specification, "Expressions", "Primitive Operations").
-use Rattle.std.specs.Prelude.{ℕ}
-use Rattle.gg_ast.specs.declared.expression.Expr.{Expr}
-use Rattle.gg_ast.specs.declared.expression.Expr.TheVariants.{Named, Constant, Unary', Binary', Fixed', Mux'}
+-- An expression without pointers, which is what clauses and definitions speak of (FIRRTL Specification, "Expressions",
+-- "Primitive Operations").
+use Rattle.std.specs.Prelude.{ℕ, ◌+◌}
 use Rattle.gg_ast.specs.declared.expression.Literal.{Literal}
 use Rattle.gg_ast.specs.declared.expression.Reference.{Reference}
 use Rattle.gg_bits.specs.declared.ops.Op1.{Op1}
@@ -11,18 +9,22 @@ use Rattle.gg_bits.specs.declared.ops.OpN.{OpN}
 
 -- a reference, a literal, an operation on one value, on two, on one with the parameters n and m, or mux(c, a, b)
 pub data Term : Type 0 where
-  Ref : Reference → Term
-  Lit : Literal → Term
-  One : Op1 → Term → Term
-  Two : Op2 → Term → Term → Term
-  Fix : OpN → Term → ℕ → ℕ → Term
-  Choose : Term → Term → Term → Term
+  NamedTerm : Reference → Term
+  ConstantTerm : Literal → Term
+  UnaryTerm : Op1 → Term → Term
+  BinaryTerm : Op2 → Term → Term → Term
+  FixedTerm : OpN → Term → ℕ → ℕ → Term
+  MuxTerm : Term → Term → Term → Term
 
--- the term of an expression of the program
-abbrev pub term : Expr → Term
-term (Named r) = Ref r
-term (Constant l) = Lit l
-term (Unary' o p a) = One o (term a)
-term (Binary' o p a q b) = Two o (term a) (term b)
-term (Fixed' o p a n m) = Fix o (term a) n m
-term (Mux' p c q a r b) = Choose (term c) (term a) (term b)
+-- how many operations and leaves a term has, which a recursion over it goes down by
+abbrev pub size_of : Term → ℕ
+size_of (NamedTerm r) = 1
+size_of (ConstantTerm l) = 1
+size_of (UnaryTerm o a) = size_of a + 1
+size_of (BinaryTerm o a b) = size_of a + size_of b + 1
+size_of (FixedTerm o a n m) = size_of a + 1
+size_of (MuxTerm c a b) = size_of c + size_of a + size_of b + 1
+
+-- an expression is its term
+abbrev pub term : Term → Term
+term t = t

@@ -1,6 +1,7 @@
 //! The circuit and its table of modules.
 ghost use Rattle.std.specs.Prelude.{◌≡◌, ◌≢◌, ℕ, ◌+◌, ◌<◌, ◌≤◌, ◌^◌, [], ◌∷◌, ◌++◌, length, is_ok, if◌then◌else◌, OnOk, OnErr, List, IfSome, IfNone};
 ghost use Rattle.gg_ast.specs.Tree.{empty_circuit, empty_module, module_names, add_module, add_port, add_statement, IsOpenToPorts};
+ghost use Rattle.gg_ast.specs.Names.{IsName, IsPortNamed, AreNamesOfStatement, AreNamesOfCircuit};
 ghost use Rattle.gg_ast.specs.Places.{place_of, IsFirstOf, Lacks, TellsPlaces};
 ghost use Rattle.gg_ast.specs.Row.{numbered, CircuitRow, ModuleRow};
 ghost use Rattle.gg_ast.specs.Rows.{rows_of, port_row, statement_rows};
@@ -16,7 +17,7 @@ use std::marker::Model;
 ///
 /// It is built row by row, from the header on. Where a call that adds something is refused memory the circuit stays
 /// as it was.
-#[derive(Drop)]
+#[derive(Debug, Drop)]
 pub struct Circuit {
     line: u64,
     name: Name,
@@ -29,6 +30,7 @@ impl Model for Circuit {
     ghost use Rattle.std.specs.Prelude.{ℕ};
     ghost use Rattle.gg_ast.specs.Tree.{CircuitTree, names_of};
     ghost use Rattle.gg_ast.specs.Places.{TellsPlaces};
+    ghost use Rattle.gg_ast.specs.Names.{AreNamesOfCircuit};
     ghost use Rattle.gg_ast.specs.contracts.expression.Expr as expression;
     ghost use Rattle.std.specs.Coded.{codes};
 
@@ -38,12 +40,13 @@ impl Model for Circuit {
 
     ghost view = { λ c. record { line = c.line; name = c.name; modules = c.modules.items } };
 
-    ghost invariant = { λ c. TellsPlaces (names_of c.modules.items) c.places };
+    ghost invariant = { λ c. AreNamesOfCircuit (record { line = c.line; name = c.name; modules = c.modules.items }) × TellsPlaces (names_of c.modules.items) c.places };
 }
 
 impl Circuit {
     /// A circuit without modules, whose header stands on this line, counted from 1: that is its only row.
     pub fn new(alloc: Global, line: u64, name: Name) -> Circuit
+        requires named { IsName name }
         ensures value { result ≡ empty_circuit line name }
         ensures rows { rows_of result ≡ numbered line (CircuitRow name) ∷ [] }
     {
@@ -76,6 +79,14 @@ impl Circuit {
         self.modules.as_slice()
     }
 
+    /// Nothing is done. What it ensures holds of each circuit: its names are names, each a letter or `_` and then letters,
+    /// digits, `_` and `$`. So no dot and no dash stands in one.
+    pub fn names_are_words(&self)
+        ensures { AreNamesOfCircuit self.now }
+    {
+        let _ = &self.line;
+    }
+
     /// The place of the first module of that name, or none exactly where no module has it.
     pub fn module(&self, name: &str) -> Option<u32>
         requires { length self.now.modules ≤ 2 ^ 32 }
@@ -97,6 +108,7 @@ impl Circuit {
     ///
     /// `AllocError` where memory is refused: the circuit stays as it was.
     pub fn push_module(&mut self, alloc: Global, line: u64, name: Name) -> Result<(), AllocError>
+        requires named { IsName name }
         ensures value { self.new ≡ (if is_ok result then add_module self.old (empty_module line name) else self.old) }
         ensures rows { OnOk result (rows_of self.new ≡ rows_of self.old ++ numbered line (ModuleRow name) ∷ []) }
         ensures ports { OnOk result (IsOpenToPorts self.new.modules) }
@@ -117,7 +129,8 @@ impl Circuit {
     ///
     /// `AllocError` where memory is refused: the circuit stays as it was.
     pub fn push_port(&mut self, port: Port) -> Result<(), AllocError>
-        requires { 0 < length self.old.modules }
+        requires some { 0 < length self.old.modules }
+        requires named { IsPortNamed port }
         ensures value { self.new ≡ (if is_ok result then add_port self.old port else self.old) }
         ensures rows { IsOpenToPorts self.old.modules → OnOk result (rows_of self.new ≡ rows_of self.old ++ port_row port ∷ []) }
         ensures ports { IsOpenToPorts self.old.modules → IsOpenToPorts self.new.modules }
@@ -136,7 +149,8 @@ impl Circuit {
     ///
     /// `AllocError` where memory is refused: the circuit stays as it was.
     pub fn push_statement(&mut self, statement: Stmt) -> Result<(), AllocError>
-        requires { 0 < length self.old.modules }
+        requires some { 0 < length self.old.modules }
+        requires named { AreNamesOfStatement statement }
         ensures value { self.new ≡ (if is_ok result then add_statement self.old statement else self.old) }
         ensures rows { OnOk result (rows_of self.new ≡ rows_of self.old ++ statement_rows statement) }
         ensures some { length self.new.modules ≡ length self.old.modules }

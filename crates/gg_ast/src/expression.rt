@@ -1,15 +1,16 @@
 //! Expressions, references and literals (FIRRTL Specification, "Expressions").
 use gg_bits::{Kind, Name, Op1, Op2, OpN};
+use std::marker::Model;
 
 /// A reference, of one to three names with dots between them (FIRRTL Specification, "References", "Sub-fields").
 #[derive(Debug, Drop)]
 pub enum Reference {
     /// `x`: a port, wire, register or node of the module.
-    One(Name),
+    Local(Name),
     /// `i.p`: the port `p` of the instance `i`.
-    Two(Name, Name),
+    PortOf(Name, Name),
     /// `m.r.addr`: the field `addr` of the port `r` of the memory `m`.
-    Three(Name, Name, Name),
+    FieldOf(Name, Name, Name),
 }
 
 /// In which digits a literal is written.
@@ -40,9 +41,19 @@ pub struct Literal {
     pub digits: Name,
 }
 
-/// An expression. It stands on the line of its statement, or of the reset of which it is a part.
-#[derive(Drop)]
-pub enum Expr {
+/// An expression. It stands on the line of its statement, or of the reset of which it is a part. A contract sees it as a
+/// `Term`, so two expressions are equal where their terms are.
+#[cycle(expression)]
+#[derive(Debug, Drop)]
+pub struct Expr {
+    /// Its operation or its leaf.
+    pub kind: ExprKind,
+}
+
+/// The operation of an expression with its operands, or a leaf.
+#[cycle(expression)]
+#[derive(Debug, Drop)]
+pub enum ExprKind {
     /// A reference to a named signal.
     Named(Reference),
     /// A literal.
@@ -55,4 +66,24 @@ pub enum Expr {
     Fixed(OpN, Box<Expr>, u32, u32),
     /// `mux(c, a, b)`: `a` where `c` is 1, else `b`.
     Mux(Box<Expr>, Box<Expr>, Box<Expr>),
+}
+
+impl Model for Expr {
+    ghost use Rattle.std.specs.Prelude.{List};
+    ghost use Rattle.std.specs.Coded.{codes, code_by, coded_list};
+    ghost use Rattle.std.proofs.Common.{arith};
+    ghost use Rattle.gg_ast.specs.Term.{Term, size_of};
+    ghost use Rattle.gg_ast.specs.Steps.{Step, steps_of, first_run, first_run-steps_of};
+
+    ghost Value = { Term };
+
+    ghost coded = { code_by (List Step) (coded_list (Prim.hlevel codes)) steps_of first_run first_run-steps_of };
+
+    ghost use Rattle.gg_ast.specs.TermOf.{term_of};
+
+    ghost view = { λ e. term_of e.kind };
+
+    ghost size = { size_of };
+
+    ghost size_decreases = { λ e h. Prim.grind (arith) };
 }

@@ -41,7 +41,7 @@ pub struct Port {
 }
 
 /// A module: its name, its ports and its statements in the order of the file. A contract sees it as a `ModuleTree`.
-#[derive(Drop)]
+#[derive(Debug, Drop)]
 pub struct Module {
     line: u64,
     name: Name,

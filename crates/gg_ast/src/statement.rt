@@ -1,10 +1,14 @@
 //! Statements (FIRRTL Specification, "Statements", "Memories").
+ghost use Rattle.std.specs.Prelude.{◌≡◌, [], ◌∷◌, ◌++◌, is_ok, if◌then◌else◌};
+
 use crate::expression::{Expr, Reference};
 use crate::module::GroundType;
 use gg_bits::{Name, Names};
+use std::alloc::{AllocError, Global};
+use std::marker::Model;
 
 /// A statement, with the line on which it begins, counted from 1.
-#[derive(Drop)]
+#[derive(Debug, Drop)]
 pub struct Stmt {
     /// The line on which the statement begins.
     pub line: u64,
@@ -13,7 +17,7 @@ pub struct Stmt {
 }
 
 /// What a statement says.
-#[derive(Drop)]
+#[derive(Debug, Drop)]
 pub enum StmtKind {
     /// `wire NAME : TYPE`.
     Wire {
@@ -40,7 +44,7 @@ pub enum StmtKind {
     /// `mem NAME :` and its fields, one on each of the lines after it.
     Memory {
         name: Name,
-        fields: Vec<Field>,
+        fields: Fields,
     },
     /// `SINK <= SOURCE`.
     Connect {
@@ -63,13 +67,13 @@ pub enum StmtKind {
     /// `printf(..)`, `assert(..)`, `assume(..)` or `cover(..)`, maybe with a name, which is in no namespace.
     Report {
         word: Report,
-        arguments: Vec<Argument>,
+        arguments: Arguments,
         label: Option<Name>,
     },
 }
 
 /// A register's reset: where the condition is 1 the register takes the initial value.
-#[derive(Drop)]
+#[derive(Debug, Drop)]
 pub struct Reset {
     /// The line on which the reset stands: the register's own, or a later one where it has a line of its own.
     pub line: u64,
@@ -80,7 +84,7 @@ pub struct Reset {
 }
 
 /// A field of a memory, with its line.
-#[derive(Drop)]
+#[derive(Debug, Drop)]
 pub struct Field {
     /// The line on which the field stands.
     pub line: u64,
@@ -89,7 +93,7 @@ pub struct Field {
 }
 
 /// What a field of a memory says.
-#[derive(Drop)]
+#[derive(Debug, Drop)]
 pub enum MemoryField {
     /// `data-type => TYPE`.
     DataType(GroundType),
@@ -132,10 +136,96 @@ pub enum Report {
 }
 
 /// An argument of such a statement.
-#[derive(Drop)]
+#[derive(Debug, Drop)]
 pub enum Argument {
     /// An expression.
     Value(Expr),
     /// A text, as it stands between its quotation marks.
     Text(Name),
+}
+
+/// The arguments of such a statement, in order. A contract sees them as their list.
+#[derive(Debug, Drop)]
+pub struct Arguments {
+    items: Vec<Argument>,
+}
+
+impl Model for Arguments {
+    ghost use Rattle.std.specs.Prelude.{List};
+    ghost use Rattle.gg_ast.specs.declared.statement.Argument.{Argument};
+    ghost use Rattle.gg_ast.specs.contracts.expression.Expr as expression;
+    ghost use Rattle.std.specs.Coded.{codes};
+
+    ghost Value = { List Argument };
+
+    ghost coded = { Prim.hlevel (codes, expression.the_row.coded) };
+
+    ghost view = { λ arguments. arguments.items.items };
+}
+
+impl Arguments {
+    /// No arguments.
+    pub fn new(alloc: Global) -> Arguments
+        ensures { result ≡ [] }
+    {
+        Arguments {
+            items: Vec::new(alloc),
+        }
+    }
+
+    /// The arguments, in order.
+    pub fn as_slice(&self) -> &[Argument]
+        ensures { result.now ≡ self.now }
+    {
+        self.items.as_slice()
+    }
+
+    /// Adds an argument behind the others. Where memory is refused they stay as they were.
+    pub fn push(&mut self, argument: Argument) -> Result<(), AllocError>
+        ensures { self.new ≡ (if is_ok result then self.old ++ argument ∷ [] else self.old) }
+    {
+        self.items.push(argument)?;
+        Ok(())
+    }
+}
+
+/// The fields of a memory, in the order of the file. A contract sees them as their list.
+#[derive(Debug, Drop)]
+pub struct Fields {
+    items: Vec<Field>,
+}
+
+impl Model for Fields {
+    ghost use Rattle.std.specs.Prelude.{List};
+    ghost use Rattle.gg_ast.specs.declared.statement.Field.{Field};
+
+    ghost Value = { List Field };
+
+    ghost view = { λ fields. fields.items.items };
+}
+
+impl Fields {
+    /// No fields.
+    pub fn new(alloc: Global) -> Fields
+        ensures { result ≡ [] }
+    {
+        Fields {
+            items: Vec::new(alloc),
+        }
+    }
+
+    /// The fields, in order.
+    pub fn as_slice(&self) -> &[Field]
+        ensures { result.now ≡ self.now }
+    {
+        self.items.as_slice()
+    }
+
+    /// Adds a field behind the others. Where memory is refused they stay as they were.
+    pub fn push(&mut self, field: Field) -> Result<(), AllocError>
+        ensures { self.new ≡ (if is_ok result then self.old ++ field ∷ [] else self.old) }
+    {
+        self.items.push(field)?;
+        Ok(())
+    }
 }

@@ -8,7 +8,7 @@ use Rattle.gg_ast.specs.declared.expression.Literal.{Literal}
 use Rattle.gg_ast.specs.declared.expression.Reference.{Reference}
 use Rattle.gg_ast.specs.declared.expression.Reference.TheVariants as name
 use Rattle.gg_ast.specs.Places.{place_of}
-use Rattle.gg_ast.specs.Term.{Term, Ref, Lit, One, Two, Fix, Choose}
+use Rattle.gg_ast.specs.Term.{Term, NamedTerm, ConstantTerm, UnaryTerm, BinaryTerm, FixedTerm, MuxTerm}
 use Rattle.gg_flat.specs.Line.{shape_at}
 use Rattle.gg_types.specs.Literal.{literal_fits}
 use Rattle.gg_types.specs.Sorts.{Sort, Bits, ClockSort, entry_of}
@@ -81,17 +81,17 @@ shape_three op (Some ClockSort) (Some b) (Some c) x y z s f g k h = absurd (cc)
 
 -- An expression that the checks give a plain_type type has that shape.
 pub term_shape-sort : (signals : Signals) (scope : List (List ℕ × Option Sort)) (traced : List ℕ → Bool) (e : Term) (s : Shape) → Agrees signals scope → sort_in traced scope e ≡ Some (Bits s) → term_shape signals e ≡ Some s
-term_shape-sort signals scope traced (Ref (name.One n)) s a h = entry_shape (entry_of n scope) (option_map (shape_at signals.shapes) (place_of n signals.paths)) (name.One n) traced s (a.entries n) h
-term_shape-sort signals scope traced (Ref (name.Two i p)) s a h = absurd (cc)
-term_shape-sort signals scope traced (Ref (name.Three m p f)) s a h = absurd (cc)
-term_shape-sort signals scope traced (Lit l) s a h = literal_agrees l s h
-term_shape-sort signals scope traced (One o x) s a h =
+term_shape-sort signals scope traced (NamedTerm (name.Local n)) s a h = entry_shape (entry_of n scope) (option_map (shape_at signals.shapes) (place_of n signals.paths)) (name.Local n) traced s (a.entries n) h
+term_shape-sort signals scope traced (NamedTerm (name.PortOf i p)) s a h = absurd (cc)
+term_shape-sort signals scope traced (NamedTerm (name.FieldOf m p f)) s a h = absurd (cc)
+term_shape-sort signals scope traced (ConstantTerm l) s a h = literal_agrees l s h
+term_shape-sort signals scope traced (UnaryTerm o x) s a h =
     shape_one (type1 o) (sort_in traced scope x) (term_shape signals x) s (λ t e. term_shape-sort signals scope traced x t a e) h
-term_shape-sort signals scope traced (Two o x y) s a h =
+term_shape-sort signals scope traced (BinaryTerm o x y) s a h =
     shape_two (type2 o) (sort_in traced scope x) (sort_in traced scope y) (term_shape signals x) (term_shape signals y) s (λ t e. term_shape-sort signals scope traced x t a e) (λ t e. term_shape-sort signals scope traced y t a e) h
-term_shape-sort signals scope traced (Fix o x n m) s a h =
+term_shape-sort signals scope traced (FixedTerm o x n m) s a h =
     shape_one (λ t. type_const o t n m) (sort_in traced scope x) (term_shape signals x) s (λ t e. term_shape-sort signals scope traced x t a e) h
-term_shape-sort signals scope traced (Choose c x y) s a h =
+term_shape-sort signals scope traced (MuxTerm c x y) s a h =
     shape_three type_mux (sort_in traced scope c) (sort_in traced scope x) (sort_in traced scope y) (term_shape signals c) (term_shape signals x) (term_shape signals y) s (λ t e. term_shape-sort signals scope traced c t a e) (λ t e. term_shape-sort signals scope traced x t a e) (λ t e. term_shape-sort signals scope traced y t a e) h
 
 -- ---- declarations

@@ -99,12 +99,12 @@ finds f (x ∷ xs) e = go (f x) refl (finds f xs) e
 
 -- ---- which name a statement connects
 
-named_one : (n : List ℕ) (r : Reference) → IsNamed n r → r ≡ name.One n
-named_one n (name.One m) e = ap name.One e
-named_one n (name.Two i p) e = absurd e
-named_one n (name.Three m p f) e = absurd e
+named_one : (n : List ℕ) (r : Reference) → IsNamed n r → r ≡ name.Local n
+named_one n (name.Local m) e = ap name.Local e
+named_one n (name.PortOf i p) e = absurd e
+named_one n (name.FieldOf m p f) e = absurd e
 
-pub connects-name : (n : List ℕ) (kind : StmtKind) → ConnectsName n kind → connected_by_kind kind ≡ Some (name.One n)
+pub connects-name : (n : List ℕ) (kind : StmtKind) → ConnectsName n kind → connected_by_kind kind ≡ Some (name.Local n)
 connects-name n (says.Wire w ty) h = absurd h
 connects-name n (says.Node w value) h = absurd h
 connects-name n (says.Register w ty clock reset) h = absurd h
@@ -116,11 +116,11 @@ connects-name n says.Skip h = absurd h
 connects-name n (says.Stop clock condition code label) h = absurd h
 connects-name n (says.Report word arguments label) h = absurd h
 
-pub reference_is : (n : List ℕ) (o : Option Reference) → is_reference_to (name.One n) o ≡ true → o ≡ Some (name.One n)
+pub reference_is : (n : List ℕ) (o : Option Reference) → is_reference_to (name.Local n) o ≡ true → o ≡ Some (name.Local n)
 reference_is n None e = absurd (true≢false (sym e))
-reference_is n (Some (name.One x)) e = ap (λ (y : List ℕ). Some (name.One y)) (sym ((bytes_eq-Decides n x).0 e))
-reference_is n (Some (name.Two i p)) e = absurd (true≢false (sym e))
-reference_is n (Some (name.Three m p f)) e = absurd (true≢false (sym e))
+reference_is n (Some (name.Local x)) e = ap (λ (y : List ℕ). Some (name.Local y)) (sym ((bytes_eq-Decides n x).0 e))
+reference_is n (Some (name.PortOf i p)) e = absurd (true≢false (sym e))
+reference_is n (Some (name.FieldOf m p f)) e = absurd (true≢false (sym e))
 
 -- ---- no source is connected, and no sink twice
 
@@ -129,21 +129,21 @@ not_source m n none h =
     let d : Stmt = record { line = 0; kind = says.Skip } in
     let at = along_at (source_by (scope_of m)) [] m.statements h.place d none h.within in
     let by = connects-name n (slice_index_or m.statements h.place d).kind (h.connects d) in
-    let here : source_to (scope_of m) (slice_index_or m.statements h.place d).line (Some (name.One n)) ≡ [] =
+    let here : source_to (scope_of m) (slice_index_or m.statements h.place d).line (Some (name.Local n)) ≡ [] =
     ap (source_to (scope_of m) (slice_index_or m.statements h.place d).line) (sym by) ∙ at in
     no_fault (is_source (role_of n (scope_of m))) _ here
 
 -- the statements before connect the name
-pub any_connects : (xs : List Stmt) (n : List ℕ) → IsConnected xs n → list_any (connects (name.One n)) xs ≡ true
+pub any_connects : (xs : List Stmt) (n : List ℕ) → IsConnected xs n → list_any (connects (name.Local n)) xs ≡ true
 any_connects xs n h =
     let d : Stmt = record { line = 0; kind = says.Skip } in
-    any_at (connects (name.One n)) xs h.place d h.within
-    (ap (is_reference_to (name.One n)) (connects-name n (slice_index_or xs h.place d).kind (h.connects d)) ∙ eq_self n)
+    any_at (connects (name.Local n)) xs h.place d h.within
+    (ap (is_reference_to (name.Local n)) (connects-name n (slice_index_or xs h.place d).kind (h.connects d)) ∙ eq_self n)
 
 -- a reference without a fault has a value
-known : (scope : List (List ℕ × Role)) (line : ℕ) (n : List ℕ) (sink : Reference) → sink ≡ name.One n → unknown_reference scope line sink ≡ [] → has_value (role_of n scope) ≡ true
+known : (scope : List (List ℕ × Role)) (line : ℕ) (n : List ℕ) (sink : Reference) → sink ≡ name.Local n → unknown_reference scope line sink ≡ [] → has_value (role_of n scope) ≡ true
 known scope line n sink same none =
-    let here : unknown_reference scope line (name.One n) ≡ [] = ap (unknown_reference scope line) (sym same) ∙ none in
+    let here : unknown_reference scope line (name.Local n) ≡ [] = ap (unknown_reference scope line) (sym same) ∙ none in
     turned (has_value (role_of n scope)) (no_fault (not (has_value (role_of n scope))) _ here)
   where
     turned : (b : Bool) → not b ≡ false → b ≡ true
@@ -151,17 +151,17 @@ known scope line n sink same none =
     turned false e = absurd (true≢false e)
 
 -- a name that is connected has a value where that stands
-connected_known : (scope : List (List ℕ × Role)) (line : ℕ) (n : List ℕ) (kind : StmtKind) → connected_by_kind kind ≡ Some (name.One n) → unknown_in_kind scope line kind ≡ [] → has_value (role_of n scope) ≡ true
+connected_known : (scope : List (List ℕ × Role)) (line : ℕ) (n : List ℕ) (kind : StmtKind) → connected_by_kind kind ≡ Some (name.Local n) → unknown_in_kind scope line kind ≡ [] → has_value (role_of n scope) ≡ true
 connected_known scope line n (says.Wire w ty) by none = absurd (cc)
 connected_known scope line n (says.Node w value) by none = absurd (cc)
 connected_known scope line n (says.Register w ty clock reset) by none = absurd (cc)
 connected_known scope line n (says.Instance w m) by none = absurd (cc)
 connected_known scope line n (says.Memory w fields) by none = absurd (cc)
 connected_known scope line n (says.Connect sink source) by none =
-    let same : sink ≡ name.One n = cc in
+    let same : sink ≡ name.Local n = cc in
     known scope line n sink same (append_none (unknown_reference scope line sink) (unknown_in scope line (term source)) none).0
 connected_known scope line n (says.Invalid sink) by none =
-    let same : sink ≡ name.One n = cc in
+    let same : sink ≡ name.Local n = cc in
     known scope line n sink same none
 connected_known scope line n says.Skip by none = absurd (cc)
 connected_known scope line n (says.Stop clock condition code label) by none = absurd (cc)
@@ -185,14 +185,14 @@ pub never_again : (m : ModuleTree) → IsFaultlessModule m → IsConnectedAgain 
 never_again m ok h =
     let d : Stmt = record { line = 0; kind = says.Skip } in
     let st : Stmt = slice_index_or m.statements h.place d in
-    let by : connected_by_kind st.kind ≡ Some (name.One h.name) = connects-name h.name st.kind (h.connects d) in
+    let by : connected_by_kind st.kind ≡ Some (name.Local h.name) = connects-name h.name st.kind (h.connects d) in
     let front : List Stmt = take h.place m.statements in
     let all : scope_of m ≡ scope_after m.ports front ++ flat_map declared_by (drop h.place m.statements) =
     ap (scope_after m.ports) (sym (take-append-drop h.place m.statements)) ∙ scope_after-split m.ports front (drop h.place m.statements) in
     let source = not_source m h.name ok.sources (record { place = h.place; within = h.within; connects = h.connects }) in
-    let twice : second_to (scope_of m) front st.line (Some (name.One h.name)) ≡ [] =
+    let twice : second_to (scope_of m) front st.line (Some (name.Local h.name)) ≡ [] =
     ap (second_to (scope_of m) front st.line) (sym by) ∙ along_at (second_by (scope_of m)) [] m.statements h.place d ok.second h.within in
-    let sink = first_false (is_sink (role_of h.name (scope_of m))) (list_any (connects (name.One h.name)) front) (no_fault _ _ twice) (any_connects front h.name h.before) in
+    let sink = first_false (is_sink (role_of h.name (scope_of m))) (list_any (connects (name.Local h.name)) front) (no_fault _ _ twice) (any_connects front h.name h.before) in
     let value = connected_known (scope_after m.ports front) st.line h.name st.kind by (along_at (unknown_by m.ports) [] m.statements h.place d ok.unknown h.within) in
     go (role_of h.name (scope_after m.ports front)) refl value all sink source
   where

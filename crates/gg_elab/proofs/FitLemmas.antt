@@ -49,18 +49,18 @@ pub record Known (m : ModuleTree) (table : List (Option Source)) : Type 0 where
 
 -- ---- what a connected signal is connected to
 
-driven_kind : (signals : Signals) (table : List (Option Source)) (s : ℕ) (n : List ℕ) (kind : StmtKind) → place_of n signals.paths ≡ Some s → connected_by_kind kind ≡ Some (name.One n) → HasConnection signals table kind → IsApt signals kind → IsDriven signals table s (shape_at signals.shapes s)
+driven_kind : (signals : Signals) (table : List (Option Source)) (s : ℕ) (n : List ℕ) (kind : StmtKind) → place_of n signals.paths ≡ Some s → connected_by_kind kind ≡ Some (name.Local n) → HasConnection signals table kind → IsApt signals kind → IsDriven signals table s (shape_at signals.shapes s)
 driven_kind signals table s n (says.Wire w ty) at by has sound = absurd (cc)
 driven_kind signals table s n (says.Node w value) at by has sound = absurd (cc)
 driven_kind signals table s n (says.Register w ty clock reset) at by has sound = absurd (cc)
 driven_kind signals table s n (says.Instance w m) at by has sound = absurd (cc)
 driven_kind signals table s n (says.Memory w fields) at by has sound = absurd (cc)
 driven_kind signals table s n (says.Connect sink source) at by has sound =
-    let same : sink ≡ name.One n = cc in
+    let same : sink ≡ name.Local n = cc in
     let place : named signals sink ≡ Some s = ap (named signals) same ∙ at in
     record { driven = ConnectedTo (term source); seen = has s place; can = sound s place }
 driven_kind signals table s n (says.Invalid sink) at by has sound =
-    let same : sink ≡ name.One n = cc in
+    let same : sink ≡ name.Local n = cc in
     let place : named signals sink ≡ Some s = ap (named signals) same ∙ at in
     record { driven = Zeroed; seen = has s place; can = tt }
 driven_kind signals table s n says.Skip at by has sound = absurd (cc)
@@ -68,9 +68,9 @@ driven_kind signals table s n (says.Stop clock condition code label) at by has s
 driven_kind signals table s n (says.Report word arguments label) at by has sound = absurd (cc)
 
 -- a signal that some statement connects is driven
-driven_sink : (m : ModuleTree) (table : List (Option Source)) (n : List ℕ) (s : ℕ) → Known m table → place_of n (signals_of m).paths ≡ Some s → list_any (connects (name.One n)) m.statements ≡ true → IsDriven (signals_of m) table s (shape_at (signals_of m).shapes s)
+driven_sink : (m : ModuleTree) (table : List (Option Source)) (n : List ℕ) (s : ℕ) → Known m table → place_of n (signals_of m).paths ≡ Some s → list_any (connects (name.Local n)) m.statements ≡ true → IsDriven (signals_of m) table s (shape_at (signals_of m).shapes s)
 driven_sink m table n s k at some =
-    let f = finds (connects (name.One n)) m.statements some in
+    let f = finds (connects (name.Local n)) m.statements some in
     let st = f.statement in
     driven_kind (signals_of m) table s n st.kind at
     (reference_is n (connected_by_kind st.kind) f.passes)
@@ -148,7 +148,7 @@ wire_fits m table before line n ty ss a k h =
     record {
       fits = λ q at.
           let here = same_place (type_shape ty) (place_of n (signals_of m).paths) (length a.paths) q is at in
-          (here.0, driven_sink m table n (length a.paths) k here.1 (not_false (list_any (connects (name.One n)) m.statements) (no_fault _ _ h.connected)));
+          (here.0, driven_sink m table n (length a.paths) k here.1 (not_false (list_any (connects (name.Local n)) m.statements) (no_fault _ _ h.connected)));
       adds = adds_one a n (type_shape ty) (place_of n (signals_of m).paths) is;
     }
 
@@ -243,7 +243,7 @@ port_driven m table before p s Input k is role none at =
 port_driven m table before p s Output k is role none at =
     let here : unconnected_in m.statements p.line ((p.name, roles.OutputPort) ∷ []) ≡ [] =
     subst (λ (d : Direction). unconnected_in m.statements p.line ((p.name, role_of_port d) ∷ []) ≡ []) is none in
-    driven_sink m table p.name s k at (not_false (list_any (connects (name.One p.name)) m.statements) (no_fault _ _ here))
+    driven_sink m table p.name s k at (not_false (list_any (connects (name.Local p.name)) m.statements) (no_fault _ _ here))
 
 port_place : (m : ModuleTree) (table : List (Option Source)) (p : Port) (ps : List Port) (a : Signals) → Known m table → signals_of m ≡ fold declare_statement (fold declare_port (declare_port a p) ps) m.statements → SomeShape (type_shape p.ty) → place_of p.name (signals_of m).paths ≡ Some (length a.paths)
 port_place m table p ps a k whole t =

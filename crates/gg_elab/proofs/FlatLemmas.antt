@@ -68,12 +68,12 @@ gets_by signals table flat s c (Computed line) drives h seen = record {
 }
 
 gets : (signals : Signals) (statements : List Stmt) (table : List (Option Source)) (flat : FlatCircuit) (c : Connection) (sink : Reference) → IsWhole signals statements table flat → HasSink signals table sink c → OfSink flat sink (Gets signals flat c)
-gets signals statements table flat c (name.One n) whole h = λ s at.
+gets signals statements table flat c (name.Local n) whole h = λ s at.
     let place : place_of n signals.paths ≡ Some s = subst (λ (l : List (List ℕ)). place_of n l ≡ Some s) whole.paths at in
     let within : s < length flat.signals = omega (arith, (place_of-path signals.paths n s place).0, whole.count) in
     gets_by signals table flat s c (driver_at flat s) refl (whole.built.given s within) (h s place)
-gets signals statements table flat c (name.Two i p) whole h = tt
-gets signals statements table flat c (name.Three m p f) whole h = tt
+gets signals statements table flat c (name.PortOf i p) whole h = tt
+gets signals statements table flat c (name.FieldOf m p f) whole h = tt
 
 -- ---- what the statements say
 

@@ -11,7 +11,7 @@ use Rattle.gg_bits.specs.ResultType.{type1, type2, type_const, type_mux}
 use Rattle.gg_ast.specs.declared.expression.Reference.TheVariants as name
 use Rattle.gg_ast.specs.declared.statement.Stmt.{Stmt}
 use Rattle.gg_ast.specs.Places.{place_of}
-use Rattle.gg_ast.specs.Term.{Term, Ref, Lit, One, Two, Fix, Choose}
+use Rattle.gg_ast.specs.Term.{Term, NamedTerm, ConstantTerm, UnaryTerm, BinaryTerm, FixedTerm, MuxTerm}
 use Rattle.gg_flat.specs.Line.{shape_at}
 use Rattle.gg_types.specs.Sorts.{Sort, Bits, ClockSort, entry_of}
 use Rattle.gg_types.specs.Types.{known_sort, read_sort, result1, result2, result3, result_sort, sort_in, sorts_of_kind, sorts_after}
@@ -90,21 +90,21 @@ three_more op (Some ClockSort) b (Some c) d (Some x) y s f g k h = absurd (cc)
 
 -- an expression that has a type keeps it where more names are declared
 pub sort_in-more : (traced : List ℕ → Bool) (scope more : List (List ℕ × Option Sort)) (e : Term) (s : Sort) → sort_in traced scope e ≡ Some s → sort_in traced (scope ++ more) e ≡ Some s
-sort_in-more traced scope more (Ref (name.One n)) s h = go (entry_of n scope) refl h
+sort_in-more traced scope more (NamedTerm (name.Local n)) s h = go (entry_of n scope) refl h
   where
-    go : (o : Option (Option Sort)) → entry_of n scope ≡ o → read_sort traced (name.One n) (known_sort o) ≡ Some s → read_sort traced (name.One n) (known_sort (entry_of n (scope ++ more))) ≡ Some s
+    go : (o : Option (Option Sort)) → entry_of n scope ≡ o → read_sort traced (name.Local n) (known_sort o) ≡ Some s → read_sort traced (name.Local n) (known_sort (entry_of n (scope ++ more))) ≡ Some s
     go None is e = absurd (cc)
     go (Some x) is e = rw (entry_of-more n scope more x is) e
-sort_in-more traced scope more (Ref (name.Two i p)) s h = absurd (cc)
-sort_in-more traced scope more (Ref (name.Three m p f)) s h = absurd (cc)
-sort_in-more traced scope more (Lit l) s h = h
-sort_in-more traced scope more (One o a) s h =
+sort_in-more traced scope more (NamedTerm (name.PortOf i p)) s h = absurd (cc)
+sort_in-more traced scope more (NamedTerm (name.FieldOf m p f)) s h = absurd (cc)
+sort_in-more traced scope more (ConstantTerm l) s h = h
+sort_in-more traced scope more (UnaryTerm o a) s h =
     one_more (type1 o) (sort_in traced scope a) (sort_in traced (scope ++ more) a) s (λ t e. sort_in-more traced scope more a t e) h
-sort_in-more traced scope more (Two o a b) s h =
+sort_in-more traced scope more (BinaryTerm o a b) s h =
     two_more (type2 o) (sort_in traced scope a) (sort_in traced (scope ++ more) a) (sort_in traced scope b) (sort_in traced (scope ++ more) b) s (λ t e. sort_in-more traced scope more a t e) (λ t e. sort_in-more traced scope more b t e) h
-sort_in-more traced scope more (Fix o a n m) s h =
+sort_in-more traced scope more (FixedTerm o a n m) s h =
     one_more (λ t. type_const o t n m) (sort_in traced scope a) (sort_in traced (scope ++ more) a) s (λ t e. sort_in-more traced scope more a t e) h
-sort_in-more traced scope more (Choose c a b) s h =
+sort_in-more traced scope more (MuxTerm c a b) s h =
     three_more type_mux (sort_in traced scope c) (sort_in traced (scope ++ more) c) (sort_in traced scope a) (sort_in traced (scope ++ more) a) (sort_in traced scope b) (sort_in traced (scope ++ more) b) s (λ t e. sort_in-more traced scope more c t e) (λ t e. sort_in-more traced scope more a t e) (λ t e. sort_in-more traced scope more b t e) h
 
 -- ---- statements

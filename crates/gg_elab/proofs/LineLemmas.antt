@@ -22,7 +22,7 @@ use Rattle.gg_bits.specs.declared.ops.OpN.{OpN}
 use Rattle.gg_bits.specs.ResultType.{type1, type2, type_const, type_mux}
 use Rattle.gg_flat.specs.Line.{shape_at, value_at, shapes_of, op_at, op_value, with_node, node_values, HasShape, HasType}
 use Rattle.gg_flat.specs.Reads.{Names}
-use Rattle.gg_ast.specs.Term.{Term, Lit, One, Two, Fix, Choose}
+use Rattle.gg_ast.specs.Term.{Term, ConstantTerm, UnaryTerm, BinaryTerm, FixedTerm, MuxTerm}
 use Rattle.gg_elab.specs.Expression.{Signals, named, shape_of_term, term_shape, term_value, TermNames}
 use Rattle.gg_elab.specs.Lines.{HaveShapes, StandsFor, Added}
 
@@ -202,7 +202,7 @@ HaveShapes-fresh signals nodes n e to h typed =
 pub operand_shape : (signals : Signals) (nodes : List Node) (k : ℕ) (e : Term) (to : Shape) (more : List Shape) → StandsFor signals nodes k e to → shape_at (shapes_of nodes ++ more) k ≡ shape_of_term signals e
 operand_shape signals nodes k e to more h = shape_at-more nodes more k h.within ∙ h.node ∙ sym (ap (λ (o : Option Shape). unwrap_or o (uint 0)) h.shape)
 
-fresh_one : (signals : Signals) (nodes : List Node) (n : Node) (op : Op1) (a : Term) (i : ℕ) (s to : Shape) → StandsFor signals nodes i a s → type1 op s ≡ Ok to → shape n.ty ≡ to → n.op ≡ flat.One op i → Fresh signals nodes n (One op a) to
+fresh_one : (signals : Signals) (nodes : List Node) (n : Node) (op : Op1) (a : Term) (i : ℕ) (s to : Shape) → StandsFor signals nodes i a s → type1 op s ≡ Ok to → shape n.ty ≡ to → n.op ≡ flat.One op i → Fresh signals nodes n (UnaryTerm op a) to
 fresh_one signals nodes n op a i s to at result is does = record {
   node = is;
   given = rw (at.shape, result) refl;
@@ -211,7 +211,7 @@ fresh_one signals nodes n op a i s to at result is does = record {
   named = λ t names. Names-push nodes n t (at.named t names);
 }
 
-fresh_two : (signals : Signals) (nodes : List Node) (n : Node) (op : Op2) (a b : Term) (i j : ℕ) (s t to : Shape) → StandsFor signals nodes i a s → StandsFor signals nodes j b t → type2 op s t ≡ Ok to → shape n.ty ≡ to → n.op ≡ flat.Two op i j → Fresh signals nodes n (Two op a b) to
+fresh_two : (signals : Signals) (nodes : List Node) (n : Node) (op : Op2) (a b : Term) (i j : ℕ) (s t to : Shape) → StandsFor signals nodes i a s → StandsFor signals nodes j b t → type2 op s t ≡ Ok to → shape n.ty ≡ to → n.op ≡ flat.Two op i j → Fresh signals nodes n (BinaryTerm op a b) to
 fresh_two signals nodes n op a b i j s t to at bt result is does = record {
   node = is;
   given = rw (at.shape, bt.shape, result) refl;
@@ -220,7 +220,7 @@ fresh_two signals nodes n op a b i j s t to at bt result is does = record {
   named = λ q names. elim names [ inl h ↦ Names-push nodes n q (at.named q h) | inr h ↦ Names-push nodes n q (bt.named q h) ];
 }
 
-fresh_fix : (signals : Signals) (nodes : List Node) (n : Node) (op : OpN) (a : Term) (i p q : ℕ) (s to : Shape) → StandsFor signals nodes i a s → type_const op s p q ≡ Ok to → shape n.ty ≡ to → n.op ≡ flat.Fix op i p q → Fresh signals nodes n (Fix op a p q) to
+fresh_fix : (signals : Signals) (nodes : List Node) (n : Node) (op : OpN) (a : Term) (i p q : ℕ) (s to : Shape) → StandsFor signals nodes i a s → type_const op s p q ≡ Ok to → shape n.ty ≡ to → n.op ≡ flat.Fix op i p q → Fresh signals nodes n (FixedTerm op a p q) to
 fresh_fix signals nodes n op a i p q s to at result is does = record {
   node = is;
   given = rw (at.shape, result) refl;
@@ -229,7 +229,7 @@ fresh_fix signals nodes n op a i p q s to at result is does = record {
   named = λ t names. Names-push nodes n t (at.named t names);
 }
 
-fresh_mux : (signals : Signals) (nodes : List Node) (n : Node) (c a b : Term) (h i j : ℕ) (u s t to : Shape) → StandsFor signals nodes h c u → StandsFor signals nodes i a s → StandsFor signals nodes j b t → type_mux u s t ≡ Ok to → shape n.ty ≡ to → n.op ≡ Mux h i j → Fresh signals nodes n (Choose c a b) to
+fresh_mux : (signals : Signals) (nodes : List Node) (n : Node) (c a b : Term) (h i j : ℕ) (u s t to : Shape) → StandsFor signals nodes h c u → StandsFor signals nodes i a s → StandsFor signals nodes j b t → type_mux u s t ≡ Ok to → shape n.ty ≡ to → n.op ≡ Mux h i j → Fresh signals nodes n (MuxTerm c a b) to
 fresh_mux signals nodes n c a b h i j u s t to ct at bt result is does = record {
   node = is;
   given = rw (ct.shape, at.shape, bt.shape, result) refl;
@@ -250,7 +250,7 @@ fresh_reference signals nodes n r i to at within typed is does = record {
   named = λ s names. let same : i ≡ s = cc in Names-new nodes n s (does ∙ ap flat.Ref same);
 }
 
-fresh_literal : (signals : Signals) (nodes : List Node) (n : Node) (l : literals.Literal) (v : Val) (to : Shape) → literal_shape l ≡ Some to → Fits to v.0 → v.0 ≡ literal_value l → shape n.ty ≡ to → n.op ≡ flat.Literal v → Fresh signals nodes n (Lit l) to
+fresh_literal : (signals : Signals) (nodes : List Node) (n : Node) (l : literals.Literal) (v : Val) (to : Shape) → literal_shape l ≡ Some to → Fits to v.0 → v.0 ≡ literal_value l → shape n.ty ≡ to → n.op ≡ flat.Literal v → Fresh signals nodes n (ConstantTerm l) to
 fresh_literal signals nodes n l v to given fits value is does = record {
   node = is;
   given = given;
@@ -283,30 +283,30 @@ added_reference signals old n r i to at within typed is does =
     (fresh_reference signals old n r i to at within typed is does)
     (λ s h. let same : i ≡ s = cc in at ∙ ap Some same)
 
-pub added_literal : (signals : Signals) (old : List Node) (n : Node) (l : literals.Literal) (v : Val) (to : Shape) → literal_shape l ≡ Some to → Fits to v.0 → v.0 ≡ literal_value l → shape n.ty ≡ to → n.op ≡ flat.Literal v → Added signals old (old ++ n ∷ []) (Lit l) (length old) to
+pub added_literal : (signals : Signals) (old : List Node) (n : Node) (l : literals.Literal) (v : Val) (to : Shape) → literal_shape l ≡ Some to → Fits to v.0 → v.0 ≡ literal_value l → shape n.ty ≡ to → n.op ≡ flat.Literal v → Added signals old (old ++ n ∷ []) (ConstantTerm l) (length old) to
 added_literal signals old n l v to given fits value is does =
-    added_fresh signals old old n (Lit l) to
+    added_fresh signals old old n (ConstantTerm l) to
     (record { kept = λ i f s h. h; typed = λ h. h; names = λ s h. inl h })
     (fresh_literal signals old n l v to given fits value is does)
     (λ s h. cc)
 
-pub added_one : (signals : Signals) (old mid : List Node) (n : Node) (op : Op1) (a : Term) (i : ℕ) (s to : Shape) → Added signals old mid a i s → type1 op s ≡ Ok to → shape n.ty ≡ to → n.op ≡ flat.One op i → Added signals old (mid ++ n ∷ []) (One op a) (length mid) to
+pub added_one : (signals : Signals) (old mid : List Node) (n : Node) (op : Op1) (a : Term) (i : ℕ) (s to : Shape) → Added signals old mid a i s → type1 op s ≡ Ok to → shape n.ty ≡ to → n.op ≡ flat.One op i → Added signals old (mid ++ n ∷ []) (UnaryTerm op a) (length mid) to
 added_one signals old mid n op a i s to at result is does =
-    added_fresh signals old mid n (One op a) to
+    added_fresh signals old mid n (UnaryTerm op a) to
     (record { kept = at.kept; typed = at.typed; names = at.names })
     (fresh_one signals mid n op a i s to at.stands result is does)
     (λ s h. cc)
 
-pub added_fix : (signals : Signals) (old mid : List Node) (n : Node) (op : OpN) (a : Term) (i p q : ℕ) (s to : Shape) → Added signals old mid a i s → type_const op s p q ≡ Ok to → shape n.ty ≡ to → n.op ≡ flat.Fix op i p q → Added signals old (mid ++ n ∷ []) (Fix op a p q) (length mid) to
+pub added_fix : (signals : Signals) (old mid : List Node) (n : Node) (op : OpN) (a : Term) (i p q : ℕ) (s to : Shape) → Added signals old mid a i s → type_const op s p q ≡ Ok to → shape n.ty ≡ to → n.op ≡ flat.Fix op i p q → Added signals old (mid ++ n ∷ []) (FixedTerm op a p q) (length mid) to
 added_fix signals old mid n op a i p q s to at result is does =
-    added_fresh signals old mid n (Fix op a p q) to
+    added_fresh signals old mid n (FixedTerm op a p q) to
     (record { kept = at.kept; typed = at.typed; names = at.names })
     (fresh_fix signals mid n op a i p q s to at.stands result is does)
     (λ s h. cc)
 
-pub added_two : (signals : Signals) (old one mid : List Node) (n : Node) (op : Op2) (a b : Term) (i j : ℕ) (s t to : Shape) → Added signals old one a i s → Added signals one mid b j t → type2 op s t ≡ Ok to → shape n.ty ≡ to → n.op ≡ flat.Two op i j → Added signals old (mid ++ n ∷ []) (Two op a b) (length mid) to
+pub added_two : (signals : Signals) (old one mid : List Node) (n : Node) (op : Op2) (a b : Term) (i j : ℕ) (s t to : Shape) → Added signals old one a i s → Added signals one mid b j t → type2 op s t ≡ Ok to → shape n.ty ≡ to → n.op ≡ flat.Two op i j → Added signals old (mid ++ n ∷ []) (BinaryTerm op a b) (length mid) to
 added_two signals old one mid n op a b i j s t to at bt result is does =
-    added_fresh signals old mid n (Two op a b) to
+    added_fresh signals old mid n (BinaryTerm op a b) to
     (record {
       kept = λ i f s h. bt.kept i f s (at.kept i f s h);
       typed = λ h. bt.typed (at.typed h);
@@ -315,9 +315,9 @@ added_two signals old one mid n op a b i j s t to at bt result is does =
     (fresh_two signals mid n op a b i j s t to (bt.kept i a s at.stands) bt.stands result is does)
     (λ s h. cc)
 
-pub added_mux : (signals : Signals) (old one two mid : List Node) (n : Node) (c a b : Term) (h i j : ℕ) (u s t to : Shape) → Added signals old one c h u → Added signals one two a i s → Added signals two mid b j t → type_mux u s t ≡ Ok to → shape n.ty ≡ to → n.op ≡ Mux h i j → Added signals old (mid ++ n ∷ []) (Choose c a b) (length mid) to
+pub added_mux : (signals : Signals) (old one two mid : List Node) (n : Node) (c a b : Term) (h i j : ℕ) (u s t to : Shape) → Added signals old one c h u → Added signals one two a i s → Added signals two mid b j t → type_mux u s t ≡ Ok to → shape n.ty ≡ to → n.op ≡ Mux h i j → Added signals old (mid ++ n ∷ []) (MuxTerm c a b) (length mid) to
 added_mux signals old one two mid n c a b h i j u s t to ct at bt result is does =
-    added_fresh signals old mid n (Choose c a b) to
+    added_fresh signals old mid n (MuxTerm c a b) to
     (record {
       kept = λ i f s h. bt.kept i f s (at.kept i f s (ct.kept i f s h));
       typed = λ h. bt.typed (at.typed (ct.typed h));

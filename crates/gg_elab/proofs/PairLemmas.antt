@@ -69,25 +69,25 @@ connection_by says.Skip = Zeroed
 connection_by (says.Stop clock condition code label) = Zeroed
 connection_by (says.Report word arguments label) = Zeroed
 
-gets_kind : (signals : Signals) (f : FlatCircuit) (n : List ℕ) (s : ℕ) (kind : StmtKind) → connected_by_kind kind ≡ Some (name.One n) → IsTrueOf signals f kind → place_of n f.paths ≡ Some s → Gets signals f (connection_by kind) s
+gets_kind : (signals : Signals) (f : FlatCircuit) (n : List ℕ) (s : ℕ) (kind : StmtKind) → connected_by_kind kind ≡ Some (name.Local n) → IsTrueOf signals f kind → place_of n f.paths ≡ Some s → Gets signals f (connection_by kind) s
 gets_kind signals f n s (says.Wire w ty) by h at = absurd (cc)
 gets_kind signals f n s (says.Node w value) by h at = absurd (cc)
 gets_kind signals f n s (says.Register w ty clock reset) by h at = absurd (cc)
 gets_kind signals f n s (says.Instance w m) by h at = absurd (cc)
 gets_kind signals f n s (says.Memory w fields) by h at = absurd (cc)
 gets_kind signals f n s (says.Connect sink source) by h at =
-    let same : sink ≡ name.One n = cc in
+    let same : sink ≡ name.Local n = cc in
     let of_name : OfName f n (Gets signals f (ConnectedTo (term source))) = subst (λ (r : Reference). OfSink f r (Gets signals f (ConnectedTo (term source)))) same h in
     of_name s at
 gets_kind signals f n s (says.Invalid sink) by h at =
-    let same : sink ≡ name.One n = cc in
+    let same : sink ≡ name.Local n = cc in
     let of_name : OfName f n (Gets signals f Zeroed) = subst (λ (r : Reference). OfSink f r (Gets signals f Zeroed)) same h in
     of_name s at
 gets_kind signals f n s says.Skip by h at = absurd (cc)
 gets_kind signals f n s (says.Stop clock condition code label) by h at = absurd (cc)
 gets_kind signals f n s (says.Report word arguments label) by h at = absurd (cc)
 
-gets_at : (m : ModuleTree) (f : FlatCircuit) (n : List ℕ) (s : ℕ) → IsFlatModule m f → (by : Finds (connects (name.One n)) m.statements) → place_of n f.paths ≡ Some s → Gets (signals_of m) f (connection_by by.statement.kind) s
+gets_at : (m : ModuleTree) (f : FlatCircuit) (n : List ℕ) (s : ℕ) → IsFlatModule m f → (by : Finds (connects (name.Local n)) m.statements) → place_of n f.paths ≡ Some s → Gets (signals_of m) f (connection_by by.statement.kind) s
 gets_at m f n s flat by at =
     let st = by.statement in
     gets_kind (signals_of m) f n s st.kind (reference_is n (connected_by_kind st.kind) by.passes)
@@ -153,9 +153,9 @@ input_same m f g n s p at (k, lt, is) =
     refl
 
 -- a signal that both compute, and a statement connects
-sink_same : (m : ModuleTree) (f g : FlatCircuit) (n : List ℕ) (s : ℕ) → Pair m f g → IsAt f g n s → IsComputed f s → IsComputed g s → list_any (connects (name.One n)) m.statements ≡ true → SameDriver f g (driver_at f s) (driver_at g s)
+sink_same : (m : ModuleTree) (f g : FlatCircuit) (n : List ℕ) (s : ℕ) → Pair m f g → IsAt f g n s → IsComputed f s → IsComputed g s → list_any (connects (name.Local n)) m.statements ≡ true → SameDriver f g (driver_at f s) (driver_at g s)
 sink_same m f g n s p at one other some =
-    let by = finds (connects (name.One n)) m.statements some in
+    let by = finds (connects (name.Local n)) m.statements some in
     let c = connection_by by.statement.kind in
     let a = computed_gets (signals_of m) f c s one (gets_at m f n s p.one by at.one) in
     let b = computed_gets (signals_of m) g c s other (gets_at m g n s p.other by at.other) in
@@ -221,7 +221,7 @@ register_same m f g n s asked p at a b =
   where
     connected : IsConnected m.statements n → BothNext a.register.next b.register.next
     connected h =
-        let by = finds (connects (name.One n)) m.statements (any_connects m.statements n h) in
+        let by = finds (connects (name.Local n)) m.statements (any_connects m.statements n h) in
         let c = connection_by by.statement.kind in
         let x = held_gets (signals_of m) f c s a.number a.register a.driver a.numbered (gets_at m f n s p.one by at.one) in
         let y = held_gets (signals_of m) g c s b.number b.register b.driver b.numbered (gets_at m g n s p.other by at.other) in
@@ -229,7 +229,7 @@ register_same m f g n s asked p at a b =
 
 -- ---- what is connected
 
-output_connected : (statements : List Stmt) (before ports : List Port) (n : List ℕ) → along_from (unconnected_port statements) before ports ≡ [] → Contains (port_names direction.Output ports) n → list_any (connects (name.One n)) statements ≡ true
+output_connected : (statements : List Stmt) (before ports : List Port) (n : List ℕ) → along_from (unconnected_port statements) before ports ≡ [] → Contains (port_names direction.Output ports) n → list_any (connects (name.Local n)) statements ≡ true
 output_connected statements before [] n none (k, lt, is) = absurd (omega (arith, lt))
 output_connected statements before (p ∷ ports) n none h =
     let parts = append_none (unconnected_port statements before p) (along_from (unconnected_port statements) (before ++ p ∷ []) ports) none in
@@ -238,20 +238,20 @@ output_connected statements before (p ∷ ports) n none h =
       | inr later ↦ output_connected statements (before ++ p ∷ []) ports n parts.1 later
     ]
   where
-    go : (d : Direction) (q : Bool) → fault_if (needs_connection (role_of_port d) && not (list_any (connects (name.One p.name)) statements)) (Unconnected p.line p.name) ≡ [] → Contains (if same_direction direction.Output d && q then p.name ∷ [] else []) n → list_any (connects (name.One n)) statements ≡ true
+    go : (d : Direction) (q : Bool) → fault_if (needs_connection (role_of_port d) && not (list_any (connects (name.Local p.name)) statements)) (Unconnected p.line p.name) ≡ [] → Contains (if same_direction direction.Output d && q then p.name ∷ [] else []) n → list_any (connects (name.Local n)) statements ≡ true
     go direction.Input q none (k, lt, is) = absurd (omega (arith, lt))
     go direction.Output true none h =
-        subst (λ (x : List ℕ). list_any (connects (name.One x)) statements ≡ true) (one_name p.name n h)
-        (not_false (list_any (connects (name.One p.name)) statements) (no_fault _ _ none))
+        subst (λ (x : List ℕ). list_any (connects (name.Local x)) statements ≡ true) (one_name p.name n h)
+        (not_false (list_any (connects (name.Local p.name)) statements) (no_fault _ _ none))
     go direction.Output false none (k, lt, is) = absurd (omega (arith, lt))
 
 -- ---- each signal
 
 kind_same : (m : ModuleTree) (f g : FlatCircuit) (n : List ℕ) (s line : ℕ) (kind : StmtKind) → Pair m f g → IsAt f g n s → IsTrueOf (signals_of m) f kind → IsTrueOf (signals_of m) g kind → unconnected_in m.statements line (declared_by_kind kind) ≡ [] → Declares n kind → SameDriver f g (driver_at f s) (driver_at g s)
 kind_same m f g n s line (says.Wire w ty) p at one other none named =
-    let some : list_any (connects (name.One n)) m.statements ≡ true =
-    subst (λ (x : List ℕ). list_any (connects (name.One x)) m.statements ≡ true) named
-    (not_false (list_any (connects (name.One w)) m.statements) (no_fault _ _ none)) in
+    let some : list_any (connects (name.Local n)) m.statements ≡ true =
+    subst (λ (x : List ℕ). list_any (connects (name.Local x)) m.statements ≡ true) named
+    (not_false (list_any (connects (name.Local w)) m.statements) (no_fault _ _ none)) in
     sink_same m f g n s p at
     (one s (ap (λ (x : List ℕ). place_of x f.paths) named ∙ at.one))
     (other s (ap (λ (x : List ℕ). place_of x g.paths) named ∙ at.other))

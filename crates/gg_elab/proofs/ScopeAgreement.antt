@@ -17,7 +17,7 @@ use Rattle.gg_ast.specs.declared.module.GroundType.{GroundType}
 use Rattle.gg_ast.specs.declared.module.GroundType.TheVariants as plain_type
 use Rattle.gg_ast.specs.declared.module.Port.{Port}
 use Rattle.gg_ast.specs.Places.{place_of}
-use Rattle.gg_ast.specs.Term.{Term, term, Ref, Lit, One, Two, Fix, Choose}
+use Rattle.gg_ast.specs.Term.{Term, term, NamedTerm, ConstantTerm, UnaryTerm, BinaryTerm, FixedTerm, MuxTerm}
 use Rattle.gg_flat.specs.Line.{shape_at}
 use Rattle.gg_shape.specs.declared.fault.Fault.{Fault}
 use Rattle.gg_shape.specs.declared.scope.Role.{Role}
@@ -115,18 +115,18 @@ never_clock (Some (Err bad)) h = cc
 
 -- only a reference to a Clock is a Clock, and that is no signal
 term_shape-clock : (signals : Signals) (scope : List (List ℕ × Option Sort)) (traced : List ℕ → Bool) (e : Term) → Agrees signals scope → sort_in traced scope e ≡ Some ClockSort → term_shape signals e ≡ None
-term_shape-clock signals scope traced (Ref (name.One n)) a h = read_clock (entry_of n scope) (option_map (shape_at signals.shapes) (place_of n signals.paths)) (name.One n) traced (a.entries n) h
-term_shape-clock signals scope traced (Ref (name.Two i p)) a h = refl
-term_shape-clock signals scope traced (Ref (name.Three m p f)) a h = refl
-term_shape-clock signals scope traced (Lit l) a h = go (is_width l.width && literal_fits l) h
+term_shape-clock signals scope traced (NamedTerm (name.Local n)) a h = read_clock (entry_of n scope) (option_map (shape_at signals.shapes) (place_of n signals.paths)) (name.Local n) traced (a.entries n) h
+term_shape-clock signals scope traced (NamedTerm (name.PortOf i p)) a h = refl
+term_shape-clock signals scope traced (NamedTerm (name.FieldOf m p f)) a h = refl
+term_shape-clock signals scope traced (ConstantTerm l) a h = go (is_width l.width && literal_fits l) h
   where
-    go : (b : Bool) → (if b then Some (Bits (of_kind l.kind l.width)) else None) ≡ Some ClockSort → term_shape signals (Lit l) ≡ None
+    go : (b : Bool) → (if b then Some (Bits (of_kind l.kind l.width)) else None) ≡ Some ClockSort → term_shape signals (ConstantTerm l) ≡ None
     go true e = absurd (cc)
     go false e = absurd (cc)
-term_shape-clock signals scope traced (One o x) a h = absurd (never_clock _ h)
-term_shape-clock signals scope traced (Two o x y) a h = absurd (never_clock _ h)
-term_shape-clock signals scope traced (Fix o x n m) a h = absurd (never_clock _ h)
-term_shape-clock signals scope traced (Choose c x y) a h = absurd (never_clock _ h)
+term_shape-clock signals scope traced (UnaryTerm o x) a h = absurd (never_clock _ h)
+term_shape-clock signals scope traced (BinaryTerm o x y) a h = absurd (never_clock _ h)
+term_shape-clock signals scope traced (FixedTerm o x n m) a h = absurd (never_clock _ h)
+term_shape-clock signals scope traced (MuxTerm c x y) a h = absurd (never_clock _ h)
 
 node_agrees : (signals : Signals) (scope : List (List ℕ × Option Sort)) (traced : List ℕ → Bool) (e : Term) → Agrees signals scope → EntryAgrees (Some (sort_in traced scope e)) (term_shape signals e)
 node_agrees signals scope traced e a = go (sort_in traced scope e) refl

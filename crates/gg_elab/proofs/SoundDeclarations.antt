@@ -11,7 +11,7 @@ use Rattle.gg_ast.specs.declared.statement.Stmt.{Stmt}
 use Rattle.gg_ast.specs.declared.statement.StmtKind.{StmtKind}
 use Rattle.gg_ast.specs.declared.statement.StmtKind.TheVariants as says
 use Rattle.gg_ast.specs.Places.{place_of}
-use Rattle.gg_ast.specs.Term.{Term, term, Ref, Lit, One, Two, Fix, Choose}
+use Rattle.gg_ast.specs.Term.{Term, term, NamedTerm, ConstantTerm, UnaryTerm, BinaryTerm, FixedTerm, MuxTerm}
 use Rattle.gg_ast.specs.Tree.{ModuleTree}
 use Rattle.gg_flat.specs.Line.{shape_at}
 use Rattle.gg_shape.specs.declared.scope.Role.{Role}
@@ -51,12 +51,12 @@ literal_bits l h = go (is_width l.width && literal_fits l) h
 
 -- an expression of type Clock is a reference
 clock_reference : (traced : List ℕ → Bool) (scope : List (List ℕ × Option Sort)) (e : Term) → sort_in traced scope e ≡ Some ClockSort → IsNoReference e → ⊥
-clock_reference traced scope (Ref r) h operation = operation
-clock_reference traced scope (Lit l) h operation = literal_bits l h
-clock_reference traced scope (One o a) h operation = never_clock _ h
-clock_reference traced scope (Two o a b) h operation = never_clock _ h
-clock_reference traced scope (Fix o a n m) h operation = never_clock _ h
-clock_reference traced scope (Choose c a b) h operation = never_clock _ h
+clock_reference traced scope (NamedTerm r) h operation = operation
+clock_reference traced scope (ConstantTerm l) h operation = literal_bits l h
+clock_reference traced scope (UnaryTerm o a) h operation = never_clock _ h
+clock_reference traced scope (BinaryTerm o a b) h operation = never_clock _ h
+clock_reference traced scope (FixedTerm o a n m) h operation = never_clock _ h
+clock_reference traced scope (MuxTerm c a b) h operation = never_clock _ h
 
 -- an expression without faults has a shape, or is a reference
 shaped : (traced : List ℕ → Bool) (signals : Signals) (scope : List (List ℕ × Option Sort)) (line : ℕ) (e : Term) → Agrees signals scope → IsSorted scope → faults_in traced scope line e ≡ [] → IsShapeless signals e → ⊥

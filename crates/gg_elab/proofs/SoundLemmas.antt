@@ -14,7 +14,7 @@ use Rattle.gg_ast.specs.declared.statement.StmtKind.{StmtKind}
 use Rattle.gg_ast.specs.declared.statement.StmtKind.TheVariants as says
 use Rattle.std.specs.Str.{bytes_eq}
 use Rattle.std.proofs.lemmas.List.{append-nil}
-use Rattle.gg_ast.specs.Term.{Term, term, Ref, Lit, One, Two, Fix, Choose}
+use Rattle.gg_ast.specs.Term.{Term, term, NamedTerm, ConstantTerm, UnaryTerm, BinaryTerm, FixedTerm, MuxTerm}
 use Rattle.gg_shape.specs.declared.fault.Fault.{Fault}
 use Rattle.gg_shape.specs.declared.fault.Fault.TheVariants.{LiteralTooLarge, WrongWidth, WrongClock}
 use Rattle.gg_shape.specs.Namespace.{written, is_flat}
@@ -85,23 +85,23 @@ three_some line word op (Some ClockSort) (Some b) None s t u h = absurd (let e =
 three_some line word op (Some ClockSort) (Some b) (Some c) s t u h = absurd (bad_some line word bads.Kind h)
 
 term_some : (traced : List ℕ → Bool) (scope : List (List ℕ × Option Sort)) (line : ℕ) (e : Term) → IsSorted scope → faults_in traced scope line e ≡ [] → SomeSort (sort_in traced scope e)
-term_some traced scope line (Ref (name.One n)) ok h =
-    let parts = append_none (undeclared scope line (name.One n)) (clock_faults traced line (name.One n) (known_sort (entry_of n scope))) h in
-    read_some traced line (name.One n) (entry_of n scope) _ (ok.entries n) parts.0 parts.1
-term_some traced scope line (Ref (name.Two i p)) ok h = absurd (cc)
-term_some traced scope line (Ref (name.Three m p f)) ok h = absurd (cc)
-term_some traced scope line (Lit l) ok h = literal_some line l h
-term_some traced scope line (One o a) ok h =
+term_some traced scope line (NamedTerm (name.Local n)) ok h =
+    let parts = append_none (undeclared scope line (name.Local n)) (clock_faults traced line (name.Local n) (known_sort (entry_of n scope))) h in
+    read_some traced line (name.Local n) (entry_of n scope) _ (ok.entries n) parts.0 parts.1
+term_some traced scope line (NamedTerm (name.PortOf i p)) ok h = absurd (cc)
+term_some traced scope line (NamedTerm (name.FieldOf m p f)) ok h = absurd (cc)
+term_some traced scope line (ConstantTerm l) ok h = literal_some line l h
+term_some traced scope line (UnaryTerm o a) ok h =
     let parts = append_none (faults_in traced scope line a) (result_faults line (words.Unary o) (result1 (type1 o) (sort_in traced scope a))) h in
     one_some line (words.Unary o) (type1 o) (sort_in traced scope a) (term_some traced scope line a ok parts.0) parts.1
-term_some traced scope line (Two o a b) ok h =
+term_some traced scope line (BinaryTerm o a b) ok h =
     let parts = append_none (faults_in traced scope line a) (faults_in traced scope line b ++ result_faults line (words.Binary o) (result2 (type2 o) (sort_in traced scope a) (sort_in traced scope b))) h in
     let more = append_none (faults_in traced scope line b) (result_faults line (words.Binary o) (result2 (type2 o) (sort_in traced scope a) (sort_in traced scope b))) parts.1 in
     two_some line (words.Binary o) (type2 o) (sort_in traced scope a) (sort_in traced scope b) (term_some traced scope line a ok parts.0) (term_some traced scope line b ok more.0) more.1
-term_some traced scope line (Fix o a n m) ok h =
+term_some traced scope line (FixedTerm o a n m) ok h =
     let parts = append_none (faults_in traced scope line a) (result_faults line (words.Fixed o) (result1 (λ s. type_const o s n m) (sort_in traced scope a))) h in
     one_some line (words.Fixed o) (λ s. type_const o s n m) (sort_in traced scope a) (term_some traced scope line a ok parts.0) parts.1
-term_some traced scope line (Choose c a b) ok h =
+term_some traced scope line (MuxTerm c a b) ok h =
     let last = result_faults line words.Mux (result3 type_mux (sort_in traced scope c) (sort_in traced scope a) (sort_in traced scope b)) in
     let one = append_none (faults_in traced scope line c) (faults_in traced scope line a ++ (faults_in traced scope line b ++ last)) h in
     let two = append_none (faults_in traced scope line a) (faults_in traced scope line b ++ last) one.1 in

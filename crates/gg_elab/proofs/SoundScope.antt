@@ -138,7 +138,7 @@ apt_register signals traced scope more n so reset s agrees sorted fresh some h a
 
 -- what is connected to a signal can stand for it
 apt_connection : (signals : Signals) (traced : List ℕ → Bool) (scope more : List (List ℕ × Option Sort)) (line : ℕ) (sink : Reference) (e : Term) (s : ℕ) → Agrees signals (scope ++ more) → IsSorted scope → undeclared scope line sink ≡ [] → HasSort traced scope e → connected line words.Connect (sort_of_reference scope sink) (sort_in traced scope e) ≡ [] → named signals sink ≡ Some s → CanStand signals e (shape_at signals.shapes s)
-apt_connection signals traced scope more line (name.One n) e s agrees sorted known has h at = go (entry_of n scope) refl known h
+apt_connection signals traced scope more line (name.Local n) e s agrees sorted known has h at = go (entry_of n scope) refl known h
   where
     go : (o : Option (Option Sort)) → entry_of n scope ≡ o → fault_if (not (is_some o)) (UnknownName line n) ≡ [] → connected line words.Connect (known_sort o) (sort_in traced scope e) ≡ [] → CanStand signals e (shape_at signals.shapes s)
     go None is none fits = absurd (cc)
@@ -147,8 +147,8 @@ apt_connection signals traced scope more line (name.One n) e s agrees sorted kno
         let typed = entry_of-signal signals (scope ++ more) n s so agrees (entry_of-more n scope more so is) some at in
         CanStand-connected signals traced scope more line words.Connect e (shape_at signals.shapes s) agrees has
         (subst (λ (x : Option Sort). connected line words.Connect x (sort_in traced scope e) ≡ []) typed fits)
-apt_connection signals traced scope more line (name.Two i p) e s agrees sorted known has h at = absurd (cc)
-apt_connection signals traced scope more line (name.Three m p f) e s agrees sorted known has h at = absurd (cc)
+apt_connection signals traced scope more line (name.PortOf i p) e s agrees sorted known has h at = absurd (cc)
+apt_connection signals traced scope more line (name.FieldOf m p f) e s agrees sorted known has h at = absurd (cc)
 
 -- the name of a declaration that no earlier one has
 pub fresh : (scope : List (List ℕ × Option Sort)) (roles : List (List ℕ × Role)) (line : ℕ) (n : List ℕ) (role : Role) → map (λ (e : List ℕ × Option Sort). e.0) scope ≡ map (λ (d : List ℕ × Role). d.0) roles → repeated_in roles line ((n, role) ∷ []) ≡ [] → entry_of n scope ≡ None

@@ -31,9 +31,9 @@ seen_at-other : (t : List (Option Source)) (p q : ℕ) (s : Source) → q ≢ p 
 seen_at-other t p q s ne = ap seen (get_or-set_other t p q (Some s) None ne)
 
 pub named-path : (signals : Signals) (sink : Reference) (p : ℕ) → named signals sink ≡ Some p → (p < length signals.paths) × IsNamed (path_of signals p) sink
-named-path signals (name.One n) p h = let at = place_of-path signals.paths n p h in (at.0, sym at.1)
-named-path signals (name.Two i q) p h = absurd (cc)
-named-path signals (name.Three m q f) p h = absurd (cc)
+named-path signals (name.Local n) p h = let at = place_of-path signals.paths n p h in (at.0, sym at.1)
+named-path signals (name.PortOf i q) p h = absurd (cc)
+named-path signals (name.FieldOf m q f) p h = absurd (cc)
 
 is_some-false : {A : Type 0} (o : Option A) → is_some o ≡ false → o ≡ None
 is_some-false None h = refl

@@ -33,7 +33,7 @@ use Rattle.gg_ast.specs.declared.statement.Stmt.{Stmt}
 use Rattle.gg_ast.specs.declared.statement.StmtKind.{StmtKind}
 use Rattle.gg_ast.specs.declared.statement.StmtKind.TheVariants as says
 use Rattle.gg_ast.specs.Places.{place_of}
-use Rattle.gg_ast.specs.Term.{Ref, Lit}
+use Rattle.gg_ast.specs.Term.{NamedTerm, ConstantTerm}
 use Rattle.gg_ast.specs.Tree.{ModuleTree, CircuitTree}
 use Rattle.gg_flat.specs.declared.line.Node.{Node}
 use Rattle.gg_flat.specs.declared.line.Op.{Op}
@@ -53,7 +53,7 @@ use Rattle.gg_elab.proofs.WholeLineLemmas.{IsLineOf-added, IsZeroLine-literal}
 -- ---- the circuit
 
 abbrev signal : List ℕ → Expr
-signal n = Named (name.One n)
+signal n = Named (name.Local n)
 
 abbrev on : ℕ → StmtKind → Stmt
 on line kind = record { line = line; kind = kind }
@@ -70,9 +70,9 @@ statements =
     ∷ on 8 (says.Register (codes "a") (types.UInt 2) (signal (codes "clock")) None)
     ∷ on 9 (says.Register (codes "b") (types.UInt 2) (signal (codes "clock")) (Some reset))
     ∷ on 11 (says.Node (codes "k") (signal (codes "clock")))
-    ∷ on 12 (says.Connect (name.One (codes "o")) (signal (codes "i")))
-    ∷ on 13 (says.Invalid (name.One (codes "w")))
-    ∷ on 14 (says.Connect (name.One (codes "b")) (signal (codes "w")))
+    ∷ on 12 (says.Connect (name.Local (codes "o")) (signal (codes "i")))
+    ∷ on 13 (says.Invalid (name.Local (codes "w")))
+    ∷ on 14 (says.Connect (name.Local (codes "b")) (signal (codes "w")))
     ∷ []
 
 abbrev top : ModuleTree
@@ -153,15 +153,15 @@ signals = signals_of top
 
 -- ---- its lines
 
-line_of : (n : List ℕ) (s : ℕ) (ty : Ty) → place_of n signals.paths ≡ Some s → s < length signals.shapes → slice_index_or signals.shapes s (uint 0) ≡ shape ty → IsLineOf signals (Ref (name.One n)) (node ty (does.Ref s) ∷ [])
+line_of : (n : List ℕ) (s : ℕ) (ty : Ty) → place_of n signals.paths ≡ Some s → s < length signals.shapes → slice_index_or signals.shapes s (uint 0) ≡ shape ty → IsLineOf signals (NamedTerm (name.Local n)) (node ty (does.Ref s) ∷ [])
 line_of n s ty at within typed =
-    IsLineOf-added signals (node ty (does.Ref s) ∷ []) (Ref (name.One n)) 0 (shape ty)
-    (added_reference signals [] (node ty (does.Ref s)) (name.One n) s (shape ty) at within typed refl refl)
+    IsLineOf-added signals (node ty (does.Ref s) ∷ []) (NamedTerm (name.Local n)) 0 (shape ty)
+    (added_reference signals [] (node ty (does.Ref s)) (name.Local n) s (shape ty) at within typed refl refl)
 
-line_of_one : IsLineOf signals (Lit written) (node two (does.Literal (value 1)) ∷ [])
+line_of_one : IsLineOf signals (ConstantTerm written) (node two (does.Literal (value 1)) ∷ [])
 unfolding digit
 line_of_one =
-    IsLineOf-added signals (node two (does.Literal (value 1)) ∷ []) (Lit written) 0 (shape two)
+    IsLineOf-added signals (node two (does.Literal (value 1)) ∷ []) (ConstantTerm written) 0 (shape two)
     (added_literal signals [] (node two (does.Literal (value 1))) written (value 1) (shape two) refl (lit≤ tt) refl refl refl)
 
 -- ---- what the statements say

@@ -11,7 +11,7 @@ use Rattle.gg_ast.specs.declared.statement.Stmt.{Stmt}
 use Rattle.gg_ast.specs.declared.statement.StmtKind.{StmtKind}
 use Rattle.gg_ast.specs.declared.statement.StmtKind.TheVariants as says
 use Rattle.gg_ast.specs.Places.{place_of}
-use Rattle.gg_ast.specs.Term.{Term, term, Ref, Lit, One, Two, Fix, Choose}
+use Rattle.gg_ast.specs.Term.{Term, term, NamedTerm, ConstantTerm, UnaryTerm, BinaryTerm, FixedTerm, MuxTerm}
 use Rattle.gg_ast.specs.Tree.{ModuleTree}
 use Rattle.gg_flat.specs.Line.{shape_at}
 use Rattle.gg_shape.specs.Namespace.{is_flat}
@@ -72,12 +72,12 @@ HasWrongWidth ty = (line : ℕ) → width_faults line ty ≢ []
 
 -- an operation or a literal
 abbrev pub IsNoReference : Term → Type 0
-IsNoReference (Ref r) = ⊥
-IsNoReference (Lit l) = Unit {0}
-IsNoReference (One op a) = Unit {0}
-IsNoReference (Two op a b) = Unit {0}
-IsNoReference (Fix op a n m) = Unit {0}
-IsNoReference (Choose c a b) = Unit {0}
+IsNoReference (NamedTerm r) = ⊥
+IsNoReference (ConstantTerm l) = Unit {0}
+IsNoReference (UnaryTerm op a) = Unit {0}
+IsNoReference (BinaryTerm op a b) = Unit {0}
+IsNoReference (FixedTerm op a n m) = Unit {0}
+IsNoReference (MuxTerm c a b) = Unit {0}
 
 -- a node's expression has no shape, and is no reference (to a Clock, which is no signal)
 pub record IsShapeless (signals : Signals) (e : Term) : Type 0 where

@@ -32,9 +32,9 @@ IsLineFor signals Zeroed nodes = IsZeroLine nodes
 
 -- the reference is this name
 abbrev pub IsNamed : List ℕ → Reference → Type 0
-IsNamed n (name.One m) = m ≡ n
-IsNamed n (name.Two i p) = ⊥
-IsNamed n (name.Three m p f) = ⊥
+IsNamed n (name.Local m) = m ≡ n
+IsNamed n (name.PortOf i p) = ⊥
+IsNamed n (name.FieldOf m p f) = ⊥
 
 -- the statement connects the sink of this name
 abbrev pub ConnectsName : List ℕ → StmtKind → Type 0

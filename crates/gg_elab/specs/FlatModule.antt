@@ -72,9 +72,9 @@ abbrev pub OfName : FlatCircuit → List ℕ → (ℕ → Type 0) → Type 0
 OfName flat n P = (s : ℕ) → place_of n flat.paths ≡ Some s → P s
 
 abbrev pub OfSink : FlatCircuit → Reference → (ℕ → Type 0) → Type 0
-OfSink flat (name.One n) P = OfName flat n P
-OfSink flat (name.Two i p) P = Unit {0}
-OfSink flat (name.Three m p f) P = Unit {0}
+OfSink flat (name.Local n) P = OfName flat n P
+OfSink flat (name.PortOf i p) P = Unit {0}
+OfSink flat (name.FieldOf m p f) P = Unit {0}
 
 -- What a statement says of the flat circuit. A wire is computed, and no register.
 abbrev pub IsTrueOf : Signals → FlatCircuit → StmtKind → Type 0

@@ -69,9 +69,9 @@ impl Scope {
         ensures none { IfNone result (named self.now reference.now ≡ None) }
     {
         match reference {
-            Reference::One(name) => self.find_name(name),
-            Reference::Two(_, _) => None,
-            Reference::Three(_, _, _) => None,
+            Reference::Local(name) => self.find_name(name),
+            Reference::PortOf(_, _) => None,
+            Reference::FieldOf(_, _, _) => None,
         }
     }
 

@@ -151,7 +151,7 @@ second-alike scope = record {
 unconnected-of : (ss ts : List Stmt) (line : ℕ) (declared : Roles) → Alike ss ts → unconnected_in ss line declared ≡ unconnected_in ts line declared
 unconnected-of ss ts line [] e = refl
 unconnected-of ss ts line (d ∷ ds) e =
-    ap (λ (b : Bool). fault_if (needs_connection d.1 && not b) (Unconnected line d.0)) (any-alike (references.One d.0) ss ts e)
+    ap (λ (b : Bool). fault_if (needs_connection d.1 && not b) (Unconnected line d.0)) (any-alike (references.Local d.0) ss ts e)
 
 unconnected-alike : (ss ts : List Stmt) → Alike ss ts → JudgesAlike (unconnected_by ss) (unconnected_by ts)
 unconnected-alike ss ts e = record {

@@ -166,30 +166,30 @@ same_line : (flat : FlatCircuit) (a : ℕ) (one other : List Node) (b : ℕ) →
 same_line flat a one other b e f h = let q : one ≡ other = cc in subst (λ (l : List Node). Names l b) q h
 
 -- a connection of the sink that names b
-pub by-connection : (m : ModuleTree) (flat : FlatCircuit) (kind : StmtKind) (n : List ℕ) (a b : ℕ) (line : List Node) → is_reference_to (references.One n) (connected_by_kind kind) ≡ true → IsTrueOf (signals_of m) flat kind → plain_kind (scope_of m) kind ≡ true → place_of n flat.paths ≡ Some a → driver_at flat a ≡ drives.Computed line → Names line b → IsNamedIn m b
+pub by-connection : (m : ModuleTree) (flat : FlatCircuit) (kind : StmtKind) (n : List ℕ) (a b : ℕ) (line : List Node) → is_reference_to (references.Local n) (connected_by_kind kind) ≡ true → IsTrueOf (signals_of m) flat kind → plain_kind (scope_of m) kind ≡ true → place_of n flat.paths ≡ Some a → driver_at flat a ≡ drives.Computed line → Names line b → IsNamedIn m b
 by-connection m flat (says.Wire w ty) n a b line c h p at d names = absurd (cc)
 by-connection m flat (says.Node w value) n a b line c h p at d names = absurd (cc)
 by-connection m flat (says.Register w ty clock reset) n a b line c h p at d names = absurd (cc)
 by-connection m flat (says.Instance w k) n a b line c h p at d names = absurd (cc)
 by-connection m flat (says.Memory w fields) n a b line c h p at d names = absurd (cc)
-by-connection m flat (says.Connect (references.One w) source) n a b line c h p at d names =
+by-connection m flat (says.Connect (references.Local w) source) n a b line c h p at d names =
     let same : n ≡ w = eq_same n w c in
     let g = h a (ap (λ (x : List ℕ). place_of x flat.paths) (sym same) ∙ at) in
     elim g.gives [
       | inl e ↦ record { value = term source; names = (g.stands.names b).0 (same_line flat a line g.line b d e names); plain = p }
       | inr t ↦ let e = t.driver in absurd (cc)
     ]
-by-connection m flat (says.Connect (references.Two i q) source) n a b line c h p at d names = absurd (cc)
-by-connection m flat (says.Connect (references.Three i q r) source) n a b line c h p at d names = absurd (cc)
-by-connection m flat (says.Invalid (references.One w)) n a b line c h p at d names =
+by-connection m flat (says.Connect (references.PortOf i q) source) n a b line c h p at d names = absurd (cc)
+by-connection m flat (says.Connect (references.FieldOf i q r) source) n a b line c h p at d names = absurd (cc)
+by-connection m flat (says.Invalid (references.Local w)) n a b line c h p at d names =
     let same : n ≡ w = eq_same n w c in
     let g = h a (ap (λ (x : List ℕ). place_of x flat.paths) (sym same) ∙ at) in
     elim g.gives [
       | inl e ↦ absurd (g.stands.names b (same_line flat a line g.line b d e names))
       | inr t ↦ let e = t.driver in absurd (cc)
     ]
-by-connection m flat (says.Invalid (references.Two i q)) n a b line c h p at d names = absurd (cc)
-by-connection m flat (says.Invalid (references.Three i q r)) n a b line c h p at d names = absurd (cc)
+by-connection m flat (says.Invalid (references.PortOf i q)) n a b line c h p at d names = absurd (cc)
+by-connection m flat (says.Invalid (references.FieldOf i q r)) n a b line c h p at d names = absurd (cc)
 by-connection m flat says.Skip n a b line c h p at d names = absurd (cc)
 by-connection m flat (says.Stop clock condition code label) n a b line c h p at d names = absurd (cc)
 by-connection m flat (says.Report word arguments label) n a b line c h p at d names = absurd (cc)
@@ -198,9 +198,9 @@ by-connection m flat (says.Report word arguments label) n a b line c h p at d na
 
 module _ (m : ModuleTree) (flat : FlatCircuit) (j : Judged m flat) where
   -- a connected sink's line names signals that an expression names
-  connected-names : (n : List ℕ) (a b : ℕ) (line : List Node) → list_any (connects (references.One n)) m.statements ≡ true → place_of n flat.paths ≡ Some a → driver_at flat a ≡ drives.Computed line → Names line b → IsNamedIn m b
+  connected-names : (n : List ℕ) (a b : ℕ) (line : List Node) → list_any (connects (references.Local n)) m.statements ≡ true → place_of n flat.paths ≡ Some a → driver_at flat a ≡ drives.Computed line → Names line b → IsNamedIn m b
   connected-names n a b line c at d names =
-      let found = finds (connects (references.One n)) m.statements c in
+      let found = finds (connects (references.Local n)) m.statements c in
       by-connection m flat found.statement.kind n a b line found.passes
       (all-at (λ (s : Stmt). IsTrueOf (signals_of m) flat s.kind) found.before found.statement found.after (let P : List Stmt → Type 0 = λ ss. All (λ (s : Stmt). IsTrueOf (signals_of m) flat s.kind) ss in subst P found.whole j.is_module.statements))
       (list_all-at (λ (s : Stmt). plain_kind (scope_of m) s.kind) found.before found.statement found.after (ap (list_all (λ (s : Stmt). plain_kind (scope_of m) s.kind)) (sym found.whole) ∙ j.plain))
@@ -219,12 +219,12 @@ module _ (m : ModuleTree) (flat : FlatCircuit) (j : Judged m flat) where
       absurd (cc)
 
   -- an output port is connected
-  output-port : (n : List ℕ) (p : IsPortNamed n m.ports) → p.port.direction ≡ Output → list_any (connects (references.One n)) m.statements ≡ true
+  output-port : (n : List ℕ) (p : IsPortNamed n m.ports) → p.port.direction ≡ Output → list_any (connects (references.Local n)) m.statements ≡ true
   output-port n p output =
       let here : unconnected_in m.statements p.port.line (declared_by_port p.port ∷ []) ≡ [] = along-at (unconnected_port m.statements) [] p.before p.port p.after (ap (along (unconnected_port m.statements)) (sym p.whole) ∙ j.connected_ports) in
       let P : Direction → Type 0 = λ d. unconnected_in m.statements p.port.line ((p.port.name, role_of_port d) ∷ []) ≡ [] in
-      let there : fault_if (not (list_any (connects (references.One p.port.name)) m.statements)) (Unconnected p.port.line p.port.name) ≡ [] = subst P output here in
-      ap (λ (x : List ℕ). list_any (connects (references.One x)) m.statements) (sym p.name) ∙ is_true (list_any (connects (references.One p.port.name)) m.statements) (no_fault _ _ there)
+      let there : fault_if (not (list_any (connects (references.Local p.port.name)) m.statements)) (Unconnected p.port.line p.port.name) ≡ [] = subst P output here in
+      ap (λ (x : List ℕ). list_any (connects (references.Local x)) m.statements) (sym p.name) ∙ is_true (list_any (connects (references.Local p.port.name)) m.statements) (no_fault _ _ there)
     where
       is_true : (b : Bool) → not b ≡ false → b ≡ true
       is_true true e = refl
@@ -248,12 +248,12 @@ module _ (m : ModuleTree) (flat : FlatCircuit) (j : Judged m flat) where
       ∙ ap (λ (d : Direction). Some (role_of_port d)) output
 
   -- a wire is connected
-  wire-connected : (n : List ℕ) (d : Declared n m.statements) → d.role ≡ roles.Wire → list_any (connects (references.One n)) m.statements ≡ true
+  wire-connected : (n : List ℕ) (d : Declared n m.statements) → d.role ≡ roles.Wire → list_any (connects (references.Local n)) m.statements ≡ true
   wire-connected n d wire =
       let here : unconnected_in m.statements d.statement.line (declared_by d.statement) ≡ [] = along-at (unconnected_by m.statements) [] d.before d.statement d.after (ap (along (unconnected_by m.statements)) (sym d.whole) ∙ j.connected) in
       let declared : declared_by d.statement ≡ (n, roles.Wire) ∷ [] = d.declares ∙ ap (λ (r : Role). let pair : List ℕ × Role = (n, r) in pair ∷ []) wire in
-      let there : fault_if (not (list_any (connects (references.One n)) m.statements)) (Unconnected d.statement.line n) ≡ [] = ap (λ (x : Roles). unconnected_in m.statements d.statement.line x) (sym declared) ∙ here in
-      is_true (list_any (connects (references.One n)) m.statements) (no_fault _ _ there)
+      let there : fault_if (not (list_any (connects (references.Local n)) m.statements)) (Unconnected d.statement.line n) ≡ [] = ap (λ (x : Roles). unconnected_in m.statements d.statement.line x) (sym declared) ∙ here in
+      is_true (list_any (connects (references.Local n)) m.statements) (no_fault _ _ there)
     where
       is_true : (b : Bool) → not b ≡ false → b ≡ true
       is_true true e = refl

@@ -11,7 +11,7 @@ use Rattle.gg_ast.specs.declared.statement.Stmt.{Stmt}
 use Rattle.gg_ast.specs.declared.statement.StmtKind.{StmtKind}
 use Rattle.gg_ast.specs.declared.statement.StmtKind.TheVariants as says
 use Rattle.gg_ast.specs.Places.{place_of}
-use Rattle.gg_ast.specs.Term.{Term, term, Ref, Lit, One, Two, Fix, Choose}
+use Rattle.gg_ast.specs.Term.{Term, term, NamedTerm, ConstantTerm, UnaryTerm, BinaryTerm, FixedTerm, MuxTerm}
 use Rattle.gg_shape.specs.declared.fault.Fault.TheVariants.{RepeatedName}
 use Rattle.gg_shape.specs.declared.scope.Role.{Role}
 use Rattle.gg_shape.specs.declared.scope.Role.TheVariants as roles
@@ -170,27 +170,27 @@ both-right true b e = e
 both-right false b e = absurd (cc)
 
 pub known-names : (signals : Signals) (s : ℕ) (scope : Roles) (line : ℕ) (t : Term) → unknown_in scope line t ≡ [] → TermNames signals s t → NamesWith signals s has_value scope
-known-names signals s scope line (Ref (references.One name)) e h = record { name = name; place = h; holds = is_true (has_value (role_of name scope)) (no_fault (not (has_value (role_of name scope))) _ e) }
-known-names signals s scope line (Ref (references.Two i p)) e h = absurd (cc)
-known-names signals s scope line (Ref (references.Three a b c)) e h = absurd (cc)
-known-names signals s scope line (Lit l) e h = absurd h
-known-names signals s scope line (One o a) e h = known-names signals s scope line a e h
-known-names signals s scope line (Two o a b) e (inl h) = known-names signals s scope line a (empty_left (unknown_in scope line a) (unknown_in scope line b) e) h
-known-names signals s scope line (Two o a b) e (inr h) = known-names signals s scope line b (empty_right (unknown_in scope line a) (unknown_in scope line b) e) h
-known-names signals s scope line (Fix o a n m) e h = known-names signals s scope line a e h
-known-names signals s scope line (Choose c a b) e (inl h) = known-names signals s scope line c (empty_left (unknown_in scope line c) (unknown_in scope line a ++ unknown_in scope line b) e) h
-known-names signals s scope line (Choose c a b) e (inr (inl h)) = known-names signals s scope line a (empty_left (unknown_in scope line a) (unknown_in scope line b) (empty_right (unknown_in scope line c) (unknown_in scope line a ++ unknown_in scope line b) e)) h
-known-names signals s scope line (Choose c a b) e (inr (inr h)) = known-names signals s scope line b (empty_right (unknown_in scope line a) (unknown_in scope line b) (empty_right (unknown_in scope line c) (unknown_in scope line a ++ unknown_in scope line b) e)) h
+known-names signals s scope line (NamedTerm (references.Local name)) e h = record { name = name; place = h; holds = is_true (has_value (role_of name scope)) (no_fault (not (has_value (role_of name scope))) _ e) }
+known-names signals s scope line (NamedTerm (references.PortOf i p)) e h = absurd (cc)
+known-names signals s scope line (NamedTerm (references.FieldOf a b c)) e h = absurd (cc)
+known-names signals s scope line (ConstantTerm l) e h = absurd h
+known-names signals s scope line (UnaryTerm o a) e h = known-names signals s scope line a e h
+known-names signals s scope line (BinaryTerm o a b) e (inl h) = known-names signals s scope line a (empty_left (unknown_in scope line a) (unknown_in scope line b) e) h
+known-names signals s scope line (BinaryTerm o a b) e (inr h) = known-names signals s scope line b (empty_right (unknown_in scope line a) (unknown_in scope line b) e) h
+known-names signals s scope line (FixedTerm o a n m) e h = known-names signals s scope line a e h
+known-names signals s scope line (MuxTerm c a b) e (inl h) = known-names signals s scope line c (empty_left (unknown_in scope line c) (unknown_in scope line a ++ unknown_in scope line b) e) h
+known-names signals s scope line (MuxTerm c a b) e (inr (inl h)) = known-names signals s scope line a (empty_left (unknown_in scope line a) (unknown_in scope line b) (empty_right (unknown_in scope line c) (unknown_in scope line a ++ unknown_in scope line b) e)) h
+known-names signals s scope line (MuxTerm c a b) e (inr (inr h)) = known-names signals s scope line b (empty_right (unknown_in scope line a) (unknown_in scope line b) (empty_right (unknown_in scope line c) (unknown_in scope line a ++ unknown_in scope line b) e)) h
 
 pub plain-names : (signals : Signals) (s : ℕ) (scope : Roles) (t : Term) → plain_term scope t ≡ true → TermNames signals s t → NamesWith signals s is_plain scope
-plain-names signals s scope (Ref (references.One name)) e h = record { name = name; place = h; holds = e }
-plain-names signals s scope (Ref (references.Two i p)) e h = absurd (cc)
-plain-names signals s scope (Ref (references.Three a b c)) e h = absurd (cc)
-plain-names signals s scope (Lit l) e h = absurd h
-plain-names signals s scope (One o a) e h = plain-names signals s scope a e h
-plain-names signals s scope (Two o a b) e (inl h) = plain-names signals s scope a (both-left (plain_term scope a) (plain_term scope b) e) h
-plain-names signals s scope (Two o a b) e (inr h) = plain-names signals s scope b (both-right (plain_term scope a) (plain_term scope b) e) h
-plain-names signals s scope (Fix o a n m) e h = plain-names signals s scope a e h
-plain-names signals s scope (Choose c a b) e (inl h) = plain-names signals s scope c (both-left (plain_term scope c) (plain_term scope a && plain_term scope b) e) h
-plain-names signals s scope (Choose c a b) e (inr (inl h)) = plain-names signals s scope a (both-left (plain_term scope a) (plain_term scope b) (both-right (plain_term scope c) (plain_term scope a && plain_term scope b) e)) h
-plain-names signals s scope (Choose c a b) e (inr (inr h)) = plain-names signals s scope b (both-right (plain_term scope a) (plain_term scope b) (both-right (plain_term scope c) (plain_term scope a && plain_term scope b) e)) h
+plain-names signals s scope (NamedTerm (references.Local name)) e h = record { name = name; place = h; holds = e }
+plain-names signals s scope (NamedTerm (references.PortOf i p)) e h = absurd (cc)
+plain-names signals s scope (NamedTerm (references.FieldOf a b c)) e h = absurd (cc)
+plain-names signals s scope (ConstantTerm l) e h = absurd h
+plain-names signals s scope (UnaryTerm o a) e h = plain-names signals s scope a e h
+plain-names signals s scope (BinaryTerm o a b) e (inl h) = plain-names signals s scope a (both-left (plain_term scope a) (plain_term scope b) e) h
+plain-names signals s scope (BinaryTerm o a b) e (inr h) = plain-names signals s scope b (both-right (plain_term scope a) (plain_term scope b) e) h
+plain-names signals s scope (FixedTerm o a n m) e h = plain-names signals s scope a e h
+plain-names signals s scope (MuxTerm c a b) e (inl h) = plain-names signals s scope c (both-left (plain_term scope c) (plain_term scope a && plain_term scope b) e) h
+plain-names signals s scope (MuxTerm c a b) e (inr (inl h)) = plain-names signals s scope a (both-left (plain_term scope a) (plain_term scope b) (both-right (plain_term scope c) (plain_term scope a && plain_term scope b) e)) h
+plain-names signals s scope (MuxTerm c a b) e (inr (inr h)) = plain-names signals s scope b (both-right (plain_term scope a) (plain_term scope b) (both-right (plain_term scope c) (plain_term scope a && plain_term scope b) e)) h

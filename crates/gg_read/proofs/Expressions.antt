@@ -19,7 +19,7 @@ use Rattle.gg_ast.specs.declared.expression.Reference.{Reference}
 use Rattle.gg_ast.specs.declared.expression.Reference.TheVariants as reference
 use Rattle.gg_ast.specs.declared.module.GroundType.{GroundType}
 use Rattle.gg_ast.specs.declared.module.GroundType.TheVariants as plain_type
-use Rattle.gg_ast.specs.Term.{Term, Ref, Lit, One, Two, Fix, Choose}
+use Rattle.gg_ast.specs.Term.{Term, NamedTerm, ConstantTerm, UnaryTerm, BinaryTerm, FixedTerm, MuxTerm}
 use Rattle.gg_read.specs.declared.words.Operation.{Operation}
 use Rattle.gg_read.specs.declared.words.Operation.TheVariants.{Unary, Binary as Binary2, Fixed, Mux}
 use Rattle.gg_bits.specs.Spelling.{text1, text2, text_const}
@@ -38,17 +38,17 @@ pub record Ends (rest : List Tok) : Type 0 where
 -- ---- what is spelt is read
 
 pub reference-read : (r : Reference) (ts rest : List Tok) → symbol_at Dot rest ≡ None → SpellsReference r ts rest → reference_at ts ≡ Some (r, rest)
-reference-read (reference.One a) ts rest ends h =
+reference-read (reference.Local a) ts rest ends h =
     rw h.1 (goes_on (name_at (Word a ∷ rest)) (λ n. second_at n.0 n.1) (a, rest) (name_at-here a rest h.0)
-    ∙ not_chosen (symbol_at Dot rest) (λ t. name_at t >>= λ b. third_at a b.0 b.1) (Some (reference.One a, rest)) ends)
-reference-read (reference.Two a b) ts rest ends h =
+    ∙ not_chosen (symbol_at Dot rest) (λ t. name_at t >>= λ b. third_at a b.0 b.1) (Some (reference.Local a, rest)) ends)
+reference-read (reference.PortOf a b) ts rest ends h =
     rw h.2 (goes_on (name_at (Word a ∷ (Symbol Dot ∷ (Word b ∷ rest)))) (λ n. second_at n.0 n.1) (a, Symbol Dot ∷ (Word b ∷ rest)) (name_at-here a _ h.0)
     ∙ goes_on (name_at (Word b ∷ rest)) (λ n. third_at a n.0 n.1) (b, rest) (name_at-here b rest h.1)
-    ∙ not_chosen (symbol_at Dot rest) (λ t. name_at t >>= λ c. Some (reference.Three a b c.0, c.1)) (Some (reference.Two a b, rest)) ends)
-reference-read (reference.Three a b c) ts rest ends h =
+    ∙ not_chosen (symbol_at Dot rest) (λ t. name_at t >>= λ c. Some (reference.FieldOf a b c.0, c.1)) (Some (reference.PortOf a b, rest)) ends)
+reference-read (reference.FieldOf a b c) ts rest ends h =
     rw h.3 (goes_on (name_at (Word a ∷ (Symbol Dot ∷ (Word b ∷ (Symbol Dot ∷ (Word c ∷ rest)))))) (λ n. second_at n.0 n.1) (a, Symbol Dot ∷ (Word b ∷ (Symbol Dot ∷ (Word c ∷ rest)))) (name_at-here a _ h.0)
     ∙ goes_on (name_at (Word b ∷ (Symbol Dot ∷ (Word c ∷ rest)))) (λ n. third_at a n.0 n.1) (b, Symbol Dot ∷ (Word c ∷ rest)) (name_at-here b _ h.1)
-    ∙ goes_on (name_at (Word c ∷ rest)) (λ n. Some (reference.Three a b n.0, n.1)) (c, rest) (name_at-here c rest h.2))
+    ∙ goes_on (name_at (Word c ∷ rest)) (λ n. Some (reference.FieldOf a b n.0, n.1)) (c, rest) (name_at-here c rest h.2))
 
 width-read : (digits : List ℕ) (n : ℕ) (rest : List Tok) → IsNatural digits n → width_at (Symbol Less ∷ (Number digits ∷ (Symbol Greater ∷ rest))) ≡ Some (n, rest)
 width-read digits n rest h =
@@ -124,24 +124,24 @@ call-read sub word o t e =
     ap (λ (f : Option Operation). (f >>= step) >>= next) e
 
 module _ (sub : List Tok → Option (Term × List Tok)) where
-  unary-read : (o : Op1) (a : Term) (t rest : List Tok) → sub t ≡ Some (a, Symbol CloseParen ∷ rest) → unary_at sub o t ≡ Some (One o a, rest)
-  unary-read o a t rest e = goes_on (sub t) (λ x. symbol_at CloseParen x.1 >>= λ u. Some (One o x.0, u)) (a, Symbol CloseParen ∷ rest) e
+  unary-read : (o : Op1) (a : Term) (t rest : List Tok) → sub t ≡ Some (a, Symbol CloseParen ∷ rest) → unary_at sub o t ≡ Some (UnaryTerm o a, rest)
+  unary-read o a t rest e = goes_on (sub t) (λ x. symbol_at CloseParen x.1 >>= λ u. Some (UnaryTerm o x.0, u)) (a, Symbol CloseParen ∷ rest) e
 
-  binary-read : (o : Op2) (a b : Term) (t u rest : List Tok) → sub t ≡ Some (a, Symbol Comma ∷ u) → sub u ≡ Some (b, Symbol CloseParen ∷ rest) → binary_at sub o t ≡ Some (Two o a b, rest)
+  binary-read : (o : Op2) (a b : Term) (t u rest : List Tok) → sub t ≡ Some (a, Symbol Comma ∷ u) → sub u ≡ Some (b, Symbol CloseParen ∷ rest) → binary_at sub o t ≡ Some (BinaryTerm o a b, rest)
   binary-read o a b t u rest e f =
-      goes_on (sub t) (λ x. symbol_at Comma x.1 >>= λ v. sub v >>= λ y. symbol_at CloseParen y.1 >>= λ w. Some (Two o x.0 y.0, w)) (a, Symbol Comma ∷ u) e
-      ∙ goes_on (sub u) (λ y. symbol_at CloseParen y.1 >>= λ w. Some (Two o a y.0, w)) (b, Symbol CloseParen ∷ rest) f
+      goes_on (sub t) (λ x. symbol_at Comma x.1 >>= λ v. sub v >>= λ y. symbol_at CloseParen y.1 >>= λ w. Some (BinaryTerm o x.0 y.0, w)) (a, Symbol Comma ∷ u) e
+      ∙ goes_on (sub u) (λ y. symbol_at CloseParen y.1 >>= λ w. Some (BinaryTerm o a y.0, w)) (b, Symbol CloseParen ∷ rest) f
 
-  fixed-read : (o : OpN) (a : Term) (n m : ℕ) (t u rest : List Tok) → sub t ≡ Some (a, u) → SpellsParameters o n m u rest → fixed_at sub o t ≡ Some (Fix o a n m, rest)
+  fixed-read : (o : OpN) (a : Term) (n m : ℕ) (t u rest : List Tok) → sub t ≡ Some (a, u) → SpellsParameters o n m u rest → fixed_at sub o t ≡ Some (FixedTerm o a n m, rest)
   fixed-read o a n m t u rest e h =
-      goes_on (sub t) (λ x. parameters_at o x.1 >>= λ p. Some (Fix o x.0 p.0.0 p.0.1, p.1)) (a, u) e
-      ∙ goes_on (parameters_at o u) (λ p. Some (Fix o a p.0.0 p.0.1, p.1)) ((n, m), rest) (parameters-read o n m u rest h)
+      goes_on (sub t) (λ x. parameters_at o x.1 >>= λ p. Some (FixedTerm o x.0 p.0.0 p.0.1, p.1)) (a, u) e
+      ∙ goes_on (parameters_at o u) (λ p. Some (FixedTerm o a p.0.0 p.0.1, p.1)) ((n, m), rest) (parameters-read o n m u rest h)
 
-  mux-read : (c a b : Term) (t u v rest : List Tok) → sub t ≡ Some (c, Symbol Comma ∷ u) → sub u ≡ Some (a, Symbol Comma ∷ v) → sub v ≡ Some (b, Symbol CloseParen ∷ rest) → mux_at sub t ≡ Some (Choose c a b, rest)
+  mux-read : (c a b : Term) (t u v rest : List Tok) → sub t ≡ Some (c, Symbol Comma ∷ u) → sub u ≡ Some (a, Symbol Comma ∷ v) → sub v ≡ Some (b, Symbol CloseParen ∷ rest) → mux_at sub t ≡ Some (MuxTerm c a b, rest)
   mux-read c a b t u v rest e f g =
-      goes_on (sub t) (λ x. symbol_at Comma x.1 >>= λ p. sub p >>= λ y. symbol_at Comma y.1 >>= λ q. sub q >>= λ z. symbol_at CloseParen z.1 >>= λ w. Some (Choose x.0 y.0 z.0, w)) (c, Symbol Comma ∷ u) e
-      ∙ goes_on (sub u) (λ y. symbol_at Comma y.1 >>= λ q. sub q >>= λ z. symbol_at CloseParen z.1 >>= λ w. Some (Choose c y.0 z.0, w)) (a, Symbol Comma ∷ v) f
-      ∙ goes_on (sub v) (λ z. symbol_at CloseParen z.1 >>= λ w. Some (Choose c a z.0, w)) (b, Symbol CloseParen ∷ rest) g
+      goes_on (sub t) (λ x. symbol_at Comma x.1 >>= λ p. sub p >>= λ y. symbol_at Comma y.1 >>= λ q. sub q >>= λ z. symbol_at CloseParen z.1 >>= λ w. Some (MuxTerm x.0 y.0 z.0, w)) (c, Symbol Comma ∷ u) e
+      ∙ goes_on (sub u) (λ y. symbol_at Comma y.1 >>= λ q. sub q >>= λ z. symbol_at CloseParen z.1 >>= λ w. Some (MuxTerm c y.0 z.0, w)) (a, Symbol Comma ∷ v) f
+      ∙ goes_on (sub v) (λ z. symbol_at CloseParen z.1 >>= λ w. Some (MuxTerm c a z.0, w)) (b, Symbol CloseParen ∷ rest) g
 
 pub ends_close : (rest : List Tok) → Ends (Symbol CloseParen ∷ rest)
 ends_close rest = record { no_dot = refl; no_open = refl; no_less = refl }
@@ -161,22 +161,22 @@ parameters-end Tail n m ts rest h = subst Ends (sym h.3) (ends_comma _)
 is_second-none : (m : Mark) (t : Tok) (ts : List Tok) → symbol_at m ts ≡ None → is_second m (t ∷ ts) ≡ false
 is_second-none m t ts e = ap (λ o. is_some o) e
 
-as_reference : (sub : List Tok → Option (Term × List Tok)) (ts : List Tok) (r : Reference) (rest : List Tok) → is_second OpenParen ts ≡ false → is_second Less ts ≡ false → reference_at ts ≡ Some (r, rest) → form_at sub ts ≡ Some (Ref r, rest)
+as_reference : (sub : List Tok → Option (Term × List Tok)) (ts : List Tok) (r : Reference) (rest : List Tok) → is_second OpenParen ts ≡ false → is_second Less ts ≡ false → reference_at ts ≡ Some (r, rest) → form_at sub ts ≡ Some (NamedTerm r, rest)
 as_reference sub ts r rest a b e =
-    ap (λ x. if x then call_at sub ts else (if is_second Less ts then (literal_at ts >>= λ l. Some (Lit l.0, l.1)) else (reference_at ts >>= λ k. Some (Ref k.0, k.1)))) a
-    ∙ ap (λ x. if x then (literal_at ts >>= λ l. Some (Lit l.0, l.1)) else (reference_at ts >>= λ k. Some (Ref k.0, k.1))) b
-    ∙ ap (λ o. o >>= λ k. Some (Ref k.0, k.1)) e
+    ap (λ x. if x then call_at sub ts else (if is_second Less ts then (literal_at ts >>= λ l. Some (ConstantTerm l.0, l.1)) else (reference_at ts >>= λ k. Some (NamedTerm k.0, k.1)))) a
+    ∙ ap (λ x. if x then (literal_at ts >>= λ l. Some (ConstantTerm l.0, l.1)) else (reference_at ts >>= λ k. Some (NamedTerm k.0, k.1))) b
+    ∙ ap (λ o. o >>= λ k. Some (NamedTerm k.0, k.1)) e
 
 no_second : (r : Reference) (ts rest : List Tok) → Ends rest → SpellsReference r ts rest → (is_second OpenParen ts ≡ false) × (is_second Less ts ≡ false)
-no_second (reference.One a) ts rest ends h = rw h.1 (is_second-none OpenParen (Word a) rest ends.no_open, is_second-none Less (Word a) rest ends.no_less)
-no_second (reference.Two a b) ts rest ends h = rw h.2 (refl, refl)
-no_second (reference.Three a b c) ts rest ends h = rw h.3 (refl, refl)
+no_second (reference.Local a) ts rest ends h = rw h.1 (is_second-none OpenParen (Word a) rest ends.no_open, is_second-none Less (Word a) rest ends.no_less)
+no_second (reference.PortOf a b) ts rest ends h = rw h.2 (refl, refl)
+no_second (reference.FieldOf a b c) ts rest ends h = rw h.3 (refl, refl)
 
 -- what an expression's tokens hold goes before the rest
 reference-shorter : (r : Reference) (ts rest : List Tok) → SpellsReference r ts rest → length rest < length ts
-reference-shorter (reference.One a) ts rest h = let e = ap length h.1 in omega arith
-reference-shorter (reference.Two a b) ts rest h = let e = ap length h.2 in omega arith
-reference-shorter (reference.Three a b c) ts rest h = let e = ap length h.3 in omega arith
+reference-shorter (reference.Local a) ts rest h = let e = ap length h.1 in omega arith
+reference-shorter (reference.PortOf a b) ts rest h = let e = ap length h.2 in omega arith
+reference-shorter (reference.FieldOf a b c) ts rest h = let e = ap length h.3 in omega arith
 
 parameters-shorter : (o : OpN) (n m : ℕ) (ts rest : List Tok) → SpellsParameters o n m ts rest → length rest < length ts
 parameters-shorter Bits n m ts rest h = let e = ap length h.4 in omega arith
@@ -187,20 +187,20 @@ parameters-shorter Head n m ts rest h = let e = ap length h.3 in omega arith
 parameters-shorter Tail n m ts rest h = let e = ap length h.3 in omega arith
 
 pub expr-shorter : (e : Term) (ts rest : List Tok) → SpellsExpr e ts rest → length rest < length ts
-expr-shorter (Ref r) ts rest h = reference-shorter r ts rest h
-expr-shorter (Lit l) ts rest h = let e = ap length h.3 in omega arith
-expr-shorter (One o a) ts rest h = let e = ap length h.1 in let f = expr-shorter a h.0 (Symbol CloseParen ∷ rest) h.2 in omega arith
-expr-shorter (Two o a b) ts rest h =
+expr-shorter (NamedTerm r) ts rest h = reference-shorter r ts rest h
+expr-shorter (ConstantTerm l) ts rest h = let e = ap length h.3 in omega arith
+expr-shorter (UnaryTerm o a) ts rest h = let e = ap length h.1 in let f = expr-shorter a h.0 (Symbol CloseParen ∷ rest) h.2 in omega arith
+expr-shorter (BinaryTerm o a b) ts rest h =
     let e = ap length h.2 in
     let f = expr-shorter a h.0 (Symbol Comma ∷ h.1) h.3 in
     let g = expr-shorter b h.1 (Symbol CloseParen ∷ rest) h.4 in
     omega arith
-expr-shorter (Fix o a n m) ts rest h =
+expr-shorter (FixedTerm o a n m) ts rest h =
     let e = ap length h.2 in
     let f = expr-shorter a h.0 h.1 h.3 in
     let g = parameters-shorter o n m h.1 rest h.4 in
     omega arith
-expr-shorter (Choose c a b) ts rest h =
+expr-shorter (MuxTerm c a b) ts rest h =
     let e = ap length h.3 in
     let f = expr-shorter c h.0 (Symbol Comma ∷ h.1) h.4 in
     let g = expr-shorter a h.1 (Symbol Comma ∷ h.2) h.5 in
@@ -210,39 +210,39 @@ expr-shorter (Choose c a b) ts rest h =
 as_call : (sub : List Tok → Option (Term × List Tok)) (word : List ℕ) (o : Operation) (t : List Tok) (x : Term × List Tok) → operation_of word ≡ Some o → operands_at sub o t ≡ Some x → form_at sub (Word word ∷ (Symbol OpenParen ∷ t)) ≡ Some x
 as_call sub word o t x named read = call-read sub word o t named ∙ read
 
-as_literal : (sub : List Tok → Option (Term × List Tok)) (l : Literal) (ts rest : List Tok) → SpellsLiteral l ts rest → form_at sub ts ≡ Some (Lit l, rest)
+as_literal : (sub : List Tok → Option (Term × List Tok)) (l : Literal) (ts rest : List Tok) → SpellsLiteral l ts rest → form_at sub ts ≡ Some (ConstantTerm l, rest)
 as_literal sub l ts rest h =
     let e : literal_at ts ≡ Some (l, rest) = literal-read l ts rest h in
     let second : (is_second OpenParen ts ≡ false) × (is_second Less ts ≡ true) = rw h.3 (refl, refl) in
-    ap (λ x. if x then call_at sub ts else (if is_second Less ts then (literal_at ts >>= λ k. Some (Lit k.0, k.1)) else (reference_at ts >>= λ k. Some (Ref k.0, k.1)))) second.0
-    ∙ ap (λ x. if x then (literal_at ts >>= λ k. Some (Lit k.0, k.1)) else (reference_at ts >>= λ k. Some (Ref k.0, k.1))) second.1
-    ∙ ap (λ o. o >>= λ k. Some (Lit k.0, k.1)) e
+    ap (λ x. if x then call_at sub ts else (if is_second Less ts then (literal_at ts >>= λ k. Some (ConstantTerm k.0, k.1)) else (reference_at ts >>= λ k. Some (NamedTerm k.0, k.1)))) second.0
+    ∙ ap (λ x. if x then (literal_at ts >>= λ k. Some (ConstantTerm k.0, k.1)) else (reference_at ts >>= λ k. Some (NamedTerm k.0, k.1))) second.1
+    ∙ ap (λ o. o >>= λ k. Some (ConstantTerm k.0, k.1)) e
 
 -- an expression that is spelt is read, with as many levels as there are tokens
 pub expr-read : (e : Term) (ts rest : List Tok) (n : ℕ) → SpellsExpr e ts rest → Ends rest → length ts ≤ n → expr_at n ts ≡ Some (e, rest)
 expr-read e ts rest zero h ends size = absurd (omega (arith, expr-shorter e ts rest h))
-expr-read (Ref r) ts rest (suc n) h ends size =
+expr-read (NamedTerm r) ts rest (suc n) h ends size =
     let no = no_second r ts rest ends h in
     as_reference (expr_at n) ts r rest no.0 no.1 (reference-read r ts rest ends.no_dot h)
-expr-read (Lit l) ts rest (suc n) h ends size = as_literal (expr_at n) l ts rest h
-expr-read (One o a) ts rest (suc n) h ends size =
+expr-read (ConstantTerm l) ts rest (suc n) h ends size = as_literal (expr_at n) l ts rest h
+expr-read (UnaryTerm o a) ts rest (suc n) h ends size =
     let e = ap length h.1 in
-    rw h.1 (as_call (expr_at n) (text1 o) (Unary o) h.0 (One o a, rest) (operation_of-here (Unary o))
+    rw h.1 (as_call (expr_at n) (text1 o) (Unary o) h.0 (UnaryTerm o a, rest) (operation_of-here (Unary o))
     (unary-read (expr_at n) o a h.0 rest (expr-read a h.0 (Symbol CloseParen ∷ rest) n h.2 (ends_close rest) (omega arith))))
-expr-read (Two o a b) ts rest (suc n) h ends size =
+expr-read (BinaryTerm o a b) ts rest (suc n) h ends size =
     let e = ap length h.2 in
     let f = expr-shorter a h.0 (Symbol Comma ∷ h.1) h.3 in
-    rw h.2 (as_call (expr_at n) (text2 o) (Binary2 o) h.0 (Two o a b, rest) (operation_of-here (Binary2 o))
+    rw h.2 (as_call (expr_at n) (text2 o) (Binary2 o) h.0 (BinaryTerm o a b, rest) (operation_of-here (Binary2 o))
     (binary-read (expr_at n) o a b h.0 h.1 rest (expr-read a h.0 (Symbol Comma ∷ h.1) n h.3 (ends_comma h.1) (omega arith)) (expr-read b h.1 (Symbol CloseParen ∷ rest) n h.4 (ends_close rest) (omega arith))))
-expr-read (Fix o a p q) ts rest (suc n) h ends size =
+expr-read (FixedTerm o a p q) ts rest (suc n) h ends size =
     let e = ap length h.2 in
-    rw h.2 (as_call (expr_at n) (text_const o) (Fixed o) h.0 (Fix o a p q, rest) (operation_of-here (Fixed o))
+    rw h.2 (as_call (expr_at n) (text_const o) (Fixed o) h.0 (FixedTerm o a p q, rest) (operation_of-here (Fixed o))
     (fixed-read (expr_at n) o a p q h.0 h.1 rest (expr-read a h.0 h.1 n h.3 (parameters-end o p q h.1 rest h.4) (omega arith)) h.4))
-expr-read (Choose c a b) ts rest (suc n) h ends size =
+expr-read (MuxTerm c a b) ts rest (suc n) h ends size =
     let e = ap length h.3 in
     let f = expr-shorter c h.0 (Symbol Comma ∷ h.1) h.4 in
     let g = expr-shorter a h.1 (Symbol Comma ∷ h.2) h.5 in
-    rw h.3 (as_call (expr_at n) (codes "mux") Mux h.0 (Choose c a b, rest) (operation_of-here Mux)
+    rw h.3 (as_call (expr_at n) (codes "mux") Mux h.0 (MuxTerm c a b, rest) (operation_of-here Mux)
     (mux-read (expr_at n) c a b h.0 h.1 h.2 rest (expr-read c h.0 (Symbol Comma ∷ h.1) n h.4 (ends_comma h.1) (omega arith)) (expr-read a h.1 (Symbol Comma ∷ h.2) n h.5 (ends_comma h.2) (omega arith)) (expr-read b h.2 (Symbol CloseParen ∷ rest) n h.6 (ends_close rest) (omega arith))))
 
 pub ends_end : Ends []

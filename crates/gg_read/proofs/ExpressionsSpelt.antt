@@ -17,7 +17,7 @@ use Rattle.gg_ast.specs.declared.expression.Reference.{Reference}
 use Rattle.gg_ast.specs.declared.expression.Reference.TheVariants as reference
 use Rattle.gg_ast.specs.declared.module.GroundType.{GroundType}
 use Rattle.gg_ast.specs.declared.module.GroundType.TheVariants as plain_type
-use Rattle.gg_ast.specs.Term.{Term, Ref, Lit, One, Two, Fix, Choose}
+use Rattle.gg_ast.specs.Term.{Term, NamedTerm, ConstantTerm, UnaryTerm, BinaryTerm, FixedTerm, MuxTerm}
 use Rattle.gg_read.specs.declared.words.Operation.{Operation}
 use Rattle.gg_read.specs.declared.words.Operation.TheVariants.{Unary, Binary as Binary2, Fixed, Mux}
 use Rattle.gg_read.specs.declared.digits.Digits.{Digits}
@@ -32,28 +32,28 @@ use Rattle.gg_read.proofs.WordLaws.{operation_text, operation_of-spells}
 
 third-spells : (a b : List ℕ) (ts rest : List Tok) (r : Reference) (o : Option (List Tok)) → IsName a → IsName b → symbol_at Dot ts ≡ o → third_at a b ts ≡ Some (r, rest) → SpellsReference r (Word a ∷ (Symbol Dot ∷ (Word b ∷ ts))) rest
 third-spells a b ts rest r None na nb e h =
-    let go : List Tok → Option (Reference × List Tok) = λ t. name_at t >>= λ c. Some (reference.Three a b c.0, c.1) in
-    let stop : Option (Reference × List Tok) = Some (reference.Two a b, ts) in
-    let same = some_same (reference.Two a b, ts) (r, rest) (sym (not_chosen (symbol_at Dot ts) go stop e) ∙ h) in
+    let go : List Tok → Option (Reference × List Tok) = λ t. name_at t >>= λ c. Some (reference.FieldOf a b c.0, c.1) in
+    let stop : Option (Reference × List Tok) = Some (reference.PortOf a b, ts) in
+    let same = some_same (reference.PortOf a b, ts) (r, rest) (sym (not_chosen (symbol_at Dot ts) go stop e) ∙ h) in
     subst (λ (p : Reference × List Tok). SpellsReference p.0 (Word a ∷ (Symbol Dot ∷ (Word b ∷ ts))) p.1) same (na, nb, refl)
 third-spells a b ts rest r (Some t) na nb e h =
-    let go : List Tok → Option (Reference × List Tok) = λ t. name_at t >>= λ c. Some (reference.Three a b c.0, c.1) in
-    let stop : Option (Reference × List Tok) = Some (reference.Two a b, ts) in
-    let n = bound (name_at t) (λ c. Some (reference.Three a b c.0, c.1)) (r, rest) (sym (chosen (symbol_at Dot ts) go stop t e) ∙ h) in
+    let go : List Tok → Option (Reference × List Tok) = λ t. name_at t >>= λ c. Some (reference.FieldOf a b c.0, c.1) in
+    let stop : Option (Reference × List Tok) = Some (reference.PortOf a b, ts) in
+    let n = bound (name_at t) (λ c. Some (reference.FieldOf a b c.0, c.1)) (r, rest) (sym (chosen (symbol_at Dot ts) go stop t e) ∙ h) in
     let word = name_at-spells t n.0.0 n.0.1 n.1 in
     let tail : ts ≡ Symbol Dot ∷ (Word n.0.0 ∷ n.0.1) = symbol_at-spells Dot ts t e ∙ ap (λ l. Symbol Dot ∷ l) word.1 in
-    subst (λ (p : Reference × List Tok). SpellsReference p.0 (Word a ∷ (Symbol Dot ∷ (Word b ∷ ts))) p.1) (some_same (reference.Three a b n.0.0, n.0.1) (r, rest) n.2)
+    subst (λ (p : Reference × List Tok). SpellsReference p.0 (Word a ∷ (Symbol Dot ∷ (Word b ∷ ts))) p.1) (some_same (reference.FieldOf a b n.0.0, n.0.1) (r, rest) n.2)
     (na, nb, word.0, ap (λ l. Word a ∷ (Symbol Dot ∷ (Word b ∷ l))) tail)
 
 second-spells : (a : List ℕ) (ts rest : List Tok) (r : Reference) (o : Option (List Tok)) → IsName a → symbol_at Dot ts ≡ o → second_at a ts ≡ Some (r, rest) → SpellsReference r (Word a ∷ ts) rest
 second-spells a ts rest r None na e h =
     let go : List Tok → Option (Reference × List Tok) = λ t. name_at t >>= λ b. third_at a b.0 b.1 in
-    let stop : Option (Reference × List Tok) = Some (reference.One a, ts) in
-    let same = some_same (reference.One a, ts) (r, rest) (sym (not_chosen (symbol_at Dot ts) go stop e) ∙ h) in
+    let stop : Option (Reference × List Tok) = Some (reference.Local a, ts) in
+    let same = some_same (reference.Local a, ts) (r, rest) (sym (not_chosen (symbol_at Dot ts) go stop e) ∙ h) in
     subst (λ (p : Reference × List Tok). SpellsReference p.0 (Word a ∷ ts) p.1) same (na, refl)
 second-spells a ts rest r (Some t) na e h =
     let go : List Tok → Option (Reference × List Tok) = λ t. name_at t >>= λ b. third_at a b.0 b.1 in
-    let stop : Option (Reference × List Tok) = Some (reference.One a, ts) in
+    let stop : Option (Reference × List Tok) = Some (reference.Local a, ts) in
     let n = bound (name_at t) (λ b. third_at a b.0 b.1) (r, rest) (sym (chosen (symbol_at Dot ts) go stop t e) ∙ h) in
     let word = name_at-spells t n.0.0 n.0.1 n.1 in
     let tail : Symbol Dot ∷ (Word n.0.0 ∷ n.0.1) ≡ ts = sym (symbol_at-spells Dot ts t e ∙ ap (λ l. Symbol Dot ∷ l) word.1) in
@@ -266,10 +266,10 @@ parameters-spells Head ts rest n m h = let p = one_only ts rest n m h in (p.spel
 parameters-spells Tail ts rest n m h = let p = one_only ts rest n m h in (p.spelt.digits, p.spelt.natural, p.none, p.spelt.spelt)
 
 abbrev literal_term : (Literal × List Tok) → Option (Term × List Tok)
-literal_term l = Some (Lit l.0, l.1)
+literal_term l = Some (ConstantTerm l.0, l.1)
 
 abbrev reference_term : (Reference × List Tok) → Option (Term × List Tok)
-reference_term r = Some (Ref r.0, r.1)
+reference_term r = Some (NamedTerm r.0, r.1)
 
 -- what `sub` reads is spelt so
 abbrev IsSound : (List Tok → Option (Term × List Tok)) → Type 0
@@ -285,36 +285,36 @@ module _ (sub : List Tok → Option (Term × List Tok)) (sound : IsSound sub) wh
 
   unary-spells : (o : Op1) (t rest : List Tok) (e : Term) → unary_at sub o t ≡ Some (e, rest) → SpellsExpr e (Word (text1 o) ∷ (Symbol OpenParen ∷ t)) rest
   unary-spells o t rest e h =
-      let a = bound (sub t) (λ a. symbol_at CloseParen a.1 >>= λ t. Some (One o a.0, t)) (e, rest) h in
-      let u = bound (symbol_at CloseParen a.0.1) (λ t. Some (One o a.0.0, t)) (e, rest) a.2 in
-      subst (λ (p : Term × List Tok). SpellsExpr p.0 (Word (text1 o) ∷ (Symbol OpenParen ∷ t)) p.1) (some_same (One o a.0.0, u.0) (e, rest) u.2)
+      let a = bound (sub t) (λ a. symbol_at CloseParen a.1 >>= λ t. Some (UnaryTerm o a.0, t)) (e, rest) h in
+      let u = bound (symbol_at CloseParen a.0.1) (λ t. Some (UnaryTerm o a.0.0, t)) (e, rest) a.2 in
+      subst (λ (p : Term × List Tok). SpellsExpr p.0 (Word (text1 o) ∷ (Symbol OpenParen ∷ t)) p.1) (some_same (UnaryTerm o a.0.0, u.0) (e, rest) u.2)
       (t, refl, operand-close t a.0 u.0 a.1 u.1)
 
   binary-spells : (o : Op2) (t rest : List Tok) (e : Term) → binary_at sub o t ≡ Some (e, rest) → SpellsExpr e (Word (text2 o) ∷ (Symbol OpenParen ∷ t)) rest
   binary-spells o t rest e h =
-      let a = bound (sub t) (λ a. symbol_at Comma a.1 >>= λ t. sub t >>= λ b. symbol_at CloseParen b.1 >>= λ u. Some (Two o a.0 b.0, u)) (e, rest) h in
-      let u = bound (symbol_at Comma a.0.1) (λ t. sub t >>= λ b. symbol_at CloseParen b.1 >>= λ u. Some (Two o a.0.0 b.0, u)) (e, rest) a.2 in
-      let b = bound (sub u.0) (λ b. symbol_at CloseParen b.1 >>= λ u. Some (Two o a.0.0 b.0, u)) (e, rest) u.2 in
-      let v = bound (symbol_at CloseParen b.0.1) (λ u. Some (Two o a.0.0 b.0.0, u)) (e, rest) b.2 in
-      subst (λ (p : Term × List Tok). SpellsExpr p.0 (Word (text2 o) ∷ (Symbol OpenParen ∷ t)) p.1) (some_same (Two o a.0.0 b.0.0, v.0) (e, rest) v.2)
+      let a = bound (sub t) (λ a. symbol_at Comma a.1 >>= λ t. sub t >>= λ b. symbol_at CloseParen b.1 >>= λ u. Some (BinaryTerm o a.0 b.0, u)) (e, rest) h in
+      let u = bound (symbol_at Comma a.0.1) (λ t. sub t >>= λ b. symbol_at CloseParen b.1 >>= λ u. Some (BinaryTerm o a.0.0 b.0, u)) (e, rest) a.2 in
+      let b = bound (sub u.0) (λ b. symbol_at CloseParen b.1 >>= λ u. Some (BinaryTerm o a.0.0 b.0, u)) (e, rest) u.2 in
+      let v = bound (symbol_at CloseParen b.0.1) (λ u. Some (BinaryTerm o a.0.0 b.0.0, u)) (e, rest) b.2 in
+      subst (λ (p : Term × List Tok). SpellsExpr p.0 (Word (text2 o) ∷ (Symbol OpenParen ∷ t)) p.1) (some_same (BinaryTerm o a.0.0 b.0.0, v.0) (e, rest) v.2)
       (t, u.0, refl, operand-comma t a.0 u.0 a.1 u.1, operand-close u.0 b.0 v.0 b.1 v.1)
 
   fixed-spells : (o : OpN) (t rest : List Tok) (e : Term) → fixed_at sub o t ≡ Some (e, rest) → SpellsExpr e (Word (text_const o) ∷ (Symbol OpenParen ∷ t)) rest
   fixed-spells o t rest e h =
-      let a = bound (sub t) (λ a. parameters_at o a.1 >>= λ p. Some (Fix o a.0 p.0.0 p.0.1, p.1)) (e, rest) h in
-      let p = bound (parameters_at o a.0.1) (λ p. Some (Fix o a.0.0 p.0.0 p.0.1, p.1)) (e, rest) a.2 in
-      subst (λ (p : Term × List Tok). SpellsExpr p.0 (Word (text_const o) ∷ (Symbol OpenParen ∷ t)) p.1) (some_same (Fix o a.0.0 p.0.0.0 p.0.0.1, p.0.1) (e, rest) p.2)
+      let a = bound (sub t) (λ a. parameters_at o a.1 >>= λ p. Some (FixedTerm o a.0 p.0.0 p.0.1, p.1)) (e, rest) h in
+      let p = bound (parameters_at o a.0.1) (λ p. Some (FixedTerm o a.0.0 p.0.0 p.0.1, p.1)) (e, rest) a.2 in
+      subst (λ (p : Term × List Tok). SpellsExpr p.0 (Word (text_const o) ∷ (Symbol OpenParen ∷ t)) p.1) (some_same (FixedTerm o a.0.0 p.0.0.0 p.0.0.1, p.0.1) (e, rest) p.2)
       (t, a.0.1, refl, sound t a.0.1 a.0.0 a.1, parameters-spells o a.0.1 p.0.1 p.0.0.0 p.0.0.1 p.1)
 
   mux-spells : (t rest : List Tok) (e : Term) → mux_at sub t ≡ Some (e, rest) → SpellsExpr e (Word (codes "mux") ∷ (Symbol OpenParen ∷ t)) rest
   mux-spells t rest e h =
-      let c = bound (sub t) (λ c. symbol_at Comma c.1 >>= λ t. sub t >>= λ a. symbol_at Comma a.1 >>= λ u. sub u >>= λ b. symbol_at CloseParen b.1 >>= λ v. Some (Choose c.0 a.0 b.0, v)) (e, rest) h in
-      let u = bound (symbol_at Comma c.0.1) (λ t. sub t >>= λ a. symbol_at Comma a.1 >>= λ u. sub u >>= λ b. symbol_at CloseParen b.1 >>= λ v. Some (Choose c.0.0 a.0 b.0, v)) (e, rest) c.2 in
-      let a = bound (sub u.0) (λ a. symbol_at Comma a.1 >>= λ u. sub u >>= λ b. symbol_at CloseParen b.1 >>= λ v. Some (Choose c.0.0 a.0 b.0, v)) (e, rest) u.2 in
-      let v = bound (symbol_at Comma a.0.1) (λ u. sub u >>= λ b. symbol_at CloseParen b.1 >>= λ v. Some (Choose c.0.0 a.0.0 b.0, v)) (e, rest) a.2 in
-      let b = bound (sub v.0) (λ b. symbol_at CloseParen b.1 >>= λ v. Some (Choose c.0.0 a.0.0 b.0, v)) (e, rest) v.2 in
-      let w = bound (symbol_at CloseParen b.0.1) (λ v. Some (Choose c.0.0 a.0.0 b.0.0, v)) (e, rest) b.2 in
-      subst (λ (p : Term × List Tok). SpellsExpr p.0 (Word (codes "mux") ∷ (Symbol OpenParen ∷ t)) p.1) (some_same (Choose c.0.0 a.0.0 b.0.0, w.0) (e, rest) w.2)
+      let c = bound (sub t) (λ c. symbol_at Comma c.1 >>= λ t. sub t >>= λ a. symbol_at Comma a.1 >>= λ u. sub u >>= λ b. symbol_at CloseParen b.1 >>= λ v. Some (MuxTerm c.0 a.0 b.0, v)) (e, rest) h in
+      let u = bound (symbol_at Comma c.0.1) (λ t. sub t >>= λ a. symbol_at Comma a.1 >>= λ u. sub u >>= λ b. symbol_at CloseParen b.1 >>= λ v. Some (MuxTerm c.0.0 a.0 b.0, v)) (e, rest) c.2 in
+      let a = bound (sub u.0) (λ a. symbol_at Comma a.1 >>= λ u. sub u >>= λ b. symbol_at CloseParen b.1 >>= λ v. Some (MuxTerm c.0.0 a.0 b.0, v)) (e, rest) u.2 in
+      let v = bound (symbol_at Comma a.0.1) (λ u. sub u >>= λ b. symbol_at CloseParen b.1 >>= λ v. Some (MuxTerm c.0.0 a.0.0 b.0, v)) (e, rest) a.2 in
+      let b = bound (sub v.0) (λ b. symbol_at CloseParen b.1 >>= λ v. Some (MuxTerm c.0.0 a.0.0 b.0, v)) (e, rest) v.2 in
+      let w = bound (symbol_at CloseParen b.0.1) (λ v. Some (MuxTerm c.0.0 a.0.0 b.0.0, v)) (e, rest) b.2 in
+      subst (λ (p : Term × List Tok). SpellsExpr p.0 (Word (codes "mux") ∷ (Symbol OpenParen ∷ t)) p.1) (some_same (MuxTerm c.0.0 a.0.0 b.0.0, w.0) (e, rest) w.2)
       (t, u.0, v.0, refl, operand-comma t c.0 u.0 c.1 u.1, operand-comma u.0 a.0 v.0 a.1 v.1, operand-close v.0 b.0 w.0 b.1 w.1)
 
   operands-spells : (o : Operation) (t rest : List Tok) (e : Term) → operands_at sub o t ≡ Some (e, rest) → SpellsExpr e (Word (operation_text o) ∷ (Symbol OpenParen ∷ t)) rest
@@ -342,10 +342,10 @@ module _ (sub : List Tok → Option (Term × List Tok)) (sound : IsSound sub) wh
   form_by ts rest e true y h = call-spells ts rest e h
   form_by ts rest e false true h =
       let l = bound (literal_at ts) literal_term (e, rest) h in
-      subst (λ (p : Term × List Tok). SpellsExpr p.0 ts p.1) (some_same (Lit l.0.0, l.0.1) (e, rest) l.2) (literal-spells ts l.0.1 l.0.0 l.1)
+      subst (λ (p : Term × List Tok). SpellsExpr p.0 ts p.1) (some_same (ConstantTerm l.0.0, l.0.1) (e, rest) l.2) (literal-spells ts l.0.1 l.0.0 l.1)
   form_by ts rest e false false h =
       let r = bound (reference_at ts) reference_term (e, rest) h in
-      subst (λ (p : Term × List Tok). SpellsExpr p.0 ts p.1) (some_same (Ref r.0.0, r.0.1) (e, rest) r.2) (reference-spells ts r.0.1 r.0.0 r.1)
+      subst (λ (p : Term × List Tok). SpellsExpr p.0 ts p.1) (some_same (NamedTerm r.0.0, r.0.1) (e, rest) r.2) (reference-spells ts r.0.1 r.0.0 r.1)
 
 -- an expression that is read is spelt so
 pub expr-spells : (n : ℕ) → IsSound (expr_at n)

@@ -10,7 +10,7 @@ use Rattle.gg_ast.specs.declared.expression.Reference.TheVariants as reference
 use Rattle.gg_ast.specs.declared.module.GroundType.{GroundType}
 use Rattle.gg_ast.specs.declared.statement.Report.{Report}
 use Rattle.gg_ast.specs.Row.{Row, GivenArgument, GivenTerm, GivenText, VersionRow, CircuitRow, ModuleRow, PortRow, WireRow, NodeRow, RegisterRow, RegisterResetRow, RegisterOpenRow, ResetRow, InstanceRow, MemoryRow, FieldRow, ConnectRow, InvalidRow, SkipRow, StopRow, ReportRow}
-use Rattle.gg_ast.specs.Term.{Term, Ref, Lit, One, Two, Fix, Choose}
+use Rattle.gg_ast.specs.Term.{Term, NamedTerm, ConstantTerm, UnaryTerm, BinaryTerm, FixedTerm, MuxTerm}
 use Rattle.gg_read.specs.declared.words.Keyword.{Keyword}
 use Rattle.gg_read.specs.declared.words.Keyword.TheVariants as keyword
 use Rattle.gg_read.specs.Words.{direction_text}
@@ -37,14 +37,14 @@ driven-by sink ts rest row is ends h e =
     ∙ goes_on (reference_at ts) (λ r. driven_at r.0 r.1) (sink, rest) (reference-read sink ts rest ends h) ∙ e
 
 connects : (sink : Reference) (ts t : List Tok) → SpellsReference sink ts (Symbol Connect ∷ t) → is_connection ts ≡ true
-connects (reference.One a) ts t h = rw h.1 refl
-connects (reference.Two a b) ts t h = rw h.2 refl
-connects (reference.Three a b c) ts t h = rw h.3 refl
+connects (reference.Local a) ts t h = rw h.1 refl
+connects (reference.PortOf a b) ts t h = rw h.2 refl
+connects (reference.FieldOf a b c) ts t h = rw h.3 refl
 
 is_undriven : (sink : Reference) (ts : List Tok) → SpellsReference sink ts (Word (codes "is") ∷ (Word (codes "invalid") ∷ [])) → is_connection ts ≡ true
-is_undriven (reference.One a) ts h = rw h.1 refl
-is_undriven (reference.Two a b) ts h = rw h.2 refl
-is_undriven (reference.Three a b c) ts h = rw h.3 refl
+is_undriven (reference.Local a) ts h = rw h.1 refl
+is_undriven (reference.PortOf a b) ts h = rw h.2 refl
+is_undriven (reference.FieldOf a b c) ts h = rw h.3 refl
 
 connect-read : (sink : Reference) (e : Term) (ts t : List Tok) → SpellsReference sink ts (Symbol Connect ∷ t) → SpellsExpr e t [] → row_at ts ≡ Some (ConnectRow sink e)
 connect-read sink e ts t h i =
@@ -132,14 +132,14 @@ stop-read c e n label t u v digits p q r s =
 
 -- an expression begins with a word
 first_word : (e : Term) (ts rest : List Tok) → SpellsExpr e ts rest → text_at ts ≡ None
-first_word (Ref (reference.One a)) ts rest h = rw h.1 refl
-first_word (Ref (reference.Two a b)) ts rest h = rw h.2 refl
-first_word (Ref (reference.Three a b c)) ts rest h = rw h.3 refl
-first_word (Lit l) ts rest h = rw h.3 refl
-first_word (One o a) ts rest h = rw h.1 refl
-first_word (Two o a b) ts rest h = rw h.2 refl
-first_word (Fix o a n m) ts rest h = rw h.2 refl
-first_word (Choose c a b) ts rest h = rw h.3 refl
+first_word (NamedTerm (reference.Local a)) ts rest h = rw h.1 refl
+first_word (NamedTerm (reference.PortOf a b)) ts rest h = rw h.2 refl
+first_word (NamedTerm (reference.FieldOf a b c)) ts rest h = rw h.3 refl
+first_word (ConstantTerm l) ts rest h = rw h.3 refl
+first_word (UnaryTerm o a) ts rest h = rw h.1 refl
+first_word (BinaryTerm o a b) ts rest h = rw h.2 refl
+first_word (FixedTerm o a n m) ts rest h = rw h.2 refl
+first_word (MuxTerm c a b) ts rest h = rw h.3 refl
 
 argument-read : (a : GivenArgument) (ts rest : List Tok) → Ends rest → SpellsArgument a ts rest → argument_at ts ≡ Some (a, rest)
 argument-read (GivenText x) ts rest ends h = rw h refl

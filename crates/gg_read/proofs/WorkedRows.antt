@@ -18,7 +18,7 @@ use Rattle.gg_ast.specs.declared.module.Direction.TheVariants.{Input, Output}
 use Rattle.gg_ast.specs.declared.module.GroundType.TheVariants as plain_type
 use Rattle.gg_ast.specs.declared.statement.Report.TheVariants as report
 use Rattle.gg_ast.specs.Row.{Row, GivenArgument, GivenTerm, GivenText, VersionRow, CircuitRow, ModuleRow, PortRow, WireRow, NodeRow, RegisterRow, RegisterResetRow, RegisterOpenRow, ResetRow, InstanceRow, ConnectRow, InvalidRow, SkipRow, StopRow, ReportRow}
-use Rattle.gg_ast.specs.Term.{Term, Ref, Lit, One, Two, Fix, Choose}
+use Rattle.gg_ast.specs.Term.{Term, NamedTerm, ConstantTerm, UnaryTerm, BinaryTerm, FixedTerm, MuxTerm}
 use Rattle.gg_read.specs.Forms.{SpellsRow}
 use Rattle.gg_read.specs.Reading.{row_at}
 use Rattle.gg_read.proofs.Leaves.{some_same}
@@ -42,7 +42,7 @@ none {row} {ts} nothing is =
 
 -- the operands a, b and c, and the clock k
 abbrev named : List ℕ → Term
-named name = Ref (reference.One name)
+named name = NamedTerm (reference.Local name)
 
 abbrev a : Term
 a = named (codes "a")
@@ -66,193 +66,193 @@ arguments = GivenTerm k ∷ GivenTerm c ∷ GivenText (codes "n is %d") ∷ Give
 abbrev of_one : List ℕ → List Tok
 of_one operation = Word (codes "node") ∷ Word (codes "n") ∷ Symbol Equals ∷ Word operation ∷ Symbol OpenParen ∷ Word (codes "a") ∷ Symbol CloseParen ∷ []
 
-asUInt_row : IsRow (NodeRow (codes "n") (One one.AsUInt a)) (of_one (codes "asUInt"))
+asUInt_row : IsRow (NodeRow (codes "n") (UnaryTerm one.AsUInt a)) (of_one (codes "asUInt"))
 asUInt_row = read refl
 
-asSInt_row : IsRow (NodeRow (codes "n") (One one.AsSInt a)) (of_one (codes "asSInt"))
+asSInt_row : IsRow (NodeRow (codes "n") (UnaryTerm one.AsSInt a)) (of_one (codes "asSInt"))
 asSInt_row = read refl
 
-cvt_row : IsRow (NodeRow (codes "n") (One one.Cvt a)) (of_one (codes "cvt"))
+cvt_row : IsRow (NodeRow (codes "n") (UnaryTerm one.Cvt a)) (of_one (codes "cvt"))
 cvt_row = read refl
 
-neg_row : IsRow (NodeRow (codes "n") (One one.Neg a)) (of_one (codes "neg"))
+neg_row : IsRow (NodeRow (codes "n") (UnaryTerm one.Neg a)) (of_one (codes "neg"))
 neg_row = read refl
 
-not_row : IsRow (NodeRow (codes "n") (One one.Not a)) (of_one (codes "not"))
+not_row : IsRow (NodeRow (codes "n") (UnaryTerm one.Not a)) (of_one (codes "not"))
 not_row = read refl
 
-andr_row : IsRow (NodeRow (codes "n") (One one.Andr a)) (of_one (codes "andr"))
+andr_row : IsRow (NodeRow (codes "n") (UnaryTerm one.Andr a)) (of_one (codes "andr"))
 andr_row = read refl
 
-orr_row : IsRow (NodeRow (codes "n") (One one.Orr a)) (of_one (codes "orr"))
+orr_row : IsRow (NodeRow (codes "n") (UnaryTerm one.Orr a)) (of_one (codes "orr"))
 orr_row = read refl
 
-xorr_row : IsRow (NodeRow (codes "n") (One one.Xorr a)) (of_one (codes "xorr"))
+xorr_row : IsRow (NodeRow (codes "n") (UnaryTerm one.Xorr a)) (of_one (codes "xorr"))
 xorr_row = read refl
 
 -- The operations on two values: `node n = add(a, b)`.
 abbrev of_two : List ℕ → List Tok
 of_two operation = Word (codes "node") ∷ Word (codes "n") ∷ Symbol Equals ∷ Word operation ∷ Symbol OpenParen ∷ Word (codes "a") ∷ Symbol Comma ∷ Word (codes "b") ∷ Symbol CloseParen ∷ []
 
-add_row : IsRow (NodeRow (codes "n") (Two two.Add a b)) (of_two (codes "add"))
+add_row : IsRow (NodeRow (codes "n") (BinaryTerm two.Add a b)) (of_two (codes "add"))
 add_row = read refl
 
-sub_row : IsRow (NodeRow (codes "n") (Two two.Sub a b)) (of_two (codes "sub"))
+sub_row : IsRow (NodeRow (codes "n") (BinaryTerm two.Sub a b)) (of_two (codes "sub"))
 sub_row = read refl
 
-mul_row : IsRow (NodeRow (codes "n") (Two two.Mul a b)) (of_two (codes "mul"))
+mul_row : IsRow (NodeRow (codes "n") (BinaryTerm two.Mul a b)) (of_two (codes "mul"))
 mul_row = read refl
 
-div_row : IsRow (NodeRow (codes "n") (Two two.Div a b)) (of_two (codes "div"))
+div_row : IsRow (NodeRow (codes "n") (BinaryTerm two.Div a b)) (of_two (codes "div"))
 div_row = read refl
 
-rem_row : IsRow (NodeRow (codes "n") (Two two.Rem a b)) (of_two (codes "rem"))
+rem_row : IsRow (NodeRow (codes "n") (BinaryTerm two.Rem a b)) (of_two (codes "rem"))
 rem_row = read refl
 
-lt_row : IsRow (NodeRow (codes "n") (Two two.Lt a b)) (of_two (codes "lt"))
+lt_row : IsRow (NodeRow (codes "n") (BinaryTerm two.Lt a b)) (of_two (codes "lt"))
 lt_row = read refl
 
-leq_row : IsRow (NodeRow (codes "n") (Two two.Leq a b)) (of_two (codes "leq"))
+leq_row : IsRow (NodeRow (codes "n") (BinaryTerm two.Leq a b)) (of_two (codes "leq"))
 leq_row = read refl
 
-gt_row : IsRow (NodeRow (codes "n") (Two two.Gt a b)) (of_two (codes "gt"))
+gt_row : IsRow (NodeRow (codes "n") (BinaryTerm two.Gt a b)) (of_two (codes "gt"))
 gt_row = read refl
 
-geq_row : IsRow (NodeRow (codes "n") (Two two.Geq a b)) (of_two (codes "geq"))
+geq_row : IsRow (NodeRow (codes "n") (BinaryTerm two.Geq a b)) (of_two (codes "geq"))
 geq_row = read refl
 
-eq_row : IsRow (NodeRow (codes "n") (Two two.Eq a b)) (of_two (codes "eq"))
+eq_row : IsRow (NodeRow (codes "n") (BinaryTerm two.Eq a b)) (of_two (codes "eq"))
 eq_row = read refl
 
-neq_row : IsRow (NodeRow (codes "n") (Two two.Neq a b)) (of_two (codes "neq"))
+neq_row : IsRow (NodeRow (codes "n") (BinaryTerm two.Neq a b)) (of_two (codes "neq"))
 neq_row = read refl
 
-dshl_row : IsRow (NodeRow (codes "n") (Two two.Dshl a b)) (of_two (codes "dshl"))
+dshl_row : IsRow (NodeRow (codes "n") (BinaryTerm two.Dshl a b)) (of_two (codes "dshl"))
 dshl_row = read refl
 
-dshr_row : IsRow (NodeRow (codes "n") (Two two.Dshr a b)) (of_two (codes "dshr"))
+dshr_row : IsRow (NodeRow (codes "n") (BinaryTerm two.Dshr a b)) (of_two (codes "dshr"))
 dshr_row = read refl
 
-and_row : IsRow (NodeRow (codes "n") (Two two.And a b)) (of_two (codes "and"))
+and_row : IsRow (NodeRow (codes "n") (BinaryTerm two.And a b)) (of_two (codes "and"))
 and_row = read refl
 
-or_row : IsRow (NodeRow (codes "n") (Two two.Or a b)) (of_two (codes "or"))
+or_row : IsRow (NodeRow (codes "n") (BinaryTerm two.Or a b)) (of_two (codes "or"))
 or_row = read refl
 
-xor_row : IsRow (NodeRow (codes "n") (Two two.Xor a b)) (of_two (codes "xor"))
+xor_row : IsRow (NodeRow (codes "n") (BinaryTerm two.Xor a b)) (of_two (codes "xor"))
 xor_row = read refl
 
-cat_row : IsRow (NodeRow (codes "n") (Two two.Cat a b)) (of_two (codes "cat"))
+cat_row : IsRow (NodeRow (codes "n") (BinaryTerm two.Cat a b)) (of_two (codes "cat"))
 cat_row = read refl
 
-validif_row : IsRow (NodeRow (codes "n") (Two two.Validif a b)) (of_two (codes "validif"))
+validif_row : IsRow (NodeRow (codes "n") (BinaryTerm two.Validif a b)) (of_two (codes "validif"))
 validif_row = read refl
 
 -- The operations with one parameter: `node n = pad(a, 9)`. What would be the second is 0.
 abbrev of_fixed : List ℕ → List ℕ → List Tok
 of_fixed operation parameter = Word (codes "node") ∷ Word (codes "n") ∷ Symbol Equals ∷ Word operation ∷ Symbol OpenParen ∷ Word (codes "a") ∷ Symbol Comma ∷ Number parameter ∷ Symbol CloseParen ∷ []
 
-pad_row : IsRow (NodeRow (codes "n") (Fix fix.Pad a 9 0)) (of_fixed (codes "pad") (codes "9"))
+pad_row : IsRow (NodeRow (codes "n") (FixedTerm fix.Pad a 9 0)) (of_fixed (codes "pad") (codes "9"))
 pad_row = read refl
 
-shl_row : IsRow (NodeRow (codes "n") (Fix fix.Shl a 3 0)) (of_fixed (codes "shl") (codes "3"))
+shl_row : IsRow (NodeRow (codes "n") (FixedTerm fix.Shl a 3 0)) (of_fixed (codes "shl") (codes "3"))
 shl_row = read refl
 
-shr_row : IsRow (NodeRow (codes "n") (Fix fix.Shr a 4 0)) (of_fixed (codes "shr") (codes "4"))
+shr_row : IsRow (NodeRow (codes "n") (FixedTerm fix.Shr a 4 0)) (of_fixed (codes "shr") (codes "4"))
 shr_row = read refl
 
-head_row : IsRow (NodeRow (codes "n") (Fix fix.Head a 5 0)) (of_fixed (codes "head") (codes "5"))
+head_row : IsRow (NodeRow (codes "n") (FixedTerm fix.Head a 5 0)) (of_fixed (codes "head") (codes "5"))
 head_row = read refl
 
-tail_row : IsRow (NodeRow (codes "n") (Fix fix.Tail a 6 0)) (of_fixed (codes "tail") (codes "6"))
+tail_row : IsRow (NodeRow (codes "n") (FixedTerm fix.Tail a 6 0)) (of_fixed (codes "tail") (codes "6"))
 tail_row = read refl
 
 -- `bits` has two, the high one first.
 -- node n = bits(a, 7, 2)
-bits_row : IsRow (NodeRow (codes "n") (Fix fix.Bits a 7 2)) (Word (codes "node") ∷ Word (codes "n") ∷ Symbol Equals ∷ Word (codes "bits") ∷ Symbol OpenParen ∷ Word (codes "a") ∷ Symbol Comma ∷ Number (codes "7") ∷ Symbol Comma ∷ Number (codes "2") ∷ Symbol CloseParen ∷ [])
+bits_row : IsRow (NodeRow (codes "n") (FixedTerm fix.Bits a 7 2)) (Word (codes "node") ∷ Word (codes "n") ∷ Symbol Equals ∷ Word (codes "bits") ∷ Symbol OpenParen ∷ Word (codes "a") ∷ Symbol Comma ∷ Number (codes "7") ∷ Symbol Comma ∷ Number (codes "2") ∷ Symbol CloseParen ∷ [])
 bits_row = read refl
 
 -- node n = mux(c, a, b)
-mux_row : IsRow (NodeRow (codes "n") (Choose c a b)) (Word (codes "node") ∷ Word (codes "n") ∷ Symbol Equals ∷ Word (codes "mux") ∷ Symbol OpenParen ∷ Word (codes "c") ∷ Symbol Comma ∷ Word (codes "a") ∷ Symbol Comma ∷ Word (codes "b") ∷ Symbol CloseParen ∷ [])
+mux_row : IsRow (NodeRow (codes "n") (MuxTerm c a b)) (Word (codes "node") ∷ Word (codes "n") ∷ Symbol Equals ∷ Word (codes "mux") ∷ Symbol OpenParen ∷ Word (codes "c") ∷ Symbol Comma ∷ Word (codes "a") ∷ Symbol Comma ∷ Word (codes "b") ∷ Symbol CloseParen ∷ [])
 mux_row = read refl
 
 -- Operations within each other.
 -- node n = sub(bits(a, 7, 2), mux(c, UInt<8>("h1f"), tail(b, 1)))
-nested_row : IsRow (NodeRow (codes "n") (Two two.Sub (Fix fix.Bits a 7 2) (Choose c (Lit (literal UInt 8 Hexadecimal false (codes "1f"))) (Fix fix.Tail b 1 0)))) (Word (codes "node") ∷ Word (codes "n") ∷ Symbol Equals ∷ Word (codes "sub") ∷ Symbol OpenParen ∷ Word (codes "bits") ∷ Symbol OpenParen ∷ Word (codes "a") ∷ Symbol Comma ∷ Number (codes "7") ∷ Symbol Comma ∷ Number (codes "2") ∷ Symbol CloseParen ∷ Symbol Comma ∷ Word (codes "mux") ∷ Symbol OpenParen ∷ Word (codes "c") ∷ Symbol Comma ∷ Word (codes "UInt") ∷ Symbol Less ∷ Number (codes "8") ∷ Symbol Greater ∷ Symbol OpenParen ∷ Text (codes "h1f") ∷ Symbol CloseParen ∷ Symbol Comma ∷ Word (codes "tail") ∷ Symbol OpenParen ∷ Word (codes "b") ∷ Symbol Comma ∷ Number (codes "1") ∷ Symbol CloseParen ∷ Symbol CloseParen ∷ Symbol CloseParen ∷ [])
+nested_row : IsRow (NodeRow (codes "n") (BinaryTerm two.Sub (FixedTerm fix.Bits a 7 2) (MuxTerm c (ConstantTerm (literal UInt 8 Hexadecimal false (codes "1f"))) (FixedTerm fix.Tail b 1 0)))) (Word (codes "node") ∷ Word (codes "n") ∷ Symbol Equals ∷ Word (codes "sub") ∷ Symbol OpenParen ∷ Word (codes "bits") ∷ Symbol OpenParen ∷ Word (codes "a") ∷ Symbol Comma ∷ Number (codes "7") ∷ Symbol Comma ∷ Number (codes "2") ∷ Symbol CloseParen ∷ Symbol Comma ∷ Word (codes "mux") ∷ Symbol OpenParen ∷ Word (codes "c") ∷ Symbol Comma ∷ Word (codes "UInt") ∷ Symbol Less ∷ Number (codes "8") ∷ Symbol Greater ∷ Symbol OpenParen ∷ Text (codes "h1f") ∷ Symbol CloseParen ∷ Symbol Comma ∷ Word (codes "tail") ∷ Symbol OpenParen ∷ Word (codes "b") ∷ Symbol Comma ∷ Number (codes "1") ∷ Symbol CloseParen ∷ Symbol CloseParen ∷ Symbol CloseParen ∷ [])
 nested_row = read refl
 
 -- References of one, two and three names, read and driven. A word of the grammar is a name where it stands as one.
 -- node n = a
-one_name : IsRow (NodeRow (codes "n") (Ref (reference.One (codes "a")))) (Word (codes "node") ∷ Word (codes "n") ∷ Symbol Equals ∷ Word (codes "a") ∷ [])
+one_name : IsRow (NodeRow (codes "n") (NamedTerm (reference.Local (codes "a")))) (Word (codes "node") ∷ Word (codes "n") ∷ Symbol Equals ∷ Word (codes "a") ∷ [])
 one_name = read refl
 
 -- node n = i.p
-two_names : IsRow (NodeRow (codes "n") (Ref (reference.Two (codes "i") (codes "p")))) (Word (codes "node") ∷ Word (codes "n") ∷ Symbol Equals ∷ Word (codes "i") ∷ Symbol Dot ∷ Word (codes "p") ∷ [])
+two_names : IsRow (NodeRow (codes "n") (NamedTerm (reference.PortOf (codes "i") (codes "p")))) (Word (codes "node") ∷ Word (codes "n") ∷ Symbol Equals ∷ Word (codes "i") ∷ Symbol Dot ∷ Word (codes "p") ∷ [])
 two_names = read refl
 
 -- node n = m.r.data
-three_names : IsRow (NodeRow (codes "n") (Ref (reference.Three (codes "m") (codes "r") (codes "data")))) (Word (codes "node") ∷ Word (codes "n") ∷ Symbol Equals ∷ Word (codes "m") ∷ Symbol Dot ∷ Word (codes "r") ∷ Symbol Dot ∷ Word (codes "data") ∷ [])
+three_names : IsRow (NodeRow (codes "n") (NamedTerm (reference.FieldOf (codes "m") (codes "r") (codes "data")))) (Word (codes "node") ∷ Word (codes "n") ∷ Symbol Equals ∷ Word (codes "m") ∷ Symbol Dot ∷ Word (codes "r") ∷ Symbol Dot ∷ Word (codes "data") ∷ [])
 three_names = read refl
 
 -- node x = add
-word_is_read : IsRow (NodeRow (codes "x") (Ref (reference.One (codes "add")))) (Word (codes "node") ∷ Word (codes "x") ∷ Symbol Equals ∷ Word (codes "add") ∷ [])
+word_is_read : IsRow (NodeRow (codes "x") (NamedTerm (reference.Local (codes "add")))) (Word (codes "node") ∷ Word (codes "x") ∷ Symbol Equals ∷ Word (codes "add") ∷ [])
 word_is_read = read refl
 
 -- a <= b
-one_driven : IsRow (ConnectRow (reference.One (codes "a")) b) (Word (codes "a") ∷ Symbol Connect ∷ Word (codes "b") ∷ [])
+one_driven : IsRow (ConnectRow (reference.Local (codes "a")) b) (Word (codes "a") ∷ Symbol Connect ∷ Word (codes "b") ∷ [])
 one_driven = read refl
 
 -- i.p <= b
-two_driven : IsRow (ConnectRow (reference.Two (codes "i") (codes "p")) b) (Word (codes "i") ∷ Symbol Dot ∷ Word (codes "p") ∷ Symbol Connect ∷ Word (codes "b") ∷ [])
+two_driven : IsRow (ConnectRow (reference.PortOf (codes "i") (codes "p")) b) (Word (codes "i") ∷ Symbol Dot ∷ Word (codes "p") ∷ Symbol Connect ∷ Word (codes "b") ∷ [])
 two_driven = read refl
 
 -- m.r.addr <= b
-three_driven : IsRow (ConnectRow (reference.Three (codes "m") (codes "r") (codes "addr")) b) (Word (codes "m") ∷ Symbol Dot ∷ Word (codes "r") ∷ Symbol Dot ∷ Word (codes "addr") ∷ Symbol Connect ∷ Word (codes "b") ∷ [])
+three_driven : IsRow (ConnectRow (reference.FieldOf (codes "m") (codes "r") (codes "addr")) b) (Word (codes "m") ∷ Symbol Dot ∷ Word (codes "r") ∷ Symbol Dot ∷ Word (codes "addr") ∷ Symbol Connect ∷ Word (codes "b") ∷ [])
 three_driven = read refl
 
 -- node <= a
-word_is_driven : IsRow (ConnectRow (reference.One (codes "node")) a) (Word (codes "node") ∷ Symbol Connect ∷ Word (codes "a") ∷ [])
+word_is_driven : IsRow (ConnectRow (reference.Local (codes "node")) a) (Word (codes "node") ∷ Symbol Connect ∷ Word (codes "a") ∷ [])
 word_is_driven = read refl
 
 -- a is invalid
-is_invalid : IsRow (InvalidRow (reference.One (codes "a"))) (Word (codes "a") ∷ Word (codes "is") ∷ Word (codes "invalid") ∷ [])
+is_invalid : IsRow (InvalidRow (reference.Local (codes "a"))) (Word (codes "a") ∷ Word (codes "is") ∷ Word (codes "invalid") ∷ [])
 is_invalid = read refl
 
 -- i.p is invalid
-two_invalid : IsRow (InvalidRow (reference.Two (codes "i") (codes "p"))) (Word (codes "i") ∷ Symbol Dot ∷ Word (codes "p") ∷ Word (codes "is") ∷ Word (codes "invalid") ∷ [])
+two_invalid : IsRow (InvalidRow (reference.PortOf (codes "i") (codes "p"))) (Word (codes "i") ∷ Symbol Dot ∷ Word (codes "p") ∷ Word (codes "is") ∷ Word (codes "invalid") ∷ [])
 two_invalid = read refl
 
 -- Literals of each radix, with a sign and without.
 -- node n = UInt<4>("b1010")
-binary : IsRow (NodeRow (codes "n") (Lit (literal UInt 4 Binary false (codes "1010")))) (Word (codes "node") ∷ Word (codes "n") ∷ Symbol Equals ∷ Word (codes "UInt") ∷ Symbol Less ∷ Number (codes "4") ∷ Symbol Greater ∷ Symbol OpenParen ∷ Text (codes "b1010") ∷ Symbol CloseParen ∷ [])
+binary : IsRow (NodeRow (codes "n") (ConstantTerm (literal UInt 4 Binary false (codes "1010")))) (Word (codes "node") ∷ Word (codes "n") ∷ Symbol Equals ∷ Word (codes "UInt") ∷ Symbol Less ∷ Number (codes "4") ∷ Symbol Greater ∷ Symbol OpenParen ∷ Text (codes "b1010") ∷ Symbol CloseParen ∷ [])
 binary = read refl
 
 -- node n = SInt<4>("b-101")
-binary_minus : IsRow (NodeRow (codes "n") (Lit (literal SInt 4 Binary true (codes "101")))) (Word (codes "node") ∷ Word (codes "n") ∷ Symbol Equals ∷ Word (codes "SInt") ∷ Symbol Less ∷ Number (codes "4") ∷ Symbol Greater ∷ Symbol OpenParen ∷ Text (codes "b-101") ∷ Symbol CloseParen ∷ [])
+binary_minus : IsRow (NodeRow (codes "n") (ConstantTerm (literal SInt 4 Binary true (codes "101")))) (Word (codes "node") ∷ Word (codes "n") ∷ Symbol Equals ∷ Word (codes "SInt") ∷ Symbol Less ∷ Number (codes "4") ∷ Symbol Greater ∷ Symbol OpenParen ∷ Text (codes "b-101") ∷ Symbol CloseParen ∷ [])
 binary_minus = read refl
 
 -- node n = UInt<6>("o17")
-octal : IsRow (NodeRow (codes "n") (Lit (literal UInt 6 Octal false (codes "17")))) (Word (codes "node") ∷ Word (codes "n") ∷ Symbol Equals ∷ Word (codes "UInt") ∷ Symbol Less ∷ Number (codes "6") ∷ Symbol Greater ∷ Symbol OpenParen ∷ Text (codes "o17") ∷ Symbol CloseParen ∷ [])
+octal : IsRow (NodeRow (codes "n") (ConstantTerm (literal UInt 6 Octal false (codes "17")))) (Word (codes "node") ∷ Word (codes "n") ∷ Symbol Equals ∷ Word (codes "UInt") ∷ Symbol Less ∷ Number (codes "6") ∷ Symbol Greater ∷ Symbol OpenParen ∷ Text (codes "o17") ∷ Symbol CloseParen ∷ [])
 octal = read refl
 
 -- node n = SInt<6>("o-17")
-octal_minus : IsRow (NodeRow (codes "n") (Lit (literal SInt 6 Octal true (codes "17")))) (Word (codes "node") ∷ Word (codes "n") ∷ Symbol Equals ∷ Word (codes "SInt") ∷ Symbol Less ∷ Number (codes "6") ∷ Symbol Greater ∷ Symbol OpenParen ∷ Text (codes "o-17") ∷ Symbol CloseParen ∷ [])
+octal_minus : IsRow (NodeRow (codes "n") (ConstantTerm (literal SInt 6 Octal true (codes "17")))) (Word (codes "node") ∷ Word (codes "n") ∷ Symbol Equals ∷ Word (codes "SInt") ∷ Symbol Less ∷ Number (codes "6") ∷ Symbol Greater ∷ Symbol OpenParen ∷ Text (codes "o-17") ∷ Symbol CloseParen ∷ [])
 octal_minus = read refl
 
 -- node n = UInt<8>("hfF")
-hexadecimal : IsRow (NodeRow (codes "n") (Lit (literal UInt 8 Hexadecimal false (codes "fF")))) (Word (codes "node") ∷ Word (codes "n") ∷ Symbol Equals ∷ Word (codes "UInt") ∷ Symbol Less ∷ Number (codes "8") ∷ Symbol Greater ∷ Symbol OpenParen ∷ Text (codes "hfF") ∷ Symbol CloseParen ∷ [])
+hexadecimal : IsRow (NodeRow (codes "n") (ConstantTerm (literal UInt 8 Hexadecimal false (codes "fF")))) (Word (codes "node") ∷ Word (codes "n") ∷ Symbol Equals ∷ Word (codes "UInt") ∷ Symbol Less ∷ Number (codes "8") ∷ Symbol Greater ∷ Symbol OpenParen ∷ Text (codes "hfF") ∷ Symbol CloseParen ∷ [])
 hexadecimal = read refl
 
 -- node n = SInt<4>("h-3")
-hexadecimal_minus : IsRow (NodeRow (codes "n") (Lit (literal SInt 4 Hexadecimal true (codes "3")))) (Word (codes "node") ∷ Word (codes "n") ∷ Symbol Equals ∷ Word (codes "SInt") ∷ Symbol Less ∷ Number (codes "4") ∷ Symbol Greater ∷ Symbol OpenParen ∷ Text (codes "h-3") ∷ Symbol CloseParen ∷ [])
+hexadecimal_minus : IsRow (NodeRow (codes "n") (ConstantTerm (literal SInt 4 Hexadecimal true (codes "3")))) (Word (codes "node") ∷ Word (codes "n") ∷ Symbol Equals ∷ Word (codes "SInt") ∷ Symbol Less ∷ Number (codes "4") ∷ Symbol Greater ∷ Symbol OpenParen ∷ Text (codes "h-3") ∷ Symbol CloseParen ∷ [])
 hexadecimal_minus = read refl
 
 -- node n = UInt<7>(0127)
-decimal : IsRow (NodeRow (codes "n") (Lit (literal UInt 7 Decimal false (codes "0127")))) (Word (codes "node") ∷ Word (codes "n") ∷ Symbol Equals ∷ Word (codes "UInt") ∷ Symbol Less ∷ Number (codes "7") ∷ Symbol Greater ∷ Symbol OpenParen ∷ Number (codes "0127") ∷ Symbol CloseParen ∷ [])
+decimal : IsRow (NodeRow (codes "n") (ConstantTerm (literal UInt 7 Decimal false (codes "0127")))) (Word (codes "node") ∷ Word (codes "n") ∷ Symbol Equals ∷ Word (codes "UInt") ∷ Symbol Less ∷ Number (codes "7") ∷ Symbol Greater ∷ Symbol OpenParen ∷ Number (codes "0127") ∷ Symbol CloseParen ∷ [])
 decimal = read refl
 
 -- node n = SInt<4>(-3)
-decimal_minus : IsRow (NodeRow (codes "n") (Lit (literal SInt 4 Decimal true (codes "3")))) (Word (codes "node") ∷ Word (codes "n") ∷ Symbol Equals ∷ Word (codes "SInt") ∷ Symbol Less ∷ Number (codes "4") ∷ Symbol Greater ∷ Symbol OpenParen ∷ Number (codes "-3") ∷ Symbol CloseParen ∷ [])
+decimal_minus : IsRow (NodeRow (codes "n") (ConstantTerm (literal SInt 4 Decimal true (codes "3")))) (Word (codes "node") ∷ Word (codes "n") ∷ Symbol Equals ∷ Word (codes "SInt") ∷ Symbol Less ∷ Number (codes "4") ∷ Symbol Greater ∷ Symbol OpenParen ∷ Number (codes "-3") ∷ Symbol CloseParen ∷ [])
 decimal_minus = read refl
 
 -- The header forms.
@@ -351,8 +351,8 @@ cover_named = read refl
 
 -- Near misses. The clock and the condition of a stop change places: that is another row.
 -- stop(UInt<1>(1), k, 65)
-stop_turned : IsRow (StopRow k (Lit (literal UInt 1 Decimal false (codes "1"))) 65 None) (Word (codes "stop") ∷ Symbol OpenParen ∷ Word (codes "UInt") ∷ Symbol Less ∷ Number (codes "1") ∷ Symbol Greater ∷ Symbol OpenParen ∷ Number (codes "1") ∷ Symbol CloseParen ∷ Symbol Comma ∷ Word (codes "k") ∷ Symbol Comma ∷ Number (codes "65") ∷ Symbol CloseParen ∷ []) → ⊥
-stop_turned h = let same = sole {row = StopRow (Lit (literal UInt 1 Decimal false (codes "1"))) k 65 None} refl h in cc
+stop_turned : IsRow (StopRow k (ConstantTerm (literal UInt 1 Decimal false (codes "1"))) 65 None) (Word (codes "stop") ∷ Symbol OpenParen ∷ Word (codes "UInt") ∷ Symbol Less ∷ Number (codes "1") ∷ Symbol Greater ∷ Symbol OpenParen ∷ Number (codes "1") ∷ Symbol CloseParen ∷ Symbol Comma ∷ Word (codes "k") ∷ Symbol Comma ∷ Number (codes "65") ∷ Symbol CloseParen ∷ []) → ⊥
+stop_turned h = let same = sole {row = StopRow (ConstantTerm (literal UInt 1 Decimal false (codes "1"))) k 65 None} refl h in cc
 
 -- node n = bits(a, 7)
 bits_of_one_number : (row : Row) → IsRow row (Word (codes "node") ∷ Word (codes "n") ∷ Symbol Equals ∷ Word (codes "bits") ∷ Symbol OpenParen ∷ Word (codes "a") ∷ Symbol Comma ∷ Number (codes "7") ∷ Symbol CloseParen ∷ []) → ⊥

@@ -11,7 +11,7 @@ use Rattle.gg_lex.specs.declared.token.Tok.{Tok}
 use Rattle.gg_lex.specs.declared.token.Tok.TheVariants.{Word, Number, Text, Symbol}
 use Rattle.gg_lex.specs.declared.token.Symbol.TheVariants as mark
 use Rattle.gg_lex.proofs.WorkedLines.{word, one, number, ended}
-use Rattle.gg_ast.specs.declared.expression.Reference.TheVariants.{One}
+use Rattle.gg_ast.specs.declared.expression.Reference.TheVariants.{Local}
 use Rattle.gg_ast.specs.declared.module.Direction.TheVariants.{Output}
 use Rattle.gg_ast.specs.declared.module.GroundType.TheVariants.{UInt}
 use Rattle.gg_ast.specs.declared.statement.StmtKind.TheVariants.{Invalid}
@@ -37,7 +37,7 @@ circuit = record {
     line = 2;
     name = codes "T";
     ports = record { line = 3; name = codes "o"; direction = Output; ty = UInt 8 } ∷ [];
-    statements = record { line = 6; kind = Invalid (One (codes "o")) } ∷ [];
+    statements = record { line = 6; kind = Invalid (Local (codes "o")) } ∷ [];
   } ∷ [];
 }
 
@@ -91,7 +91,7 @@ text_spells = record {
   );
   last = InStatements;
   rows =
-      numbered 1 (CircuitRow (codes "T")) ∷ numbered 2 (ModuleRow (codes "T")) ∷ numbered 3 (PortRow Output (codes "o") (UInt 8)) ∷ numbered 6 (InvalidRow (One (codes "o"))) ∷ [];
+      numbered 1 (CircuitRow (codes "T")) ∷ numbered 2 (ModuleRow (codes "T")) ∷ numbered 3 (PortRow Output (codes "o") (UInt 8)) ∷ numbered 6 (InvalidRow (Local (codes "o"))) ∷ [];
   read =
       inr (
         CircuitRow (codes "T"),
@@ -115,7 +115,7 @@ text_spells = record {
               (refl, refl),
               inl (
                 (refl, refl),
-                inr (InvalidRow (One (codes "o")), InStatements, _, form (lit≤ tt) refl refl, refl, (refl, refl)),
+                inr (InvalidRow (Local (codes "o")), InStatements, _, form (lit≤ tt) refl refl, refl, (refl, refl)),
               ),
             ),
           ),

@@ -17,7 +17,7 @@ use Rattle.gg_ast.specs.declared.expression.Reference.TheVariants as reference
 use Rattle.gg_ast.specs.declared.module.GroundType.{GroundType}
 use Rattle.gg_ast.specs.declared.module.GroundType.TheVariants as plain_type
 use Rattle.gg_ast.specs.Row.{Row, GivenArgument, GivenTerm, GivenText, VersionRow, CircuitRow, ModuleRow, PortRow, WireRow, NodeRow, RegisterRow, RegisterResetRow, RegisterOpenRow, ResetRow, InstanceRow, MemoryRow, FieldRow, ConnectRow, InvalidRow, SkipRow, StopRow, ReportRow}
-use Rattle.gg_ast.specs.Term.{Term, Ref, Lit, One, Two, Fix, Choose}
+use Rattle.gg_ast.specs.Term.{Term, NamedTerm, ConstantTerm, UnaryTerm, BinaryTerm, FixedTerm, MuxTerm}
 use Rattle.gg_bits.specs.Spelling.{text1, text2, text_const}
 use Rattle.gg_read.specs.Words.{kind_text, direction_text, report_text}
 
@@ -50,9 +50,9 @@ pub record IsNatural (digits : List ℕ) (n : ℕ) : Type 0 where
 
 -- x, or x.y, or x.y.z
 abbrev pub SpellsReference : Reference → List Tok → List Tok → Type 0
-SpellsReference (reference.One a) ts rest = IsName a × (ts ≡ Word a ∷ rest)
-SpellsReference (reference.Two a b) ts rest = IsName a × IsName b × (ts ≡ Word a ∷ (Symbol Dot ∷ (Word b ∷ rest)))
-SpellsReference (reference.Three a b c) ts rest =
+SpellsReference (reference.Local a) ts rest = IsName a × (ts ≡ Word a ∷ rest)
+SpellsReference (reference.PortOf a b) ts rest = IsName a × IsName b × (ts ≡ Word a ∷ (Symbol Dot ∷ (Word b ∷ rest)))
+SpellsReference (reference.FieldOf a b c) ts rest =
     IsName a × IsName b × IsName c × (ts ≡ Word a ∷ (Symbol Dot ∷ (Word b ∷ (Symbol Dot ∷ (Word c ∷ rest)))))
 
 -- UInt<n>, SInt<n> or Clock
@@ -94,15 +94,15 @@ SpellsParameters Tail n m ts rest = (digits : List ℕ) × IsNatural digits n ×
 
 -- an expression
 abbrev pub SpellsExpr : Term → List Tok → List Tok → Type 0
-SpellsExpr (Ref r) ts rest = SpellsReference r ts rest
-SpellsExpr (Lit l) ts rest = SpellsLiteral l ts rest
-SpellsExpr (One o a) ts rest =
+SpellsExpr (NamedTerm r) ts rest = SpellsReference r ts rest
+SpellsExpr (ConstantTerm l) ts rest = SpellsLiteral l ts rest
+SpellsExpr (UnaryTerm o a) ts rest =
     (t : List Tok) × (ts ≡ Word (text1 o) ∷ (Symbol OpenParen ∷ t)) × SpellsExpr a t (Symbol CloseParen ∷ rest)
-SpellsExpr (Two o a b) ts rest =
+SpellsExpr (BinaryTerm o a b) ts rest =
     (t : List Tok) × (u : List Tok) × (ts ≡ Word (text2 o) ∷ (Symbol OpenParen ∷ t)) × SpellsExpr a t (Symbol Comma ∷ u) × SpellsExpr b u (Symbol CloseParen ∷ rest)
-SpellsExpr (Fix o a n m) ts rest =
+SpellsExpr (FixedTerm o a n m) ts rest =
     (t : List Tok) × (u : List Tok) × (ts ≡ Word (text_const o) ∷ (Symbol OpenParen ∷ t)) × SpellsExpr a t u × SpellsParameters o n m u rest
-SpellsExpr (Choose c a b) ts rest =
+SpellsExpr (MuxTerm c a b) ts rest =
     (t : List Tok) × (u : List Tok) × (v : List Tok) × (ts ≡ Word (codes "mux") ∷ (Symbol OpenParen ∷ t))
     × SpellsExpr c t (Symbol Comma ∷ u) × SpellsExpr a u (Symbol Comma ∷ v) × SpellsExpr b v (Symbol CloseParen ∷ rest)
 

@@ -19,7 +19,7 @@ use Rattle.gg_ast.specs.declared.expression.Radix.{Radix}
 use Rattle.gg_ast.specs.declared.expression.Radix.TheVariants.{Binary, Octal, Decimal, Hexadecimal}
 use Rattle.gg_ast.specs.declared.expression.Reference.{Reference}
 use Rattle.gg_ast.specs.declared.expression.Reference.TheVariants as reference
-use Rattle.gg_ast.specs.Term.{Term, Ref, Lit, One, Two, Fix, Choose}
+use Rattle.gg_ast.specs.Term.{Term, NamedTerm, ConstantTerm, UnaryTerm, BinaryTerm, FixedTerm, MuxTerm}
 use Rattle.gg_read.specs.declared.cursor.Miss.{Miss}
 use Rattle.gg_read.specs.declared.cursor.Miss.TheVariants.{NoForm, NoMemory}
 use Rattle.gg_read.specs.declared.words.Operation.{Operation}
@@ -103,10 +103,10 @@ choose (Some x) first other = first x
 
 -- x, or x.y, or x.y.z
 abbrev pub third_at : List ℕ → List ℕ → List Tok → Option (Reference × List Tok)
-third_at a b ts = choose (symbol_at Dot ts) (λ t. name_at t >>= λ c. Some (reference.Three a b c.0, c.1)) (Some (reference.Two a b, ts))
+third_at a b ts = choose (symbol_at Dot ts) (λ t. name_at t >>= λ c. Some (reference.FieldOf a b c.0, c.1)) (Some (reference.PortOf a b, ts))
 
 abbrev pub second_at : List ℕ → List Tok → Option (Reference × List Tok)
-second_at a ts = choose (symbol_at Dot ts) (λ t. name_at t >>= λ b. third_at a b.0 b.1) (Some (reference.One a, ts))
+second_at a ts = choose (symbol_at Dot ts) (λ t. name_at t >>= λ b. third_at a b.0 b.1) (Some (reference.Local a, ts))
 
 abbrev pub reference_at : List Tok → Option (Reference × List Tok)
 reference_at ts = name_at ts >>= λ a. second_at a.0 a.1
@@ -184,17 +184,17 @@ is_second mark (t ∷ ts) = is_some (symbol_at mark ts)
 -- the operands of an operation, its parameters and its closing bracket; `sub` reads one operand
 module _ (sub : List Tok → Option (Term × List Tok)) where
   abbrev pub unary_at : Op1 → List Tok → Option (Term × List Tok)
-  unary_at o ts = sub ts >>= λ a. symbol_at CloseParen a.1 >>= λ t. Some (One o a.0, t)
+  unary_at o ts = sub ts >>= λ a. symbol_at CloseParen a.1 >>= λ t. Some (UnaryTerm o a.0, t)
 
   abbrev pub binary_at : Op2 → List Tok → Option (Term × List Tok)
-  binary_at o ts = sub ts >>= λ a. symbol_at Comma a.1 >>= λ t. sub t >>= λ b. symbol_at CloseParen b.1 >>= λ u. Some (Two o a.0 b.0, u)
+  binary_at o ts = sub ts >>= λ a. symbol_at Comma a.1 >>= λ t. sub t >>= λ b. symbol_at CloseParen b.1 >>= λ u. Some (BinaryTerm o a.0 b.0, u)
 
   abbrev pub fixed_at : OpN → List Tok → Option (Term × List Tok)
-  fixed_at o ts = sub ts >>= λ a. parameters_at o a.1 >>= λ p. Some (Fix o a.0 p.0.0 p.0.1, p.1)
+  fixed_at o ts = sub ts >>= λ a. parameters_at o a.1 >>= λ p. Some (FixedTerm o a.0 p.0.0 p.0.1, p.1)
 
   abbrev pub mux_at : List Tok → Option (Term × List Tok)
   mux_at ts =
-      sub ts >>= λ c. symbol_at Comma c.1 >>= λ t. sub t >>= λ a. symbol_at Comma a.1 >>= λ u. sub u >>= λ b. symbol_at CloseParen b.1 >>= λ v. Some (Choose c.0 a.0 b.0, v)
+      sub ts >>= λ c. symbol_at Comma c.1 >>= λ t. sub t >>= λ a. symbol_at Comma a.1 >>= λ u. sub u >>= λ b. symbol_at CloseParen b.1 >>= λ v. Some (MuxTerm c.0 a.0 b.0, v)
 
   abbrev pub operands_at : Operation → List Tok → Option (Term × List Tok)
   operands_at (Unary o) ts = unary_at o ts
@@ -209,7 +209,7 @@ module _ (sub : List Tok → Option (Term × List Tok)) where
   abbrev pub form_at : List Tok → Option (Term × List Tok)
   form_at ts =
       if is_second OpenParen ts then call_at ts
-      else (if is_second Less ts then (literal_at ts >>= λ l. Some (Lit l.0, l.1)) else (reference_at ts >>= λ r. Some (Ref r.0, r.1)))
+      else (if is_second Less ts then (literal_at ts >>= λ l. Some (ConstantTerm l.0, l.1)) else (reference_at ts >>= λ r. Some (NamedTerm r.0, r.1)))
 
 -- an expression with at most so many operations within each other
 abbrev pub expr_at : ℕ → List Tok → Option (Term × List Tok)

@@ -23,7 +23,7 @@ fn second(cursor: &mut Cursor, first: Name) -> Result<Reference, Miss>
     ensures { Reads (λ r. r) result cursor.new (second_at first cursor.old) }
 {
     if !cursor.skip(Symbol::Dot) {
-        return Ok(Reference::One(first));
+        return Ok(Reference::Local(first));
     }
     let second = cursor.name()?;
     third(cursor, first, second)
@@ -34,10 +34,10 @@ fn third(cursor: &mut Cursor, first: Name, second: Name) -> Result<Reference, Mi
     ensures { Reads (λ r. r) result cursor.new (third_at first second cursor.old) }
 {
     if !cursor.skip(Symbol::Dot) {
-        return Ok(Reference::Two(first, second));
+        return Ok(Reference::PortOf(first, second));
     }
     let third = cursor.name()?;
-    Ok(Reference::Three(first, second, third))
+    Ok(Reference::FieldOf(first, second, third))
 }
 
 /// `<n>`.

@@ -8,7 +8,7 @@ use Rattle.std.specs.List.{list_any, flat_map}
 use Rattle.std.specs.Option.{option_map}
 use Rattle.std.specs.Str.{bytes_eq}
 use Rattle.gg_ast.specs.declared.expression.Reference.{Reference}
-use Rattle.gg_ast.specs.declared.expression.Reference.TheVariants.{One, Two, Three}
+use Rattle.gg_ast.specs.declared.expression.Reference.TheVariants.{Local, PortOf, FieldOf}
 use Rattle.gg_ast.specs.declared.module.Port.{Port}
 use Rattle.gg_ast.specs.declared.statement.Stmt.{Stmt}
 use Rattle.gg_shape.specs.declared.scope.Role.{Role}
@@ -95,13 +95,13 @@ place-same a b (d ∷ ds) k h g = go (bytes_eq a d.0) refl (bytes_eq b d.0) refl
 
 -- the flag of a sink tells whether it is connected
 flag-told : (scope : List (List ℕ × Role)) (before : List Stmt) (flags : List Bool) (r : Reference) → TellsConnected scope before flags → is_sink (meaning_of scope r) ≡ true → flag_of scope flags r ≡ list_any (connects r) before
-flag-told scope before flags (One name) told sink = go (place_of name scope) refl
+flag-told scope before flags (Local name) told sink = go (place_of name scope) refl
   where
-    go : (o : Option ℕ) → place_of name scope ≡ o → flag_at flags (place_of name scope) ≡ list_any (connects (One name)) before
+    go : (o : Option ℕ) → place_of name scope ≡ o → flag_at flags (place_of name scope) ≡ list_any (connects (Local name)) before
     go None u = absurd (true≢false (sym sink ∙ ap is_sink (role-placed name scope u)))
     go (Some k) u = ap (flag_at flags) u ∙ told.told name k u
-flag-told scope before flags (Two a b) told sink = absurd (true≢false (sym sink))
-flag-told scope before flags (Three a b c) told sink = absurd (true≢false (sym sink))
+flag-told scope before flags (PortOf a b) told sink = absurd (true≢false (sym sink))
+flag-told scope before flags (FieldOf a b c) told sink = absurd (true≢false (sym sink))
 
 same_and : (a b c : Bool) → (a ≡ true → b ≡ c) → a && b ≡ a && c
 same_and true b c h = h refl
@@ -124,17 +124,17 @@ any-push r before s = list_any-append (connects r) before (s ∷ []) ∙ ap (λ 
     or-false true = refl
     or-false false = refl
 
-keeps : (scope : List (List ℕ × Role)) (before : List Stmt) (flags : List Bool) (s : Stmt) → TellsConnected scope before flags → ((name : List ℕ) (k : ℕ) → place_of name scope ≡ Some k → is_reference_to (One name) (connected_by s) ≡ false) → TellsConnected scope (before ++ s ∷ []) flags
+keeps : (scope : List (List ℕ × Role)) (before : List Stmt) (flags : List Bool) (s : Stmt) → TellsConnected scope before flags → ((name : List ℕ) (k : ℕ) → place_of name scope ≡ Some k → is_reference_to (Local name) (connected_by s) ≡ false) → TellsConnected scope (before ++ s ∷ []) flags
 keeps scope before flags s told none = record {
   length_is = told.length_is;
-  told = λ name k u. told.told name k u ∙ sym (or-false (list_any (connects (One name)) before)) ∙ sym (any-push (One name) before s ∙ ap (λ b. list_any (connects (One name)) before || b) (none name k u));
+  told = λ name k u. told.told name k u ∙ sym (or-false (list_any (connects (Local name)) before)) ∙ sym (any-push (Local name) before s ∙ ap (λ b. list_any (connects (Local name)) before || b) (none name k u));
 }
   where
     or-false : (b : Bool) → b || false ≡ b
     or-false true = refl
     or-false false = refl
 
-sets : (scope : List (List ℕ × Role)) (before : List Stmt) (flags : List Bool) (s : Stmt) (sink : List ℕ) (place : ℕ) → TellsConnected scope before flags → connected_by s ≡ Some (One sink) → place_of sink scope ≡ Some place → TellsConnected scope (before ++ s ∷ []) (slice_set flags place true)
+sets : (scope : List (List ℕ × Role)) (before : List Stmt) (flags : List Bool) (s : Stmt) (sink : List ℕ) (place : ℕ) → TellsConnected scope before flags → connected_by s ≡ Some (Local sink) → place_of sink scope ≡ Some place → TellsConnected scope (before ++ s ∷ []) (slice_set flags place true)
 sets scope before flags s sink place told is at = record {
   length_is = length-set flags place true ∙ told.length_is;
   told = λ name k u. any name k u (bytes_eq name sink) refl;
@@ -151,35 +151,35 @@ sets scope before flags s sink place told is at = record {
     within : place < length flags
     within = omega (arith, place-within sink scope place at, told.length_is)
 
-    grown : (name : List ℕ) (b : Bool) → bytes_eq name sink ≡ b → list_any (connects (One name)) (before ++ s ∷ []) ≡ list_any (connects (One name)) before || b
-    grown name b e = any-push (One name) before s ∙ ap (λ o. list_any (connects (One name)) before || is_reference_to (One name) o) is ∙ ap (λ c. list_any (connects (One name)) before || c) e
+    grown : (name : List ℕ) (b : Bool) → bytes_eq name sink ≡ b → list_any (connects (Local name)) (before ++ s ∷ []) ≡ list_any (connects (Local name)) before || b
+    grown name b e = any-push (Local name) before s ∙ ap (λ o. list_any (connects (Local name)) before || is_reference_to (Local name) o) is ∙ ap (λ c. list_any (connects (Local name)) before || c) e
 
-    any : (name : List ℕ) (k : ℕ) → place_of name scope ≡ Some k → (b : Bool) → bytes_eq name sink ≡ b → slice_index_or (slice_set flags place true) k false ≡ list_any (connects (One name)) (before ++ s ∷ [])
+    any : (name : List ℕ) (k : ℕ) → place_of name scope ≡ Some k → (b : Bool) → bytes_eq name sink ≡ b → slice_index_or (slice_set flags place true) k false ≡ list_any (connects (Local name)) (before ++ s ∷ [])
     any name k u true e =
         let same : name ≡ sink = same_bytes name sink e in
         let there : Some k ≡ Some place = sym u ∙ ap (λ n. place_of n scope) same ∙ at in
         let k-is : k ≡ place = cc in
-        ap (λ i. slice_index_or (slice_set flags place true) i false) k-is ∙ get_or-set_same flags place true false within ∙ sym (grown name true e ∙ or-true (list_any (connects (One name)) before))
+        ap (λ i. slice_index_or (slice_set flags place true) i false) k-is ∙ get_or-set_same flags place true false within ∙ sym (grown name true e ∙ or-true (list_any (connects (Local name)) before))
     any name k u false e =
         let other : k ≢ place = λ k-is. true≢false (sym ((bytes_eq-Decides name sink).1 (place-same name sink scope place (u ∙ ap Some k-is) at)) ∙ e) in
-        get_or-set_other flags place k true false other ∙ told.told name k u ∙ sym (grown name false e ∙ or-false (list_any (connects (One name)) before))
+        get_or-set_other flags place k true false other ∙ told.told name k u ∙ sym (grown name false e ∙ or-false (list_any (connects (Local name)) before))
 
 -- after the marks of one more statement the flags tell of it too
 pub marked-more : (scope : List (List ℕ × Role)) (before : List Stmt) (flags : List Bool) (s : Stmt) → TellsConnected scope before flags → TellsConnected scope (before ++ s ∷ []) (marked scope flags (connected_by s))
 marked-more scope before flags s told = go (connected_by s) refl
   where
     go : (o : Option Reference) → connected_by s ≡ o → TellsConnected scope (before ++ s ∷ []) (marked scope flags o)
-    go None is = keeps scope before flags s told (λ name k u. ap (is_reference_to (One name)) is)
-    go (Some (Two a b)) is = keeps scope before flags s told (λ name k u. ap (is_reference_to (One name)) is)
-    go (Some (Three a b c)) is = keeps scope before flags s told (λ name k u. ap (is_reference_to (One name)) is)
-    go (Some (One sink)) is = at (place_of sink scope) refl
+    go None is = keeps scope before flags s told (λ name k u. ap (is_reference_to (Local name)) is)
+    go (Some (PortOf a b)) is = keeps scope before flags s told (λ name k u. ap (is_reference_to (Local name)) is)
+    go (Some (FieldOf a b c)) is = keeps scope before flags s told (λ name k u. ap (is_reference_to (Local name)) is)
+    go (Some (Local sink)) is = at (place_of sink scope) refl
       where
         at : (p : Option ℕ) → place_of sink scope ≡ p → TellsConnected scope (before ++ s ∷ []) (set_at flags p)
         at (Some place) u = sets scope before flags s sink place told is u
         at None u = keeps scope before flags s told (λ name k v. other name k v (bytes_eq name sink) refl)
           where
-            other : (name : List ℕ) (k : ℕ) → place_of name scope ≡ Some k → (b : Bool) → bytes_eq name sink ≡ b → is_reference_to (One name) (connected_by s) ≡ false
-            other name k v false e = ap (is_reference_to (One name)) is ∙ e
+            other : (name : List ℕ) (k : ℕ) → place_of name scope ≡ Some k → (b : Bool) → bytes_eq name sink ≡ b → is_reference_to (Local name) (connected_by s) ≡ false
+            other name k v false e = ap (is_reference_to (Local name)) is ∙ e
             other name k v true e =
                 let gone : None ≡ Some k = sym u ∙ ap (λ n. place_of n scope) (sym (same_bytes name sink e)) ∙ v in
                 cc
@@ -206,7 +206,7 @@ unmarked-told : (scope : List (List ℕ × Role)) (statements : List Stmt) (flag
 unmarked-told scope statements flags line d told placed =
     ap (λ b. fault_if (needs_connection d.1 && not b) (Unconnected line d.0)) (go (place_of d.0 scope) refl)
   where
-    go : (o : Option ℕ) → place_of d.0 scope ≡ o → flag_at flags (place_of d.0 scope) ≡ list_any (connects (One d.0)) statements
+    go : (o : Option ℕ) → place_of d.0 scope ≡ o → flag_at flags (place_of d.0 scope) ≡ list_any (connects (Local d.0)) statements
     go None u = absurd (placed u)
     go (Some k) u = ap (flag_at flags) u ∙ told.told d.0 k u
 

@@ -14,7 +14,7 @@
 use Rattle.std.proofs.Common.{◌≡◌, ℕ, List, [], ◌∷◌, ◌++◌, Some, true, false, codes, refl}
 use Rattle.gg_ast.specs.declared.expression.Expr.{Expr}
 use Rattle.gg_ast.specs.declared.expression.Expr.TheVariants.{Named}
-use Rattle.gg_ast.specs.declared.expression.Reference.TheVariants.{One, Two}
+use Rattle.gg_ast.specs.declared.expression.Reference.TheVariants.{Local, PortOf}
 use Rattle.gg_ast.specs.declared.module.Direction.TheVariants.{Input, Output}
 use Rattle.gg_ast.specs.declared.module.GroundType.TheVariants.{UInt, Clock}
 use Rattle.gg_ast.specs.declared.module.Port.{Port}
@@ -27,13 +27,13 @@ use Rattle.gg_shape.specs.Plain.{plain_modules}
 use Rattle.gg_shape.specs.Shape.{shape_faults}
 
 abbrev signal : List ℕ → Expr
-signal name = Named (One name)
+signal name = Named (Local name)
 
 abbrev on : ℕ → StmtKind → Stmt
 on line kind = record { line = line; kind = kind }
 
 abbrev connect : ℕ → List ℕ → Expr → Stmt
-connect line sink source = on line (Connect (One sink) source)
+connect line sink source = on line (Connect (Local sink) source)
 
 abbrev ports : List Port
 ports =
@@ -83,11 +83,11 @@ too_early : shape_faults (circuit (node_n ∷ register ∷ connect 10 (codes "ou
 too_early = refl
 
 -- F3: a name of two parts, as it is written
-part_of_nothing : shape_faults (circuit (whole ++ on 12 (Node (codes "m") (Named (Two (codes "x") (codes "y")))) ∷ [])) ≡ UnknownName 12 (codes "x.y") ∷ []
+part_of_nothing : shape_faults (circuit (whole ++ on 12 (Node (codes "m") (Named (PortOf (codes "x") (codes "y")))) ∷ [])) ≡ UnknownName 12 (codes "x.y") ∷ []
 part_of_nothing = refl
 
 -- F4: line 12 is `out is invalid`
-connected_twice : shape_faults (circuit (whole ++ on 12 (Invalid (One (codes "out"))) ∷ [])) ≡ SecondConnection 12 (codes "out") ∷ []
+connected_twice : shape_faults (circuit (whole ++ on 12 (Invalid (Local (codes "out"))) ∷ [])) ≡ SecondConnection 12 (codes "out") ∷ []
 connected_twice = refl
 
 -- F5: there is no line 10; the register needs no line 11

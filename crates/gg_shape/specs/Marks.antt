@@ -1,7 +1,7 @@
 -- Flags by the places of the names of a scope.
 use Rattle.std.specs.Prelude.{ℕ, Bool, true, false, not, ◌&&◌, List, [], ◌∷◌, Option, Some, None, slice_index_or, slice_set}
 use Rattle.gg_ast.specs.declared.expression.Reference.{Reference}
-use Rattle.gg_ast.specs.declared.expression.Reference.TheVariants.{One, Two, Three}
+use Rattle.gg_ast.specs.declared.expression.Reference.TheVariants.{Local, PortOf, FieldOf}
 use Rattle.gg_ast.specs.declared.module.Port.{Port}
 use Rattle.gg_ast.specs.declared.statement.Stmt.{Stmt}
 use Rattle.gg_shape.specs.declared.fault.Fault.{Fault}
@@ -17,9 +17,9 @@ flag_at flags (Some place) = slice_index_or flags place false
 
 -- the flag of what is named
 abbrev pub flag_of : List (List ℕ × Role) → List Bool → Reference → Bool
-flag_of scope flags (One name) = flag_at flags (place_of name scope)
-flag_of scope flags (Two a b) = false
-flag_of scope flags (Three a b c) = false
+flag_of scope flags (Local name) = flag_at flags (place_of name scope)
+flag_of scope flags (PortOf a b) = false
+flag_of scope flags (FieldOf a b c) = false
 
 abbrev pub set_at : List Bool → Option ℕ → List Bool
 set_at flags None = flags
@@ -28,9 +28,9 @@ set_at flags (Some place) = slice_set flags place true
 -- the flags after what is connected has been marked
 abbrev pub marked : List (List ℕ × Role) → List Bool → Option Reference → List Bool
 marked scope flags None = flags
-marked scope flags (Some (One name)) = set_at flags (place_of name scope)
-marked scope flags (Some (Two a b)) = flags
-marked scope flags (Some (Three a b c)) = flags
+marked scope flags (Some (Local name)) = set_at flags (place_of name scope)
+marked scope flags (Some (PortOf a b)) = flags
+marked scope flags (Some (FieldOf a b c)) = flags
 
 -- a connection of a sink that is marked
 abbrev pub marked_to : List (List ℕ × Role) → List Bool → ℕ → Option Reference → List Fault

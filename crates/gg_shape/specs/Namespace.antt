@@ -3,7 +3,7 @@ use Rattle.std.specs.Prelude.{◌≡◌, ℕ, ◌+◌, Bool, true, false, ◌&&�
 use Rattle.std.specs.List.{list_any, list_all, flat_map}
 use Rattle.std.specs.Str.{bytes_eq}
 use Rattle.gg_ast.specs.declared.expression.Reference.{Reference}
-use Rattle.gg_ast.specs.declared.expression.Reference.TheVariants.{One, Two, Three}
+use Rattle.gg_ast.specs.declared.expression.Reference.TheVariants.{Local, PortOf, FieldOf}
 use Rattle.gg_ast.specs.declared.module.Direction.{Direction}
 use Rattle.gg_ast.specs.declared.module.Direction.TheVariants.{Input, Output}
 use Rattle.gg_ast.specs.declared.module.Port.{Port}
@@ -57,16 +57,16 @@ IsDeclaredNext scope count declared = take (count + length declared) scope ≡ t
 
 -- the text of a reference: its names with dots between them
 abbrev pub written : Reference → List ℕ
-written (One a) = a
-written (Two a b) = a ++ 46 ∷ b
-written (Three a b c) = a ++ 46 ∷ (b ++ 46 ∷ c)
+written (Local a) = a
+written (PortOf a b) = a ++ 46 ∷ b
+written (FieldOf a b c) = a ++ 46 ∷ (b ++ 46 ∷ c)
 
 -- What a reference names in a scope. One of two or three names is a port of an instance or a field of a memory; in a module
 -- that has neither it names nothing.
 abbrev pub meaning_of : List (List ℕ × Role) → Reference → Option Role
-meaning_of scope (One name) = role_of name scope
-meaning_of scope (Two instance port) = None
-meaning_of scope (Three memory port field) = None
+meaning_of scope (Local name) = role_of name scope
+meaning_of scope (PortOf instance port) = None
+meaning_of scope (FieldOf memory port field) = None
 
 -- whether what is named has a value; an instance and a memory have none of their own
 abbrev pub has_value : Option Role → Bool
@@ -131,15 +131,15 @@ connected_by s = connected_by_kind s.kind
 
 -- both references are written alike
 abbrev pub same_reference : Reference → Reference → Bool
-same_reference (One a) (One x) = bytes_eq a x
-same_reference (One a) (Two x y) = false
-same_reference (One a) (Three x y z) = false
-same_reference (Two a b) (One x) = false
-same_reference (Two a b) (Two x y) = bytes_eq a x && bytes_eq b y
-same_reference (Two a b) (Three x y z) = false
-same_reference (Three a b c) (One x) = false
-same_reference (Three a b c) (Two x y) = false
-same_reference (Three a b c) (Three x y z) = bytes_eq a x && bytes_eq b y && bytes_eq c z
+same_reference (Local a) (Local x) = bytes_eq a x
+same_reference (Local a) (PortOf x y) = false
+same_reference (Local a) (FieldOf x y z) = false
+same_reference (PortOf a b) (Local x) = false
+same_reference (PortOf a b) (PortOf x y) = bytes_eq a x && bytes_eq b y
+same_reference (PortOf a b) (FieldOf x y z) = false
+same_reference (FieldOf a b c) (Local x) = false
+same_reference (FieldOf a b c) (PortOf x y) = false
+same_reference (FieldOf a b c) (FieldOf x y z) = bytes_eq a x && bytes_eq b y && bytes_eq c z
 
 abbrev pub is_reference_to : Reference → Option Reference → Bool
 is_reference_to r None = false
@@ -152,7 +152,7 @@ connects r s = is_reference_to r (connected_by s)
 -- the flags tell, at the place of a name, whether one of the statements connects it
 pub record TellsConnected (scope : List (List ℕ × Role)) (statements : List Stmt) (flags : List Bool) : Type 0 where
   pub length_is : length flags ≡ length scope
-  pub told : (name : List ℕ) (place : ℕ) → place_of name scope ≡ Some place → slice_index_or flags place false ≡ list_any (connects (One name)) statements
+  pub told : (name : List ℕ) (place : ℕ) → place_of name scope ≡ Some place → slice_index_or flags place false ≡ list_any (connects (Local name)) statements
 
 -- ---- a circuit of one module
 

@@ -7,7 +7,7 @@ use Rattle.gg_ast.specs.declared.statement.Reset.{Reset}
 use Rattle.gg_ast.specs.declared.statement.Stmt.{Stmt}
 use Rattle.gg_ast.specs.declared.statement.StmtKind as statements
 use Rattle.gg_ast.specs.declared.statement.StmtKind.TheVariants.{Wire, Node, Register, Instance, Memory, Connect, Invalid, Skip, Stop, Report}
-use Rattle.gg_ast.specs.Term.{Term, term, Ref, Lit, One, Two, Fix, Choose}
+use Rattle.gg_ast.specs.Term.{Term, term, NamedTerm, ConstantTerm, UnaryTerm, BinaryTerm, FixedTerm, MuxTerm}
 use Rattle.gg_ast.specs.Tree.{ModuleTree}
 use Rattle.gg_shape.specs.declared.scope.Role.{Role}
 use Rattle.gg_shape.specs.declared.scope.Role.TheVariants as roles
@@ -25,12 +25,12 @@ is_plain (Some roles.Instance) = true
 is_plain (Some roles.Memory) = true
 
 abbrev pub plain_term : List (List ℕ × Role) → Term → Bool
-plain_term scope (Ref r) = is_plain (meaning_of scope r)
-plain_term scope (Lit l) = true
-plain_term scope (One o a) = plain_term scope a
-plain_term scope (Two o a b) = plain_term scope a && plain_term scope b
-plain_term scope (Fix o a n m) = plain_term scope a
-plain_term scope (Choose c a b) = plain_term scope c && (plain_term scope a && plain_term scope b)
+plain_term scope (NamedTerm r) = is_plain (meaning_of scope r)
+plain_term scope (ConstantTerm l) = true
+plain_term scope (UnaryTerm o a) = plain_term scope a
+plain_term scope (BinaryTerm o a b) = plain_term scope a && plain_term scope b
+plain_term scope (FixedTerm o a n m) = plain_term scope a
+plain_term scope (MuxTerm c a b) = plain_term scope c && (plain_term scope a && plain_term scope b)
 
 abbrev pub plain_argument : List (List ℕ × Role) → Argument → Bool
 plain_argument scope (Value e) = plain_term scope (term e)

@@ -13,7 +13,7 @@ use Rattle.gg_ast.specs.declared.statement.Reset.{Reset}
 use Rattle.gg_ast.specs.declared.statement.Stmt.{Stmt}
 use Rattle.gg_ast.specs.declared.statement.StmtKind as statements
 use Rattle.gg_ast.specs.declared.statement.StmtKind.TheVariants.{Wire, Node, Register, Instance, Memory, Connect, Invalid, Skip, Stop, Report}
-use Rattle.gg_ast.specs.Term.{Term, term, Ref, Lit, One, Two, Fix, Choose}
+use Rattle.gg_ast.specs.Term.{Term, term, NamedTerm, ConstantTerm, UnaryTerm, BinaryTerm, FixedTerm, MuxTerm}
 use Rattle.gg_ast.specs.Tree.{ModuleTree, CircuitTree}
 use Rattle.gg_shape.specs.declared.fault.Fault.{Fault}
 use Rattle.gg_shape.specs.declared.fault.Fault.TheVariants.{MissingTop, RepeatedName, UnknownName, SecondConnection, Unconnected, ConnectedSource}
@@ -59,12 +59,12 @@ unknown_reference scope line r = fault_if (not (has_value (meaning_of scope r)))
 
 -- the references of an expression, from left to right
 abbrev pub unknown_in : List (List ℕ × Role) → ℕ → Term → List Fault
-unknown_in scope line (Ref r) = unknown_reference scope line r
-unknown_in scope line (Lit l) = []
-unknown_in scope line (One o a) = unknown_in scope line a
-unknown_in scope line (Two o a b) = unknown_in scope line a ++ unknown_in scope line b
-unknown_in scope line (Fix o a n m) = unknown_in scope line a
-unknown_in scope line (Choose c a b) = unknown_in scope line c ++ (unknown_in scope line a ++ unknown_in scope line b)
+unknown_in scope line (NamedTerm r) = unknown_reference scope line r
+unknown_in scope line (ConstantTerm l) = []
+unknown_in scope line (UnaryTerm o a) = unknown_in scope line a
+unknown_in scope line (BinaryTerm o a b) = unknown_in scope line a ++ unknown_in scope line b
+unknown_in scope line (FixedTerm o a n m) = unknown_in scope line a
+unknown_in scope line (MuxTerm c a b) = unknown_in scope line c ++ (unknown_in scope line a ++ unknown_in scope line b)
 
 abbrev pub unknown_in_arguments : List (List ℕ × Role) → ℕ → List Argument → List Fault
 unknown_in_arguments scope line [] = []
@@ -119,7 +119,7 @@ second_connections m = along (second_by (scope_of m)) m.statements
 abbrev pub unconnected_in : List Stmt → ℕ → List (List ℕ × Role) → List Fault
 unconnected_in statements line [] = []
 unconnected_in statements line (d ∷ _) =
-    fault_if (needs_connection d.1 && not (list_any (connects (references.One d.0)) statements)) (Unconnected line d.0)
+    fault_if (needs_connection d.1 && not (list_any (connects (references.Local d.0)) statements)) (Unconnected line d.0)
 
 abbrev pub unconnected_port : List Stmt → List Port → Port → List Fault
 unconnected_port statements before port = unconnected_in statements port.line (declared_by_port port ∷ [])

@@ -56,8 +56,8 @@ fn is_connected(scope: &Scope, connected: &Vec<bool>, reference: &Reference) -> 
     ensures { result ≡ flag_of scope.now connected.now.items reference.now }
 {
     match reference {
-        Reference::One(name) => is_marked(scope, connected, name),
-        Reference::Two(_, _) | Reference::Three(_, _, _) => false,
+        Reference::Local(name) => is_marked(scope, connected, name),
+        Reference::PortOf(_, _) | Reference::FieldOf(_, _, _) => false,
     }
 }
 
@@ -77,7 +77,7 @@ fn mark(scope: &Scope, connected: &mut Vec<bool>, statement: &Stmt)
     requires { length connected.old.items ≡ length scope.now }
     ensures { connected.new.items ≡ marked scope.now connected.old.items (connected_by statement.now) }
 {
-    if let Some(Reference::One(name)) = connection(statement) {
+    if let Some(Reference::Local(name)) = connection(statement) {
         if let Some(place) = scope.place(name) {
             connected[place] = true;
         }
@@ -89,8 +89,8 @@ pub fn meaning(scope: &Scope, reference: &Reference) -> Option<Role>
     ensures { result ≡ meaning_of scope.now reference.now }
 {
     match reference {
-        Reference::One(name) => scope.role(name),
-        Reference::Two(_, _) | Reference::Three(_, _, _) => None,
+        Reference::Local(name) => scope.role(name),
+        Reference::PortOf(_, _) | Reference::FieldOf(_, _, _) => None,
     }
 }
 

@@ -173,8 +173,8 @@ fn meaning_before(scope: &Scope, count: usize, reference: &Reference) -> Option<
     ensures { result ≡ meaning_of (take count scope.now) reference.now }
 {
     match reference {
-        Reference::One(name) => scope.role_before(name, count),
-        Reference::Two(_, _) | Reference::Three(_, _, _) => None,
+        Reference::Local(name) => scope.role_before(name, count),
+        Reference::PortOf(_, _) | Reference::FieldOf(_, _, _) => None,
     }
 }
 
@@ -197,14 +197,14 @@ pub fn written(alloc: Global, reference: &Reference) -> Result<Name, AllocError>
     ensures { IfOk result (λ name. name ≡ written_text reference.now) }
 {
     match reference {
-        Reference::One(a) => a.clone(),
-        Reference::Two(a, b) => {
+        Reference::Local(a) => a.clone(),
+        Reference::PortOf(a, b) => {
             let mut text = String::from_str(alloc, a.as_str())?;
             text.push_str(".")?;
             text.push_str(b.as_str())?;
             Ok(Name::from(text))
         }
-        Reference::Three(a, b, c) => {
+        Reference::FieldOf(a, b, c) => {
             let mut text = String::from_str(alloc, a.as_str())?;
             text.push_str(".")?;
             text.push_str(b.as_str())?;

@@ -23,7 +23,7 @@ use Rattle.gg_ast.specs.declared.expression.Expr.{Expr}
 use Rattle.gg_ast.specs.declared.expression.Expr.TheVariants.{Named, Constant, Unary', Binary', Fixed', Mux'}
 use Rattle.gg_ast.specs.declared.expression.Literal.{Literal}
 use Rattle.gg_ast.specs.declared.expression.Radix.TheVariants.{Hexadecimal}
-use Rattle.gg_ast.specs.declared.expression.Reference.TheVariants.{One}
+use Rattle.gg_ast.specs.declared.expression.Reference.TheVariants.{Local}
 use Rattle.gg_ast.specs.declared.module.Direction.TheVariants.{Input, Output}
 use Rattle.gg_ast.specs.declared.module.GroundType.TheVariants.{UInt, Clock}
 use Rattle.gg_ast.specs.declared.module.Port.{Port}
@@ -48,7 +48,7 @@ abbrev hexadecimal : Kind → ℕ → Bool → List ℕ → Literal
 hexadecimal k width negative digits = record { kind = k; width = width; radix = Hexadecimal; negative = negative; digits = digits }
 
 abbrev signal : List ℕ → Expr
-signal name = Named (One name)
+signal name = Named (Local name)
 
 abbrev number : ℕ → List ℕ → Expr
 number width digits = Constant (hexadecimal kind.UInt width false digits)
@@ -65,7 +65,7 @@ module _ (at : Box (Unit {0}) Global) where
   on line kind = record { line = line; kind = kind }
 
   abbrev connect : ℕ → List ℕ → Expr → Stmt
-  connect line sink source = on line (Connect (One sink) source)
+  connect line sink source = on line (Connect (Local sink) source)
 
   abbrev ports : List Port
   ports =
@@ -160,7 +160,7 @@ module _ (at : Box (Unit {0}) Global) where
 
   -- F14: line 13 is the register, line 14 `k is invalid`
   from_nowhere : faults (whole ++ on 12 (Wire (codes "k") Clock) ∷ on 13 (Register (codes "d") (UInt 1) (signal (codes "k")) None)
-      ∷ on 14 (Invalid (One (codes "k"))) ∷ []) ≡ WrongClock 13 (codes "k") ∷ WrongClock 14 (codes "k") ∷ []
+      ∷ on 14 (Invalid (Local (codes "k"))) ∷ []) ≡ WrongClock 13 (codes "k") ∷ WrongClock 14 (codes "k") ∷ []
   unfolding digit
   from_nowhere = refl
 

@@ -6,7 +6,7 @@ use Rattle.gg_ast.specs.declared.expression.Reference.TheVariants as references
 use Rattle.gg_ast.specs.declared.statement.Stmt.{Stmt}
 use Rattle.gg_ast.specs.declared.statement.StmtKind as statements
 use Rattle.gg_ast.specs.declared.statement.StmtKind.TheVariants.{Wire, Node, Register, Instance, Memory, Connect, Invalid, Skip, Stop, Report}
-use Rattle.gg_ast.specs.Term.{Term, term, Ref, Lit, One, Two, Fix, Choose}
+use Rattle.gg_ast.specs.Term.{Term, term, NamedTerm, ConstantTerm, UnaryTerm, BinaryTerm, FixedTerm, MuxTerm}
 use Rattle.gg_ast.specs.Tree.{ModuleTree}
 use Rattle.gg_shape.specs.declared.scope.Role.{Role}
 use Rattle.gg_shape.specs.declared.scope.Role.TheVariants as roles
@@ -15,24 +15,24 @@ use Rattle.gg_shape.specs.Namespace.{scope_of}
 
 -- the name that a driver leads to: only a bare reference leads on
 abbrev pub bare_reference : Reference → Option (List ℕ)
-bare_reference (references.One name) = Some name
-bare_reference (references.Two instance port) = None
-bare_reference (references.Three memory port field) = None
+bare_reference (references.Local name) = Some name
+bare_reference (references.PortOf instance port) = None
+bare_reference (references.FieldOf memory port field) = None
 
 abbrev pub bare : Term → Option (List ℕ)
-bare (Ref r) = bare_reference r
-bare (Lit l) = None
-bare (One o a) = None
-bare (Two o a b) = None
-bare (Fix o a n m) = None
-bare (Choose c a b) = None
+bare (NamedTerm r) = bare_reference r
+bare (ConstantTerm l) = None
+bare (UnaryTerm o a) = None
+bare (BinaryTerm o a b) = None
+bare (FixedTerm o a n m) = None
+bare (MuxTerm c a b) = None
 
 -- what a statement drives, if it is a name: a node by its expression, the sink of a connection by its source, and what is
 -- invalid by nothing that leads on
 abbrev pub driven_reference : Reference → Option (List ℕ) → Option (List ℕ × Option (List ℕ))
-driven_reference (references.One name) lead = Some (name, lead)
-driven_reference (references.Two instance port) lead = None
-driven_reference (references.Three memory port field) lead = None
+driven_reference (references.Local name) lead = Some (name, lead)
+driven_reference (references.PortOf instance port) lead = None
+driven_reference (references.FieldOf memory port field) lead = None
 
 abbrev pub driven_by : statements.StmtKind → Option (List ℕ × Option (List ℕ))
 driven_by (Wire name ty) = None

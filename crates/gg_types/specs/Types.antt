@@ -22,7 +22,7 @@ use Rattle.gg_ast.specs.declared.statement.Reset.{Reset}
 use Rattle.gg_ast.specs.declared.statement.Stmt.{Stmt}
 use Rattle.gg_ast.specs.declared.statement.StmtKind as statements
 use Rattle.gg_ast.specs.declared.statement.StmtKind.TheVariants as kinds
-use Rattle.gg_ast.specs.Term.{Term, term, Ref, Lit, One, Two, Fix, Choose}
+use Rattle.gg_ast.specs.Term.{Term, term, NamedTerm, ConstantTerm, UnaryTerm, BinaryTerm, FixedTerm, MuxTerm}
 use Rattle.gg_ast.specs.Tree.{ModuleTree, CircuitTree}
 use Rattle.gg_shape.specs.declared.fault.Fault.{Fault}
 use Rattle.gg_shape.specs.declared.fault.Fault.TheVariants.{UnknownName, WrongKind, WrongWidth, WrongParameter, LiteralTooLarge, TooWide, WrongClock}
@@ -40,9 +40,9 @@ use Rattle.gg_types.specs.Sorts.{Sort, Bits, ClockSort, entry_of}
 -- what a scope tells of a reference; one of two or three names is a port of an instance or a field of a memory, which a
 -- module without these doesn't have
 abbrev pub entry_of_reference : List (List ℕ × Option Sort) → Reference → Option (Option Sort)
-entry_of_reference scope (references.One name) = entry_of name scope
-entry_of_reference scope (references.Two instance port) = None
-entry_of_reference scope (references.Three memory port field) = None
+entry_of_reference scope (references.Local name) = entry_of name scope
+entry_of_reference scope (references.PortOf instance port) = None
+entry_of_reference scope (references.FieldOf memory port field) = None
 
 -- the type, where the name has one
 abbrev pub known_sort : Option (Option Sort) → Option Sort
@@ -59,9 +59,9 @@ undeclared scope line r = fault_if (not (is_some (entry_of_reference scope r))) 
 
 -- whether a reference leads to an input port through the drivers of wires and nodes, by what holds of names
 abbrev pub is_traced : (List ℕ → Bool) → Reference → Bool
-is_traced traced (references.One name) = traced name
-is_traced traced (references.Two instance port) = false
-is_traced traced (references.Three memory port field) = false
+is_traced traced (references.Local name) = traced name
+is_traced traced (references.PortOf instance port) = false
+is_traced traced (references.FieldOf memory port field) = false
 
 -- a Clock that is read leads to an input port, else F14
 abbrev pub clock_faults : (List ℕ → Bool) → ℕ → Reference → Option Sort → List Fault
@@ -189,26 +189,26 @@ invalid_faults line r (Some ClockSort) = WrongClock line (written r) ∷ []
 module _ (traced : List ℕ → Bool) where
   -- the type of an expression, if it and its parts have no fault
   abbrev pub sort_in : List (List ℕ × Option Sort) → Term → Option Sort
-  sort_in scope (Ref r) = read_sort traced r (sort_of_reference scope r)
-  sort_in scope (Lit l) = literal_sort l
-  sort_in scope (One o a) = result_sort (result1 (type1 o) (sort_in scope a))
-  sort_in scope (Two o a b) = result_sort (result2 (type2 o) (sort_in scope a) (sort_in scope b))
-  sort_in scope (Fix o a n m) = result_sort (result1 (λ s. type_const o s n m) (sort_in scope a))
-  sort_in scope (Choose c a b) = result_sort (result3 type_mux (sort_in scope c) (sort_in scope a) (sort_in scope b))
+  sort_in scope (NamedTerm r) = read_sort traced r (sort_of_reference scope r)
+  sort_in scope (ConstantTerm l) = literal_sort l
+  sort_in scope (UnaryTerm o a) = result_sort (result1 (type1 o) (sort_in scope a))
+  sort_in scope (BinaryTerm o a b) = result_sort (result2 (type2 o) (sort_in scope a) (sort_in scope b))
+  sort_in scope (FixedTerm o a n m) = result_sort (result1 (λ s. type_const o s n m) (sort_in scope a))
+  sort_in scope (MuxTerm c a b) = result_sort (result3 type_mux (sort_in scope c) (sort_in scope a) (sort_in scope b))
 
   -- its faults: those of the operands from left to right, then that of the operation
   abbrev pub faults_in : List (List ℕ × Option Sort) → ℕ → Term → List Fault
-  faults_in scope line (Ref r) = undeclared scope line r ++ clock_faults traced line r (sort_of_reference scope r)
-  faults_in scope line (Lit l) = literal_faults line l
-  faults_in scope line (One o a) =
+  faults_in scope line (NamedTerm r) = undeclared scope line r ++ clock_faults traced line r (sort_of_reference scope r)
+  faults_in scope line (ConstantTerm l) = literal_faults line l
+  faults_in scope line (UnaryTerm o a) =
       faults_in scope line a ++ result_faults line (words.Unary o) (result1 (type1 o) (sort_in scope a))
-  faults_in scope line (Two o a b) =
+  faults_in scope line (BinaryTerm o a b) =
       faults_in scope line a
       ++ (faults_in scope line b
       ++ result_faults line (words.Binary o) (result2 (type2 o) (sort_in scope a) (sort_in scope b)))
-  faults_in scope line (Fix o a n m) =
+  faults_in scope line (FixedTerm o a n m) =
       faults_in scope line a ++ result_faults line (words.Fixed o) (result1 (λ s. type_const o s n m) (sort_in scope a))
-  faults_in scope line (Choose c a b) =
+  faults_in scope line (MuxTerm c a b) =
       faults_in scope line c
       ++ (faults_in scope line a
       ++ (faults_in scope line b

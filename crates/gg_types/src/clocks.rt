@@ -51,12 +51,12 @@ fn follow(scope: &Scope, next: &mut Vec<usize>, statement: &Stmt)
     match &statement.kind {
         StmtKind::Node { name, value } => lead(scope, next, name, bare(value)),
         StmtKind::Connect { sink, source } => {
-            if let Reference::One(name) = sink {
+            if let Reference::Local(name) = sink {
                 lead(scope, next, name, bare(source));
             }
         }
         StmtKind::Invalid { sink } => {
-            if let Reference::One(name) = sink {
+            if let Reference::Local(name) = sink {
                 lead(scope, next, name, None);
             }
         }
@@ -75,8 +75,8 @@ fn bare(value: &Expr) -> Option<&Name>
     ensures { option_copied result ≡ bare_name (term value.now) }
 {
     match value {
-        Expr::Named(Reference::One(name)) => Some(name),
-        Expr::Named(Reference::Two(_, _) | Reference::Three(_, _, _))
+        Expr::Named(Reference::Local(name)) => Some(name),
+        Expr::Named(Reference::PortOf(_, _) | Reference::FieldOf(_, _, _))
         | Expr::Constant(_)
         | Expr::Unary(_, _)
         | Expr::Binary(_, _, _)

@@ -73,8 +73,8 @@ fn leads_to_input(known: &Known, reference: &Reference) -> bool
     ensures { result ≡ is_traced (traced_with known.now.scope known.now.traced.items) reference.now }
 {
     match reference {
-        Reference::One(name) => known.is_traced(name),
-        Reference::Two(_, _) | Reference::Three(_, _, _) => false,
+        Reference::Local(name) => known.is_traced(name),
+        Reference::PortOf(_, _) | Reference::FieldOf(_, _, _) => false,
     }
 }
 
@@ -88,7 +88,7 @@ pub fn named(
     ensures answers { Answers (undeclared (sorts_with known.now.scope known.now.types.items) line reference.now) result }
     ensures sort { IfOk result (λ t. sort_of_reference (sorts_with known.now.scope known.now.types.items) reference.now ≡ Some (sort t)) }
 {
-    if let Reference::One(name) = reference {
+    if let Reference::Local(name) = reference {
         if let Some(typing) = known.typing(name) {
             return Ok(typing);
         }

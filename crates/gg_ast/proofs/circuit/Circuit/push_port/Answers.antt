@@ -4,6 +4,7 @@ use Rattle.gg_ast.specs.contracts.circuit.Circuit.{the_view}
 use Rattle.gg_ast.specs.Tree.{CircuitTree, on_last, with_port}
 use Rattle.gg_ast.specs.Places.{place_of}
 use Rattle.gg_ast.specs.Rows.{port_row}
+use Rattle.gg_ast.proofs.KeptNames.{named-if, named-port}
 use Rattle.gg_ast.proofs.LastModule.{slice_set-if, names_of-if, value-if, rows_of-if, rows_of_modules-with_port, open-if}
 use Rattle.gg_ast.proofs.circuit.Circuit.push_port.Goals as goal
 
@@ -14,8 +15,10 @@ written c =
     slice_set-if (with_port c.args.port) c.self.inside.modules.items (c.len-last.result - 1) c.index_mut.result.now c.push_port.new.self (is_ok c.push_port.result) size c.index_mut.ensures.value c.push_port.ensures
 
 pub invariant_of-self : goal.invariant_of-self
-invariant_of-self c = λ q.
-    c.self.invariant q ∙ ap (place_of q) (sym (names_of-if (with_port c.args.port) c.self.inside.modules.items (slice_set c.self.inside.modules.items (c.len-last.result - 1) c.push_port.new.self) (is_ok c.push_port.result) (λ m. refl) (written c)))
+invariant_of-self c = (
+  named-if (with_port c.args.port) (the_view c.self.inside) _ (is_ok c.push_port.result) (named-port c.args.port c.requires.named) (written c) c.self.invariant.0,
+  λ q. c.self.invariant.1 q ∙ ap (place_of q) (sym (names_of-if (with_port c.args.port) c.self.inside.modules.items (slice_set c.self.inside.modules.items (c.len-last.result - 1) c.push_port.new.self) (is_ok c.push_port.result) (λ m. refl) (written c))),
+)
 
 pub returns-clause-value : goal.returns-clause-value
 returns-clause-value c = rw (← c.self.view_is)

@@ -4,6 +4,7 @@ use Rattle.gg_ast.specs.contracts.circuit.Circuit.{the_view}
 use Rattle.gg_ast.specs.Tree.{CircuitTree, on_last, with_statement}
 use Rattle.gg_ast.specs.Places.{place_of}
 use Rattle.gg_ast.specs.Rows.{statement_rows}
+use Rattle.gg_ast.proofs.KeptNames.{named-if, named-statement}
 use Rattle.gg_ast.proofs.LastModule.{slice_set-if, names_of-if, value-if, rows_of-if, rows_of_modules-with_statement}
 use Rattle.gg_ast.proofs.circuit.Circuit.push_statement.Goals as goal
 
@@ -14,8 +15,10 @@ written c =
     slice_set-if (with_statement c.args.statement) c.self.inside.modules.items (c.len-last.result - 1) c.index_mut.result.now c.push_statement.new.self (is_ok c.push_statement.result) size c.index_mut.ensures.value c.push_statement.ensures
 
 pub invariant_of-self : goal.invariant_of-self
-invariant_of-self c = λ q.
-    c.self.invariant q ∙ ap (place_of q) (sym (names_of-if (with_statement c.args.statement) c.self.inside.modules.items (slice_set c.self.inside.modules.items (c.len-last.result - 1) c.push_statement.new.self) (is_ok c.push_statement.result) (λ m. refl) (written c)))
+invariant_of-self c = (
+  named-if (with_statement c.args.statement) (the_view c.self.inside) _ (is_ok c.push_statement.result) (named-statement c.args.statement c.requires.named) (written c) c.self.invariant.0,
+  λ q. c.self.invariant.1 q ∙ ap (place_of q) (sym (names_of-if (with_statement c.args.statement) c.self.inside.modules.items (slice_set c.self.inside.modules.items (c.len-last.result - 1) c.push_statement.new.self) (is_ok c.push_statement.result) (λ m. refl) (written c))),
+)
 
 some_left : (c : goal.After-self-1) → 0 < length c.self.inside.modules.items
 some_left c =
