@@ -1,4 +1,5 @@
-use Rattle.std.proofs.Common.{refl, ap, sym}
+use Rattle.std.proofs.Common.{◌∙◌, refl, ap, sym}
+use Rattle.gg_ast.specs.TermOf.{term_of}
 use Rattle.gg_bits.specs.Shape.{shape}
 use Rattle.gg_flat.specs.declared.line.Op.TheVariants.{Ref, Literal, One, Two, Fix, Mux}
 use Rattle.gg_elab.proofs.LineLemmas.{added_reference, added_literal, added_one, added_two, added_fix, added_mux}
