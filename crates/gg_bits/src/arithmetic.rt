@@ -4,7 +4,7 @@ ghost use Rattle.gg_bits.specs.Value.{pattern_of};
 ghost use Rattle.gg_bits.specs.Shape.{shape, number, Fits};
 ghost use Rattle.gg_bits.specs.Meaning.{quotient as quotient_of, remainder as remainder_of};
 
-use crate::patterns::{signed, wide};
+use crate::patterns::{signed_number, wide};
 use crate::types::{Kind, Ty, Val};
 
 /// The sum.
@@ -44,7 +44,7 @@ pub(crate) fn quotient(ta: Ty, a: Val, tb: Ty, b: Val) -> u128
 {
     match ta.kind {
         Kind::UInt => a.0.checked_div(b.0).unwrap_or(0),
-        Kind::SInt => signed_quotient(signed(ta, a), signed(tb, b)),
+        Kind::SInt => signed_quotient(signed_number(ta, a), signed_number(tb, b)),
     }
 }
 
@@ -65,7 +65,7 @@ pub(crate) fn remainder(ta: Ty, a: Val, tb: Ty, b: Val) -> u128
 {
     match ta.kind {
         Kind::UInt => a.0.checked_rem(b.0).unwrap_or(0),
-        Kind::SInt => signed_remainder(signed(ta, a), signed(tb, b)),
+        Kind::SInt => signed_remainder(signed_number(ta, a), signed_number(tb, b)),
     }
 }
 

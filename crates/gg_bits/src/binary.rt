@@ -6,12 +6,12 @@ ghost use Rattle.gg_bits.specs.ResultType.{kinds2, shape2, type2};
 ghost use Rattle.gg_bits.specs.Meaning.{meaning2, value2};
 
 use crate::arithmetic::{difference, product, quotient, remainder, sum};
-use crate::bitwise::{both, differing, either, joined};
+use crate::bitwise::{both, concatenate, differing, either};
 use crate::compare::{equal, less};
-use crate::judge::judged;
+use crate::judge::judge_width;
 use crate::ops::Op2;
 use crate::patterns::{bit, fit, wide};
-use crate::shifts::{shifted_left, shifted_right};
+use crate::shifts::{shift_left, shift_right};
 use crate::types::{Bad, Kind, Ty, Val};
 
 /// The type of the operation's result.
@@ -28,7 +28,7 @@ pub fn result2(op: Op2, ta: Ty, tb: Ty) -> Result<Ty, Bad>
         return Err(Bad::Kind);
     }
     let (kind, width) = kind_and_width2(op, ta, tb);
-    judged(kind, width)
+    judge_width(kind, width)
 }
 
 /// The operation's result.
@@ -109,12 +109,12 @@ fn wide2(op: Op2, ta: Ty, a: Val, tb: Ty, b: Val) -> u128
         Op2::Geq => bit(!less(ta, a, tb, b)),
         Op2::Eq => bit(equal(ta, a, tb, b)),
         Op2::Neq => bit(!equal(ta, a, tb, b)),
-        Op2::Dshl => shifted_left(ta, a, b.0 as u32),
-        Op2::Dshr => shifted_right(ta, a, b.0),
+        Op2::Dshl => shift_left(ta, a, b.0 as u32),
+        Op2::Dshr => shift_right(ta, a, b.0),
         Op2::And => both(ta, a, tb, b),
         Op2::Or => either(ta, a, tb, b),
         Op2::Xor => differing(ta, a, tb, b),
-        Op2::Cat => joined(ta, a, tb, b),
+        Op2::Cat => concatenate(ta, a, tb, b),
         Op2::Validif => wide(tb, b),
     }
 }

@@ -41,7 +41,7 @@ pub(crate) fn differing(ta: Ty, a: Val, tb: Ty, b: Val) -> u128
 }
 
 /// The bits of `a` above those of `b`.
-pub(crate) fn joined(ta: Ty, a: Val, tb: Ty, b: Val) -> u128
+pub(crate) fn concatenate(ta: Ty, a: Val, tb: Ty, b: Val) -> u128
     requires few { ta.width + tb.width ≤ 128 }
     requires first { Fits (shape ta) a.0 }
     requires second { Fits (shape tb) b.0 }

@@ -4,7 +4,7 @@ ghost use Rattle.gg_bits.specs.Shape.{uint, shape, shape_of, Fits};
 ghost use Rattle.gg_bits.specs.ResultType.{shape_mux, type_mux};
 ghost use Rattle.gg_bits.specs.Meaning.{value_mux};
 
-use crate::judge::judged;
+use crate::judge::judge_width;
 use crate::patterns::extend;
 use crate::types::{Bad, Kind, Ty, Val};
 
@@ -22,7 +22,7 @@ pub fn result_mux(tc: Ty, ta: Ty, tb: Ty) -> Result<Ty, Bad>
     if tc.kind != Kind::UInt || tc.width != 1 || ta.kind != tb.kind {
         return Err(Bad::Kind);
     }
-    judged(ta.kind, ta.width.max(tb.width))
+    judge_width(ta.kind, ta.width.max(tb.width))
 }
 
 /// `mux(c, a, b)`: `a` where `c` is 1, else `b`, in the width of the wider.

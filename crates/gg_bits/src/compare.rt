@@ -3,7 +3,7 @@ ghost use Rattle.std.specs.Prelude.{◌≡◌, int_lt};
 ghost use Rattle.std.specs.Ordering.{int_eq};
 ghost use Rattle.gg_bits.specs.Shape.{shape, number, Fits};
 
-use crate::patterns::signed;
+use crate::patterns::signed_number;
 use crate::types::{Kind, Ty, Val};
 
 /// Whether the first number is less.
@@ -15,7 +15,7 @@ pub(crate) fn less(ta: Ty, a: Val, tb: Ty, b: Val) -> bool
 {
     match ta.kind {
         Kind::UInt => a.0 < b.0,
-        Kind::SInt => signed(ta, a) < signed(tb, b),
+        Kind::SInt => signed_number(ta, a) < signed_number(tb, b),
     }
 }
 
@@ -28,6 +28,6 @@ pub(crate) fn equal(ta: Ty, a: Val, tb: Ty, b: Val) -> bool
 {
     match ta.kind {
         Kind::UInt => a.0 == b.0,
-        Kind::SInt => signed(ta, a) == signed(tb, b),
+        Kind::SInt => signed_number(ta, a) == signed_number(tb, b),
     }
 }

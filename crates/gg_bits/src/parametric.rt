@@ -5,10 +5,10 @@ ghost use Rattle.gg_bits.specs.Shape.{shape, shape_of, Fits};
 ghost use Rattle.gg_bits.specs.ResultType.{params_const, shape_const, type_const};
 ghost use Rattle.gg_bits.specs.Meaning.{meaning_const, value_const};
 
-use crate::judge::judged;
+use crate::judge::judge_width;
 use crate::ops::OpN;
 use crate::patterns::{fit, wide};
-use crate::shifts::{shifted_left, shifted_right};
+use crate::shifts::{shift_left, shift_right};
 use crate::types::{Bad, Kind, Ty, Val};
 
 /// The type of the operation's result. Values of both kinds are taken.
@@ -25,7 +25,7 @@ pub fn result_const(op: OpN, ty: Ty, n: u32, m: u32) -> Result<Ty, Bad>
         return Err(Bad::Param);
     }
     let (kind, width) = kind_and_width_const(op, ty, n, m);
-    judged(kind, width)
+    judge_width(kind, width)
 }
 
 /// The operation's result.
@@ -76,8 +76,8 @@ fn wide_const(op: OpN, ty: Ty, v: Val, n: u32, m: u32) -> u128
 {
     match op {
         OpN::Pad => wide(ty, v),
-        OpN::Shl => shifted_left(ty, v, n),
-        OpN::Shr => shifted_right(ty, v, u128::from(n)),
+        OpN::Shl => shift_left(ty, v, n),
+        OpN::Shr => shift_right(ty, v, u128::from(n)),
         OpN::Bits => fit(v.0 >> m, n - m + 1),
         OpN::Head => v.0 >> (ty.width - n),
         OpN::Tail => fit(v.0, ty.width - n),

@@ -33,12 +33,12 @@ pub(crate) fn wide(ty: Ty, v: Val) -> u128
 {
     match ty.kind {
         Kind::UInt => v.0,
-        Kind::SInt => sign_extended(v.0, ty.width),
+        Kind::SInt => sign_extend(v.0, ty.width),
     }
 }
 
 /// The pattern in 128 bits of the number that `x` stands for in two's complement of `width` bits.
-fn sign_extended(x: u128, width: u32) -> u128
+fn sign_extend(x: u128, width: u32) -> u128
     requires positive { 1 ≤ width }
     requires bounded { width ≤ 128 }
     requires small { x < 2 ^ width }
@@ -63,7 +63,7 @@ pub fn extend(v: Val, ty: Ty, width: u32) -> Val
 }
 
 /// The number that a value of an `SInt` type stands for.
-pub(crate) fn signed(ty: Ty, v: Val) -> i128
+pub(crate) fn signed_number(ty: Ty, v: Val) -> i128
     requires kind { ty.kind ≡ Kind.SInt }
     requires typed { Fits (shape ty) v.0 }
     ensures { result ≡ number (shape ty) v.0 }

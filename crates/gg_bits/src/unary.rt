@@ -5,7 +5,7 @@ ghost use Rattle.gg_bits.specs.Shape.{shape, shape_of, number, Fits};
 ghost use Rattle.gg_bits.specs.ResultType.{shape1, type1};
 ghost use Rattle.gg_bits.specs.Meaning.{meaning1, value1};
 
-use crate::judge::judged;
+use crate::judge::judge_width;
 use crate::ops::Op1;
 use crate::patterns::{bit, fit, ones, wide};
 use crate::types::{Bad, Kind, Ty, Val};
@@ -20,7 +20,7 @@ pub fn result1(op: Op1, ty: Ty) -> Result<Ty, Bad>
     ensures ok { IfOk result (λ answer. shape answer ≡ shape1 op (shape ty)) }
 {
     let (kind, width) = kind_and_width1(op, ty);
-    judged(kind, width)
+    judge_width(kind, width)
 }
 
 /// The operation's result.
@@ -60,7 +60,7 @@ fn wide1(op: Op1, ty: Ty, v: Val) -> u128
     match op {
         Op1::AsUInt | Op1::AsSInt => v.0,
         Op1::Cvt => wide(ty, v),
-        Op1::Neg => negated(ty, v),
+        Op1::Neg => negate(ty, v),
         Op1::Not => ones(ty.width) - v.0,
         Op1::Andr => bit(v.0 == ones(ty.width)),
         Op1::Orr => bit(v.0 != 0),
@@ -69,7 +69,7 @@ fn wide1(op: Op1, ty: Ty, v: Val) -> u128
 }
 
 /// Minus the number.
-fn negated(ty: Ty, v: Val) -> u128
+fn negate(ty: Ty, v: Val) -> u128
     requires { Fits (shape ty) v.0 }
     ensures { result ≡ pattern_of 128 (neg_ℤ (number (shape ty) v.0)) }
 {

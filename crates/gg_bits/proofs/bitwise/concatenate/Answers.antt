@@ -1,5 +1,5 @@
 use Rattle.gg_bits.proofs.PatternLaws.{joined_pattern}
-use Rattle.gg_bits.proofs.bitwise.joined.Goals as goal
+use Rattle.gg_bits.proofs.bitwise.concatenate.Goals as goal
 
 pub returns : goal.returns
 returns c =

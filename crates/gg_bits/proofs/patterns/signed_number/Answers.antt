@@ -3,7 +3,7 @@ use Rattle.std.specs.Int.{w128}
 use Rattle.std.proofs.lemmas.Int.{to_z-of_z}
 use Rattle.gg_bits.specs.Shape.{shape, number}
 use Rattle.gg_bits.proofs.PatternLaws.{signed_pattern, number_of-fits}
-use Rattle.gg_bits.proofs.patterns.signed.Goals as goal
+use Rattle.gg_bits.proofs.patterns.signed_number.Goals as goal
 
 pub returns : goal.returns
 returns c =

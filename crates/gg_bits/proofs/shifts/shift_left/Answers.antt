@@ -1,7 +1,7 @@
 use Rattle.std.proofs.Common.{pos, ◌^◌, sym}
 use Rattle.gg_bits.specs.Shape.{shape, number}
 use Rattle.gg_bits.proofs.PatternLaws.{product_wraps, pattern_of-pow}
-use Rattle.gg_bits.proofs.shifts.shifted_left.Goals as goal
+use Rattle.gg_bits.proofs.shifts.shift_left.Goals as goal
 
 pub returns : goal.returns
 returns c =

@@ -1,5 +1,5 @@
 use Rattle.gg_bits.proofs.PatternLaws.{floor_none}
-use Rattle.gg_bits.proofs.shifts.shifted_right.Goals as goal
+use Rattle.gg_bits.proofs.shifts.shift_right.Goals as goal
 
 pub returns-in-UInt-2 : goal.returns-in-UInt-2
 returns-in-UInt-2 c =
