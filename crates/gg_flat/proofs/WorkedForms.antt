@@ -100,7 +100,8 @@ toggle-formed = record {
     reset = tt;
     next = record { line = record { some = lit< tt; typed = both _ (lit< tt, refl) (lit< tt, refl) }; kind = refl; width = lit≤ tt };
   }) k lt;
-  memories = refl;
+  memories = λ m d lt. absurd (omega arith);
+  reads = λ m lt. absurd (omega arith);
 }
 
 toggle-ordered : IsOrder toggle toggle_order
@@ -144,7 +145,8 @@ loaded-formed = record {
       width = lit≤ tt;
     };
   }) k lt;
-  memories = refl;
+  memories = λ m d lt. absurd (omega arith);
+  reads = λ m lt. absurd (omega arith);
 }
 
 loaded-ordered : IsOrder loaded loaded_order
@@ -193,7 +195,8 @@ counter-formed = record {
       width = lit≤ tt;
     };
   }) k lt;
-  memories = refl;
+  memories = λ m d lt. absurd (omega arith);
+  reads = λ m lt. absurd (omega arith);
 }
 
 counter-ordered : IsOrder counter counter_order
