@@ -1,8 +1,7 @@
 -- What memories hold after a cycle is of their counts and types.
-use Rattle.std.proofs.Common.{◌≡◌, ℕ, zero, suc, ◌<◌, List, [], ◌∷◌, length, map, replicate, get_or, refl, sym, ◌∙◌, ap, subst, inl, inr, ◌⊎◌, arith, Bool, true, false}
-use Rattle.std.specs.Prelude.{◌==◌, if◌then◌else◌, slice_index_or, All}
-use Rattle.std.proofs.lemmas.List.{length-map, length-replicate, get_or-replicate, get_or-map, get_or_default}
-use Rattle.std.proofs.lemmas.Bool.{cases_lt}
+use Rattle.std.proofs.Common.{◌≡◌, ℕ, zero, suc, ◌<◌, List, [], ◌∷◌, length, map, replicate, get_or, refl, sym, ◌∙◌, ap, subst, arith, Bool, true, false}
+use Rattle.std.specs.Prelude.{if◌then◌else◌, All}
+use Rattle.std.proofs.lemmas.List.{length-map, length-replicate}
 use Rattle.std.proofs.lemmas.Nat.{pow_pos}
 use Rattle.gg_bits.specs.Shape.{Shape, shape, Fits}
 use Rattle.gg_flat.specs.declared.memory.UnderWrite.{UnderWrite}
@@ -12,10 +11,10 @@ use Rattle.gg_flat.specs.declared.memory.Latency.TheVariants.{Zero, One}
 use Rattle.gg_flat.specs.declared.memory.Reader.{Reader}
 use Rattle.gg_flat.specs.declared.memory.Writer.{Writer}
 use Rattle.gg_flat.specs.declared.memory.Memory.{Memory}
-use Rattle.gg_flat.specs.Line.{value_at, shape_at, AreTyped, HasType, HasValue}
+use Rattle.gg_flat.specs.Line.{value_at, AreTyped, HasType, HasValue}
 use Rattle.gg_flat.specs.Circuit.{FlatCircuit, signal_shapes}
-use Rattle.gg_flat.specs.Memory.{Bank, found_word, read_word, hits, next_word, next_words, next_reads, next_bank, next_banks, opening_bank, read_count, words_read, bank_at, AreWords, IsBank, AreBanks, LooksAmong, WritesAmong}
-use Rattle.gg_flat.specs.WellFormed.{IsReader, IsWriter, IsMemory, IsWellFormed}
+use Rattle.gg_flat.specs.Memory.{Bank, found_word, hits, next_word, next_words, next_reads, next_bank, next_banks, opening_bank, read_count, words_read, bank_at, AreWords, IsBank, AreBanks, LooksAmong, WritesAmong}
+use Rattle.gg_flat.specs.WellFormed.{IsWriter, IsMemory, IsWellFormed}
 use Rattle.gg_flat.proofs.TypedLemmas.{read_word-fits}
 use Rattle.gg_flat.proofs.WordLemmas.{length-next_words, next_words-here}
 

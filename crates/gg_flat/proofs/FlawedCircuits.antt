@@ -9,7 +9,7 @@ use Rattle.gg_bits.specs.Shape.{Shape}
 use Rattle.gg_flat.specs.declared.line.Node.{Node}
 use Rattle.gg_flat.specs.declared.line.Op.TheVariants.{Ref, Literal, One, Two, Fix, Mux}
 use Rattle.gg_flat.specs.declared.piece.Driver.{Driver}
-use Rattle.gg_flat.specs.declared.piece.Driver.TheVariants.{Input, Held, MemoryWord, ReadRegister, Computed}
+use Rattle.gg_flat.specs.declared.piece.Driver.TheVariants.{Input, Held, ReadRegister, Computed}
 use Rattle.gg_flat.specs.declared.piece.Register.{Register}
 use Rattle.gg_flat.specs.declared.piece.Reset.{Reset}
 use Rattle.gg_flat.specs.Circuit.{FlatCircuit}

@@ -1,16 +1,19 @@
--- Circuits whose memories have one flaw each are not well formed.
-use Rattle.std.proofs.Common.{◌≡◌, ℕ, List, [], ◌∷◌, refl, ap, arith, lit<}
-use Rattle.gg_bits.specs.Shape.{Shape}
-use Rattle.gg_flat.specs.declared.memory.UnderWrite.TheVariants.{Old}
-use Rattle.gg_flat.specs.declared.memory.Latency.TheVariants.{Zero, One as Late}
+-- A circuit with a memory is well formed, and those whose memories have one flaw each are not.
+use Rattle.std.proofs.Common.{◌≡◌, ℕ, List, [], ◌∷◌, refl, ap, inl, arith, lit<, lit≤}
+use Rattle.std.specs.Prelude.{slice_index_or}
+use Rattle.gg_bits.specs.Shape.{Shape, shape}
+use Rattle.gg_flat.specs.declared.memory.Latency.TheVariants.{Zero}
 use Rattle.gg_flat.specs.declared.memory.Reader.{Reader}
 use Rattle.gg_flat.specs.declared.memory.Writer.{Writer}
 use Rattle.gg_flat.specs.declared.memory.Memory.{Memory}
 use Rattle.gg_flat.specs.declared.piece.Driver.{Driver}
 use Rattle.gg_flat.specs.declared.piece.Driver.TheVariants.{MemoryWord, ReadRegister}
-use Rattle.gg_flat.specs.Circuit.{FlatCircuit}
-use Rattle.gg_flat.specs.WellFormed.{IsWellFormed}
-use Rattle.gg_flat.proofs.WorkedCircuits.{one, eight}
+use Rattle.gg_flat.specs.Line.{HasType}
+use Rattle.gg_flat.specs.Circuit.{FlatCircuit, signal_shapes, driver_at}
+use Rattle.gg_flat.specs.Reads.{IsLoop}
+use Rattle.gg_flat.specs.WellFormed.{MayDrive, IsReader, IsWriter, IsMemory, IsWellFormed}
+use Rattle.gg_flat.proofs.WorkedForms.{only, four, apart, differ, pair, quad}
+use Rattle.gg_flat.proofs.WorkedCircuits.{eight}
 use Rattle.gg_flat.proofs.WorkedMemories.{two, copy, high, signal}
 
 -- A circuit with one memory. Signal 0 is the data of its reader, 1 its address and 2 its enable, 3 a mask of two bits.
@@ -33,6 +36,54 @@ reader = record { addr = 1; en = 2; word = 0 }
 
 abbrev writer : Writer
 writer = record { addr = 1; en = 2; word = 0; mask = 2 }
+
+abbrev sound : FlatCircuit
+sound = lone (MemoryWord 0 0 1 2) (memory 3 (reader ∷ []) (writer ∷ []))
+
+sound-formed : IsWellFormed sound
+sound-formed =
+    record {
+      named = refl;
+      distinct = quad _ _ _ _ (differ 97 98 refl) (differ 97 99 refl) (differ 97 100 refl) (differ 98 99 refl) (differ 98 100 refl) (differ 99 100 refl);
+      drivers = four (λ s. MayDrive sound s (driver_at sound s))
+          (lit< tt, refl)
+          (record { line = record { some = lit< tt; typed = only _ (lit< tt, refl) }; kind = refl; width = lit≤ tt })
+          (record { line = record { some = lit< tt; typed = only _ (lit< tt) }; kind = refl; width = lit≤ tt })
+          (record { line = record { some = lit< tt; typed = only _ (lit< tt, refl) }; kind = refl; width = lit≤ tt });
+      ins = λ place lt. absurd (omega arith);
+      outs = λ place lt. absurd (omega arith);
+      registers = λ k d lt. absurd (omega arith);
+      memories = λ k d lt. only (λ i. IsMemory (HasType (signal_shapes sound)) (slice_index_or sound.memories i d)) (record {
+        some = lit< tt;
+        readers = λ k d lt. only (λ i. IsReader (HasType (signal_shapes sound)) (shape eight) 3 (slice_index_or (reader ∷ []) i d)) (record {
+          address = (lit< tt, refl);
+          enable = (lit< tt, refl);
+          output = (lit< tt, refl);
+        }) k lt;
+        writers = λ k d lt. only (λ i. IsWriter (HasType (signal_shapes sound)) (shape eight) 3 (slice_index_or (writer ∷ []) i d)) (record {
+          address = (lit< tt, refl);
+          enable = (lit< tt, refl);
+          input = (lit< tt, refl);
+          masked = (lit< tt, refl);
+        }) k lt;
+      }) k lt;
+      reads = only _ (only _ refl);
+    }
+
+-- ---- a loop through a read of latency 0
+
+-- a memory whose reader's address is its data
+abbrev circle : Driver → FlatCircuit
+circle driver = record sound { signals = signal two driver ∷ copy two 0 ∷ high ∷ [] }
+
+circle-loop : IsLoop (circle (MemoryWord 0 0 1 2)) (0 ∷ 1 ∷ [])
+circle-loop = (pair 0 1 (apart 0 1 refl), (record { signal = lit< tt; names = inl refl }, record { signal = lit< tt; names = (0, lit< tt, refl) }))
+
+-- a read register breaks it
+circle-late : ¬ IsLoop (circle (ReadRegister 0 0)) (0 ∷ 1 ∷ [])
+circle-late loop = loop.1.0.names
+
+-- ---- flaws
 
 -- the data of a reader has the driver of another reader
 other_driver : ¬ IsWellFormed (lone (MemoryWord 0 1 1 2) (memory 3 (reader ∷ []) []))

@@ -1,4 +1,5 @@
 pub mod PathLemmas
+pub mod PortLemmas
 pub mod AgreeLemmas
 pub mod NameLemmas
 pub mod OrderLemmas

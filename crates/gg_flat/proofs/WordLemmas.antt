@@ -1,13 +1,12 @@
 -- The words and read registers of a memory after the accesses of a cycle, and after one access at a time.
-use Rattle.std.proofs.Common.{◌≡◌, ◌≢◌, ℕ, zero, suc, ◌+◌, ◌<◌, ◌≤◌, List, [], ◌∷◌, ◌++◌, length, map, set, take, refl, sym, ◌∙◌, ap, subst, arith, Bool, true, false, true≢false, nat_eq}
+use Rattle.std.proofs.Common.{◌≡◌, ◌≢◌, ℕ, zero, suc, ◌+◌, ◌<◌, List, [], ◌∷◌, length, set, refl, sym, ◌∙◌, ap, subst, arith, Bool, true, false, true≢false}
 use Rattle.std.specs.Prelude.{fold, ◌==◌, ◌&&◌, if◌then◌else◌}
 use Rattle.std.proofs.lemmas.Bool.Decides.{Decides-eqb}
-use Rattle.std.proofs.lemmas.List.{get_or-set_same, get_or-set_other, length-set, length-map, map-append, length-append}
-use Rattle.std.proofs.lemmas.Grind.{same_number_lists, fold-append}
-use Rattle.gg_flat.specs.declared.memory.Reader.{Reader}
+use Rattle.std.proofs.lemmas.List.{get_or-set_same, get_or-set_other, length-set}
+use Rattle.std.proofs.lemmas.Grind.{same_number_lists}
 use Rattle.gg_flat.specs.declared.memory.Writer.{Writer}
 use Rattle.gg_flat.specs.Line.{value_at}
-use Rattle.gg_flat.specs.Memory.{found_word, hits, next_word, next_words_from, next_words}
+use Rattle.gg_flat.specs.Memory.{hits, next_word, next_words_from, next_words}
 use Rattle.gg_flat.specs.Served.{written}
 
 module _ (signals : List ℕ) where

@@ -1,5 +1,5 @@
 -- Circuits with memories by hand, with a list of the signals of each to work them out along, and what they give.
-use Rattle.std.proofs.Common.{◌≡◌, ℕ, List, [], ◌∷◌, length, refl, lit≤}
+use Rattle.std.proofs.Common.{◌≡◌, ℕ, List, [], ◌∷◌, refl, lit≤}
 use Rattle.gg_bits.specs.declared.types.Ty.{Ty}
 use Rattle.gg_bits.specs.declared.ops.Op1.TheVariants.{Not}
 use Rattle.gg_bits.specs.declared.ops.OpN.TheVariants.{Bits}
@@ -12,9 +12,9 @@ use Rattle.gg_flat.specs.declared.piece.Driver.{Driver}
 use Rattle.gg_flat.specs.declared.piece.Driver.TheVariants.{Input, MemoryWord, ReadRegister, Computed}
 use Rattle.gg_flat.specs.declared.piece.Signal.{Signal}
 use Rattle.gg_flat.specs.Circuit.{FlatCircuit}
-use Rattle.gg_flat.specs.Memory.{Bank, address_width, next_bank, read_word}
-use Rattle.gg_flat.specs.Served.{due_list, after_accesses}
-use Rattle.gg_flat.specs.Run.{Start, IsRunFrom, column}
+use Rattle.gg_flat.specs.Memory.{Bank, address_width}
+use Rattle.gg_flat.specs.Served.{after_accesses}
+use Rattle.gg_flat.specs.Run.{Start, column}
 use Rattle.gg_flat.specs.Along.{rows_along, rows_from}
 use Rattle.gg_flat.proofs.WorkedCircuits.{uint_type, one, eight, node, value}
 

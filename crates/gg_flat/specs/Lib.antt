@@ -10,3 +10,5 @@ pub mod Order
 pub mod Served
 pub mod Room
 pub mod Along
+pub mod Ports
+pub mod Tree

@@ -113,8 +113,8 @@ fn write_words(words: &mut [u128], writers: &[Writer], signals: &[u128])
     requires { All (WritesAmong (length signals.now)) writers.now }
     ensures { words.new ≡ next_words signals.now writers.now words.old }
 {
-    for writer in writers {
-        write_word(words, writer, signals);
+    for w in 0..writers.len() {
+        write_word(words, &writers[w], signals);
     }
 }
 

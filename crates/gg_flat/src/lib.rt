@@ -23,23 +23,26 @@ mod line;
 mod memory;
 mod paths;
 mod piece;
+mod port_lists;
 mod ports;
 mod room;
 mod run;
 mod state;
+mod streams;
+mod tree;
 
 pub use bank::Bank;
 pub use laws::{
     all_served, no_loop, run_once, runs_along, runs_on, settled_once, settles_along, states_typed,
 };
 pub use line::{Line, Node, Op};
-pub use memory::{
-    Latency, Memory, Reader, Readers, UnderWrite, Writer, Writers, address_width,
-};
+pub use memory::{Latency, Memory, Reader, Readers, UnderWrite, Writer, Writers, address_width};
 pub use paths::{AddError, Paths};
 pub use piece::{Driver, Piece, Register, Reset, Signal};
 pub use ports::{Port, Ports};
 pub use state::State;
+pub use streams::Streams;
+pub use tree::{Instance, Tree};
 
 #[cfg(test)]
 mod tests;

@@ -8,8 +8,8 @@ use Rattle.gg_flat.proofs.bank.write_words.Goals as goal
 pub returns : goal.returns
 returns c =
     let signals = c.args.signals.now in
-    let all : c.loop-writer.writer-index ≡ length c.args.writers.now = omega arith in
-    c.loop-writer.invariant
+    let all : c.loop-w.w ≡ length c.args.writers.now = omega arith in
+    c.loop-w.invariant
     ∙ ap (λ n. fold (written signals) c.args.words.now (take n c.args.writers.now)) all
     ∙ ap (fold (written signals) c.args.words.now) (take-length c.args.writers.now)
     ∙ written-all signals c.args.writers.now c.args.words.now

@@ -1,4 +1,4 @@
-use Rattle.std.proofs.Common.{◌≡◌, ◌-◌, ◌+◌, ◌<◌, ◌^◌, ◌∙◌, sym, ap, arith}
+use Rattle.std.proofs.Common.{◌≡◌, ◌-◌, ◌+◌, ◌∙◌, sym, ap, arith}
 use Rattle.gg_flat.specs.Memory.{first_width}
 use Rattle.gg_flat.proofs.WidthLemmas.{first_width-here, first_width-next, shift-small}
 use Rattle.gg_flat.proofs.memory.address_width.Goals as goal
