@@ -70,7 +70,7 @@ shape_at-in_shapes circuit place within = get_or-map (shape_at (signal_shapes ci
 -- ---- the readers of memories
 
 -- what is known of signal s, the data of reader r of memory m
-record HasReader (circuit : FlatCircuit) (m r s : ℕ) : Type 0 where
+pub record HasReader (circuit : FlatCircuit) (m r s : ℕ) : Type 0 where
   pub memory : Memory
   pub reader : Reader
   pub within : m < length circuit.memories
@@ -92,7 +92,7 @@ within-readers [] (suc m) r lt = absurd (omega arith)
 within-readers (memory ∷ memories) zero r lt = omega arith
 within-readers (memory ∷ memories) (suc m) r lt = let before = within-readers memories m r lt in omega arith
 
-has-reader : (circuit : FlatCircuit) (m r s : ℕ) → IsWellFormed circuit → IsDataOf circuit m r s → HasReader circuit m r s
+pub has-reader : (circuit : FlatCircuit) (m r s : ℕ) → IsWellFormed circuit → IsDataOf circuit m r s → HasReader circuit m r s
 has-reader circuit m r s formed of =
     let within = within-readers circuit.memories m r of.0 in
     let some = some-memory circuit.memories m within in
@@ -116,7 +116,7 @@ has-reader circuit m r s formed of =
     }
 
 -- the signals that a read of latency 0 names
-word-names : (latency : Latency) (m r : ℕ) (reader : Reader) (addr en : ℕ) → reader_driver latency m r reader ≡ MemoryWord m r addr en → (reader.addr ≡ addr) × (reader.en ≡ en)
+pub word-names : (latency : Latency) (m r : ℕ) (reader : Reader) (addr en : ℕ) → reader_driver latency m r reader ≡ MemoryWord m r addr en → (reader.addr ≡ addr) × (reader.en ≡ en)
 word-names Zero m r reader addr en is = (cc, cc)
 word-names (Late under) m r reader addr en is = absurd (cc)
 
