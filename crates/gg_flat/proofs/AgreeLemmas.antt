@@ -1,5 +1,5 @@
 -- A driver's value depends on the signals that the driver names, and on no other.
-use Rattle.std.proofs.Common.{◌≡◌, ℕ, suc, ◌-◌, List, [], ◌∷◌, ◌++◌, length, refl, ◌∙◌, ap, arith}
+use Rattle.std.proofs.Common.{◌≡◌, ℕ, suc, ◌-◌, List, [], ◌∷◌, ◌++◌, length, refl, ◌∙◌, ap, ap₂, inl, inr, arith}
 use Rattle.std.specs.Prelude.{fold}
 use Rattle.gg_bits.specs.Shape.{Shape}
 use Rattle.gg_bits.specs.Meaning.{extended}
@@ -7,9 +7,10 @@ use Rattle.gg_flat.specs.declared.line.Node.{Node}
 use Rattle.gg_flat.specs.declared.line.Op.{Op}
 use Rattle.gg_flat.specs.declared.line.Op.TheVariants.{Ref, Literal, One, Two, Fix, Mux}
 use Rattle.gg_flat.specs.declared.piece.Driver.{Driver}
-use Rattle.gg_flat.specs.declared.piece.Driver.TheVariants.{Input, Held, Read, Computed}
+use Rattle.gg_flat.specs.declared.piece.Driver.TheVariants.{Input, Held, MemoryWord, ReadRegister, Computed}
 use Rattle.gg_flat.specs.Line.{value_at, shapes_of, line_shape, op_value, with_node, line_value}
 use Rattle.gg_flat.specs.Reads.{Names, NamesSignal}
+use Rattle.gg_flat.specs.Memory.{read_word, bank_at}
 use Rattle.gg_flat.specs.State.{State}
 use Rattle.gg_flat.specs.Settled.{driver_value}
 
@@ -33,5 +34,6 @@ line_value-agree v w nodes same = ap (λ values. value_at values (length nodes -
 pub driver_value-agree : (state : State) (inputs v w : List ℕ) (sink : Shape) (driver : Driver) → ((s : ℕ) → NamesSignal driver s → value_at v s ≡ value_at w s) → driver_value state inputs v sink driver ≡ driver_value state inputs w sink driver
 driver_value-agree state inputs v w sink (Input place) same = refl
 driver_value-agree state inputs v w sink (Held register) same = refl
-driver_value-agree state inputs v w sink (Read memory port) same = refl
+driver_value-agree state inputs v w sink (MemoryWord memory reader addr en) same = ap₂ (read_word (bank_at state.banks memory).words) (same addr (inl refl)) (same en (inr refl))
+driver_value-agree state inputs v w sink (ReadRegister memory reader) same = refl
 driver_value-agree state inputs v w sink (Computed line) same = ap (λ value. extended (line_shape line) sink.width value) (line_value-agree v w line same)

@@ -14,13 +14,14 @@ use Rattle.gg_flat.specs.Circuit.{FlatCircuit, signal_shapes, register_shapes, d
 use Rattle.gg_flat.specs.WellFormed.{IsWellFormed}
 use Rattle.gg_flat.specs.State.{State, IsState, opening, next_state, next_register, next_registers, connected_or, reset_or}
 use Rattle.gg_flat.specs.Settled.{Settled, IsInputs, driver_value}
-use Rattle.gg_flat.specs.Run.{IsRun, IsColumns, state_at, inputs_at}
+use Rattle.gg_flat.specs.Run.{Start, later, opening_start, IsRunFrom, IsRun, IsColumns, state_at, row_at, inputs_at}
 use Rattle.gg_flat.specs.Order.{IsOrder}
-use Rattle.gg_flat.specs.Along.{with_signal, settled_along, rows_along}
+use Rattle.gg_flat.specs.Along.{with_signal, settled_along, rows_from, rows_along}
 use Rattle.gg_flat.proofs.TypedLemmas.{AreTyped-zeros, HasSource-from, driver_value-fits, pattern_of-lt}
 use Rattle.gg_flat.proofs.SettleLemmas.{Partly, Partly-none, Partly-more, Settled-from_Partly}
 use Rattle.gg_flat.proofs.AdvanceLemmas.{length-next_registers, next_registers-at, some-register}
-use Rattle.gg_flat.proofs.RunLemmas.{IsRun-none, IsRun-push}
+use Rattle.gg_flat.proofs.BankLemmas.{AreBanks-next, AreBanks-opening, memories-valued}
+use Rattle.gg_flat.proofs.RunLemmas.{IsRunFrom-none, IsRunFrom-push}
 
 -- the front of the order, worked out
 Partly-along : (circuit : FlatCircuit) (order : List ℕ) (state : State) (inputs start : List ℕ) → IsWellFormed circuit → IsOrder circuit order → IsState circuit state → IsInputs circuit inputs → AreTyped (signal_shapes circuit) start → (i : ℕ) → i ≤ length order → Partly circuit state inputs order i (fold (with_signal circuit state inputs) start (take i order))
@@ -30,7 +31,7 @@ Partly-along circuit order state inputs start formed o st ins typed (suc i) le =
     let before = Partly-along circuit order state inputs start formed o st ins typed i (omega arith) in
     let values = fold (with_signal circuit state inputs) start (take i order) in
     let s = value_at order i in
-    let source = HasSource-from circuit state inputs values s (driver_at circuit s) st ins before.typed (formed.drivers s (o.signals i within)) in
+    let source = HasSource-from circuit state inputs values s (driver_at circuit s) formed st ins before.typed refl (formed.drivers s (o.signals i within)) in
     let more = Partly-more circuit state inputs order i values (driver_value state inputs values (shape_at (signal_shapes circuit) s) (driver_at circuit s)) o within before refl (driver_value-fits state inputs values (shape_at (signal_shapes circuit) s) (driver_at circuit s) source) in
     subst (λ n. Partly circuit state inputs order n (fold (with_signal circuit state inputs) start (take n order))) (add-one i)
     (subst (Partly circuit state inputs order (i + 1)) (sym (fold_more (with_signal circuit state inputs) start order i 0 within)) more)
@@ -59,40 +60,54 @@ next_register-fits signals register own fits = after register.reset (before regi
     after None other = other
     after {other} (Some reset) fit = choice (line_value signals reset.condition == 1) (connected_value signals (shape register.ty) reset.init) other (pattern_of-lt (shape register.ty).width _) fit
 
--- the next state is a state of the circuit
-pub IsState-next : (circuit : FlatCircuit) (state : State) (signals : List ℕ) → IsState circuit state → IsState circuit (next_state circuit state signals)
-IsState-next circuit state signals st =
+-- registers after a cycle are of their types
+registers-typed : (circuit : FlatCircuit) (own signals : List ℕ) → AreTyped (register_shapes circuit) own → AreTyped (register_shapes circuit) (next_registers signals circuit.registers own)
+registers-typed circuit own signals typed =
     let long : length (register_shapes circuit) ≡ length circuit.registers = length-map circuit.registers (λ (register : Register). shape register.ty) in
-    let count : length state.registers ≡ length circuit.registers = st.count ∙ long in
+    let count : length own ≡ length circuit.registers = typed.count ∙ long in
     record {
-      count = length-next_registers signals circuit.registers state.registers count ∙ sym long;
+      count = length-next_registers signals circuit.registers own count ∙ sym long;
       fits = λ i known.
           let within : i < length circuit.registers = omega (arith, known, long) in
           let some = some-register circuit.registers i within in
           let shape_is : shape_at (register_shapes circuit) i ≡ shape (get_or circuit.registers i some).ty = get_or-map (λ (register : Register). shape register.ty) circuit.registers i some (uint 0) within in
-          let own = subst (λ s. Fits s (value_at state.registers i)) shape_is (st.fits i known) in
-          let next = next_register-fits signals (get_or circuit.registers i some) (value_at state.registers i) own in
-          subst (λ s. Fits s (value_at (next_registers signals circuit.registers state.registers) i)) (sym shape_is)
-          (subst (Fits (shape (get_or circuit.registers i some).ty)) (sym (next_registers-at signals circuit.registers state.registers i some count within)) next);
+          let old = subst (λ s. Fits s (value_at own i)) shape_is (typed.fits i known) in
+          let next = next_register-fits signals (get_or circuit.registers i some) (value_at own i) old in
+          subst (λ s. Fits s (value_at (next_registers signals circuit.registers own) i)) (sym shape_is)
+          (subst (Fits (shape (get_or circuit.registers i some).ty)) (sym (next_registers-at signals circuit.registers own i some count within)) next);
+    }
+
+-- the next state is a state of the circuit
+pub IsState-next : (circuit : FlatCircuit) (state : State) (signals : List ℕ) → IsWellFormed circuit → AreTyped (signal_shapes circuit) signals → IsState circuit state → IsState circuit (next_state circuit state signals)
+IsState-next circuit state signals formed typed st =
+    record {
+      typed = registers-typed circuit state.registers signals st.typed;
+      held = AreBanks-next signals circuit.memories state.banks (memories-valued circuit signals formed typed) st.held;
     }
 
 pub IsState-opening : (circuit : FlatCircuit) → IsState circuit (opening circuit)
-IsState-opening circuit = AreTyped-zeros (register_shapes circuit) (length circuit.registers) (sym (length-map circuit.registers (λ (register : Register). shape register.ty)))
+IsState-opening circuit =
+    record {
+      typed = AreTyped-zeros (register_shapes circuit) (length circuit.registers) (sym (length-map circuit.registers (λ (register : Register). shape register.ty)));
+      held = AreBanks-opening circuit.memories;
+    }
 
 -- the states of a run are states of the circuit
-pub IsState-at : (circuit : FlatCircuit) (rows : List (List ℕ)) (t : ℕ) → IsState circuit (state_at circuit rows t)
-IsState-at circuit rows zero = IsState-opening circuit
-IsState-at circuit rows (suc t) = IsState-next circuit (state_at circuit rows t) _ (IsState-at circuit rows t)
+pub IsState-at : (circuit : FlatCircuit) (start : Start) (columns : List (List ℕ)) (n : ℕ) (rows : List (List ℕ)) → IsWellFormed circuit → IsState circuit start.state → IsRunFrom circuit start columns n rows → (t : ℕ) → t ≤ n → IsState circuit (state_at circuit start rows t)
+IsState-at circuit start columns n rows formed st run zero le = st
+IsState-at circuit start columns n rows formed st run (suc t) le =
+    IsState-next circuit (state_at circuit start rows t) (row_at rows t) formed (run.settled t (omega arith)).typed (IsState-at circuit start columns n rows formed st run t (omega arith))
 
 -- the rows worked out along an order, where the columns have inputs in each cycle
-run-along : (circuit : FlatCircuit) (order : List ℕ) (columns : List (List ℕ)) (n : ℕ) → IsWellFormed circuit → IsOrder circuit order → ((t : ℕ) → t < n → IsInputs circuit (inputs_at columns t)) → IsRun circuit columns n (rows_along circuit order columns n)
-run-along circuit order columns zero formed o typed = IsRun-none circuit columns
-run-along circuit order columns (suc n) formed o typed =
-    subst (λ m. IsRun circuit columns m (rows_along circuit order columns (suc n))) (add-one n)
-    (IsRun-push circuit columns n (rows_along circuit order columns n) _
-    (run-along circuit order columns n formed o (λ t lt. typed t (omega arith)))
-    (Settled-along circuit order (state_at circuit (rows_along circuit order columns n) n) (inputs_at columns n) formed o (IsState-at circuit (rows_along circuit order columns n) n) (typed n (omega arith))))
+pub IsRunFrom-along : (circuit : FlatCircuit) (order : List ℕ) (start : Start) (columns : List (List ℕ)) (n : ℕ) → IsWellFormed circuit → IsOrder circuit order → IsState circuit start.state → ((t : ℕ) → t < n → IsInputs circuit (inputs_at columns (later start.cycle t))) → IsRunFrom circuit start columns n (rows_from circuit order start columns n)
+IsRunFrom-along circuit order start columns zero formed o st typed = IsRunFrom-none circuit start columns
+IsRunFrom-along circuit order start columns (suc n) formed o st typed =
+    let rows = rows_from circuit order start columns n in
+    let run = IsRunFrom-along circuit order start columns n formed o st (λ t lt. typed t (omega arith)) in
+    let state = IsState-at circuit start columns n rows formed st run n (omega arith) in
+    subst (λ m. IsRunFrom circuit start columns m (rows_from circuit order start columns (suc n))) (add-one n)
+    (IsRunFrom-push circuit start columns n rows _ run (Settled-along circuit order (state_at circuit start rows n) (inputs_at columns (later start.cycle n)) formed o state (typed n (omega arith))))
 
 -- the rows worked out along an order are a run
 pub IsRun-along : (circuit : FlatCircuit) (order : List ℕ) (columns : List (List ℕ)) (n : ℕ) → IsWellFormed circuit → IsOrder circuit order → IsColumns circuit n columns → IsRun circuit columns n (rows_along circuit order columns n)
-IsRun-along circuit order columns n formed o typed = run-along circuit order columns n formed o typed.inputs
+IsRun-along circuit order columns n formed o typed = IsRunFrom-along circuit order (opening_start circuit) columns n formed o (IsState-opening circuit) typed.inputs

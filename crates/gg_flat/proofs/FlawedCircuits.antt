@@ -9,7 +9,7 @@ use Rattle.gg_bits.specs.Shape.{Shape}
 use Rattle.gg_flat.specs.declared.line.Node.{Node}
 use Rattle.gg_flat.specs.declared.line.Op.TheVariants.{Ref, Literal, One, Two, Fix, Mux}
 use Rattle.gg_flat.specs.declared.piece.Driver.{Driver}
-use Rattle.gg_flat.specs.declared.piece.Driver.TheVariants.{Input, Held, Read, Computed}
+use Rattle.gg_flat.specs.declared.piece.Driver.TheVariants.{Input, Held, ReadRegister, Computed}
 use Rattle.gg_flat.specs.declared.piece.Register.{Register}
 use Rattle.gg_flat.specs.declared.piece.Reset.{Reset}
 use Rattle.gg_flat.specs.Circuit.{FlatCircuit}
@@ -51,8 +51,8 @@ no_register : ¬ IsWellFormed (lone (Held 0))
 no_register formed = absurd (omega (arith, (formed.drivers 0 (lit< tt)).0))
 
 -- there is no memory
-no_memory : ¬ IsWellFormed (lone (Read 0 0))
-no_memory formed = formed.drivers 0 (lit< tt)
+no_memory : ¬ IsWellFormed (lone (ReadRegister 0 0))
+no_memory formed = absurd (omega (arith, (formed.drivers 0 (lit< tt)).0))
 
 -- a line of no node
 no_node : ¬ IsWellFormed (lone (Computed []))

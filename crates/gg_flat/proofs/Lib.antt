@@ -1,4 +1,5 @@
 pub mod PathLemmas
+pub mod PortLemmas
 pub mod AgreeLemmas
 pub mod NameLemmas
 pub mod OrderLemmas
@@ -7,9 +8,16 @@ pub mod TypedLemmas
 pub mod SettleLemmas
 pub mod LineLemmas
 pub mod AdvanceLemmas
+pub mod WordLemmas
+pub mod BankLemmas
+pub mod WidthLemmas
+pub mod LateLemmas
+pub mod ServedLemmas
 pub mod RunLemmas
 pub mod AlongLemmas
 pub mod WorkedCircuits
 pub mod WorkedRows
 pub mod WorkedForms
 pub mod FlawedCircuits
+pub mod WorkedMemories
+pub mod FlawedMemories

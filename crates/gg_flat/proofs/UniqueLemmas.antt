@@ -7,7 +7,7 @@ use Rattle.gg_flat.specs.Line.{value_at, shape_at}
 use Rattle.gg_flat.specs.Circuit.{FlatCircuit, signal_shapes, driver_at}
 use Rattle.gg_flat.specs.State.{State, next_state}
 use Rattle.gg_flat.specs.Settled.{Settled}
-use Rattle.gg_flat.specs.Run.{IsRun, state_at, row_at, inputs_at}
+use Rattle.gg_flat.specs.Run.{Start, later, IsRunFrom, state_at, row_at, inputs_at}
 use Rattle.gg_flat.specs.Order.{IsOrder}
 use Rattle.gg_flat.proofs.AgreeLemmas.{driver_value-agree}
 use Rattle.gg_flat.proofs.OrderLemmas.{read-before, place-of}
@@ -34,22 +34,23 @@ Settled-once circuit order state inputs v w o sv sw =
     let at = place-of circuit order s o (omega (arith, lt, sv.typed.count, length-map circuit.signals (λ signal. shape signal.ty))) in
     subst (λ x. value_at v x ≡ value_at w x) at.is (agree-below circuit order state inputs v w o sv sw (length order) (omega arith) at.place at.before))
 
--- two runs on the same columns have the same row in a cycle, if they are in the same state before it
-rows-agree : (circuit : FlatCircuit) (order : List ℕ) (columns : List (List ℕ)) (n : ℕ) (rows others : List (List ℕ)) → IsOrder circuit order → IsRun circuit columns n rows → IsRun circuit columns n others → (t : ℕ) → t < n → state_at circuit rows t ≡ state_at circuit others t → row_at rows t ≡ row_at others t
-rows-agree circuit order columns n rows others o a b t lt same =
-    Settled-once circuit order (state_at circuit rows t) (inputs_at columns t) (row_at rows t) (row_at others t) o (a.settled t lt) (subst (λ state. Settled circuit state (inputs_at columns t) (row_at others t)) (sym same) (b.settled t lt))
+-- two runs from a start on the same columns have the same row in a cycle, if they are in the same state before it
+rows-agree : (circuit : FlatCircuit) (order : List ℕ) (start : Start) (columns : List (List ℕ)) (n : ℕ) (rows others : List (List ℕ)) → IsOrder circuit order → IsRunFrom circuit start columns n rows → IsRunFrom circuit start columns n others → (t : ℕ) → t < n → state_at circuit start rows t ≡ state_at circuit start others t → row_at rows t ≡ row_at others t
+rows-agree circuit order start columns n rows others o a b t lt same =
+    Settled-once circuit order (state_at circuit start rows t) (inputs_at columns (later start.cycle t)) (row_at rows t) (row_at others t) o (a.settled t lt)
+    (subst (λ state. Settled circuit state (inputs_at columns (later start.cycle t)) (row_at others t)) (sym same) (b.settled t lt))
 
--- two runs on the same columns are in the same state before each cycle
-states-agree : (circuit : FlatCircuit) (order : List ℕ) (columns : List (List ℕ)) (n : ℕ) (rows others : List (List ℕ)) → IsOrder circuit order → IsRun circuit columns n rows → IsRun circuit columns n others → (t : ℕ) → t ≤ n → state_at circuit rows t ≡ state_at circuit others t
-states-agree circuit order columns n rows others o a b zero le = refl
-states-agree circuit order columns n rows others o a b (suc t) le =
-    let before = states-agree circuit order columns n rows others o a b t (omega arith) in
-    let row = rows-agree circuit order columns n rows others o a b t (omega arith) before in
-    ap (λ state. next_state circuit state (row_at rows t)) before ∙ ap (next_state circuit (state_at circuit others t)) row
+-- two runs from a start on the same columns are in the same state before each cycle
+states-agree : (circuit : FlatCircuit) (order : List ℕ) (start : Start) (columns : List (List ℕ)) (n : ℕ) (rows others : List (List ℕ)) → IsOrder circuit order → IsRunFrom circuit start columns n rows → IsRunFrom circuit start columns n others → (t : ℕ) → t ≤ n → state_at circuit start rows t ≡ state_at circuit start others t
+states-agree circuit order start columns n rows others o a b zero le = refl
+states-agree circuit order start columns n rows others o a b (suc t) le =
+    let before = states-agree circuit order start columns n rows others o a b t (omega arith) in
+    let row = rows-agree circuit order start columns n rows others o a b t (omega arith) before in
+    ap (λ state. next_state circuit state (row_at rows t)) before ∙ ap (next_state circuit (state_at circuit start others t)) row
 
--- two runs on the same columns are the same
-pub IsRun-once : (circuit : FlatCircuit) (order : List ℕ) (columns : List (List ℕ)) (n : ℕ) (rows others : List (List ℕ)) → IsOrder circuit order → IsRun circuit columns n rows → IsRun circuit columns n others → rows ≡ others
-IsRun-once circuit order columns n rows others o a b =
+-- two runs from a start on the same columns are the same
+pub IsRunFrom-once : (circuit : FlatCircuit) (order : List ℕ) (start : Start) (columns : List (List ℕ)) (n : ℕ) (rows others : List (List ℕ)) → IsOrder circuit order → IsRunFrom circuit start columns n rows → IsRunFrom circuit start columns n others → rows ≡ others
+IsRunFrom-once circuit order start columns n rows others o a b =
     ext_get_or [] rows others (a.count ∙ sym b.count) (λ t lt.
     let within : t < n = omega (arith, a.count, lt) in
-    rows-agree circuit order columns n rows others o a b t within (states-agree circuit order columns n rows others o a b t (omega arith)))
+    rows-agree circuit order start columns n rows others o a b t within (states-agree circuit order start columns n rows others o a b t (omega arith)))

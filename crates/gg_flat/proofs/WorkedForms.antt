@@ -19,19 +19,19 @@ use Rattle.gg_flat.proofs.WorkedCircuits.{value, counter, counter_order, toggle,
 use Rattle.gg_flat.proofs.WorkedRows.{counter_inputs, loaded_inputs}
 
 -- what holds of each place of a list of one, two, three, four and five
-only : (P : ℕ → Type 0) → P 0 → (k : ℕ) → k < 1 → P k
+pub only : (P : ℕ → Type 0) → P 0 → (k : ℕ) → k < 1 → P k
 only P first zero lt = first
 only P first (suc k) lt = absurd (omega arith)
 
-both : (P : ℕ → Type 0) → P 0 → P 1 → (k : ℕ) → k < 2 → P k
+pub both : (P : ℕ → Type 0) → P 0 → P 1 → (k : ℕ) → k < 2 → P k
 both P first second zero lt = first
 both P first second (suc k) lt = only (λ i. P (suc i)) second k (omega arith)
 
-three : (P : ℕ → Type 0) → P 0 → P 1 → P 2 → (k : ℕ) → k < 3 → P k
+pub three : (P : ℕ → Type 0) → P 0 → P 1 → P 2 → (k : ℕ) → k < 3 → P k
 three P first second third zero lt = first
 three P first second third (suc k) lt = both (λ i. P (suc i)) second third k (omega arith)
 
-four : (P : ℕ → Type 0) → P 0 → P 1 → P 2 → P 3 → (k : ℕ) → k < 4 → P k
+pub four : (P : ℕ → Type 0) → P 0 → P 1 → P 2 → P 3 → (k : ℕ) → k < 4 → P k
 four P first second third fourth zero lt = first
 four P first second third fourth (suc k) lt = three (λ i. P (suc i)) second third fourth k (omega arith)
 
@@ -40,10 +40,10 @@ five P first second third fourth fifth zero lt = first
 five P first second third fourth fifth (suc k) lt = four (λ i. P (suc i)) second third fourth fifth k (omega arith)
 
 -- numbers, and names of one byte, that differ
-apart : (a b : ℕ) → eqb a b ≡ false → a ≢ b
+pub apart : (a b : ℕ) → eqb a b ≡ false → a ≢ b
 apart a b unequal e = true≢false (sym (eq-eqb a b e) ∙ unequal)
 
-differ : (a b : ℕ) → eqb a b ≡ false → (a ∷ []) ≢ (b ∷ [])
+pub differ : (a b : ℕ) → eqb a b ≡ false → (a ∷ []) ≢ (b ∷ [])
 differ a b unequal e = apart a b unequal (ap (λ l. value_at l 0) e)
 
 module _ {X : Type 0} where
@@ -51,10 +51,10 @@ module _ {X : Type 0} where
   single : (x : X) → AllPairs (λ a b. a ≢ b) (x ∷ [])
   single x i j d lt within = absurd (omega arith)
 
-  pair : (x y : X) → x ≢ y → AllPairs (λ a b. a ≢ b) (x ∷ y ∷ [])
+  pub pair : (x y : X) → x ≢ y → AllPairs (λ a b. a ≢ b) (x ∷ y ∷ [])
   pair x y apart = AllPairs-cons (λ a b. a ≢ b) x (y ∷ []) (λ k d lt. only (λ i. x ≢ slice_index_or (y ∷ []) i d) apart k lt) (single y)
 
-  quad : (x y z w : X) → x ≢ y → x ≢ z → x ≢ w → y ≢ z → y ≢ w → z ≢ w → AllPairs (λ a b. a ≢ b) (x ∷ y ∷ z ∷ w ∷ [])
+  pub quad : (x y z w : X) → x ≢ y → x ≢ z → x ≢ w → y ≢ z → y ≢ w → z ≢ w → AllPairs (λ a b. a ≢ b) (x ∷ y ∷ z ∷ w ∷ [])
   quad x y z w xy xz xw yz yw zw =
       AllPairs-cons (λ a b. a ≢ b) x (y ∷ z ∷ w ∷ []) (λ k d lt. three (λ i. x ≢ slice_index_or (y ∷ z ∷ w ∷ []) i d) xy xz xw k lt)
       (AllPairs-cons (λ a b. a ≢ b) y (z ∷ w ∷ []) (λ k d lt. both (λ i. y ≢ slice_index_or (z ∷ w ∷ []) i d) yz yw k lt)
@@ -84,7 +84,7 @@ other : {A : Type 0} (op : Op) (s : ℕ) → is_reference op ≡ false → op �
 other op s none is = absurd (true≢false (sym (ap is_reference is) ∙ none))
 
 -- a reference is to one signal
-same : (s t : ℕ) → Ref s ≡ Ref t → s ≡ t
+pub same : (s t : ℕ) → Ref s ≡ Ref t → s ≡ t
 same s t is = ap referred is
 
 -- ---- the toggle
@@ -100,7 +100,8 @@ toggle-formed = record {
     reset = tt;
     next = record { line = record { some = lit< tt; typed = both _ (lit< tt, refl) (lit< tt, refl) }; kind = refl; width = lit≤ tt };
   }) k lt;
-  memories = refl;
+  memories = λ m d lt. absurd (omega arith);
+  reads = λ m lt. absurd (omega arith);
 }
 
 toggle-ordered : IsOrder toggle toggle_order
@@ -144,7 +145,8 @@ loaded-formed = record {
       width = lit≤ tt;
     };
   }) k lt;
-  memories = refl;
+  memories = λ m d lt. absurd (omega arith);
+  reads = λ m lt. absurd (omega arith);
 }
 
 loaded-ordered : IsOrder loaded loaded_order
@@ -193,7 +195,8 @@ counter-formed = record {
       width = lit≤ tt;
     };
   }) k lt;
-  memories = refl;
+  memories = λ m d lt. absurd (omega arith);
+  reads = λ m lt. absurd (omega arith);
 }
 
 counter-ordered : IsOrder counter counter_order

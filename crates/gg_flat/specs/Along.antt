@@ -5,7 +5,7 @@ use Rattle.gg_flat.specs.Line.{shape_at}
 use Rattle.gg_flat.specs.Circuit.{FlatCircuit, signal_shapes, driver_at}
 use Rattle.gg_flat.specs.State.{State}
 use Rattle.gg_flat.specs.Settled.{driver_value}
-use Rattle.gg_flat.specs.Run.{state_at, inputs_at}
+use Rattle.gg_flat.specs.Run.{Start, later, opening_start, state_at, inputs_at}
 
 -- the values with that of signal s put in its place
 abbrev pub with_signal : FlatCircuit → State → List ℕ → List ℕ → ℕ → List ℕ
@@ -15,8 +15,13 @@ with_signal circuit state inputs signals s = slice_set signals s (driver_value s
 abbrev pub settled_along : FlatCircuit → List ℕ → State → List ℕ → List ℕ
 settled_along circuit order state inputs = fold (with_signal circuit state inputs) (replicate (length circuit.signals) 0) order
 
--- the rows of n cycles
+-- the rows of n cycles from a start
+abbrev pub rows_from : FlatCircuit → List ℕ → Start → List (List ℕ) → ℕ → List (List ℕ)
+rows_from circuit order start columns zero = []
+rows_from circuit order start columns (suc n) =
+    rows_from circuit order start columns n
+    ++ settled_along circuit order (state_at circuit start (rows_from circuit order start columns n) n) (inputs_at columns (later start.cycle n)) ∷ []
+
+-- the rows of n cycles from the opening
 abbrev pub rows_along : FlatCircuit → List ℕ → List (List ℕ) → ℕ → List (List ℕ)
-rows_along circuit order columns zero = []
-rows_along circuit order columns (suc n) =
-    rows_along circuit order columns n ++ settled_along circuit order (state_at circuit (rows_along circuit order columns n) n) (inputs_at columns n) ∷ []
+rows_along circuit order columns n = rows_from circuit order (opening_start circuit) columns n

@@ -5,13 +5,12 @@ use Rattle.std.specs.Prelude.{ℕ, List, [], map, slice_index_or}
 use Rattle.gg_bits.specs.Shape.{Shape, shape}
 use Rattle.gg_flat.specs.declared.piece.Signal.{Signal}
 use Rattle.gg_flat.specs.declared.piece.Register.{Register}
+use Rattle.gg_flat.specs.declared.memory.Latency.{Latency}
+use Rattle.gg_flat.specs.declared.memory.Latency.TheVariants.{Zero}
+use Rattle.gg_flat.specs.declared.memory.Reader.{Reader}
+use Rattle.gg_flat.specs.declared.memory.Memory.{Memory}
 use Rattle.gg_flat.specs.declared.piece.Driver.{Driver}
 use Rattle.gg_flat.specs.declared.piece.Driver.TheVariants.{Input}
-
--- a memory: the shape of its words, and how many there are
-pub record Memory : Type 0 where
-  pub word : Shape
-  pub depth : ℕ
 
 -- A flat circuit. Signals, registers and memories are named by their places. `paths` has the path of each signal, as
 -- bytes; `ins` and `outs` are the signals that it gets from outside and gives to the outside, in port order.
@@ -38,3 +37,15 @@ driver_at circuit s = slice_index_or (map (λ signal. signal.driver) circuit.sig
 -- the shapes of the registers
 abbrev pub register_shapes : FlatCircuit → List Shape
 register_shapes circuit = map (λ register. shape register.ty) circuit.registers
+
+-- the readers of the memory at a place; none past the end
+abbrev pub readers_at : FlatCircuit → ℕ → List Reader
+readers_at circuit m = slice_index_or (map (λ memory. memory.readers) circuit.memories) m []
+
+-- the read latency of the memory at a place
+abbrev pub latency_at : FlatCircuit → ℕ → Latency
+latency_at circuit m = slice_index_or (map (λ memory. memory.latency) circuit.memories) m Zero
+
+-- the reader at a place
+abbrev pub reader_at : List Reader → ℕ → Reader
+reader_at readers r = slice_index_or readers r (record { addr = 0; en = 0; word = 0 })

@@ -1,10 +1,14 @@
 pub mod Line
 pub mod Circuit
+pub mod Memory
 pub mod WellFormed
 pub mod Reads
 pub mod State
 pub mod Settled
 pub mod Run
 pub mod Order
+pub mod Served
 pub mod Room
 pub mod Along
+pub mod Ports
+pub mod Tree

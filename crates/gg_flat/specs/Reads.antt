@@ -1,21 +1,23 @@
 -- Combinational dependency, and combinational loops.
--- Source: FIRRTL Specification, "Combinational Loops".
-use Rattle.std.specs.Prelude.{◌≢◌, ℕ, ◌<◌, List, [], ◌∷◌, length, map, Contains, AllPairs}
+-- Source: FIRRTL Specification, "Combinational Loops", and "Memories" for reads of latency 0.
+use Rattle.std.specs.Prelude.{◌≡◌, ◌≢◌, ◌⊎◌, ℕ, ◌<◌, List, [], ◌∷◌, length, map, Contains, AllPairs}
 use Rattle.gg_flat.specs.declared.line.Node.{Node}
 use Rattle.gg_flat.specs.declared.line.Op.TheVariants.{Ref}
 use Rattle.gg_flat.specs.declared.piece.Driver.{Driver}
-use Rattle.gg_flat.specs.declared.piece.Driver.TheVariants.{Input, Held, Read, Computed}
+use Rattle.gg_flat.specs.declared.piece.Driver.TheVariants.{Input, Held, MemoryWord, ReadRegister, Computed}
 use Rattle.gg_flat.specs.Circuit.{FlatCircuit, driver_at}
 
 -- a line names a signal: one of its nodes is a reference to it
 abbrev pub Names : List Node → ℕ → Type 0
 Names nodes s = Contains (map (λ node. node.op) nodes) (Ref s)
 
--- a driver names a signal; an in-signal and a register's signal name none
+-- A driver names a signal: a line those that it refers to, a read of latency 0 its address and its enable. An in-signal,
+-- a register's signal and a read register name none.
 abbrev pub NamesSignal : Driver → ℕ → Type 0
 NamesSignal (Input place) s = ⊥
 NamesSignal (Held register) s = ⊥
-NamesSignal (Read memory port) s = ⊥
+NamesSignal (MemoryWord memory reader addr en) s = (addr ≡ s) ⊎ (en ≡ s)
+NamesSignal (ReadRegister memory reader) s = ⊥
 NamesSignal (Computed line) s = Names line s
 
 -- signal a reads signal b

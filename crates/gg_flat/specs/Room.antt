@@ -4,14 +4,15 @@ use Rattle.gg_flat.specs.declared.line.Node.{Node}
 use Rattle.gg_flat.specs.declared.piece.Register.{Register}
 use Rattle.gg_flat.specs.declared.piece.Reset.{Reset}
 use Rattle.gg_flat.specs.declared.piece.Driver.{Driver}
-use Rattle.gg_flat.specs.declared.piece.Driver.TheVariants.{Input, Held, Read, Computed}
+use Rattle.gg_flat.specs.declared.piece.Driver.TheVariants.{Input, Held, MemoryWord, ReadRegister, Computed}
 use Rattle.gg_flat.specs.Circuit.{FlatCircuit}
 
 -- how many nodes a driver has
 abbrev pub line_length : Driver → ℕ
 line_length (Input place) = 0
 line_length (Held register) = 0
-line_length (Read memory port) = 0
+line_length (MemoryWord memory reader addr en) = 0
+line_length (ReadRegister memory reader) = 0
 line_length (Computed line) = length line
 
 -- how many nodes a register's connection has

@@ -14,15 +14,38 @@ row_at rows t = slice_index_or rows t []
 abbrev pub inputs_at : List (List ℕ) → ℕ → List ℕ
 inputs_at columns t = map (λ column. value_at column t) columns
 
--- the state before cycle t, where the signals have the values `rows` in the cycles before
-abbrev pub state_at : FlatCircuit → List (List ℕ) → ℕ → State
-state_at circuit rows zero = opening circuit
-state_at circuit rows (suc t) = next_state circuit (state_at circuit rows t) (row_at rows t)
+-- cycle c, t cycles later
+abbrev pub later : ℕ → ℕ → ℕ
+later zero t = t
+later (suc c) t = suc (later c t)
 
--- A run of n cycles: n rows, each settled in the state that the rows before it lead to.
-pub record IsRun (circuit : FlatCircuit) (columns : List (List ℕ)) (n : ℕ) (rows : List (List ℕ)) : Type 0 where
+-- where a run starts: with this cycle, in this state
+pub record Start : Type 0 where
+  pub cycle : ℕ
+  pub state : State
+
+-- the start of a whole run: cycle 0, with zeros
+abbrev pub opening_start : FlatCircuit → Start
+opening_start circuit = record { cycle = 0; state = opening circuit }
+
+-- the state after t cycles from the start, in which the signals have the values `rows`
+abbrev pub state_at : FlatCircuit → Start → List (List ℕ) → ℕ → State
+state_at circuit start rows zero = start.state
+state_at circuit start rows (suc t) = next_state circuit (state_at circuit start rows t) (row_at rows t)
+
+-- where the run goes on after t cycles
+abbrev pub after_rows : FlatCircuit → Start → List (List ℕ) → ℕ → Start
+after_rows circuit start rows t = record { cycle = later start.cycle t; state = state_at circuit start rows t }
+
+-- A run of n cycles from a start: n rows, each settled in the state that the rows before it lead to, with the inputs of
+-- its cycle.
+pub record IsRunFrom (circuit : FlatCircuit) (start : Start) (columns : List (List ℕ)) (n : ℕ) (rows : List (List ℕ)) : Type 0 where
   pub count : length rows ≡ n
-  pub settled : (t : ℕ) → t < n → Settled circuit (state_at circuit rows t) (inputs_at columns t) (row_at rows t)
+  pub settled : (t : ℕ) → t < n → Settled circuit (state_at circuit start rows t) (inputs_at columns (later start.cycle t)) (row_at rows t)
+
+-- a run of n cycles from the opening
+abbrev pub IsRun : FlatCircuit → List (List ℕ) → ℕ → List (List ℕ) → Type 0
+IsRun circuit columns n rows = IsRunFrom circuit (opening_start circuit) columns n rows
 
 -- the column of a signal: its values, by cycle
 abbrev pub column : List (List ℕ) → ℕ → List ℕ

@@ -1,20 +1,23 @@
 -- A settled cycle: what values the signals have together.
--- Source: FIRRTL Specification, "Connects", "Nodes", "Wires", "Registers"; the meaning of a cycle without a combinational
+-- Source: FIRRTL Specification, "Connects", "Nodes", "Wires", "Registers", "Memories"; the meaning of a cycle without a combinational
 -- loop. It is a relation on whole assignments, with no order of evaluation.
-use Rattle.std.specs.Prelude.{◌≡◌, ℕ, ◌<◌, List, [], length, map, slice_index_or}
+use Rattle.std.specs.Prelude.{◌≡◌, ℕ, ◌<◌, List, length, map}
 use Rattle.gg_bits.specs.Shape.{Shape, Fits}
 use Rattle.gg_flat.specs.declared.piece.Driver.{Driver}
-use Rattle.gg_flat.specs.declared.piece.Driver.TheVariants.{Input, Held, Read, Computed}
+use Rattle.gg_flat.specs.declared.piece.Driver.TheVariants.{Input, Held, MemoryWord, ReadRegister, Computed}
 use Rattle.gg_flat.specs.Line.{shape_at, value_at, AreTyped, HasValue, IsSource, connected_value}
 use Rattle.gg_flat.specs.Circuit.{FlatCircuit, signal_shapes, driver_at}
+use Rattle.gg_flat.specs.Memory.{read_word, bank_at}
 use Rattle.gg_flat.specs.State.{State}
 
 -- The meaning of a signal's driver, where the signals have the values `signals` and the signal itself this shape: an
--- in-signal has its input, a register's signal its state, a read port its read register, else the line's result.
+-- in-signal has its input, a register's signal its state, a reader's data the word at its address or its read register,
+-- else the line's result.
 abbrev pub driver_value : State → List ℕ → List ℕ → Shape → Driver → ℕ
 driver_value state inputs signals sink (Input place) = value_at inputs place
 driver_value state inputs signals sink (Held register) = value_at state.registers register
-driver_value state inputs signals sink (Read memory port) = value_at (slice_index_or state.reads memory []) port
+driver_value state inputs signals sink (MemoryWord memory reader addr en) = read_word (bank_at state.banks memory).words (value_at signals addr) (value_at signals en)
+driver_value state inputs signals sink (ReadRegister memory reader) = value_at (bank_at state.banks memory).reads reader
 driver_value state inputs signals sink (Computed line) = connected_value signals sink line
 
 -- The values `signals` are settled: there is one for each signal, of its type, and it is its driver's.
@@ -30,9 +33,10 @@ in_shapes circuit = map (shape_at (signal_shapes circuit)) circuit.ins
 abbrev pub IsInputs : FlatCircuit → List ℕ → Type 0
 IsInputs circuit inputs = AreTyped (in_shapes circuit) inputs
 
--- A driver can be evaluated: its input, register or line is there, and of a type that the signal takes.
+-- A driver can be evaluated: its input, register, memory or line is there, and of a type that the signal takes.
 abbrev pub HasSource : State → List ℕ → List ℕ → Shape → Driver → Type 0
 HasSource state inputs signals sink (Input place) = (place < length inputs) × Fits sink (value_at inputs place)
 HasSource state inputs signals sink (Held register) = (register < length state.registers) × Fits sink (value_at state.registers register)
-HasSource state inputs signals sink (Read memory port) = ⊥
+HasSource state inputs signals sink (MemoryWord memory reader addr en) = (memory < length state.banks) × (addr < length signals) × (en < length signals) × ((a : ℕ) → Fits sink (value_at (bank_at state.banks memory).words a))
+HasSource state inputs signals sink (ReadRegister memory reader) = (memory < length state.banks) × (reader < length (bank_at state.banks memory).reads) × Fits sink (value_at (bank_at state.banks memory).reads reader)
 HasSource state inputs signals sink (Computed line) = IsSource (HasValue signals) sink line

@@ -8,21 +8,17 @@ use Rattle.gg_flat.specs.declared.piece.Register.{Register}
 use Rattle.gg_flat.specs.declared.piece.Reset.{Reset}
 use Rattle.gg_flat.specs.Line.{AreTyped, line_value, connected_value}
 use Rattle.gg_flat.specs.Circuit.{FlatCircuit, register_shapes}
+use Rattle.gg_flat.specs.Memory.{Bank, opening_bank, next_banks, AreBanks}
 
--- a state: the registers' values, the words of each memory, and the read registers of each memory
+-- a state: the registers' values, and what each memory holds
 pub record State : Type 0 where
   pub registers : List ℕ
-  pub words : List (List ℕ)
-  pub reads : List (List ℕ)
+  pub banks : List Bank
 
--- the state before the first cycle
+-- the state before the first cycle: zeros
 abbrev pub opening : FlatCircuit → State
 opening circuit =
-    record {
-      registers = replicate (length circuit.registers) 0;
-      words = map (λ memory. replicate memory.depth 0) circuit.memories;
-      reads = map (λ memory. []) circuit.memories;
-    }
+    record { registers = replicate (length circuit.registers) 0; banks = map (λ memory. opening_bank memory) circuit.memories }
 
 -- a register's connected value, or its own where it has no connection
 abbrev pub connected_or : List ℕ → Shape → Option (List Node) → ℕ → ℕ
@@ -44,15 +40,15 @@ next_registers signals [] own = []
 next_registers signals (register ∷ registers) [] = []
 next_registers signals (register ∷ registers) (own ∷ others) = next_register signals register own ∷ next_registers signals registers others
 
--- The state after a cycle in which the signals have these values. Memories have no ports yet, so that they stay.
+-- the state after a cycle in which the signals have these values
 abbrev pub next_state : FlatCircuit → State → List ℕ → State
 next_state circuit state signals =
     record {
       registers = next_registers signals circuit.registers state.registers;
-      words = state.words;
-      reads = state.reads;
+      banks = next_banks signals circuit.memories state.banks;
     }
 
 -- a state that the circuit can be in, by its counts and types
-abbrev pub IsState : FlatCircuit → State → Type 0
-IsState circuit state = AreTyped (register_shapes circuit) state.registers
+pub record IsState (circuit : FlatCircuit) (state : State) : Type 0 where
+  pub typed : AreTyped (register_shapes circuit) state.registers
+  pub held : AreBanks circuit.memories state.banks

@@ -6,6 +6,7 @@ ghost use Rattle.gg_flat.specs.Circuit.{signal_shapes, driver_at};
 ghost use Rattle.gg_flat.specs.WellFormed.{MayDrive, IsReset, IsRegister, IsWellFormed};
 ghost use Rattle.gg_flat.specs.declared.piece.Driver.TheVariants.{Input};
 
+use crate::check_memory::{are_memories, is_data_of};
 use crate::evaluate::{op_of, type_of};
 use crate::line::{Line, Node, Op};
 use crate::piece::{Driver, Piece, Register, Reset, Signal};
@@ -36,7 +37,7 @@ fn results_in(found: Result<Ty, Bad>, ty: Ty) -> bool
 }
 
 // Whether a signal is one of these, of a type.
-fn is_typed(signals: &[Signal], signal: u32, ty: Ty) -> bool
+pub(crate) fn is_typed(signals: &[Signal], signal: u32, ty: Ty) -> bool
     ensures { IsTrue result ↔ HasType (map (λ s. shape s.ty) signals.now) signal (shape ty) }
 {
     if signal as usize >= signals.len() {
@@ -167,7 +168,9 @@ impl Piece {
                 register < self.registers().len()
                     && same_type(self.registers()[register].ty, signal.ty)
             }
-            Driver::Read(_, _) => false,
+            Driver::MemoryWord(memory, reader, _, _) | Driver::ReadRegister(memory, reader) => {
+                is_data_of(self.memories(), *memory as usize, *reader as usize, s)
+            }
             Driver::Computed(line) => is_source(self.signals(), signal.ty, line),
         }
     }
@@ -212,7 +215,7 @@ impl Piece {
     pub fn check(&self) -> bool
         ensures { IsTrue result ↔ IsWellFormed self.now }
     {
-        // for what holds of every piece: each signal has a path of its own, and there is no memory
+        // for what holds of every piece: each signal has a path of its own
         let _ = self.signal_count();
         if !self.are_ins() {
             return false;
@@ -221,6 +224,12 @@ impl Piece {
             return false;
         }
         if !self.may_drive_all() {
+            return false;
+        }
+        if !self.are_read() {
+            return false;
+        }
+        if !are_memories(self.signals(), self.memories()) {
             return false;
         }
         are_registers(self.signals(), self.registers())

@@ -130,7 +130,13 @@ impl Driver {
         match self {
             Driver::Input(place) => inputs[*place as usize],
             Driver::Held(register) => state.registers()[*register as usize],
-            Driver::Read(_, _) => unreachable!(),
+            Driver::MemoryWord(memory, _, addr, en) => {
+                let (addr, en) = (signals[*addr as usize], signals[*en as usize]);
+                state.banks()[*memory as usize].word(addr, en)
+            }
+            Driver::ReadRegister(memory, reader) => {
+                state.banks()[*memory as usize].reads()[*reader as usize]
+            }
             Driver::Computed(line) => line.connected(sink, signals, scratch),
         }
     }

@@ -1,22 +1,26 @@
 //! Laws: facts about the definitions, each on a function with an empty body.
-ghost use Rattle.std.specs.Prelude.{◌≡◌, ℕ, List};
+ghost use Rattle.std.specs.Prelude.{◌≡◌, ℕ, ◌+◌, ◌<◌, ◌≤◌, List, ◌++◌, length};
 ghost use Rattle.gg_flat.specs.Circuit.{FlatCircuit};
 ghost use Rattle.gg_flat.specs.Reads.{IsLoop};
-ghost use Rattle.gg_flat.specs.State.{State, IsState};
+ghost use Rattle.gg_flat.specs.State.{State, IsState, opening};
 ghost use Rattle.gg_flat.specs.Settled.{Settled, IsInputs};
-ghost use Rattle.gg_flat.specs.Run.{IsRun, IsColumns, state_at};
+ghost use Rattle.gg_flat.specs.Run.{Start, later, IsRunFrom, IsRun, IsColumns, state_at, inputs_at, after_rows};
 ghost use Rattle.gg_flat.specs.WellFormed.{IsWellFormed};
-ghost use Rattle.gg_flat.specs.Along.{settled_along, rows_along};
+ghost use Rattle.gg_flat.specs.Along.{settled_along, rows_from, rows_along};
 ghost use Rattle.gg_flat.specs.Order.{IsOrder};
+ghost use Rattle.gg_flat.specs.declared.memory.Memory.{Memory};
+ghost use Rattle.gg_flat.specs.Memory.{Bank, IsBank, next_bank};
+ghost use Rattle.gg_flat.specs.Served.{due_list, after_accesses};
 
 /// Where a circuit has an order, a state and a list of inputs have at most one settled row.
 pub fn settled_once()
     ensures { (circuit : FlatCircuit) (order : List ℕ) (state : State) (inputs v w : List ℕ) → IsOrder circuit order → Settled circuit state inputs v → Settled circuit state inputs w → v ≡ w }
 {}
 
-/// Where a circuit has an order, columns of inputs have at most one run of a length.
+/// Where a circuit has an order, columns of inputs have at most one run of a length from a start, the opening among them.
 pub fn run_once()
-    ensures { (circuit : FlatCircuit) (order : List ℕ) (columns : List (List ℕ)) (n : ℕ) (rows others : List (List ℕ)) → IsOrder circuit order → IsRun circuit columns n rows → IsRun circuit columns n others → rows ≡ others }
+    ensures from { (circuit : FlatCircuit) (order : List ℕ) (start : Start) (columns : List (List ℕ)) (n : ℕ) (rows others : List (List ℕ)) → IsOrder circuit order → IsRunFrom circuit start columns n rows → IsRunFrom circuit start columns n others → rows ≡ others }
+    ensures opening { (circuit : FlatCircuit) (order : List ℕ) (columns : List (List ℕ)) (n : ℕ) (rows others : List (List ℕ)) → IsOrder circuit order → IsRun circuit columns n rows → IsRun circuit columns n others → rows ≡ others }
 {}
 
 /// A circuit that has an order has no combinational loop.
@@ -29,12 +33,26 @@ pub fn settles_along()
     ensures { (circuit : FlatCircuit) (order : List ℕ) (state : State) (inputs : List ℕ) → IsWellFormed circuit → IsOrder circuit order → IsState circuit state → IsInputs circuit inputs → Settled circuit state inputs (settled_along circuit order state inputs) }
 {}
 
-/// What is worked out along an order is a run: with `run_once`, columns have exactly one run of each length.
+/// What is worked out along an order is a run: with `run_once`, columns have exactly one run of each length, from each
+/// start, the opening among them.
 pub fn runs_along()
-    ensures { (circuit : FlatCircuit) (order : List ℕ) (columns : List (List ℕ)) (n : ℕ) → IsWellFormed circuit → IsOrder circuit order → IsColumns circuit n columns → IsRun circuit columns n (rows_along circuit order columns n) }
+    ensures from { (circuit : FlatCircuit) (order : List ℕ) (start : Start) (columns : List (List ℕ)) (n : ℕ) → IsWellFormed circuit → IsOrder circuit order → IsState circuit start.state → ((t : ℕ) → t < n → IsInputs circuit (inputs_at columns (later start.cycle t))) → IsRunFrom circuit start columns n (rows_from circuit order start columns n) }
+    ensures opening { (circuit : FlatCircuit) (order : List ℕ) (columns : List (List ℕ)) (n : ℕ) → IsWellFormed circuit → IsOrder circuit order → IsColumns circuit n columns → IsRun circuit columns n (rows_along circuit order columns n) }
 {}
 
-/// The state before each cycle is one that the circuit can be in.
+/// The opening, and the state before each cycle of a run from a state of the circuit, are states of the circuit.
 pub fn states_typed()
-    ensures { (circuit : FlatCircuit) (rows : List (List ℕ)) (t : ℕ) → IsState circuit (state_at circuit rows t) }
+    ensures opening { (circuit : FlatCircuit) → IsState circuit (opening circuit) }
+    ensures at { (circuit : FlatCircuit) (start : Start) (columns : List (List ℕ)) (n : ℕ) (rows : List (List ℕ)) → IsWellFormed circuit → IsState circuit start.state → IsRunFrom circuit start columns n rows → (t : ℕ) → t ≤ n → IsState circuit (state_at circuit start rows t) }
+{}
+
+/// A run from a start goes on where the run before it ended: rows behind one another are a run from the first start, where
+/// the second starts at the cycle and in the state that the first leads to.
+pub fn runs_on()
+    ensures { (circuit : FlatCircuit) (start : Start) (columns : List (List ℕ)) (n more : ℕ) (rows others : List (List ℕ)) → IsRunFrom circuit start columns n rows → IsRunFrom circuit (after_rows circuit start rows n) columns more others → IsRunFrom circuit start columns (n + more) (rows ++ others) }
+{}
+
+/// A memory that is served all accesses of its due list, one after another, holds what it holds after the cycle.
+pub fn all_served()
+    ensures { (signals : List ℕ) (memory : Memory) (bank : Bank) → IsBank memory bank → after_accesses signals memory bank (length (due_list memory)) ≡ next_bank signals memory bank }
 {}

@@ -4,6 +4,7 @@ ghost use Rattle.gg_flat.specs.declared.paths.AddError.TheVariants.{Doubled};
 ghost use Rattle.gg_flat.specs.Circuit.{no_circuit};
 
 use crate::line::Line;
+use crate::memory::Memory;
 use crate::paths::{AddError, Paths};
 use gg_bits::{Name, Ty};
 use std::alloc::{AllocError, Global};
@@ -16,8 +17,11 @@ pub enum Driver {
     Input(u32),
     /// A register's value, by the register's number.
     Held(u32),
-    /// A memory's read port, by the memory's number and the port's. No memory has one yet.
-    Read(u32, u32),
+    /// The word that a reader of a memory of read latency 0 reads: the memory's number, the reader's, and the signals of
+    /// its address and of its enable.
+    MemoryWord(u32, u32, u32, u32),
+    /// The read register of a reader of a memory of read latency 1: the memory's number and the reader's.
+    ReadRegister(u32, u32),
     /// The result of a line, extended to the signal's width by its own kind.
     Computed(Line),
 }
@@ -58,6 +62,7 @@ pub struct Piece {
     paths: Paths,
     signals: Vec<Signal>,
     registers: Vec<Register>,
+    memories: Vec<Memory>,
     ins: Vec<u32>,
     outs: Vec<u32>,
 }
@@ -68,7 +73,7 @@ impl Model for Piece {
 
     ghost Value = { FlatCircuit };
 
-    ghost view = { λ piece. record { paths = piece.paths; signals = piece.signals.items; registers = piece.registers.items; memories = []; ins = piece.ins.items; outs = piece.outs.items } };
+    ghost view = { λ piece. record { paths = piece.paths; signals = piece.signals.items; registers = piece.registers.items; memories = piece.memories.items; ins = piece.ins.items; outs = piece.outs.items } };
 
     ghost invariant = { λ piece. length piece.paths ≡ length piece.signals.items };
 }
@@ -82,6 +87,7 @@ impl Piece {
             paths: Paths::new(alloc),
             signals: Vec::new(alloc),
             registers: Vec::new(alloc),
+            memories: Vec::new(alloc),
             ins: Vec::new(alloc),
             outs: Vec::new(alloc),
         }
@@ -101,6 +107,13 @@ impl Piece {
         self.registers.as_slice()
     }
 
+    /// The memories, in order.
+    pub fn memories(&self) -> &[Memory]
+        ensures { result.now ≡ self.now.memories }
+    {
+        self.memories.as_slice()
+    }
+
     /// The in-signals, in port order.
     pub fn ins(&self) -> &[u32]
         ensures { result.now ≡ self.now.ins }
@@ -115,13 +128,12 @@ impl Piece {
         self.outs.as_slice()
     }
 
-    /// How many signals there are, which is how many paths there are: fewer than 4,294,967,296. No piece has a memory yet.
+    /// How many signals there are, which is how many paths there are: fewer than 4,294,967,296.
     pub fn signal_count(&self) -> usize
         ensures count { result ≡ length self.now.signals }
         ensures paths { length self.now.paths ≡ length self.now.signals }
         ensures few { length self.now.signals < 2 ^ 32 }
         ensures distinct { AllPairs (λ a b. a ≢ b) self.now.paths }
-        ensures memories { self.now.memories ≡ [] }
     {
         self.paths.len()
     }
@@ -175,6 +187,19 @@ impl Piece {
         ensures err { OnErr result (self.new ≡ self.old) }
     {
         self.registers.push(register)?;
+        Ok(())
+    }
+
+    /// Adds a memory, as the last.
+    ///
+    /// # Errors
+    ///
+    /// Where memory is refused. The piece is then unchanged.
+    pub fn add_memory(&mut self, memory: Memory) -> Result<(), AllocError>
+        ensures ok { OnOk result (self.new ≡ record self.old { memories = self.old.memories ++ memory ∷ [] }) }
+        ensures err { OnErr result (self.new ≡ self.old) }
+    {
+        self.memories.push(memory)?;
         Ok(())
     }
 

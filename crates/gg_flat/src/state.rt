@@ -1,30 +1,32 @@
 //! `State`: the state of a flat circuit between two cycles.
 ghost use Rattle.std.specs.Prelude.{◌≡◌, ◌≤◌, length, map, replicate, All, IfOk};
 ghost use Rattle.gg_flat.specs.State.{opening, next_state, next_registers, IsState};
-ghost use Rattle.gg_flat.specs.WellFormed.{IsWellFormed, IsRegister};
+ghost use Rattle.gg_flat.specs.Memory.{opening_bank, next_banks, AreBanks};
+ghost use Rattle.gg_flat.specs.WellFormed.{IsWellFormed, IsRegister, IsMemory};
 ghost use Rattle.gg_flat.specs.Room.{HasRoom, register_length};
 ghost use Rattle.gg_flat.specs.Circuit.{signal_shapes};
 ghost use Rattle.gg_flat.specs.Line.{AreTyped, HasValue};
 ghost use Rattle.gg_bits.specs.Shape.{shape};
 
+use crate::bank::Bank;
+use crate::memory::Memory;
 use crate::piece::{Piece, Register};
 use std::alloc::{AllocError, Global};
 use std::marker::Model;
 
-/// The values of a circuit's registers before a cycle. A contract sees also the words and the read registers of its
-/// memories, of which there are none yet.
+/// The values of a circuit's registers before a cycle, and what each of its memories holds.
 #[derive(Debug, Drop)]
 pub struct State {
     registers: Vec<u128>,
+    banks: Vec<Bank>,
 }
 
 impl Model for State {
-    ghost use Rattle.std.specs.Prelude.{[]};
     ghost use Rattle.gg_flat.specs.State as states;
 
     ghost Value = { states.State };
 
-    ghost view = { λ state. record { registers = state.registers.items; words = []; reads = [] } };
+    ghost view = { λ state. record { registers = state.registers.items; banks = state.banks.items } };
 }
 
 /// This many zeros.
@@ -35,19 +37,18 @@ pub(crate) fn zeros(alloc: Global, count: usize) -> Result<Vec<u128>, AllocError
 }
 
 impl State {
-    /// The state before the first cycle: zeros. The piece is well formed.
+    /// The state before the first cycle: zeros.
     ///
     /// # Errors
     ///
     /// Where memory is refused.
     pub fn new(alloc: Global, piece: &Piece) -> Result<State, AllocError>
-        requires { IsWellFormed piece.now }
         ensures opening { IfOk result (λ state. state ≡ opening piece.now) }
         ensures typed { IfOk result (λ state. IsState piece.now state) }
     {
-        Ok(State {
-            registers: zeros(alloc, piece.registers().len())?,
-        })
+        let registers = zeros(alloc, piece.registers().len())?;
+        let banks = opening_banks(alloc, piece.memories())?;
+        Ok(State { registers, banks })
     }
 
     /// The registers' values.
@@ -57,10 +58,17 @@ impl State {
         self.registers.as_slice()
     }
 
+    /// What the memories hold.
+    pub fn banks(&self) -> &[Bank]
+        ensures { result.now ≡ self.now.banks }
+    {
+        self.banks.as_slice()
+    }
+
     /// Goes to the state after a cycle in which the signals have these values, which stand by the signals' numbers.
     ///
     /// The piece is well formed; state and values are of its counts and types; the scratch space has room for its lines
-    /// (`Piece::scratch`).
+    /// (`Piece::scratch`). Of a memory only the words that its writers name are touched.
     pub fn advance(&mut self, piece: &Piece, signals: &[u128], scratch: &mut [u128])
         requires formed { IsWellFormed piece.now }
         requires state { IsState piece.now self.old }
@@ -70,6 +78,30 @@ impl State {
         ensures typed { IsState piece.now self.new }
     {
         advance_registers(piece.registers(), &mut self.registers, signals, scratch);
+        advance_banks(piece.memories(), &mut self.banks, signals);
+    }
+}
+
+// What memories hold before the first cycle.
+fn opening_banks(alloc: Global, memories: &[Memory]) -> Result<Vec<Bank>, AllocError>
+    ensures { IfOk result (λ banks. banks.items ≡ map (λ memory. opening_bank memory) memories.now) }
+{
+    let mut banks = Vec::new(alloc);
+    for memory in memories {
+        banks.push(Bank::new(alloc, memory)?)?;
+    }
+    Ok(banks)
+}
+
+// Puts what a memory holds after the cycle in the place of what it held.
+fn advance_banks(memories: &[Memory], banks: &mut [Bank], signals: &[u128])
+    requires memories { All (IsMemory (HasValue signals.now)) memories.now }
+    requires banks { AreBanks memories.now banks.old }
+    ensures next { banks.new ≡ next_banks signals.now memories.now banks.old }
+    ensures typed { AreBanks memories.now banks.new }
+{
+    for m in 0..memories.len() {
+        banks[m].advance(&memories[m], signals);
     }
 }
 

@@ -9,12 +9,13 @@ use Rattle.gg_flat.specs.declared.line.Node.{Node}
 use Rattle.gg_flat.specs.declared.line.Op.{Op}
 use Rattle.gg_flat.specs.declared.line.Op.TheVariants.{Ref}
 use Rattle.gg_flat.specs.declared.piece.Driver.{Driver}
-use Rattle.gg_flat.specs.declared.piece.Driver.TheVariants.{Input, Held, Read, Computed}
+use Rattle.gg_flat.specs.declared.piece.Driver.TheVariants.{Input, Held, MemoryWord, ReadRegister, Computed}
 use Rattle.gg_flat.specs.declared.piece.Signal.{Signal}
 use Rattle.gg_flat.specs.Line.{shape_at, shapes_of, op_at, HasShape, HasType, IsLine}
 use Rattle.gg_flat.specs.Circuit.{FlatCircuit, driver_at, signal_shapes}
 use Rattle.gg_flat.specs.WellFormed.{IsWellFormed, MayDrive}
 use Rattle.gg_flat.specs.Reads.{Names, NamesSignal}
+use Rattle.gg_flat.proofs.TypedLemmas.{has-reader, word-names}
 
 -- within a list the default is of no account
 get_or-default : {A : Type 0} (xs : List A) (k : ℕ) (d e : A) → k < length xs → slice_index_or xs k d ≡ slice_index_or xs k e
@@ -32,16 +33,26 @@ line_within shapes nodes s line h =
     subst (λ (op : Op). HasShape (HasType shapes) (shapes_of nodes) h.0 (shape_at (shapes_of nodes) h.0) op) is (line.typed h.0 within) in
     at.0
 
-driver_within : (circuit : FlatCircuit) (a s : ℕ) (d : Driver) → MayDrive circuit a d → NamesSignal d s → s < length circuit.signals
-driver_within circuit a s (Input place) may h = absurd h
-driver_within circuit a s (Held register) may h = absurd h
-driver_within circuit a s (Read memory port) may h = absurd h
-driver_within circuit a s (Computed line) may h =
+driver_within : (circuit : FlatCircuit) (a s : ℕ) (d : Driver) → IsWellFormed circuit → driver_at circuit a ≡ d → MayDrive circuit a d → NamesSignal d s → s < length circuit.signals
+driver_within circuit a s (Input place) formed is may h = absurd h
+driver_within circuit a s (Held register) formed is may h = absurd h
+driver_within circuit a s (MemoryWord m r addr en) formed is may h =
+    let has = has-reader circuit m r a formed may in
+    let names = word-names has.memory.latency m r has.reader addr en (sym has.driver ∙ is) in
+    let count = length-map circuit.signals (λ (signal : Signal). shape signal.ty) in
+    let address : has.reader.addr < length circuit.signals = omega (arith, has.fields.address.0, count) in
+    let enable : has.reader.en < length circuit.signals = omega (arith, has.fields.enable.0, count) in
+    elim h [
+      | inl e ↦ subst (λ x. x < length circuit.signals) (names.0 ∙ e) address
+      | inr e ↦ subst (λ x. x < length circuit.signals) (names.1 ∙ e) enable
+    ]
+driver_within circuit a s (ReadRegister m r) formed is may h = absurd h
+driver_within circuit a s (Computed line) formed is may h =
     omega (arith, line_within (signal_shapes circuit) line s may.line h, length-map circuit.signals (λ (signal : Signal). shape signal.ty))
 
 -- what a signal reads is a signal of the circuit
 pub names_within : (circuit : FlatCircuit) (a s : ℕ) → IsWellFormed circuit → a < length circuit.signals → NamesSignal (driver_at circuit a) s → s < length circuit.signals
-names_within circuit a s formed within h = driver_within circuit a s (driver_at circuit a) (formed.drivers a within) h
+names_within circuit a s formed within h = driver_within circuit a s (driver_at circuit a) formed refl (formed.drivers a within) h
 
 -- ---- marks of all that is read
 

@@ -41,9 +41,22 @@ fn mark_driver(marks: &mut [bool], driver: &Driver)
     requires { (s : ℕ) → NamesSignal driver.now s → s < length marks.old }
     ensures { Marks (NamesSignal driver.now) marks.old marks.new }
 {
-    if let Driver::Computed(line) = driver {
-        mark_nodes(marks, line.as_slice());
+    match driver {
+        Driver::Computed(line) => mark_nodes(marks, line.as_slice()),
+        Driver::MemoryWord(_, _, addr, en) => {
+            mark(marks, *addr);
+            mark(marks, *en);
+        }
+        Driver::Input(_) | Driver::Held(_) | Driver::ReadRegister(_, _) => {}
     }
+}
+
+// Marks a signal.
+fn mark(marks: &mut [bool], signal: u32)
+    requires { signal < length marks.old }
+    ensures { Marks (λ s. signal ≡ s) marks.old marks.new }
+{
+    marks[signal as usize] = true;
 }
 
 // Marks the signals that nodes name.
@@ -62,6 +75,6 @@ fn mark_op(marks: &mut [bool], op: Op)
     ensures { Marks (λ s. op ≡ Op.Ref s) marks.old marks.new }
 {
     if let Op::Ref(signal) = op {
-        marks[signal as usize] = true;
+        mark(marks, signal);
     }
 }

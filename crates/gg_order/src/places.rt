@@ -1,5 +1,5 @@
 //! The order by places.
-ghost use Rattle.std.specs.Prelude.{◌≡◌, ℕ, ◌<◌, ◌≤◌, ◌↔◌, ◌^◌, length, true, IfOk, IfSome, IfNone};
+ghost use Rattle.std.specs.Prelude.{◌≡◌, ◌⊎◌, ℕ, ◌<◌, ◌≤◌, ◌↔◌, ◌^◌, length, true, IfOk, IfSome, IfNone};
 ghost use Rattle.gg_flat.specs.Reads.{Names, Reads};
 ghost use Rattle.gg_flat.specs.WellFormed.{IsWellFormed};
 ghost use Rattle.gg_flat.specs.Order.{IsOrder};
@@ -76,8 +76,21 @@ fn late(piece: &Piece, s: usize) -> Option<u32>
 {
     match &piece.signals()[s].driver {
         Driver::Computed(line) => late_node(line.as_slice(), s),
-        Driver::Input(_) | Driver::Held(_) | Driver::Read(_, _) => None,
+        Driver::MemoryWord(_, _, addr, en) => late_field(*addr, *en, s),
+        Driver::Input(_) | Driver::Held(_) | Driver::ReadRegister(_, _) => None,
     }
+}
+
+// One of two signals, an address and an enable, that stands from s on.
+fn late_field(addr: u32, en: u32, s: usize) -> Option<u32>
+    ensures some { IfSome result (λ last. (addr ≡ last) ⊎ (en ≡ last)) }
+    ensures late { IfSome result (λ last. s ≤ last) }
+    ensures none { IfNone result ((t : ℕ) → (addr ≡ t) ⊎ (en ≡ t) → t < s) }
+{
+    if addr as usize >= s {
+        return Some(addr);
+    }
+    if en as usize >= s { Some(en) } else { None }
 }
 
 // A signal from s on that a node names.

@@ -1,5 +1,8 @@
-use Rattle.gg_flat.proofs.AlongLemmas.{IsRun-along}
+use Rattle.gg_flat.proofs.AlongLemmas.{IsRunFrom-along, IsRun-along}
 use Rattle.gg_flat.proofs.laws.runs_along.Goals as goal
 
-pub returns : goal.returns
-returns c = IsRun-along
+pub returns-clause-from : goal.returns-clause-from
+returns-clause-from c = IsRunFrom-along
+
+pub returns-clause-opening : goal.returns-clause-opening
+returns-clause-opening c = IsRun-along

@@ -3,7 +3,8 @@ use Rattle.gg_flat.proofs.piece.Piece.check.Goals as goal
 
 pub returns : goal.returns
 returns c =
-    let registers = rw (c.signals.ensures, c.registers.ensures) at c.are_registers.ensures in (
+    let registers = rw (c.signals-2.ensures, c.registers.ensures) at c.are_registers.ensures in
+    let memories = c.if-not-are_memories.ensures.0 refl in (
       λ yes.
           record {
             named = c.signal_count.ensures.paths;
@@ -12,7 +13,8 @@ returns c =
             ins = c.if-not-are_ins.ensures.0 refl;
             outs = c.if-not-are_outs.ensures.0 refl;
             registers = registers.0 yes;
-            memories = c.signal_count.ensures.memories;
+            memories = rw (c.signals.ensures, c.memories.ensures) at memories;
+            reads = c.if-not-are_read.ensures.0 refl;
           },
       λ formed. registers.1 formed.registers,
     )

@@ -1,0 +1,152 @@
+-- What memories hold after a cycle is of their counts and types.
+use Rattle.std.proofs.Common.{◌≡◌, ℕ, zero, suc, ◌<◌, List, [], ◌∷◌, length, map, replicate, get_or, refl, sym, ◌∙◌, ap, subst, arith, Bool, true, false}
+use Rattle.std.specs.Prelude.{if◌then◌else◌, All}
+use Rattle.std.proofs.lemmas.List.{length-map, length-replicate}
+use Rattle.std.proofs.lemmas.Nat.{pow_pos}
+use Rattle.gg_bits.specs.Shape.{Shape, shape, Fits}
+use Rattle.gg_flat.specs.declared.memory.UnderWrite.{UnderWrite}
+use Rattle.gg_flat.specs.declared.memory.UnderWrite.TheVariants.{Old, New, Undefined}
+use Rattle.gg_flat.specs.declared.memory.Latency.{Latency}
+use Rattle.gg_flat.specs.declared.memory.Latency.TheVariants.{Zero, One}
+use Rattle.gg_flat.specs.declared.memory.Reader.{Reader}
+use Rattle.gg_flat.specs.declared.memory.Writer.{Writer}
+use Rattle.gg_flat.specs.declared.memory.Memory.{Memory}
+use Rattle.gg_flat.specs.Line.{value_at, AreTyped, HasType, HasValue}
+use Rattle.gg_flat.specs.Circuit.{FlatCircuit, signal_shapes}
+use Rattle.gg_flat.specs.Memory.{Bank, found_word, hits, next_word, next_words, next_reads, next_bank, next_banks, opening_bank, read_count, words_read, bank_at, AreWords, IsBank, AreBanks, LooksAmong, WritesAmong}
+use Rattle.gg_flat.specs.WellFormed.{IsWriter, IsMemory, IsWellFormed}
+use Rattle.gg_flat.proofs.TypedLemmas.{read_word-fits}
+use Rattle.gg_flat.proofs.WordLemmas.{length-next_words, next_words-here}
+
+-- ---- the fields of ports
+
+HasType-value : (shapes : List Shape) (values : List ℕ) (s : ℕ) (to : Shape) → AreTyped shapes values → HasType shapes s to → HasValue values s to
+HasType-value shapes values s to typed is = (omega (arith, is.0, typed.count), subst (λ x. Fits x (value_at values s)) is.1 (typed.fits s is.0))
+
+pub IsMemory-value : (shapes : List Shape) (values : List ℕ) (memory : Memory) → AreTyped shapes values → IsMemory (HasType shapes) memory → IsMemory (HasValue values) memory
+IsMemory-value shapes values memory typed is =
+    record {
+      some = is.some;
+      readers = λ r d lt. let reader = is.readers r d lt in record {
+        address = HasType-value shapes values _ _ typed reader.address;
+        enable = HasType-value shapes values _ _ typed reader.enable;
+        output = HasType-value shapes values _ _ typed reader.output;
+      };
+      writers = λ w d lt. let writer = is.writers w d lt in record {
+        address = HasType-value shapes values _ _ typed writer.address;
+        enable = HasType-value shapes values _ _ typed writer.enable;
+        input = HasType-value shapes values _ _ typed writer.input;
+        masked = HasType-value shapes values _ _ typed writer.masked;
+      };
+    }
+
+pub memories-valued : (circuit : FlatCircuit) (signals : List ℕ) → IsWellFormed circuit → AreTyped (signal_shapes circuit) signals → All (IsMemory (HasValue signals)) circuit.memories
+memories-valued circuit signals formed typed = λ m d lt. IsMemory-value (signal_shapes circuit) signals (get_or circuit.memories m d) typed (formed.memories m d lt)
+
+pub looks-among : (signals : List ℕ) (memory : Memory) → IsMemory (HasValue signals) memory → All (LooksAmong (length signals)) memory.readers
+looks-among signals memory is r d lt = let reader = is.readers r d lt in (reader.address.0, reader.enable.0)
+
+pub writes-among : (signals : List ℕ) (memory : Memory) → IsMemory (HasValue signals) memory → All (WritesAmong (length signals)) memory.writers
+writes-among signals memory is w d lt = let writer = is.writers w d lt in (writer.address.0, writer.enable.0, writer.input.0, writer.masked.0)
+
+-- ---- one memory
+
+module _ (signals : List ℕ) (word : Shape) (depth : ℕ) where
+  next_word-fits : (writers : List Writer) (a own : ℕ) → All (IsWriter (HasValue signals) word depth) writers → Fits word own → Fits word (next_word signals writers a own)
+  next_word-fits [] a own is fits = fits
+  next_word-fits (writer ∷ writers) a own is fits =
+      next_word-fits writers a _ (λ k d lt. is (suc k) d (omega arith)) (by (hits signals writer a))
+    where
+      by : (b : Bool) → Fits word (if b then value_at signals writer.word else own)
+      by true = (is 0 writer (omega arith)).input.1
+      by false = fits
+
+  -- past the end of values that are of a shape there is a 0
+  past-fits : (values : List ℕ) (i : ℕ) → ((k : ℕ) → k < length values → Fits word (value_at values k)) → Fits word (value_at values i)
+  past-fits [] zero fits = pow_pos word.width
+  past-fits [] (suc i) fits = pow_pos word.width
+  past-fits (value ∷ values) zero fits = fits 0 (omega arith)
+  past-fits (value ∷ values) (suc i) fits = past-fits values i (λ k lt. fits (suc k) (omega arith))
+
+  next_words-typed : (writers : List Writer) (n : ℕ) (words : List ℕ) → All (IsWriter (HasValue signals) word depth) writers → AreWords word n words → AreWords word n (next_words signals writers words)
+  next_words-typed writers n words is typed =
+      record {
+        count = length-next_words signals writers 0 words ∙ typed.count;
+        fits = λ i. past-fits (next_words signals writers words) i (λ k lt.
+            let within : k < length words = omega (arith, lt, length-next_words signals writers 0 words) in
+            subst (Fits word) (sym (next_words-here signals writers words k within)) (next_word-fits writers k (value_at words k) is (typed.fits k)));
+      }
+
+  found-fits : (readers : List Reader) (words : List ℕ) (i : ℕ) → ((a : ℕ) → Fits word (value_at words a)) → Fits word (value_at (map (found_word signals words) readers) i)
+  found-fits [] words zero fits = pow_pos word.width
+  found-fits [] words (suc i) fits = pow_pos word.width
+  found-fits (reader ∷ readers) words zero fits = read_word-fits word words (value_at signals reader.addr) (value_at signals reader.en) fits
+  found-fits (reader ∷ readers) words (suc i) fits = found-fits readers words i fits
+
+  words_read-fits : (under : UnderWrite) (before after : List ℕ) → ((a : ℕ) → Fits word (value_at before a)) → ((a : ℕ) → Fits word (value_at after a)) → (a : ℕ) → Fits word (value_at (words_read under before after) a)
+  words_read-fits Old before after old new = old
+  words_read-fits Undefined before after old new = old
+  words_read-fits New before after old new = new
+
+  nothing-fits : (i : ℕ) → Fits word (value_at [] i)
+  nothing-fits zero = pow_pos word.width
+  nothing-fits (suc i) = pow_pos word.width
+
+  next_reads-typed : (latency : Latency) (readers : List Reader) (before after : List ℕ) → ((a : ℕ) → Fits word (value_at before a)) → ((a : ℕ) → Fits word (value_at after a)) → AreWords word (read_count latency readers) (next_reads signals latency readers before after)
+  next_reads-typed Zero readers before after old new = record { count = refl; fits = nothing-fits }
+  next_reads-typed (One under) readers before after old new = record {
+    count = length-map readers (found_word signals (words_read under before after));
+    fits = λ i. found-fits readers (words_read under before after) i (words_read-fits under before after old new);
+  }
+
+pub IsBank-next : (signals : List ℕ) (memory : Memory) (bank : Bank) → IsMemory (HasValue signals) memory → IsBank memory bank → IsBank memory (next_bank signals memory bank)
+IsBank-next signals memory bank is held =
+    let words = next_words-typed signals (shape memory.word) memory.depth memory.writers memory.depth bank.words is.writers held.words in
+    record {
+      words = words;
+      reads = next_reads-typed signals (shape memory.word) memory.depth memory.latency memory.readers bank.words (next_words signals memory.writers bank.words) held.words.fits words.fits;
+    }
+
+zeros-fit : (word : Shape) (n i : ℕ) → Fits word (value_at (replicate n 0) i)
+zeros-fit word zero zero = pow_pos word.width
+zeros-fit word zero (suc i) = pow_pos word.width
+zeros-fit word (suc n) zero = pow_pos word.width
+zeros-fit word (suc n) (suc i) = zeros-fit word n i
+
+zeros-words : (word : Shape) (n : ℕ) → AreWords word n (replicate n 0)
+zeros-words word n = record { count = length-replicate n 0; fits = zeros-fit word n }
+
+pub IsBank-opening : (memory : Memory) → IsBank memory (opening_bank memory)
+IsBank-opening memory = record { words = zeros-words (shape memory.word) memory.depth; reads = zeros-words (shape memory.word) (read_count memory.latency memory.readers) }
+
+-- ---- all memories
+
+pub length-next_banks : (signals : List ℕ) (memories : List Memory) (banks : List Bank) → length banks ≡ length memories → length (next_banks signals memories banks) ≡ length memories
+length-next_banks signals [] banks count = refl
+length-next_banks signals (memory ∷ memories) [] count = absurd (omega arith)
+length-next_banks signals (memory ∷ memories) (bank ∷ banks) count = ap suc (length-next_banks signals memories banks (omega arith))
+
+pub next_banks-at : (signals : List ℕ) (memories : List Memory) (banks : List Bank) (m : ℕ) (any : Memory) → length banks ≡ length memories → m < length memories → bank_at (next_banks signals memories banks) m ≡ next_bank signals (get_or memories m any) (bank_at banks m)
+next_banks-at signals [] banks m any count lt = absurd (omega arith)
+next_banks-at signals (memory ∷ memories) [] m any count lt = absurd (omega arith)
+next_banks-at signals (memory ∷ memories) (bank ∷ banks) zero any count lt = refl
+next_banks-at signals (memory ∷ memories) (bank ∷ banks) (suc m) any count lt = next_banks-at signals memories banks m any (omega arith) (omega arith)
+
+pub AreBanks-next : (signals : List ℕ) (memories : List Memory) (banks : List Bank) → All (IsMemory (HasValue signals)) memories → AreBanks memories banks → AreBanks memories (next_banks signals memories banks)
+AreBanks-next signals memories banks is held =
+    record {
+      count = length-next_banks signals memories banks held.count;
+      each = λ m any lt. subst (IsBank (get_or memories m any)) (sym (next_banks-at signals memories banks m any held.count lt)) (IsBank-next signals (get_or memories m any) (bank_at banks m) (is m any lt) (held.each m any lt));
+    }
+
+opening-at : (memories : List Memory) (m : ℕ) (any : Memory) → m < length memories → bank_at (map (λ memory. opening_bank memory) memories) m ≡ opening_bank (get_or memories m any)
+opening-at [] m any lt = absurd (omega arith)
+opening-at (memory ∷ memories) zero any lt = refl
+opening-at (memory ∷ memories) (suc m) any lt = opening-at memories m any (omega arith)
+
+pub AreBanks-opening : (memories : List Memory) → AreBanks memories (map (λ memory. opening_bank memory) memories)
+AreBanks-opening memories =
+    record {
+      count = length-map memories (λ (memory : Memory). opening_bank memory);
+      each = λ m any lt. subst (IsBank (get_or memories m any)) (sym (opening-at memories m any lt)) (IsBank-opening (get_or memories m any));
+    }

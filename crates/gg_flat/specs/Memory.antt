@@ -1,0 +1,121 @@
+-- Memories: the width of their addresses, and what their words and read registers become in a cycle.
+-- Source: FIRRTL Specification, "Memories" (ports, latencies, read under write). Words and read registers start at 0. A
+-- read past the depth, or by a reader that isn't enabled, gives 0; a write past the depth is dropped; of two writers of
+-- one word the later in the file wins; an undefined read gives the old word: this program's profile.
+use Rattle.std.specs.Prelude.{◌≡◌, ℕ, zero, suc, ◌^◌, List, [], ◌∷◌, length, map, replicate, slice_index_or, Bool, ◌==◌, ◌&&◌, if◌then◌else◌, nat_le, ◌<◌}
+use Rattle.gg_bits.specs.Shape.{Shape, shape, Fits}
+use Rattle.gg_flat.specs.declared.memory.UnderWrite.{UnderWrite}
+use Rattle.gg_flat.specs.declared.memory.UnderWrite.TheVariants.{Old, New, Undefined}
+use Rattle.gg_flat.specs.declared.memory.Latency.{Latency}
+use Rattle.gg_flat.specs.declared.memory.Latency.TheVariants.{Zero, One}
+use Rattle.gg_flat.specs.declared.memory.Reader.{Reader}
+use Rattle.gg_flat.specs.declared.memory.Writer.{Writer}
+use Rattle.gg_flat.specs.declared.memory.Memory.{Memory}
+use Rattle.gg_flat.specs.Line.{value_at}
+
+-- ---- addresses
+
+-- the first of the widths from w on by which each of `depth` words has an address; after `more` widths the next
+abbrev pub first_width : ℕ → ℕ → ℕ → ℕ
+first_width zero w depth = w
+first_width (suc more) w depth = if nat_le depth (2 ^ w) then w else first_width more (suc w) depth
+
+-- the width of an address: at least one bit, and as few as name each word of a memory of at most 2 ^ 32
+abbrev pub address_width : ℕ → ℕ
+address_width depth = first_width 31 1 depth
+
+-- ---- words and read registers
+
+-- what a memory holds: its words, and the read register of each of its late readers
+pub record Bank : Type 0 where
+  pub words : List ℕ
+  pub reads : List ℕ
+
+-- the word at an address, where the reader is enabled; 0 where it isn't, and past the depth
+abbrev pub read_word : List ℕ → ℕ → ℕ → ℕ
+read_word words addr en = if en == 1 then value_at words addr else 0
+
+-- what a reader finds among these words, where the signals have the values `signals`
+abbrev pub found_word : List ℕ → List ℕ → Reader → ℕ
+found_word signals words reader = read_word words (value_at signals reader.addr) (value_at signals reader.en)
+
+-- whether a writer writes the word at address a
+abbrev pub hits : List ℕ → Writer → ℕ → Bool
+hits signals writer a = (value_at signals writer.en == 1) && (value_at signals writer.mask == 1) && (value_at signals writer.addr == a)
+
+-- The word at address a after the writes: what the last writer gives that writes it, else what it was.
+abbrev pub next_word : List ℕ → List Writer → ℕ → ℕ → ℕ
+next_word signals [] a own = own
+next_word signals (writer ∷ writers) a own = next_word signals writers a (if hits signals writer a then value_at signals writer.word else own)
+
+-- the words from address a on after the writes
+abbrev pub next_words_from : List ℕ → List Writer → ℕ → List ℕ → List ℕ
+next_words_from signals writers a [] = []
+next_words_from signals writers a (own ∷ words) = next_word signals writers a own ∷ next_words_from signals writers (suc a) words
+
+-- the words after the writes
+abbrev pub next_words : List ℕ → List Writer → List ℕ → List ℕ
+next_words signals writers words = next_words_from signals writers 0 words
+
+-- the words that a late reader reads, of those before and those after the writes
+abbrev pub words_read : UnderWrite → List ℕ → List ℕ → List ℕ
+words_read Old before after = before
+words_read Undefined before after = before
+words_read New before after = after
+
+-- the read registers after the cycle, from the words before and after the writes
+abbrev pub next_reads : List ℕ → Latency → List Reader → List ℕ → List ℕ → List ℕ
+next_reads signals Zero readers before after = []
+next_reads signals (One under) readers before after = map (found_word signals (words_read under before after)) readers
+
+-- what a memory holds after a cycle in which the signals have the values `signals`
+abbrev pub next_bank : List ℕ → Memory → Bank → Bank
+next_bank signals memory bank =
+    record {
+      words = next_words signals memory.writers bank.words;
+      reads = next_reads signals memory.latency memory.readers bank.words (next_words signals memory.writers bank.words);
+    }
+
+-- how many read registers a memory has
+abbrev pub read_count : Latency → List Reader → ℕ
+read_count Zero readers = 0
+read_count (One under) readers = length readers
+
+-- what a memory holds before the first cycle
+abbrev pub opening_bank : Memory → Bank
+opening_bank memory = record { words = replicate memory.depth 0; reads = replicate (read_count memory.latency memory.readers) 0 }
+
+-- So many values, each of this shape. Past the end the value is 0, which is of each shape.
+pub record AreWords (word : Shape) (n : ℕ) (values : List ℕ) : Type 0 where
+  pub count : length values ≡ n
+  pub fits : (i : ℕ) → Fits word (value_at values i)
+
+-- what a memory can hold, by counts and types
+pub record IsBank (memory : Memory) (bank : Bank) : Type 0 where
+  pub words : AreWords (shape memory.word) memory.depth bank.words
+  pub reads : AreWords (shape memory.word) (read_count memory.latency memory.readers) bank.reads
+
+-- the fields that a reader looks at are among n signals
+abbrev pub LooksAmong : ℕ → Reader → Type 0
+LooksAmong n reader = (reader.addr < n) × (reader.en < n)
+
+-- the fields of a writer are among n signals
+abbrev pub WritesAmong : ℕ → Writer → Type 0
+WritesAmong n writer = (writer.addr < n) × (writer.en < n) × (writer.word < n) × (writer.mask < n)
+
+-- ---- the memories of a circuit
+
+-- what the memory at a place holds; nothing past the end
+abbrev pub bank_at : List Bank → ℕ → Bank
+bank_at banks m = slice_index_or banks m (record { words = []; reads = [] })
+
+-- what the memories hold after the cycle
+abbrev pub next_banks : List ℕ → List Memory → List Bank → List Bank
+next_banks signals [] banks = []
+next_banks signals (memory ∷ memories) [] = []
+next_banks signals (memory ∷ memories) (bank ∷ banks) = next_bank signals memory bank ∷ next_banks signals memories banks
+
+-- what the memories can hold
+pub record AreBanks (memories : List Memory) (banks : List Bank) : Type 0 where
+  pub count : length banks ≡ length memories
+  pub each : (m : ℕ) (any : Memory) → m < length memories → IsBank (slice_index_or memories m any) (bank_at banks m)

@@ -1,0 +1,51 @@
+-- A memory that is served one port after another: what it holds after the first of its accesses.
+-- Source: FIRRTL Specification, "Memories"; that late readers of old words come before the writers, and those of new words
+-- after them, is what "Memories" says of a read under a write.
+use Rattle.std.specs.Prelude.{ℕ, suc, List, [], ◌∷◌, ◌++◌, fold, take, slice_set, ◌==◌, ◌&&◌, if◌then◌else◌}
+use Rattle.gg_flat.specs.declared.memory.UnderWrite.TheVariants.{Old, New, Undefined}
+use Rattle.gg_flat.specs.declared.memory.Latency.{Latency}
+use Rattle.gg_flat.specs.declared.memory.Latency.TheVariants.{Zero, One}
+use Rattle.gg_flat.specs.declared.memory.Reader.{Reader}
+use Rattle.gg_flat.specs.declared.memory.Writer.{Writer}
+use Rattle.gg_flat.specs.declared.memory.Memory.{Memory}
+use Rattle.gg_flat.specs.Line.{value_at}
+use Rattle.gg_flat.specs.Memory.{Bank, found_word}
+
+-- an access: by a late reader, or by a writer, each with its place among the memory's readers or writers
+pub data Access : Type 0 where
+  ByReader : ℕ → Reader → Access
+  ByWriter : ℕ → Writer → Access
+
+-- the accesses by readers, from place r on
+abbrev pub by_readers : ℕ → List Reader → List Access
+by_readers r [] = []
+by_readers r (reader ∷ readers) = ByReader r reader ∷ by_readers (suc r) readers
+
+-- the accesses by writers, from place w on
+abbrev pub by_writers : ℕ → List Writer → List Access
+by_writers w [] = []
+by_writers w (writer ∷ writers) = ByWriter w writer ∷ by_writers (suc w) writers
+
+-- the accesses of a cycle in their order: late readers of old words, then writers, then late readers of new words
+abbrev pub due_of : Latency → List Reader → List Writer → List Access
+due_of Zero readers writers = by_writers 0 writers
+due_of (One Old) readers writers = by_readers 0 readers ++ by_writers 0 writers
+due_of (One Undefined) readers writers = by_readers 0 readers ++ by_writers 0 writers
+due_of (One New) readers writers = by_writers 0 writers ++ by_readers 0 readers
+
+-- the due list of a memory
+abbrev pub due_list : Memory → List Access
+due_list memory = due_of memory.latency memory.readers memory.writers
+
+-- the words after one writer; a write past the depth leaves them
+abbrev pub written : List ℕ → List ℕ → Writer → List ℕ
+written signals words writer = if (value_at signals writer.en == 1) && (value_at signals writer.mask == 1) then slice_set words (value_at signals writer.addr) (value_at signals writer.word) else words
+
+-- what a memory holds after an access, where the fields have the values `signals`
+abbrev pub after_access : List ℕ → Bank → Access → Bank
+after_access signals bank (ByReader r reader) = record { words = bank.words; reads = slice_set bank.reads r (found_word signals bank.words reader) }
+after_access signals bank (ByWriter w writer) = record { words = written signals bank.words writer; reads = bank.reads }
+
+-- what a memory holds after the first j accesses of its due list
+abbrev pub after_accesses : List ℕ → Memory → Bank → ℕ → Bank
+after_accesses signals memory bank j = fold (after_access signals) bank (take j (due_list memory))

@@ -1,0 +1,144 @@
+//! `Bank`: what a memory holds between two cycles.
+ghost use Rattle.std.specs.Prelude.{◌≡◌, length, map, All, IfOk};
+ghost use Rattle.gg_flat.specs.Line.{HasValue};
+ghost use Rattle.gg_flat.specs.Memory.{opening_bank, next_bank, next_words, found_word, read_word, read_count, IsBank, LooksAmong, WritesAmong};
+ghost use Rattle.gg_flat.specs.Served.{written};
+ghost use Rattle.gg_flat.specs.WellFormed.{IsMemory};
+
+use crate::memory::{Latency, Memory, Reader, UnderWrite, Writer};
+use crate::state::zeros;
+use std::alloc::{AllocError, Global};
+use std::marker::Model;
+
+/// What a memory holds before a cycle: its words, and a read register for each reader of a late memory.
+#[derive(Debug, Drop)]
+pub struct Bank {
+    words: Vec<u128>,
+    reads: Vec<u128>,
+}
+
+impl Model for Bank {
+    ghost use Rattle.gg_flat.specs.Memory as memories;
+
+    ghost Value = { memories.Bank };
+
+    ghost view = { λ bank. record { words = bank.words.items; reads = bank.reads.items } };
+}
+
+impl Memory {
+    /// How many read registers the memory has.
+    pub fn read_count(&self) -> usize
+        ensures { result ≡ read_count self.now.latency self.now.readers }
+    {
+        match self.latency {
+            Latency::Zero => 0,
+            Latency::One(_) => self.readers.as_slice().len(),
+        }
+    }
+}
+
+impl Bank {
+    /// What a memory holds before the first cycle: zeros.
+    ///
+    /// # Errors
+    ///
+    /// Where memory is refused.
+    pub fn new(alloc: Global, memory: &Memory) -> Result<Bank, AllocError>
+        ensures { IfOk result (λ bank. bank ≡ opening_bank memory.now) }
+    {
+        let words = zeros(alloc, memory.depth as usize)?;
+        let reads = zeros(alloc, memory.read_count())?;
+        Ok(Bank { words, reads })
+    }
+
+    /// The words, in the order of their addresses.
+    pub fn words(&self) -> &[u128]
+        ensures { result.now ≡ self.now.words }
+    {
+        self.words.as_slice()
+    }
+
+    /// The read registers, in the order of the readers; none where the read latency is 0.
+    pub fn reads(&self) -> &[u128]
+        ensures { result.now ≡ self.now.reads }
+    {
+        self.reads.as_slice()
+    }
+
+    /// What a reader finds at this address, where its enable has this value: 0 where that isn't 1, and past the depth.
+    pub fn word(&self, addr: u128, en: u128) -> u128
+        ensures { result ≡ read_word self.now.words addr en }
+    {
+        find_word(self.words(), addr, en)
+    }
+
+    /// Goes to what the memory holds after a cycle in which the signals have these values. Only the words that its writers
+    /// name are touched.
+    ///
+    /// The memory is of these signals, and the bank is one of the memory.
+    pub fn advance(&mut self, memory: &Memory, signals: &[u128])
+        requires memory { IsMemory (HasValue signals.now) memory.now }
+        requires bank { IsBank memory.now self.old }
+        ensures { self.new ≡ next_bank signals.now memory.now self.old }
+    {
+        let writers = memory.writers.as_slice();
+        let readers = memory.readers.as_slice();
+        match memory.latency {
+            Latency::Zero => write_words(&mut self.words, writers, signals),
+            Latency::One(UnderWrite::New) => {
+                write_words(&mut self.words, writers, signals);
+                read_words(&mut self.reads, readers, &self.words, signals);
+            }
+            Latency::One(UnderWrite::Old | UnderWrite::Undefined) => {
+                read_words(&mut self.reads, readers, &self.words, signals);
+                write_words(&mut self.words, writers, signals);
+            }
+        }
+    }
+}
+
+// What a reader finds among the words.
+fn find_word(words: &[u128], addr: u128, en: u128) -> u128
+    ensures { result ≡ read_word words.now addr en }
+{
+    if en == 1 && addr < words.len() as u128 {
+        words[addr as usize]
+    } else {
+        0
+    }
+}
+
+// Each writer in turn writes its word.
+fn write_words(words: &mut [u128], writers: &[Writer], signals: &[u128])
+    requires { All (WritesAmong (length signals.now)) writers.now }
+    ensures { words.new ≡ next_words signals.now writers.now words.old }
+{
+    for w in 0..writers.len() {
+        write_word(words, &writers[w], signals);
+    }
+}
+
+// A writer writes its word, where it is enabled and the address is below the depth.
+fn write_word(words: &mut [u128], writer: &Writer, signals: &[u128])
+    requires { WritesAmong (length signals.now) writer.now }
+    ensures { words.new ≡ written signals.now words.old writer.now }
+{
+    let addr = signals[writer.addr as usize];
+    let enabled = signals[writer.en as usize] == 1 && signals[writer.mask as usize] == 1;
+    if enabled && addr < words.len() as u128 {
+        words[addr as usize] = signals[writer.word as usize];
+    }
+}
+
+// Each reader's register takes what it finds among the words.
+fn read_words(reads: &mut [u128], readers: &[Reader], words: &[u128], signals: &[u128])
+    requires readers { All (LooksAmong (length signals.now)) readers.now }
+    requires count { length reads.old ≡ length readers.now }
+    ensures { reads.new ≡ map (found_word signals.now words.now) readers.now }
+{
+    for r in 0..readers.len() {
+        let reader = &readers[r];
+        let (addr, en) = (signals[reader.addr as usize], signals[reader.en as usize]);
+        reads[r] = find_word(words, addr, en);
+    }
+}

@@ -1,0 +1,147 @@
+//! Memories: their words, latency and ports.
+ghost use Rattle.std.specs.Prelude.{◌≡◌, ◌≤◌};
+ghost use Rattle.gg_flat.specs.Memory.{address_width, first_width};
+
+use gg_bits::Ty;
+use std::marker::Model;
+
+/// What a late reader gives where a writer writes the word that it reads (FIRRTL Specification, "Memories").
+#[derive(Clone, Copy, Debug, PartialEq, Eq)]
+pub enum UnderWrite {
+    /// The word before the writes.
+    Old,
+    /// The word after the writes.
+    New,
+    /// Not said: this program gives the word before the writes.
+    Undefined,
+}
+
+/// The read latency of a memory: how many cycles after its address a reader gives the word.
+#[derive(Clone, Copy, Debug, PartialEq, Eq)]
+pub enum Latency {
+    /// The same cycle.
+    Zero,
+    /// The next cycle: the word stands in a read register.
+    One(UnderWrite),
+}
+
+/// A read port. Its fields are signals, named by their numbers.
+#[derive(Clone, Copy, Debug, PartialEq, Eq)]
+pub struct Reader {
+    /// The address: unsigned, of the memory's address width.
+    pub addr: u32,
+    /// Whether it reads: one unsigned bit.
+    pub en: u32,
+    /// The word that it gives, of the memory's type.
+    pub word: u32,
+}
+
+/// A write port. Its fields are signals, named by their numbers.
+#[derive(Clone, Copy, Debug, PartialEq, Eq)]
+pub struct Writer {
+    /// The address: unsigned, of the memory's address width.
+    pub addr: u32,
+    /// Whether it writes: one unsigned bit.
+    pub en: u32,
+    /// The word that it writes, of the memory's type.
+    pub word: u32,
+    /// Whether the word is written: one unsigned bit.
+    pub mask: u32,
+}
+
+/// The read ports of a memory, in the order of the file. A contract sees the list.
+///
+/// It is made of a `Vec` without taking memory.
+#[derive(Debug, Drop)]
+pub struct Readers {
+    items: Vec<Reader>,
+}
+
+impl Model for Readers {
+    ghost use Rattle.std.specs.Prelude.{List};
+    ghost use Rattle.gg_flat.specs.declared.memory.Reader.{Reader};
+
+    ghost Value = { List Reader };
+
+    ghost view = { λ readers. readers.items.items };
+}
+
+impl Readers {
+    /// The ports, in order.
+    pub fn as_slice(&self) -> &[Reader]
+        ensures { result.now ≡ self.now }
+    {
+        self.items.as_slice()
+    }
+}
+
+impl From<Vec<Reader>> for Readers {
+    ghost from_gives = { λ items readers. readers ≡ items.items };
+
+    fn from(items: Vec<Reader>) -> Readers {
+        Readers { items }
+    }
+}
+
+/// The write ports of a memory, in the order of the file. A contract sees the list.
+///
+/// It is made of a `Vec` without taking memory.
+#[derive(Debug, Drop)]
+pub struct Writers {
+    items: Vec<Writer>,
+}
+
+impl Model for Writers {
+    ghost use Rattle.std.specs.Prelude.{List};
+    ghost use Rattle.gg_flat.specs.declared.memory.Writer.{Writer};
+
+    ghost Value = { List Writer };
+
+    ghost view = { λ writers. writers.items.items };
+}
+
+impl Writers {
+    /// The ports, in order.
+    pub fn as_slice(&self) -> &[Writer]
+        ensures { result.now ≡ self.now }
+    {
+        self.items.as_slice()
+    }
+}
+
+impl From<Vec<Writer>> for Writers {
+    ghost from_gives = { λ items writers. writers ≡ items.items };
+
+    fn from(items: Vec<Writer>) -> Writers {
+        Writers { items }
+    }
+}
+
+/// A memory: the type of its words, how many there are, its read latency, and its ports.
+#[derive(Debug, Drop)]
+pub struct Memory {
+    /// The type of its words.
+    pub word: Ty,
+    /// How many words there are: at least 1.
+    pub depth: u32,
+    /// When its readers give their words.
+    pub latency: Latency,
+    /// Its read ports.
+    pub readers: Readers,
+    /// Its write ports. Where two write one word, the later in this order wins.
+    pub writers: Writers,
+}
+
+/// The width of an address of a memory of this depth: the least of at least one bit that names each word.
+pub fn address_width(depth: u32) -> u32
+    ensures width { result ≡ address_width depth }
+    ensures positive { 1 ≤ result }
+    ensures bounded { result ≤ 32 }
+{
+    for width in 1..32 {
+        if depth as u64 <= 1 << width {
+            return width;
+        }
+    }
+    32
+}

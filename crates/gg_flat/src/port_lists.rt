@@ -1,0 +1,58 @@
+//! The ports of a piece: the signals that it gets from outside and gives to the outside.
+ghost use Rattle.std.specs.Prelude.{◌≡◌, ◌<◌, Some, IfOk, All, length};
+ghost use Rattle.gg_flat.specs.Ports.{port_at, ports_at, in_ports, out_ports};
+ghost use Rattle.gg_flat.specs.WellFormed.{IsWellFormed};
+
+use crate::piece::Piece;
+use crate::ports::{Port, Ports};
+use std::alloc::{AllocError, Global};
+
+// A signal as a port.
+fn port_of(piece: &Piece, signal: u32) -> Result<Port, AllocError>
+    requires { signal < length piece.now.signals }
+    ensures { IfOk result (λ port. port_at piece.now signal ≡ Some port) }
+{
+    let ty = piece.signals()[signal as usize].ty;
+    let count = piece.signal_count();
+    prove!((signal as usize) < count);
+    let name = piece.path(signal).unwrap().clone()?;
+    Ok(Port { name, ty })
+}
+
+// These signals as ports.
+fn ports_of(alloc: Global, piece: &Piece, signals: &[u32]) -> Result<Ports, AllocError>
+    requires { All (λ s. s < length piece.now.signals) signals.now }
+    ensures { IfOk result (λ ports. ports ≡ ports_at piece.now signals.now) }
+{
+    let mut ports = Vec::new(alloc);
+    for signal in signals {
+        ports.push(port_of(piece, *signal)?)?;
+    }
+    Ok(Ports::from(ports))
+}
+
+impl Piece {
+    /// The ports that the piece gets from outside, in port order. The piece is well formed.
+    ///
+    /// # Errors
+    ///
+    /// Where memory is refused.
+    pub fn in_ports(&self, alloc: Global) -> Result<Ports, AllocError>
+        requires { IsWellFormed self.now }
+        ensures { IfOk result (λ ports. ports ≡ in_ports self.now) }
+    {
+        ports_of(alloc, self, self.ins())
+    }
+
+    /// The ports that the piece gives to the outside, in port order. The piece is well formed.
+    ///
+    /// # Errors
+    ///
+    /// Where memory is refused.
+    pub fn out_ports(&self, alloc: Global) -> Result<Ports, AllocError>
+        requires { IsWellFormed self.now }
+        ensures { IfOk result (λ ports. ports ≡ out_ports self.now) }
+    {
+        ports_of(alloc, self, self.outs())
+    }
+}
