@@ -1,0 +1,14 @@
+-- What a walk's fault says.
+use Rattle.std.specs.Prelude.{ℕ, List, codes}
+use Rattle.gg_walk.specs.declared.fault.WalkFault.{WalkFault}
+use Rattle.gg_walk.specs.declared.fault.WalkFault.TheVariants.{Ring, NoMemory}
+
+-- where it is a ring, a fact of the ring
+abbrev pub IfRing : (List ℕ → Type 0) → WalkFault → Type 0
+IfRing P (Ring ring) = P ring.items
+IfRing P NoMemory = Unit {0}
+
+-- the fault in words
+abbrev pub fault_text : WalkFault → List ℕ
+fault_text (Ring ring) = codes "the graph has a ring"
+fault_text NoMemory = codes "out of memory"

@@ -1,0 +1,4 @@
+pub mod Fault
+pub mod Graph
+pub mod Lists
+pub mod Walk

@@ -1,0 +1,78 @@
+//! What no clause says: that with ample memory there is an answer; and the order and the rings of small graphs.
+ghost use Rattle.std.specs.Prelude.{◌≡◌, ℕ, ◌<◌, ◌^◌, length, take, Contains, IfSome, IfNone, ◌⊎◌};
+ghost use Rattle.gg_walk.specs.Lists.{HasTarget, HasTargetBelow, none_below_first};
+
+use super::*;
+use std::test::Fail;
+
+// A graph whose nodes have three places each. A number that is no node stands for a place without a target.
+#[derive(Drop)]
+struct Table<'a> {
+    targets: &'a [[u32; 3]],
+    ghost few: { length targets.now < 2 ^ 32 },
+}
+
+impl<'a> Graph for Table<'a> {
+    ghost nodes = { λ table. length table.targets.now };
+
+    ghost edge = { λ table. HasTarget table.targets.now };
+
+    ghost edge_below = { λ table. HasTargetBelow table.targets.now };
+
+    ghost none_below_first = { λ table. none_below_first table.targets.now };
+
+    fn node_count(&self) -> u32 {
+        self.targets.len() as u32
+    }
+
+    fn target(&self, node: u32, place: usize) -> Option<Target> {
+        first_below(self.targets.len(), &self.targets[node as usize], place)
+    }
+}
+
+// The first number below a count at or behind a place.
+fn first_below(count: usize, targets: &[u32], place: usize) -> Option<Target>
+    ensures target { IfSome result (λ found. Contains targets.now found.node) }
+    ensures within { IfSome result (λ found. found.node < count) }
+    ensures onward { IfSome result (λ found. place < found.next) }
+    ensures first { IfSome result (λ found. (t : ℕ) → t < count → Contains (take found.next targets.now) t → Contains (take place targets.now) t ⊎ (t ≡ found.node)) }
+    ensures none { IfNone result ((t : ℕ) → t < count → Contains targets.now t → Contains (take place targets.now) t) }
+{
+    for i in place..targets.len() {
+        if (targets[i] as usize) < count {
+            return Some(Target {
+                node: targets[i],
+                next: i + 1,
+            });
+        }
+    }
+    None
+}
+
+#[test]
+fn orders_a_diamond(rt: HostRuntime) -> Result<(), Fail> {
+    let targets = [[1, 2, 1], [9, 3, 9], [9, 9, 3], [9, 9, 9]];
+    let order = walk(rt.alloc(), &Table { targets: &targets }).map_err(|_| Fail::new("no order"))?;
+    assert_eq!(rt; order.as_slice(), [3, 1, 2, 0].as_slice());
+    Ok(())
+}
+
+#[test]
+fn finds_a_ring_behind_a_tail(rt: HostRuntime) -> Result<(), Fail> {
+    let targets = [[9, 3, 9], [2, 2, 9], [4, 0, 9], [1, 9, 9], [3, 9, 9]];
+    match walk(rt.alloc(), &Table { targets: &targets }) {
+        Err(WalkFault::Ring(ring)) => assert_eq!(rt; ring.as_slice(), [3, 1, 2, 4].as_slice()),
+        _ => return Err(Fail::new("no ring")),
+    }
+    Ok(())
+}
+
+#[test]
+fn finds_a_node_that_is_its_own_target(rt: HostRuntime) -> Result<(), Fail> {
+    let targets = [[1, 9, 9], [9, 1, 9]];
+    match walk(rt.alloc(), &Table { targets: &targets }) {
+        Err(WalkFault::Ring(ring)) => assert_eq!(rt; ring.as_slice(), [1].as_slice()),
+        _ => return Err(Fail::new("no ring")),
+    }
+    Ok(())
+}
