@@ -8,3 +8,4 @@ pub mod FlatModule
 pub mod Fitting
 pub mod Table
 pub mod Building
+pub mod ElabText

@@ -12,3 +12,4 @@ pub mod Room
 pub mod Along
 pub mod Ports
 pub mod Tree
+pub mod ErrorText

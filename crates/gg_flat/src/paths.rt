@@ -5,6 +5,8 @@ ghost use Rattle.gg_flat.specs.declared.paths.AddError.TheVariants.{Doubled, NoM
 use gg_bits::Name;
 use indexmap::IndexSet;
 use std::alloc::Global;
+use std::error::Error;
+use std::fmt;
 use std::marker::Model;
 
 /// Why a signal was not added.
@@ -15,6 +17,22 @@ pub enum AddError {
     /// Memory ran out.
     NoMemory,
 }
+
+impl fmt::Display for AddError {
+    ghost use Rattle.std.specs.Prelude.{Some};
+    ghost use Rattle.gg_flat.specs.ErrorText.{error_text};
+
+    ghost output = { λ error. Some (error_text error) };
+
+    fn fmt<W: fmt::Write>(&self, f: &mut fmt::Formatter<W>) -> fmt::Result {
+        match self {
+            AddError::Doubled => f.write_str("the path is there already"),
+            AddError::NoMemory => f.write_str("out of memory"),
+        }
+    }
+}
+
+impl Error for AddError {}
 
 /// The paths of signals in the order of the signals, no two of them equal. A contract sees the list of their bytes.
 ///

@@ -10,6 +10,8 @@ ghost use Rattle.gg_refsim.specs.Cycle.{Cycle};
 use gg_flat::{Piece, State};
 use gg_order::Design;
 use std::alloc::{AllocError, Global};
+use std::error::Error;
+use std::fmt;
 use std::marker::Model;
 
 /// Memory was refused.
@@ -24,6 +26,18 @@ impl From<AllocError> for NoMemory {
         NoMemory
     }
 }
+
+impl fmt::Display for NoMemory {
+    ghost use Rattle.std.specs.Prelude.{Some, codes};
+
+    ghost output = { λ _. Some (codes "out of memory") };
+
+    fn fmt<W: fmt::Write>(&self, f: &mut fmt::Formatter<W>) -> fmt::Result {
+        f.write_str("out of memory")
+    }
+}
+
+impl Error for NoMemory {}
 
 /// A simulator of a design's circuit. A contract sees the circuit and the state that it is in.
 #[derive(Drop)]

@@ -2,8 +2,9 @@
 ghost use Rattle.std.specs.Prelude.{◌≡◌};
 ghost use Rattle.gg_shape.specs.FaultText.{word_name, key_name, limit_name};
 
-use crate::fault::{Fault, Limit, MemoryKey, Word};
+use crate::fault::{Fault, Limit, MemoryKey, Refusal, Word};
 use gg_ast::Report;
+use std::error::Error;
 use std::fmt;
 
 /// The fault's code, and what it carries, as the program prints it behind `golden: circuit: `.
@@ -48,6 +49,25 @@ impl fmt::Display for Fault {
         }
     }
 }
+
+impl Error for Fault {}
+
+/// The fault's text, or that memory ran out.
+impl fmt::Display for Refusal {
+    ghost use Rattle.std.specs.Prelude.{Some};
+    ghost use Rattle.gg_shape.specs.FaultText.{refusal_text};
+
+    ghost output = { λ refusal. Some (refusal_text refusal) };
+
+    fn fmt<W: fmt::Write>(&self, f: &mut fmt::Formatter<W>) -> fmt::Result {
+        match self {
+            Refusal::F(fault) => write!(f, "{fault}"),
+            Refusal::NoMemory => f.write_str("out of memory"),
+        }
+    }
+}
+
+impl Error for Refusal {}
 
 // The word that a field of a memory begins with.
 fn key_text(key: MemoryKey) -> &'static str

@@ -1,0 +1,8 @@
+-- Why a signal or an instance was not added, in words.
+use Rattle.std.specs.Prelude.{ℕ, List, codes}
+use Rattle.gg_flat.specs.declared.paths.AddError.{AddError}
+use Rattle.gg_flat.specs.declared.paths.AddError.TheVariants.{Doubled, NoMemory}
+
+abbrev pub error_text : AddError → List ℕ
+error_text Doubled = codes "the path is there already"
+error_text NoMemory = codes "out of memory"
