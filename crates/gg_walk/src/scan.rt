@@ -8,7 +8,7 @@ use crate::state::Stage;
 
 // A target that waits, and a place below which no target waits.
 #[derive(Clone, Copy)]
-pub(crate) struct Waiting {
+pub(crate) struct WaitingTarget {
     pub(crate) node: u32,
     pub(crate) place: usize,
 }
@@ -19,7 +19,7 @@ pub(crate) fn next_waiting<G: Graph>(
     stages: &[Stage],
     node: u32,
     start: usize,
-) -> Option<Waiting>
+) -> Option<WaitingTarget>
     requires node { node < G.nodes graph.now }
     requires count { length stages.now ≡ G.nodes graph.now }
     requires scanned { (t : ℕ) → G.edge_below graph.now node start t → stage_at stages.now t ≡ Done }
@@ -34,7 +34,7 @@ pub(crate) fn next_waiting<G: Graph>(
         match stages[target.node as usize] {
             Stage::Done => place = target.next,
             Stage::New | Stage::Open => {
-                return Some(Waiting {
+                return Some(WaitingTarget {
                     node: target.node,
                     place,
                 })
