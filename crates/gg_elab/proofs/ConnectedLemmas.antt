@@ -13,7 +13,6 @@ use Rattle.gg_ast.specs.declared.statement.Stmt.{Stmt}
 use Rattle.gg_ast.specs.declared.statement.StmtKind.{StmtKind}
 use Rattle.gg_ast.specs.declared.statement.StmtKind.TheVariants as says
 use Rattle.gg_ast.specs.Places.{place_of}
-use Rattle.gg_ast.specs.Term.{term}
 use Rattle.gg_ast.specs.Tree.{ModuleTree}
 use Rattle.gg_shape.specs.declared.fault.Fault.{Fault}
 use Rattle.gg_shape.specs.declared.scope.Role.{Role}
@@ -159,7 +158,7 @@ connected_known scope line n (says.Instance w m) by none = absurd (cc)
 connected_known scope line n (says.Memory w fields) by none = absurd (cc)
 connected_known scope line n (says.Connect sink source) by none =
     let same : sink ≡ name.Local n = cc in
-    known scope line n sink same (append_none (unknown_reference scope line sink) (unknown_in scope line (term source)) none).0
+    known scope line n sink same (append_none (unknown_reference scope line sink) (unknown_in scope line source) none).0
 connected_known scope line n (says.Invalid sink) by none =
     let same : sink ≡ name.Local n = cc in
     known scope line n sink same none

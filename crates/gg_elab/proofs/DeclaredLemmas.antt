@@ -14,7 +14,6 @@ use Rattle.gg_ast.specs.declared.statement.Stmt.{Stmt}
 use Rattle.gg_ast.specs.declared.statement.StmtKind.{StmtKind}
 use Rattle.gg_ast.specs.declared.statement.StmtKind.TheVariants as says
 use Rattle.gg_ast.specs.Places.{place_of}
-use Rattle.gg_ast.specs.Term.{term}
 use Rattle.gg_shape.specs.declared.fault.Fault.{Fault}
 use Rattle.gg_shape.specs.declared.fault.Fault.TheVariants.{WrongWidth, WrongClock}
 use Rattle.gg_shape.specs.declared.scope.Role.{Role}
@@ -53,7 +52,7 @@ front_declare a n (Some s) = record { more = n ∷ []; paths = refl }
 
 pub front_kind : (a : Signals) (kind : StmtKind) → IsFront a (declare_kind a kind)
 front_kind a (says.Wire n ty) = front_declare a n (type_shape ty)
-front_kind a (says.Node n value) = front_declare a n (term_shape a (term value))
+front_kind a (says.Node n value) = front_declare a n (term_shape a value)
 front_kind a (says.Register n ty clock reset) = front_declare a n (type_shape ty)
 front_kind a (says.Instance n m) = front_same a
 front_kind a (says.Memory n fields) = front_same a
@@ -138,7 +137,7 @@ HasRoles-more a scope n r h = record { missing = λ q e. h.missing q (more_misse
 
 pub HasRoles-kind : (a : Signals) (scope : List (List ℕ × Role)) (kind : StmtKind) → HasRoles a scope → HasRoles (declare_kind a kind) (scope ++ declared_by_kind kind)
 HasRoles-kind a scope (says.Wire n ty) h = HasRoles-declare a scope n roles.Wire (type_shape ty) h
-HasRoles-kind a scope (says.Node n value) h = HasRoles-declare a scope n roles.Node (term_shape a (term value)) h
+HasRoles-kind a scope (says.Node n value) h = HasRoles-declare a scope n roles.Node (term_shape a value) h
 HasRoles-kind a scope (says.Register n ty clock reset) h = HasRoles-declare a scope n roles.Register (type_shape ty) h
 HasRoles-kind a scope (says.Instance n m) h = HasRoles-more a scope n roles.Instance h
 HasRoles-kind a scope (says.Memory n fields) h = HasRoles-more a scope n roles.Memory h
@@ -172,7 +171,7 @@ declare_later a scope q n r own shape f has none missing =
 
 kind_later : (a : Signals) (scope : List (List ℕ × Role)) (q : List ℕ) (own : Role) (line : ℕ) (kind : StmtKind) → role_of q scope ≡ Some own → repeated_in scope line (declared_by_kind kind) ≡ [] → place_of q a.paths ≡ None → place_of q (declare_kind a kind).paths ≡ None
 kind_later a scope q own line (says.Wire n ty) has none missing = declare_later a scope q n roles.Wire own (type_shape ty) _ has none missing
-kind_later a scope q own line (says.Node n value) has none missing = declare_later a scope q n roles.Node own (term_shape a (term value)) _ has none missing
+kind_later a scope q own line (says.Node n value) has none missing = declare_later a scope q n roles.Node own (term_shape a value) _ has none missing
 kind_later a scope q own line (says.Register n ty clock reset) has none missing = declare_later a scope q n roles.Register own (type_shape ty) _ has none missing
 kind_later a scope q own line (says.Instance n m) has none missing = missing
 kind_later a scope q own line (says.Memory n fields) has none missing = missing

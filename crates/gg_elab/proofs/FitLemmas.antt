@@ -15,7 +15,7 @@ use Rattle.gg_ast.specs.declared.statement.Stmt.{Stmt}
 use Rattle.gg_ast.specs.declared.statement.StmtKind.{StmtKind}
 use Rattle.gg_ast.specs.declared.statement.StmtKind.TheVariants as says
 use Rattle.gg_ast.specs.Places.{place_of}
-use Rattle.gg_ast.specs.Term.{Term, term}
+use Rattle.gg_ast.specs.Term.{Term}
 use Rattle.gg_ast.specs.Tree.{ModuleTree}
 use Rattle.gg_flat.specs.Line.{shape_at}
 use Rattle.gg_shape.specs.declared.scope.Role.{Role}
@@ -58,7 +58,7 @@ driven_kind signals table s n (says.Memory w fields) at by has sound = absurd (c
 driven_kind signals table s n (says.Connect sink source) at by has sound =
     let same : sink ≡ name.Local n = cc in
     let place : named signals sink ≡ Some s = ap (named signals) same ∙ at in
-    record { driven = ConnectedTo (term source); seen = has s place; can = sound s place }
+    record { driven = ConnectedTo source; seen = has s place; can = sound s place }
 driven_kind signals table s n (says.Invalid sink) at by has sound =
     let same : sink ≡ name.Local n = cc in
     let place : named signals sink ≡ Some s = ap (named signals) same ∙ at in
@@ -171,10 +171,10 @@ other_fits a = omega arith
 kind_fits : (m : ModuleTree) (table : List (Option Source)) (before : List Stmt) (line : ℕ) (kind : StmtKind) (ss : List Stmt) (a : Signals) → Known m table → Here m before line kind ss a → FitsHere (signals_of m) table (length a.paths) kind (declare_kind a kind)
 kind_fits m table before line (says.Wire n ty) ss a k h = wire_fits m table before line n ty ss a k h
 kind_fits m table before line (says.Node n value) ss a k h =
-    let is = placed m table before line (says.Node n value) ss a n roles.Node (term_shape a (term value)) k h refl refl in
+    let is = placed m table before line (says.Node n value) ss a n roles.Node (term_shape a value) k h refl refl in
     record {
-      fits = node_fits m table before line (says.Node n value) n (term_shape a (term value)) (term value) ss a k h refl is h.sound;
-      adds = adds_one a n (term_shape a (term value)) (place_of n (signals_of m).paths) is;
+      fits = node_fits m table before line (says.Node n value) n (term_shape a value) value ss a k h refl is h.sound;
+      adds = adds_one a n (term_shape a value) (place_of n (signals_of m).paths) is;
     }
 kind_fits m table before line (says.Register n ty clock reset) ss a k h =
     let is = placed m table before line (says.Register n ty clock reset) ss a n roles.Register (type_shape ty) k h refl refl in

@@ -10,7 +10,6 @@ use Rattle.gg_ast.specs.declared.statement.Stmt.{Stmt}
 use Rattle.gg_ast.specs.declared.statement.StmtKind.{StmtKind}
 use Rattle.gg_ast.specs.declared.statement.StmtKind.TheVariants as says
 use Rattle.gg_ast.specs.Places.{place_of}
-use Rattle.gg_ast.specs.Term.{term}
 use Rattle.gg_ast.specs.Tree.{ModuleTree, CircuitTree}
 use Rattle.gg_flat.specs.declared.line.Node.{Node}
 use Rattle.gg_flat.specs.declared.piece.Register.{Register}
@@ -86,7 +85,7 @@ true_of signals statements table flat (says.Node n value) whole said has = of_na
 true_of signals statements table flat (says.Register n ty clock reset) whole said has = of_name signals flat n _ whole.paths said
 true_of signals statements table flat (says.Instance n m) whole said has = tt
 true_of signals statements table flat (says.Memory n fields) whole said has = tt
-true_of signals statements table flat (says.Connect sink source) whole said has = gets signals statements table flat (ConnectedTo (term source)) sink whole has
+true_of signals statements table flat (says.Connect sink source) whole said has = gets signals statements table flat (ConnectedTo source) sink whole has
 true_of signals statements table flat (says.Invalid sink) whole said has = gets signals statements table flat Zeroed sink whole has
 true_of signals statements table flat says.Skip whole said has = tt
 true_of signals statements table flat (says.Stop clock condition code label) whole said has = tt

@@ -12,7 +12,7 @@ use Rattle.gg_flat.specs.declared.line.Op.TheVariants.{Ref, Literal, Mux}
 use Rattle.gg_bits.specs.declared.types.Val.{Val}
 use Rattle.gg_ast.specs.declared.expression.Reference.{Reference}
 use Rattle.gg_ast.specs.declared.expression.Literal as literals
-use Rattle.gg_ast.specs.Term as term
+use Rattle.gg_ast.specs.Term as terms
 use Rattle.gg_types.specs.Literal.{literal_value}
 use Rattle.gg_types.specs.Types.{literal_shape}
 use Rattle.gg_flat.specs.declared.line.Op.TheVariants as flat
@@ -241,7 +241,7 @@ fresh_mux signals nodes n c a b h i j u s t to ct at bt result is does = record 
   ];
 }
 
-fresh_reference : (signals : Signals) (nodes : List Node) (n : Node) (r : Reference) (i : ℕ) (to : Shape) → named signals r ≡ Some i → i < length signals.shapes → shape_at signals.shapes i ≡ to → shape n.ty ≡ to → n.op ≡ flat.Ref i → Fresh signals nodes n (term.Ref r) to
+fresh_reference : (signals : Signals) (nodes : List Node) (n : Node) (r : Reference) (i : ℕ) (to : Shape) → named signals r ≡ Some i → i < length signals.shapes → shape_at signals.shapes i ≡ to → shape n.ty ≡ to → n.op ≡ flat.Ref i → Fresh signals nodes n (terms.NamedTerm r) to
 fresh_reference signals nodes n r i to at within typed is does = record {
   node = is;
   given = rw at (ap Some typed);
@@ -276,9 +276,9 @@ added_fresh signals old mid n e to before fresh own = record {
   names = λ s h. elim (Names-push_cases mid n s h) [ inl g ↦ before.names s g | inr g ↦ inr (own s g) ];
 }
 
-pub added_reference : (signals : Signals) (old : List Node) (n : Node) (r : Reference) (i : ℕ) (to : Shape) → named signals r ≡ Some i → i < length signals.shapes → shape_at signals.shapes i ≡ to → shape n.ty ≡ to → n.op ≡ flat.Ref i → Added signals old (old ++ n ∷ []) (term.Ref r) (length old) to
+pub added_reference : (signals : Signals) (old : List Node) (n : Node) (r : Reference) (i : ℕ) (to : Shape) → named signals r ≡ Some i → i < length signals.shapes → shape_at signals.shapes i ≡ to → shape n.ty ≡ to → n.op ≡ flat.Ref i → Added signals old (old ++ n ∷ []) (terms.NamedTerm r) (length old) to
 added_reference signals old n r i to at within typed is does =
-    added_fresh signals old old n (term.Ref r) to
+    added_fresh signals old old n (terms.NamedTerm r) to
     (record { kept = λ i f s h. h; typed = λ h. h; names = λ s h. inl h })
     (fresh_reference signals old n r i to at within typed is does)
     (λ s h. let same : i ≡ s = cc in at ∙ ap Some same)

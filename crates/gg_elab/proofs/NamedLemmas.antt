@@ -11,7 +11,6 @@ use Rattle.gg_ast.specs.declared.module.Port.{Port}
 use Rattle.gg_ast.specs.declared.statement.Stmt.{Stmt}
 use Rattle.gg_ast.specs.declared.statement.StmtKind.{StmtKind}
 use Rattle.gg_ast.specs.declared.statement.StmtKind.TheVariants as says
-use Rattle.gg_ast.specs.Term.{term}
 use Rattle.gg_ast.specs.Tree.{ModuleTree}
 use Rattle.gg_elab.specs.Expression.{Signals, term_shape}
 use Rattle.gg_elab.specs.Signals.{type_shape, no_signals, declare, declare_port, declare_kind, declare_statement, signals_of, is_clock, goes, port_names}
@@ -54,7 +53,7 @@ named_declare a x (Some t) n h = elim (Contains-append_cases a.paths (x ∷ []) 
 
 named_kind : (a : Signals) (kind : StmtKind) (n : List ℕ) → Contains (declare_kind a kind).paths n → Contains a.paths n ⊎ Declares n kind
 named_kind a (says.Wire w ty) n h = named_declare a w (type_shape ty) n h
-named_kind a (says.Node w value) n h = named_declare a w (term_shape a (term value)) n h
+named_kind a (says.Node w value) n h = named_declare a w (term_shape a value) n h
 named_kind a (says.Register w ty clock reset) n h = named_declare a w (type_shape ty) n h
 named_kind a (says.Instance w m) n h = inl h
 named_kind a (says.Memory w fields) n h = inl h

@@ -15,7 +15,6 @@ use Rattle.gg_ast.specs.declared.statement.Stmt.{Stmt}
 use Rattle.gg_ast.specs.declared.statement.StmtKind.{StmtKind}
 use Rattle.gg_ast.specs.declared.statement.StmtKind.TheVariants as says
 use Rattle.gg_ast.specs.Places.{place_of}
-use Rattle.gg_ast.specs.Term.{term}
 use Rattle.gg_ast.specs.Tree.{ModuleTree}
 use Rattle.gg_flat.specs.declared.line.Node.{Node}
 use Rattle.gg_flat.specs.declared.piece.Driver.{Driver}
@@ -63,7 +62,7 @@ connection_by (says.Node n value) = Zeroed
 connection_by (says.Register n ty clock reset) = Zeroed
 connection_by (says.Instance n m) = Zeroed
 connection_by (says.Memory n fields) = Zeroed
-connection_by (says.Connect sink source) = ConnectedTo (term source)
+connection_by (says.Connect sink source) = ConnectedTo source
 connection_by (says.Invalid sink) = Zeroed
 connection_by says.Skip = Zeroed
 connection_by (says.Stop clock condition code label) = Zeroed
@@ -77,7 +76,7 @@ gets_kind signals f n s (says.Instance w m) by h at = absurd (cc)
 gets_kind signals f n s (says.Memory w fields) by h at = absurd (cc)
 gets_kind signals f n s (says.Connect sink source) by h at =
     let same : sink ≡ name.Local n = cc in
-    let of_name : OfName f n (Gets signals f (ConnectedTo (term source))) = subst (λ (r : Reference). OfSink f r (Gets signals f (ConnectedTo (term source)))) same h in
+    let of_name : OfName f n (Gets signals f (ConnectedTo source)) = subst (λ (r : Reference). OfSink f r (Gets signals f (ConnectedTo source))) same h in
     of_name s at
 gets_kind signals f n s (says.Invalid sink) by h at =
     let same : sink ≡ name.Local n = cc in
@@ -178,8 +177,8 @@ resets_same signals None (Some a) b one other = absurd (cc)
 resets_same signals (Some asked) None b one other = absurd one
 resets_same signals (Some asked) (Some a) None one other = absurd other
 resets_same signals (Some asked) (Some a) (Some b) one other = (
-  same_of signals (term asked.condition) a.condition b.condition one.0 other.0,
-  same_of signals (term asked.init) a.init b.init one.1 other.1,
+  same_of signals asked.condition a.condition b.condition one.0 other.0,
+  same_of signals asked.init a.init b.init one.1 other.1,
 )
 
 -- both have a next value, by lines that do the same
@@ -259,7 +258,7 @@ kind_same m f g n s line (says.Wire w ty) p at one other none named =
 kind_same m f g n s line (says.Node w value) p at one other none named =
     let a = one s (ap (λ (x : List ℕ). place_of x f.paths) named ∙ at.one) in
     let b = other s (ap (λ (x : List ℕ). place_of x g.paths) named ∙ at.other) in
-    by_drivers f g s (Computed a.line) (Computed b.line) a.driver b.driver (same_of (signals_of m) (term value) a.line b.line a.stands b.stands)
+    by_drivers f g s (Computed a.line) (Computed b.line) a.driver b.driver (same_of (signals_of m) value a.line b.line a.stands b.stands)
 kind_same m f g n s line (says.Register w ty clock reset) p at one other none named =
     register_same m f g n s reset p at
     (one s (ap (λ (x : List ℕ). place_of x f.paths) named ∙ at.one))

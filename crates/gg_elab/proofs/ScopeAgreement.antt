@@ -17,7 +17,7 @@ use Rattle.gg_ast.specs.declared.module.GroundType.{GroundType}
 use Rattle.gg_ast.specs.declared.module.GroundType.TheVariants as plain_type
 use Rattle.gg_ast.specs.declared.module.Port.{Port}
 use Rattle.gg_ast.specs.Places.{place_of}
-use Rattle.gg_ast.specs.Term.{Term, term, NamedTerm, ConstantTerm, UnaryTerm, BinaryTerm, FixedTerm, MuxTerm}
+use Rattle.gg_ast.specs.Term.{Term, NamedTerm, ConstantTerm, UnaryTerm, BinaryTerm, FixedTerm, MuxTerm}
 use Rattle.gg_flat.specs.Line.{shape_at}
 use Rattle.gg_shape.specs.declared.fault.Fault.{Fault}
 use Rattle.gg_shape.specs.declared.scope.Role.{Role}
@@ -158,7 +158,7 @@ same_scope signals scope a = subst (λ (l : List (List ℕ × Option Sort)). Agr
 
 pub kind_agrees : (traced : List ℕ → Bool) (signals : Signals) (scope : List (List ℕ × Option Sort)) (roles : List (List ℕ × Role)) (line : ℕ) (kind : StmtKind) → Agrees signals scope → map (λ (e : List ℕ × Option Sort). e.0) scope ≡ map (λ (d : List ℕ × Role). d.0) roles → repeated_in roles line (declared_by_kind kind) ≡ [] → Agrees (declare_kind signals kind) (scope ++ sorts_of_kind traced scope kind)
 kind_agrees traced signals scope roles line (says.Wire n ty) a same none = declared_next signals scope roles n (declared_sort ty) (type_shape ty) _ a same none (declared_agrees ty)
-kind_agrees traced signals scope roles line (says.Node n value) a same none = declared_next signals scope roles n (sort_in traced scope (term value)) (term_shape signals (term value)) _ a same none (node_agrees signals scope traced (term value) a)
+kind_agrees traced signals scope roles line (says.Node n value) a same none = declared_next signals scope roles n (sort_in traced scope value) (term_shape signals value) _ a same none (node_agrees signals scope traced value a)
 kind_agrees traced signals scope roles line (says.Register n ty clock reset) a same none = declared_next signals scope roles n (register_sort ty) (type_shape ty) _ a same none (register_agrees ty)
 kind_agrees traced signals scope roles line (says.Instance n m) a same none = declared_next signals scope roles n None None _ a same none tt
 kind_agrees traced signals scope roles line (says.Memory n fields) a same none = declared_next signals scope roles n None None _ a same none tt

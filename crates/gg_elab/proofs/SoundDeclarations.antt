@@ -11,7 +11,7 @@ use Rattle.gg_ast.specs.declared.statement.Stmt.{Stmt}
 use Rattle.gg_ast.specs.declared.statement.StmtKind.{StmtKind}
 use Rattle.gg_ast.specs.declared.statement.StmtKind.TheVariants as says
 use Rattle.gg_ast.specs.Places.{place_of}
-use Rattle.gg_ast.specs.Term.{Term, term, NamedTerm, ConstantTerm, UnaryTerm, BinaryTerm, FixedTerm, MuxTerm}
+use Rattle.gg_ast.specs.Term.{Term, NamedTerm, ConstantTerm, UnaryTerm, BinaryTerm, FixedTerm, MuxTerm}
 use Rattle.gg_ast.specs.Tree.{ModuleTree}
 use Rattle.gg_flat.specs.Line.{shape_at}
 use Rattle.gg_shape.specs.declared.scope.Role.{Role}
@@ -77,7 +77,7 @@ register_widths line types.Clock h = absurd (cc)
 right_kind : (traced : List ℕ → Bool) (signals : Signals) (scope : List (List ℕ × Option Sort)) (roles : List (List ℕ × Role)) (line : ℕ) (kind : StmtKind) → Agrees signals scope → map (λ (e : List ℕ × Option Sort). e.0) scope ≡ map (λ (d : List ℕ × Role). d.0) roles → IsSorted scope → repeated_in roles line (declared_by_kind kind) ≡ [] → faults_of_kind traced scope line kind ≡ [] → IsWrongKind signals kind → ⊥
 right_kind traced signals scope roles line (says.Wire n ty) agrees same sorted none h (inl wrong) = wrong line h
 right_kind traced signals scope roles line (says.Wire n ty) agrees same sorted none h (inr has) = absent signals scope n agrees (fresh scope roles line n roles_are.Wire same none) has
-right_kind traced signals scope roles line (says.Node n value) agrees same sorted none h (inl wrong) = shaped traced signals scope line (term value) agrees sorted h wrong
+right_kind traced signals scope roles line (says.Node n value) agrees same sorted none h (inl wrong) = shaped traced signals scope line value agrees sorted h wrong
 right_kind traced signals scope roles line (says.Node n value) agrees same sorted none h (inr has) = absent signals scope n agrees (fresh scope roles line n roles_are.Node same none) has
 right_kind traced signals scope roles line (says.Register n ty clock reset) agrees same sorted none h (inl wrong) = wrong line (register_widths line ty (append_none (register_type_faults line ty) _ h).0)
 right_kind traced signals scope roles line (says.Register n ty clock reset) agrees same sorted none h (inr has) = absent signals scope n agrees (fresh scope roles line n roles_are.Register same none) has

@@ -14,7 +14,7 @@ use Rattle.gg_ast.specs.declared.statement.StmtKind.{StmtKind}
 use Rattle.gg_ast.specs.declared.statement.StmtKind.TheVariants as says
 use Rattle.std.specs.Str.{bytes_eq}
 use Rattle.std.proofs.lemmas.List.{append-nil}
-use Rattle.gg_ast.specs.Term.{Term, term, NamedTerm, ConstantTerm, UnaryTerm, BinaryTerm, FixedTerm, MuxTerm}
+use Rattle.gg_ast.specs.Term.{Term, NamedTerm, ConstantTerm, UnaryTerm, BinaryTerm, FixedTerm, MuxTerm}
 use Rattle.gg_shape.specs.declared.fault.Fault.{Fault}
 use Rattle.gg_shape.specs.declared.fault.Fault.TheVariants.{LiteralTooLarge, WrongWidth, WrongClock}
 use Rattle.gg_shape.specs.Namespace.{written, is_flat}
@@ -153,7 +153,7 @@ sorted_same scope ok = subst IsSorted (sym (append-nil scope)) ok
 -- A statement without faults of types, that is neither an instance nor a memory, gives each name that it declares a type.
 pub IsSorted-kind : (traced : List ℕ → Bool) (scope : List (List ℕ × Option Sort)) (line : ℕ) (kind : StmtKind) → IsSorted scope → is_flat kind ≡ true → faults_of_kind traced scope line kind ≡ [] → IsSorted (scope ++ sorts_of_kind traced scope kind)
 IsSorted-kind traced scope line (says.Wire n ty) ok flat h = IsSorted-push scope n (declared_sort ty) ok (width_sorted line ty h)
-IsSorted-kind traced scope line (says.Node n value) ok flat h = IsSorted-push scope n (sort_in traced scope (term value)) ok (let s = term_some traced scope line (term value) ok h in λ e. let is = s.is in cc)
+IsSorted-kind traced scope line (says.Node n value) ok flat h = IsSorted-push scope n (sort_in traced scope value) ok (let s = term_some traced scope line value ok h in λ e. let is = s.is in cc)
 IsSorted-kind traced scope line (says.Register n ty clock reset) ok flat h =
     IsSorted-push scope n (register_sort ty) ok (register_sorted line ty (append_none (register_type_faults line ty) _ h).0)
 IsSorted-kind traced scope line (says.Instance n m) ok flat h = absurd (true≢false (sym flat))

@@ -18,7 +18,7 @@ use Rattle.gg_ast.specs.declared.statement.Stmt.{Stmt}
 use Rattle.gg_ast.specs.declared.statement.StmtKind.{StmtKind}
 use Rattle.gg_ast.specs.declared.statement.StmtKind.TheVariants as says
 use Rattle.gg_ast.specs.Places.{place_of}
-use Rattle.gg_ast.specs.Term.{Term, term}
+use Rattle.gg_ast.specs.Term.{Term}
 use Rattle.gg_ast.specs.Tree.{ModuleTree}
 use Rattle.gg_flat.specs.Line.{shape_at}
 use Rattle.gg_shape.specs.declared.fault.Fault.{Fault}
@@ -121,13 +121,13 @@ apt_node signals traced scope more n e s agrees fresh has at =
 apt_reset : (signals : Signals) (traced : List ℕ → Bool) (scope more : List (List ℕ × Option Sort)) (register : Option Sort) (t : Shape) (reset : Option Reset) → Agrees signals (scope ++ more) → IsSorted scope → register ≡ Some (Bits t) → reset_faults traced scope register reset ≡ [] → CanReset signals reset t
 apt_reset signals traced scope more register t None agrees sorted is h = tt
 apt_reset signals traced scope more register t (Some reset) agrees sorted is h =
-    let init_faults = faults_in traced scope reset.line (term reset.init) in
-    let last = connected reset.line words.Register register (sort_in traced scope (term reset.init)) in
-    let parts = append_none (condition_faults_in traced scope reset.line words.Register (term reset.condition)) (init_faults ++ last) h in
-    let conditions = append_none (faults_in traced scope reset.line (term reset.condition)) (condition_position reset.line words.Register (sort_in traced scope (term reset.condition))) parts.0 in
+    let init_faults = faults_in traced scope reset.line reset.init in
+    let last = connected reset.line words.Register register (sort_in traced scope reset.init) in
+    let parts = append_none (condition_faults_in traced scope reset.line words.Register reset.condition) (init_faults ++ last) h in
+    let conditions = append_none (faults_in traced scope reset.line reset.condition) (condition_position reset.line words.Register (sort_in traced scope reset.condition)) parts.0 in
     let inits = append_none init_faults last parts.1 in (
-      condition_shape signals traced scope more reset.line words.Register (term reset.condition) agrees (HasSort-faultless traced scope reset.line (term reset.condition) sorted conditions.0) conditions.1,
-      CanStand-connected signals traced scope more reset.line words.Register (term reset.init) t agrees (HasSort-faultless traced scope reset.line (term reset.init) sorted inits.0) (subst (λ (x : Option Sort). connected reset.line words.Register x (sort_in traced scope (term reset.init)) ≡ []) is inits.1),
+      condition_shape signals traced scope more reset.line words.Register reset.condition agrees (HasSort-faultless traced scope reset.line reset.condition sorted conditions.0) conditions.1,
+      CanStand-connected signals traced scope more reset.line words.Register reset.init t agrees (HasSort-faultless traced scope reset.line reset.init sorted inits.0) (subst (λ (x : Option Sort). connected reset.line words.Register x (sort_in traced scope reset.init) ≡ []) is inits.1),
     )
 
 apt_register : (signals : Signals) (traced : List ℕ → Bool) (scope more : List (List ℕ × Option Sort)) (n : List ℕ) (so : Option Sort) (reset : Option Reset) (s : ℕ) → Agrees signals ((scope ++ (n, so) ∷ []) ++ more) → IsSorted (scope ++ (n, so) ∷ []) → entry_of n scope ≡ None → so ≢ None → reset_faults traced (scope ++ (n, so) ∷ []) so reset ≡ [] → place_of n signals.paths ≡ Some s → CanReset signals reset (shape_at signals.shapes s)
@@ -157,10 +157,10 @@ fresh scope roles line n role same none = none_same n roles scope same (no_fault
 apt_kind : (signals : Signals) (traced : List ℕ → Bool) (scope more : List (List ℕ × Option Sort)) (roles : List (List ℕ × Role)) (line : ℕ) (kind : StmtKind) → map (λ (e : List ℕ × Option Sort). e.0) scope ≡ map (λ (d : List ℕ × Role). d.0) roles → IsSorted scope → repeated_in roles line (declared_by_kind kind) ≡ [] → faults_of_kind traced scope line kind ≡ [] → Agrees signals ((scope ++ sorts_of_kind traced scope kind) ++ more) → IsApt signals kind
 apt_kind signals traced scope more roles line (says.Wire n ty) same sorted none h agrees = tt
 apt_kind signals traced scope more roles line (says.Node n value) same sorted none h agrees =
-    λ s at. apt_node signals traced scope more n (term value) s agrees (fresh scope roles line n roles_are.Node same none) (HasSort-faultless traced scope line (term value) sorted h) at
+    λ s at. apt_node signals traced scope more n value s agrees (fresh scope roles line n roles_are.Node same none) (HasSort-faultless traced scope line value sorted h) at
 apt_kind signals traced scope more roles line (says.Register n ty clock reset) same sorted none h agrees =
     let so = register_sort ty in
-    let clocks = clock_faults_in traced scope line words.Register (term clock) in
+    let clocks = clock_faults_in traced scope line words.Register clock in
     let resets = reset_faults traced (scope ++ (n, so) ∷ []) so reset in
     let one = append_none (register_type_faults line ty) (clocks ++ resets) h in
     let two = append_none clocks resets one.1 in
@@ -169,12 +169,12 @@ apt_kind signals traced scope more roles line (says.Register n ty clock reset) s
 apt_kind signals traced scope more roles line (says.Instance n m) same sorted none h agrees = tt
 apt_kind signals traced scope more roles line (says.Memory n fields) same sorted none h agrees = tt
 apt_kind signals traced scope more roles line (says.Connect sink source) same sorted none h agrees =
-    let faults = faults_in traced scope line (term source) in
-    let last = connected line words.Connect (sort_of_reference scope sink) (sort_in traced scope (term source)) in
+    let faults = faults_in traced scope line source in
+    let last = connected line words.Connect (sort_of_reference scope sink) (sort_in traced scope source) in
     let one = append_none (undeclared scope line sink) (faults ++ last) h in
     let two = append_none faults last one.1 in
     let agree : Agrees signals (scope ++ more) = subst (λ (l : List (List ℕ × Option Sort)). Agrees signals (l ++ more)) (append-nil scope) agrees in
-    λ s at. apt_connection signals traced scope more line sink (term source) s agree sorted one.0 (HasSort-faultless traced scope line (term source) sorted two.0) two.1 at
+    λ s at. apt_connection signals traced scope more line sink source s agree sorted one.0 (HasSort-faultless traced scope line source sorted two.0) two.1 at
 apt_kind signals traced scope more roles line (says.Invalid sink) same sorted none h agrees = tt
 apt_kind signals traced scope more roles line says.Skip same sorted none h agrees = tt
 apt_kind signals traced scope more roles line (says.Stop clock condition code label) same sorted none h agrees = tt

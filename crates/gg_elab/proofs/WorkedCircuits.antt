@@ -21,8 +21,6 @@ use Rattle.gg_bits.specs.declared.types.Kind.TheVariants as kinds
 use Rattle.gg_bits.specs.declared.types.Ty.{Ty}
 use Rattle.gg_bits.specs.declared.types.Val.{Val}
 use Rattle.gg_bits.specs.Shape.{shape, uint}
-use Rattle.gg_ast.specs.declared.expression.Expr.{Expr}
-use Rattle.gg_ast.specs.declared.expression.Expr.TheVariants.{Named, Constant}
 use Rattle.gg_ast.specs.declared.expression.Literal.{Literal}
 use Rattle.gg_ast.specs.declared.expression.Radix.TheVariants.{Hexadecimal}
 use Rattle.gg_ast.specs.declared.expression.Reference.TheVariants as name
@@ -33,7 +31,7 @@ use Rattle.gg_ast.specs.declared.statement.Stmt.{Stmt}
 use Rattle.gg_ast.specs.declared.statement.StmtKind.{StmtKind}
 use Rattle.gg_ast.specs.declared.statement.StmtKind.TheVariants as says
 use Rattle.gg_ast.specs.Places.{place_of}
-use Rattle.gg_ast.specs.Term.{NamedTerm, ConstantTerm}
+use Rattle.gg_ast.specs.Term.{Term, NamedTerm, ConstantTerm}
 use Rattle.gg_ast.specs.Tree.{ModuleTree, CircuitTree}
 use Rattle.gg_flat.specs.declared.line.Node.{Node}
 use Rattle.gg_flat.specs.declared.line.Op.{Op}
@@ -52,8 +50,8 @@ use Rattle.gg_elab.proofs.WholeLineLemmas.{IsLineOf-added, IsZeroLine-literal}
 
 -- ---- the circuit
 
-abbrev signal : List ℕ → Expr
-signal n = Named (name.Local n)
+abbrev signal : List ℕ → Term
+signal n = NamedTerm (name.Local n)
 
 abbrev on : ℕ → StmtKind → Stmt
 on line kind = record { line = line; kind = kind }
@@ -62,7 +60,7 @@ abbrev written : Literal
 written = record { kind = kinds.UInt; width = 2; radix = Hexadecimal; negative = false; digits = codes "1" }
 
 abbrev reset : given.Reset
-reset = record { line = 10; condition = signal (codes "r"); init = Constant written }
+reset = record { line = 10; condition = signal (codes "r"); init = ConstantTerm written }
 
 abbrev statements : List Stmt
 statements =

@@ -6,7 +6,6 @@ use Rattle.gg_ast.specs.declared.module.Port.{Port}
 use Rattle.gg_ast.specs.declared.statement.StmtKind.{StmtKind}
 use Rattle.gg_ast.specs.declared.statement.StmtKind.TheVariants as says
 use Rattle.gg_ast.specs.Places.{place_of}
-use Rattle.gg_ast.specs.Term.{term}
 use Rattle.gg_flat.specs.declared.line.Node.{Node}
 use Rattle.gg_flat.specs.declared.piece.Register.{Register}
 use Rattle.gg_flat.specs.declared.piece.Signal.{Signal}
@@ -67,7 +66,7 @@ pub record IsBuilt (signals : Signals) (table : List (Option Source)) (flat : Fl
 -- What a declaration says is true of the flat circuit so far.
 abbrev pub IsSaid : Signals → FlatCircuit → StmtKind → Type 0
 IsSaid signals flat (says.Wire n ty) = (s : ℕ) → place_of n signals.paths ≡ Some s → IsComputed flat s
-IsSaid signals flat (says.Node n value) = (s : ℕ) → place_of n signals.paths ≡ Some s → HasLine signals flat (term value) s
+IsSaid signals flat (says.Node n value) = (s : ℕ) → place_of n signals.paths ≡ Some s → HasLine signals flat value s
 IsSaid signals flat (says.Register n ty clock reset) = (s : ℕ) → place_of n signals.paths ≡ Some s → IsRegisterWith signals flat reset s
 IsSaid signals flat (says.Instance n m) = Unit {0}
 IsSaid signals flat (says.Memory n fields) = Unit {0}

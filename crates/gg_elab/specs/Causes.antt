@@ -11,7 +11,7 @@ use Rattle.gg_ast.specs.declared.statement.Stmt.{Stmt}
 use Rattle.gg_ast.specs.declared.statement.StmtKind.{StmtKind}
 use Rattle.gg_ast.specs.declared.statement.StmtKind.TheVariants as says
 use Rattle.gg_ast.specs.Places.{place_of}
-use Rattle.gg_ast.specs.Term.{Term, term, NamedTerm, ConstantTerm, UnaryTerm, BinaryTerm, FixedTerm, MuxTerm}
+use Rattle.gg_ast.specs.Term.{Term, NamedTerm, ConstantTerm, UnaryTerm, BinaryTerm, FixedTerm, MuxTerm}
 use Rattle.gg_ast.specs.Tree.{ModuleTree}
 use Rattle.gg_flat.specs.Line.{shape_at}
 use Rattle.gg_shape.specs.Namespace.{is_flat}
@@ -49,16 +49,16 @@ pub record IsTyped (m : ModuleTree) : Type 0 where
 -- a reset's condition is UInt<1>, and its initial value can stand for the register's
 abbrev pub CanReset : Signals → Option Reset → Shape → Type 0
 CanReset signals None target = Unit {0}
-CanReset signals (Some reset) target = (term_shape signals (term reset.condition) ≡ Some (uint 1)) × CanStand signals (term reset.init) target
+CanReset signals (Some reset) target = (term_shape signals reset.condition ≡ Some (uint 1)) × CanStand signals reset.init target
 
 -- the expressions of a statement can stand for the signal that it declares or connects, if that is one
 abbrev pub IsApt : Signals → StmtKind → Type 0
 IsApt signals (says.Wire n ty) = Unit {0}
-IsApt signals (says.Node n value) = (s : ℕ) → place_of n signals.paths ≡ Some s → CanStand signals (term value) (shape_at signals.shapes s)
+IsApt signals (says.Node n value) = (s : ℕ) → place_of n signals.paths ≡ Some s → CanStand signals value (shape_at signals.shapes s)
 IsApt signals (says.Register n ty clock reset) = (s : ℕ) → place_of n signals.paths ≡ Some s → CanReset signals reset (shape_at signals.shapes s)
 IsApt signals (says.Instance n m) = Unit {0}
 IsApt signals (says.Memory n fields) = Unit {0}
-IsApt signals (says.Connect sink source) = (s : ℕ) → named signals sink ≡ Some s → CanStand signals (term source) (shape_at signals.shapes s)
+IsApt signals (says.Connect sink source) = (s : ℕ) → named signals sink ≡ Some s → CanStand signals source (shape_at signals.shapes s)
 IsApt signals (says.Invalid sink) = Unit {0}
 IsApt signals says.Skip = Unit {0}
 IsApt signals (says.Stop clock condition code label) = Unit {0}
@@ -91,7 +91,7 @@ IsWrongPort signals port = HasWrongWidth port.ty ⊎ Contains signals.paths port
 -- what a statement declares has a wrong width or an expression without a shape, or its name is declared already
 abbrev pub IsWrongKind : Signals → StmtKind → Type 0
 IsWrongKind signals (says.Wire n ty) = HasWrongWidth ty ⊎ Contains signals.paths n
-IsWrongKind signals (says.Node n value) = IsShapeless signals (term value) ⊎ Contains signals.paths n
+IsWrongKind signals (says.Node n value) = IsShapeless signals value ⊎ Contains signals.paths n
 IsWrongKind signals (says.Register n ty clock reset) = HasWrongWidth ty ⊎ Contains signals.paths n
 IsWrongKind signals (says.Instance n m) = ⊥
 IsWrongKind signals (says.Memory n fields) = ⊥

@@ -6,7 +6,7 @@ use Rattle.gg_ast.specs.declared.statement.StmtKind.TheVariants as says
 use Rattle.gg_ast.specs.declared.statement.Stmt.{Stmt}
 use Rattle.gg_ast.specs.declared.expression.Reference.{Reference}
 use Rattle.gg_ast.specs.declared.expression.Reference.TheVariants as name
-use Rattle.gg_ast.specs.Term.{Term, term}
+use Rattle.gg_ast.specs.Term.{Term}
 use Rattle.gg_flat.specs.declared.line.Node.{Node}
 use Rattle.gg_flat.specs.Line.{line_value}
 use Rattle.gg_flat.specs.Reads.{Names}
@@ -58,7 +58,7 @@ pub record IsConnected (statements : List Stmt) (n : List ℕ) : Type 0 where
 -- ---- as the program keeps it
 
 abbrev pub connection : Source → Connection
-connection (Of e) = ConnectedTo (term e.now)
+connection (Of e) = ConnectedTo e.now
 connection Zero = Zeroed
 
 abbrev pub seen : Option Source → Option Connection

@@ -8,7 +8,6 @@ use Rattle.gg_ast.specs.declared.statement.Stmt.{Stmt}
 use Rattle.gg_ast.specs.declared.statement.StmtKind.{StmtKind}
 use Rattle.gg_ast.specs.declared.statement.StmtKind.TheVariants as says
 use Rattle.gg_ast.specs.Places.{place_of}
-use Rattle.gg_ast.specs.Term.{term}
 use Rattle.gg_flat.specs.Line.{shape_at}
 use Rattle.gg_elab.specs.declared.connections.Source.{Source}
 use Rattle.gg_elab.specs.Expression.{Signals}
@@ -40,7 +39,7 @@ pub record PortFits (signals : Signals) (table : List (Option Source)) (s : ℕ)
 -- what a statement declares, if it is a signal, is signal s, and can be driven
 abbrev pub KindFits : Signals → List (Option Source) → ℕ → StmtKind → Type 0
 KindFits signals table s (says.Wire n ty) = (q : ℕ) → place_of n signals.paths ≡ Some q → (q ≡ s) × IsDriven signals table s (shape_at signals.shapes s)
-KindFits signals table s (says.Node n value) = (q : ℕ) → place_of n signals.paths ≡ Some q → (q ≡ s) × (seen_at table s ≡ None) × CanStand signals (term value) (shape_at signals.shapes s)
+KindFits signals table s (says.Node n value) = (q : ℕ) → place_of n signals.paths ≡ Some q → (q ≡ s) × (seen_at table s ≡ None) × CanStand signals value (shape_at signals.shapes s)
 KindFits signals table s (says.Register n ty clock reset) = (place_of n signals.paths ≡ Some s) × CanReset signals reset (shape_at signals.shapes s) × CanFollow signals (seen_at table s) (shape_at signals.shapes s)
 KindFits signals table s (says.Instance n m) = Unit {0}
 KindFits signals table s (says.Memory n fields) = Unit {0}

@@ -11,7 +11,7 @@ use Rattle.gg_ast.specs.declared.statement.Stmt.{Stmt}
 use Rattle.gg_ast.specs.declared.statement.StmtKind.{StmtKind}
 use Rattle.gg_ast.specs.declared.statement.StmtKind.TheVariants as says
 use Rattle.gg_ast.specs.Places.{place_of}
-use Rattle.gg_ast.specs.Term.{Term, term}
+use Rattle.gg_ast.specs.Term.{Term}
 use Rattle.gg_ast.specs.Tree.{ModuleTree, CircuitTree}
 use Rattle.gg_flat.specs.declared.line.Node.{Node}
 use Rattle.gg_flat.specs.declared.piece.Register.{Register}
@@ -43,7 +43,7 @@ pub record IsComputed (flat : FlatCircuit) (s : ℕ) : Type 0 where
 -- A register has the reset that is given, or none.
 abbrev pub HasReset : Signals → Option given.Reset → Option kept.Reset → Type 0
 HasReset signals None reset = reset ≡ None
-HasReset signals (Some asked) reset = MatchOption reset ⊥ (λ r. IsLineOf signals (term asked.condition) r.condition × IsLineOf signals (term asked.init) r.init)
+HasReset signals (Some asked) reset = MatchOption reset ⊥ (λ r. IsLineOf signals asked.condition r.condition × IsLineOf signals asked.init r.init)
 
 -- Signal s is a register, with the reset that is given.
 pub record IsRegisterWith (signals : Signals) (flat : FlatCircuit) (asked : Option given.Reset) (s : ℕ) : Type 0 where
@@ -79,11 +79,11 @@ OfSink flat (name.FieldOf m p f) P = Unit {0}
 -- What a statement says of the flat circuit. A wire is computed, and no register.
 abbrev pub IsTrueOf : Signals → FlatCircuit → StmtKind → Type 0
 IsTrueOf signals flat (says.Wire n ty) = OfName flat n (IsComputed flat)
-IsTrueOf signals flat (says.Node n value) = OfName flat n (HasLine signals flat (term value))
+IsTrueOf signals flat (says.Node n value) = OfName flat n (HasLine signals flat value)
 IsTrueOf signals flat (says.Register n ty clock reset) = OfName flat n (IsRegisterWith signals flat reset)
 IsTrueOf signals flat (says.Instance n m) = Unit {0}
 IsTrueOf signals flat (says.Memory n fields) = Unit {0}
-IsTrueOf signals flat (says.Connect sink source) = OfSink flat sink (Gets signals flat (ConnectedTo (term source)))
+IsTrueOf signals flat (says.Connect sink source) = OfSink flat sink (Gets signals flat (ConnectedTo source))
 IsTrueOf signals flat (says.Invalid sink) = OfSink flat sink (Gets signals flat Zeroed)
 IsTrueOf signals flat says.Skip = Unit {0}
 IsTrueOf signals flat (says.Stop clock condition code label) = Unit {0}

@@ -11,7 +11,6 @@ use Rattle.gg_ast.specs.declared.module.Port.{Port}
 use Rattle.gg_ast.specs.declared.statement.Stmt.{Stmt}
 use Rattle.gg_ast.specs.declared.statement.StmtKind.{StmtKind}
 use Rattle.gg_ast.specs.declared.statement.StmtKind.TheVariants as says
-use Rattle.gg_ast.specs.Term.{term}
 use Rattle.gg_ast.specs.Tree.{ModuleTree}
 use Rattle.gg_elab.specs.Expression.{Signals, term_shape}
 
@@ -40,7 +39,7 @@ declare_port signals port = declare signals port.name (type_shape port.ty)
 -- with the signal of a statement; a node has its expression's shape
 abbrev pub declare_kind : Signals → StmtKind → Signals
 declare_kind signals (says.Wire name ty) = declare signals name (type_shape ty)
-declare_kind signals (says.Node name value) = declare signals name (term_shape signals (term value))
+declare_kind signals (says.Node name value) = declare signals name (term_shape signals value)
 declare_kind signals (says.Register name ty clock reset) = declare signals name (type_shape ty)
 declare_kind signals (says.Instance name m) = signals
 declare_kind signals (says.Memory name fields) = signals

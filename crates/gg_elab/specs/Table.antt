@@ -4,7 +4,6 @@ use Rattle.gg_ast.specs.declared.expression.Reference.{Reference}
 use Rattle.gg_ast.specs.declared.statement.Stmt.{Stmt}
 use Rattle.gg_ast.specs.declared.statement.StmtKind.{StmtKind}
 use Rattle.gg_ast.specs.declared.statement.StmtKind.TheVariants as says
-use Rattle.gg_ast.specs.Term.{term}
 use Rattle.gg_elab.specs.declared.connections.Source.{Source}
 use Rattle.gg_elab.specs.Expression.{Signals, named}
 use Rattle.gg_elab.specs.Connection.{Connection, ConnectedTo, Zeroed, ConnectsName, IsConnected, seen_at}
@@ -24,7 +23,7 @@ HasConnection signals table (says.Node n value) = Unit {0}
 HasConnection signals table (says.Register n ty clock reset) = Unit {0}
 HasConnection signals table (says.Instance n m) = Unit {0}
 HasConnection signals table (says.Memory n fields) = Unit {0}
-HasConnection signals table (says.Connect sink source) = HasSink signals table sink (ConnectedTo (term source))
+HasConnection signals table (says.Connect sink source) = HasSink signals table sink (ConnectedTo source)
 HasConnection signals table (says.Invalid sink) = HasSink signals table sink Zeroed
 HasConnection signals table says.Skip = Unit {0}
 HasConnection signals table (says.Stop clock condition code label) = Unit {0}

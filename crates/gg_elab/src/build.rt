@@ -2,7 +2,6 @@
 ghost use Rattle.std.specs.Prelude.{◌≡◌, ℕ, ◌<◌, ◌-◌, ◌^◌, length, map, [], List, take, None, Some, Ok, Err, All, IfOk, OnOk, MatchOption, IsTrue, ◌↔◌, ⊤, Contains};
 ghost use Rattle.gg_bits.specs.Shape.{shape};
 ghost use Rattle.gg_ast.specs.Places.{place_of};
-ghost use Rattle.gg_ast.specs.Term.{term};
 ghost use Rattle.gg_ast.specs.declared.module.Direction.TheVariants as direction;
 ghost use Rattle.gg_flat.specs.Line.{shape_at, HasType, IsSource};
 ghost use Rattle.gg_flat.specs.WellFormed.{IsRegister, IsReset};
@@ -172,8 +171,8 @@ fn add_node_signal(
     requires table { length table.now ≡ length scope.now.paths }
     requires next { IsNext scope.now piece.old name.now found }
     ensures grown { OnOk result (IsWithSink scope.now table.now piece.old piece.new) }
-    ensures line { OnOk result (HasLine scope.now piece.new (term value.now) found.signal) }
-    ensures refused { result ≡ Err Faulty → seen_at table.now found.signal ≡ None → CanStand scope.now (term value.now) (shape found.ty) → ⊥ }
+    ensures line { OnOk result (HasLine scope.now piece.new value.now found.signal) }
+    ensures refused { result ≡ Err Faulty → seen_at table.now found.signal ≡ None → CanStand scope.now value.now (shape found.ty) → ⊥ }
 {
     if source_of(table, found).is_some() {
         return Err(Stop::Faulty);

@@ -1,7 +1,6 @@
 //! The signals that a module declares.
 ghost use Rattle.std.specs.Prelude.{◌≡◌, false, Err, fold, option_map, IfOk, OnOk, Contains};
 ghost use Rattle.gg_bits.specs.Shape.{shape};
-ghost use Rattle.gg_ast.specs.Term.{term};
 ghost use Rattle.gg_types.specs.Types.{is_width};
 ghost use Rattle.gg_elab.specs.declared.fault.Stop.TheVariants.{Faulty};
 ghost use Rattle.gg_elab.specs.Expression.{term_shape};
@@ -11,7 +10,7 @@ ghost use Rattle.gg_elab.specs.Causes.{HasWrongWidth, IsShapeless, IsWrongKind, 
 use crate::expression::add_expression;
 use crate::fault::Stop;
 use crate::scope::Scope;
-use gg_ast::{Expr, GroundType, Module, Port, Stmt, StmtKind};
+use gg_ast::{Expr, ExprKind, GroundType, Module, Port, Stmt, StmtKind};
 use gg_bits::{Kind, Name, Ty};
 use gg_flat::Line;
 use gg_types::is_width;
@@ -103,14 +102,14 @@ fn sized(kind: Kind, width: u32) -> Result<Ty, Stop>
 
 // The type of a node, or none where it is a reference that names no signal, as one to a Clock.
 fn node_type(alloc: Global, scope: &Scope, value: &Expr) -> Result<Option<Ty>, Stop>
-    ensures typed { IfOk result (λ found. option_map (λ t. shape t) found ≡ term_shape scope.now (term value.now)) }
-    ensures refused { result ≡ Err Faulty → IsShapeless scope.now (term value.now) }
+    ensures typed { IfOk result (λ found. option_map (λ t. shape t) found ≡ term_shape scope.now value.now) }
+    ensures refused { result ≡ Err Faulty → IsShapeless scope.now value.now }
 {
     let mut line = Line::new(alloc);
     match add_expression(scope, &mut line, value) {
         Ok(place) => Ok(Some(place.ty)),
-        Err(Stop::Faulty) => match value {
-            Expr::Named(_) => Ok(None),
+        Err(Stop::Faulty) => match &value.kind {
+            ExprKind::Named(_) => Ok(None),
             _ => Err(Stop::Faulty),
         },
         Err(Stop::NoMemory) => Err(Stop::NoMemory),

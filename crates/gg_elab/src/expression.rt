@@ -1,14 +1,13 @@
 //! Expressions as lines of the flat circuit (FIRRTL Specification, "Expressions").
 ghost use Rattle.std.specs.Prelude.{◌≡◌, ◌≢◌, ◌∷◌, [], ◌++◌, length, None, Err, OnOk, IfOk};
 ghost use Rattle.gg_bits.specs.Shape.{shape};
-ghost use Rattle.gg_ast.specs.Term.{term};
 ghost use Rattle.gg_elab.specs.declared.fault.Stop.TheVariants.{Faulty};
 ghost use Rattle.gg_elab.specs.Expression.{term_shape};
 ghost use Rattle.gg_elab.specs.Lines.{Added};
 
 use crate::fault::Stop;
 use crate::scope::Scope;
-use gg_ast::Expr;
+use gg_ast::{Expr, ExprKind};
 use gg_bits::{Ty, result_const, result_mux, result1, result2};
 use gg_flat::{Line, Node, Op};
 use gg_types::literal;
@@ -39,30 +38,30 @@ fn add_node(line: &mut Line, ty: Ty, op: Op) -> Result<Place, Stop>
 
 /// Adds the nodes of an expression; the last stands for it. An expression without a type is a fault.
 pub(crate) fn add_expression(scope: &Scope, line: &mut Line, e: &Expr) -> Result<Place, Stop>
-    ensures added { IfOk result (λ place. Added scope.now line.old line.new (term e.now) place.node (shape place.ty)) }
-    ensures refused { result ≡ Err Faulty → term_shape scope.now (term e.now) ≡ None }
+    ensures added { IfOk result (λ place. Added scope.now line.old line.new e.now place.node (shape place.ty)) }
+    ensures refused { result ≡ Err Faulty → term_shape scope.now e.now ≡ None }
 {
-    match e {
-        Expr::Named(reference) => {
+    match &e.kind {
+        ExprKind::Named(reference) => {
             let Some(found) = scope.find(reference) else {
                 return Err(Stop::Faulty);
             };
             add_node(line, found.ty, Op::Ref(found.signal))
         }
-        Expr::Constant(constant) => {
+        ExprKind::Constant(constant) => {
             let Some((ty, value)) = literal(constant) else {
                 return Err(Stop::Faulty);
             };
             add_node(line, ty, Op::Literal(value))
         }
-        Expr::Unary(op, a) => {
+        ExprKind::Unary(op, a) => {
             let a = add_expression(scope, line, a)?;
             let Ok(ty) = result1(*op, a.ty) else {
                 return Err(Stop::Faulty);
             };
             add_node(line, ty, Op::One(*op, a.node))
         }
-        Expr::Binary(op, a, b) => {
+        ExprKind::Binary(op, a, b) => {
             let a = add_expression(scope, line, a)?;
             let b = add_expression(scope, line, b)?;
             let Ok(ty) = result2(*op, a.ty, b.ty) else {
@@ -70,14 +69,14 @@ pub(crate) fn add_expression(scope: &Scope, line: &mut Line, e: &Expr) -> Result
             };
             add_node(line, ty, Op::Two(*op, a.node, b.node))
         }
-        Expr::Fixed(op, a, n, m) => {
+        ExprKind::Fixed(op, a, n, m) => {
             let a = add_expression(scope, line, a)?;
             let Ok(ty) = result_const(*op, a.ty, *n, *m) else {
                 return Err(Stop::Faulty);
             };
             add_node(line, ty, Op::Fix(*op, a.node, *n, *m))
         }
-        Expr::Mux(c, a, b) => {
+        ExprKind::Mux(c, a, b) => {
             let c = add_expression(scope, line, c)?;
             let a = add_expression(scope, line, a)?;
             let b = add_expression(scope, line, b)?;

@@ -1,7 +1,6 @@
 //! The lines of the flat circuit.
 ghost use Rattle.std.specs.Prelude.{◌≡◌, ◌≢◌, Some, Err, IfOk};
 ghost use Rattle.gg_bits.specs.Shape.{shape, uint};
-ghost use Rattle.gg_ast.specs.Term.{term};
 ghost use Rattle.gg_flat.specs.Line.{HasType, IsSource, IsCondition};
 ghost use Rattle.gg_elab.specs.declared.fault.Stop.TheVariants.{Faulty};
 ghost use Rattle.gg_elab.specs.Expression.{term_shape};
@@ -20,9 +19,9 @@ use std::alloc::Global;
 
 /// The line of an expression that stands for a value of this type. An expression of another kind, or wider, is a fault.
 pub(crate) fn node_line(alloc: Global, scope: &Scope, e: &Expr, ty: Ty) -> Result<Line, Stop>
-    ensures stands { IfOk result (λ line. IsLineOf scope.now (term e.now) line) }
+    ensures stands { IfOk result (λ line. IsLineOf scope.now e.now line) }
     ensures fits { IfOk result (λ line. IsSource (HasType scope.now.shapes) (shape ty) line) }
-    ensures refused { result ≡ Err Faulty → CanStand scope.now (term e.now) (shape ty) → ⊥ }
+    ensures refused { result ≡ Err Faulty → CanStand scope.now e.now (shape ty) → ⊥ }
 {
     let mut line = Line::new(alloc);
     let place = add_expression(scope, &mut line, e)?;
@@ -34,9 +33,9 @@ pub(crate) fn node_line(alloc: Global, scope: &Scope, e: &Expr, ty: Ty) -> Resul
 
 /// The line of a condition. An expression of a type other than `UInt<1>` is a fault.
 pub(crate) fn condition_line(alloc: Global, scope: &Scope, e: &Expr) -> Result<Line, Stop>
-    ensures stands { IfOk result (λ line. IsLineOf scope.now (term e.now) line) }
+    ensures stands { IfOk result (λ line. IsLineOf scope.now e.now line) }
     ensures fits { IfOk result (λ line. IsCondition (HasType scope.now.shapes) line) }
-    ensures refused { result ≡ Err Faulty → term_shape scope.now (term e.now) ≢ Some (uint 1) }
+    ensures refused { result ≡ Err Faulty → term_shape scope.now e.now ≢ Some (uint 1) }
 {
     let mut line = Line::new(alloc);
     let place = add_expression(scope, &mut line, e)?;

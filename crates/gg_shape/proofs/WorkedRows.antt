@@ -12,8 +12,6 @@
 --     10      out <= c
 --     11      c <= n
 use Rattle.std.proofs.Common.{◌≡◌, ℕ, List, [], ◌∷◌, ◌++◌, Some, true, false, codes, refl}
-use Rattle.gg_ast.specs.declared.expression.Expr.{Expr}
-use Rattle.gg_ast.specs.declared.expression.Expr.TheVariants.{Named}
 use Rattle.gg_ast.specs.declared.expression.Reference.TheVariants.{Local, PortOf}
 use Rattle.gg_ast.specs.declared.module.Direction.TheVariants.{Input, Output}
 use Rattle.gg_ast.specs.declared.module.GroundType.TheVariants.{UInt, Clock}
@@ -21,18 +19,19 @@ use Rattle.gg_ast.specs.declared.module.Port.{Port}
 use Rattle.gg_ast.specs.declared.statement.Stmt.{Stmt}
 use Rattle.gg_ast.specs.declared.statement.StmtKind.{StmtKind}
 use Rattle.gg_ast.specs.declared.statement.StmtKind.TheVariants.{Wire, Node, Register, Connect, Invalid}
+use Rattle.gg_ast.specs.Term.{Term, NamedTerm}
 use Rattle.gg_ast.specs.Tree.{ModuleTree, CircuitTree}
 use Rattle.gg_shape.specs.declared.fault.Fault.TheVariants.{MissingTop, RepeatedName, UnknownName, SecondConnection, Unconnected, ConnectedSource}
 use Rattle.gg_shape.specs.Plain.{plain_modules}
 use Rattle.gg_shape.specs.Shape.{shape_faults}
 
-abbrev signal : List ℕ → Expr
-signal name = Named (Local name)
+abbrev signal : List ℕ → Term
+signal name = NamedTerm (Local name)
 
 abbrev on : ℕ → StmtKind → Stmt
 on line kind = record { line = line; kind = kind }
 
-abbrev connect : ℕ → List ℕ → Expr → Stmt
+abbrev connect : ℕ → List ℕ → Term → Stmt
 connect line sink source = on line (Connect (Local sink) source)
 
 abbrev ports : List Port
@@ -83,7 +82,7 @@ too_early : shape_faults (circuit (node_n ∷ register ∷ connect 10 (codes "ou
 too_early = refl
 
 -- F3: a name of two parts, as it is written
-part_of_nothing : shape_faults (circuit (whole ++ on 12 (Node (codes "m") (Named (PortOf (codes "x") (codes "y")))) ∷ [])) ≡ UnknownName 12 (codes "x.y") ∷ []
+part_of_nothing : shape_faults (circuit (whole ++ on 12 (Node (codes "m") (NamedTerm (PortOf (codes "x") (codes "y")))) ∷ [])) ≡ UnknownName 12 (codes "x.y") ∷ []
 part_of_nothing = refl
 
 -- F4: line 12 is `out is invalid`

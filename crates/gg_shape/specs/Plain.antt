@@ -7,7 +7,7 @@ use Rattle.gg_ast.specs.declared.statement.Reset.{Reset}
 use Rattle.gg_ast.specs.declared.statement.Stmt.{Stmt}
 use Rattle.gg_ast.specs.declared.statement.StmtKind as statements
 use Rattle.gg_ast.specs.declared.statement.StmtKind.TheVariants.{Wire, Node, Register, Instance, Memory, Connect, Invalid, Skip, Stop, Report}
-use Rattle.gg_ast.specs.Term.{Term, term, NamedTerm, ConstantTerm, UnaryTerm, BinaryTerm, FixedTerm, MuxTerm}
+use Rattle.gg_ast.specs.Term.{Term, NamedTerm, ConstantTerm, UnaryTerm, BinaryTerm, FixedTerm, MuxTerm}
 use Rattle.gg_ast.specs.Tree.{ModuleTree}
 use Rattle.gg_shape.specs.declared.scope.Role.{Role}
 use Rattle.gg_shape.specs.declared.scope.Role.TheVariants as roles
@@ -33,25 +33,25 @@ plain_term scope (FixedTerm o a n m) = plain_term scope a
 plain_term scope (MuxTerm c a b) = plain_term scope c && (plain_term scope a && plain_term scope b)
 
 abbrev pub plain_argument : List (List ℕ × Role) → Argument → Bool
-plain_argument scope (Value e) = plain_term scope (term e)
+plain_argument scope (Value e) = plain_term scope e
 plain_argument scope (Text t) = true
 
 abbrev pub plain_reset : List (List ℕ × Role) → Option Reset → Bool
 plain_reset scope None = true
-plain_reset scope (Some reset) = plain_term scope (term reset.condition) && plain_term scope (term reset.init)
+plain_reset scope (Some reset) = plain_term scope reset.condition && plain_term scope reset.init
 
 -- the expressions of a statement; what a connection drives is none
 abbrev pub plain_kind : List (List ℕ × Role) → statements.StmtKind → Bool
 plain_kind scope (Wire name ty) = true
-plain_kind scope (Node name value) = plain_term scope (term value)
-plain_kind scope (Register name ty clock reset) = plain_term scope (term clock) && plain_reset scope reset
+plain_kind scope (Node name value) = plain_term scope value
+plain_kind scope (Register name ty clock reset) = plain_term scope clock && plain_reset scope reset
 plain_kind scope (Instance name of_module) = true
 plain_kind scope (Memory name fields) = true
-plain_kind scope (Connect sink source) = plain_term scope (term source)
+plain_kind scope (Connect sink source) = plain_term scope source
 plain_kind scope (Invalid sink) = true
 plain_kind scope Skip = true
-plain_kind scope (Stop clock condition code label) = plain_term scope (term clock) && plain_term scope (term condition)
-plain_kind scope (Report word arguments label) = list_all (plain_argument scope) arguments.items
+plain_kind scope (Stop clock condition code label) = plain_term scope clock && plain_term scope condition
+plain_kind scope (Report word arguments label) = list_all (plain_argument scope) arguments
 
 abbrev pub plain_module : ModuleTree → Bool
 plain_module m = list_all (λ (s : Stmt). plain_kind (scope_of m) s.kind) m.statements

@@ -13,7 +13,7 @@ use Rattle.gg_ast.specs.declared.statement.Reset.{Reset}
 use Rattle.gg_ast.specs.declared.statement.Stmt.{Stmt}
 use Rattle.gg_ast.specs.declared.statement.StmtKind as statements
 use Rattle.gg_ast.specs.declared.statement.StmtKind.TheVariants.{Wire, Node, Register, Instance, Memory, Connect, Invalid, Skip, Stop, Report}
-use Rattle.gg_ast.specs.Term.{Term, term, NamedTerm, ConstantTerm, UnaryTerm, BinaryTerm, FixedTerm, MuxTerm}
+use Rattle.gg_ast.specs.Term.{Term, NamedTerm, ConstantTerm, UnaryTerm, BinaryTerm, FixedTerm, MuxTerm}
 use Rattle.gg_ast.specs.Tree.{ModuleTree, CircuitTree}
 use Rattle.gg_shape.specs.declared.fault.Fault.{Fault}
 use Rattle.gg_shape.specs.declared.fault.Fault.TheVariants.{MissingTop, RepeatedName, UnknownName, SecondConnection, Unconnected, ConnectedSource}
@@ -68,29 +68,29 @@ unknown_in scope line (MuxTerm c a b) = unknown_in scope line c ++ (unknown_in s
 
 abbrev pub unknown_in_arguments : List (List ℕ × Role) → ℕ → List Argument → List Fault
 unknown_in_arguments scope line [] = []
-unknown_in_arguments scope line (Value e ∷ rest) = unknown_in scope line (term e) ++ unknown_in_arguments scope line rest
+unknown_in_arguments scope line (Value e ∷ rest) = unknown_in scope line e ++ unknown_in_arguments scope line rest
 unknown_in_arguments scope line (Text t ∷ rest) = unknown_in_arguments scope line rest
 
 abbrev pub unknown_in_reset : List (List ℕ × Role) → Option Reset → List Fault
 unknown_in_reset scope None = []
 unknown_in_reset scope (Some reset) =
-    unknown_in scope reset.line (term reset.condition) ++ unknown_in scope reset.line (term reset.init)
+    unknown_in scope reset.line reset.condition ++ unknown_in scope reset.line reset.init
 
 -- A statement's references, from left to right, in the scope of what is declared before it; in its own reset a register is
 -- declared too.
 abbrev pub unknown_in_kind : List (List ℕ × Role) → ℕ → statements.StmtKind → List Fault
 unknown_in_kind scope line (Wire name ty) = []
-unknown_in_kind scope line (Node name value) = unknown_in scope line (term value)
+unknown_in_kind scope line (Node name value) = unknown_in scope line value
 unknown_in_kind scope line (Register name ty clock reset) =
-    unknown_in scope line (term clock) ++ unknown_in_reset (scope ++ (name, roles.Register) ∷ []) reset
+    unknown_in scope line clock ++ unknown_in_reset (scope ++ (name, roles.Register) ∷ []) reset
 unknown_in_kind scope line (Instance name of_module) = []
 unknown_in_kind scope line (Memory name fields) = []
-unknown_in_kind scope line (Connect sink source) = unknown_reference scope line sink ++ unknown_in scope line (term source)
+unknown_in_kind scope line (Connect sink source) = unknown_reference scope line sink ++ unknown_in scope line source
 unknown_in_kind scope line (Invalid sink) = unknown_reference scope line sink
 unknown_in_kind scope line Skip = []
 unknown_in_kind scope line (Stop clock condition code label) =
-    unknown_in scope line (term clock) ++ unknown_in scope line (term condition)
-unknown_in_kind scope line (Report word arguments label) = unknown_in_arguments scope line arguments.items
+    unknown_in scope line clock ++ unknown_in scope line condition
+unknown_in_kind scope line (Report word arguments label) = unknown_in_arguments scope line arguments
 
 abbrev pub unknown_by : List Port → List Stmt → Stmt → List Fault
 unknown_by ports before s = unknown_in_kind (scope_after ports before) s.line s.kind

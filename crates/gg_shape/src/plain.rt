@@ -1,7 +1,6 @@
 //! Whether expressions name output ports or wires.
 ghost use Rattle.std.specs.Prelude.{◌≡◌, [], IfOk};
 ghost use Rattle.std.specs.List.{list_all};
-ghost use Rattle.gg_ast.specs.Term.{term};
 ghost use Rattle.gg_shape.specs.Namespace.{IsSingleModule};
 ghost use Rattle.gg_shape.specs.Shape.{shape_faults};
 ghost use Rattle.gg_shape.specs.Plain.{is_plain as stands_for_plain, plain_term, plain_argument, plain_reset, plain_kind, plain_modules};
@@ -9,7 +8,7 @@ ghost use Rattle.gg_shape.specs.Plain.{is_plain as stands_for_plain, plain_term,
 use crate::connections::meaning;
 use crate::names::declarations;
 use crate::scope::{Role, Scope};
-use gg_ast::{Argument, Circuit, Expr, Reset, Stmt, StmtKind};
+use gg_ast::{Argument, Circuit, Expr, ExprKind, Reset, Stmt, StmtKind};
 use std::alloc::{AllocError, Global};
 
 /// Whether no expression of the circuit names an output port or a wire. `shape` has to have found no fault in it before.
@@ -103,15 +102,15 @@ fn is_plain_argument(scope: &Scope, argument: &Argument) -> bool
 
 // Whether an expression names none.
 fn is_plain_value(scope: &Scope, value: &Expr) -> bool
-    ensures { result ≡ plain_term scope.now (term value.now) }
+    ensures { result ≡ plain_term scope.now value.now }
 {
-    match value {
-        Expr::Named(reference) => is_plain(meaning(scope, reference)),
-        Expr::Constant(_) => true,
-        Expr::Unary(_, a) => is_plain_value(scope, a),
-        Expr::Binary(_, a, b) => is_plain_value(scope, a) && is_plain_value(scope, b),
-        Expr::Fixed(_, a, _, _) => is_plain_value(scope, a),
-        Expr::Mux(c, a, b) => {
+    match &value.kind {
+        ExprKind::Named(reference) => is_plain(meaning(scope, reference)),
+        ExprKind::Constant(_) => true,
+        ExprKind::Unary(_, a) => is_plain_value(scope, a),
+        ExprKind::Binary(_, a, b) => is_plain_value(scope, a) && is_plain_value(scope, b),
+        ExprKind::Fixed(_, a, _, _) => is_plain_value(scope, a),
+        ExprKind::Mux(c, a, b) => {
             is_plain_value(scope, c) && is_plain_value(scope, a) && is_plain_value(scope, b)
         }
     }

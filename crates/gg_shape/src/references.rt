@@ -1,13 +1,12 @@
 //! F3: references that name nothing that has a value.
 ghost use Rattle.std.specs.Prelude.{◌≡◌, ◌++◌, ◌+◌, ◌<◌, ◌≤◌, ◌^◌, length, take, IfOk};
-ghost use Rattle.gg_ast.specs.Term.{term};
 ghost use Rattle.gg_shape.specs.Faults.{Answers, along};
 ghost use Rattle.gg_shape.specs.Namespace.{declared_by, scope_after, written as written_text, meaning_of, has_value as stands_for_value, IsDeclaredNext};
 ghost use Rattle.gg_shape.specs.Shape.{unknown_reference, unknown_in, unknown_in_reset, unknown_in_arguments, unknown_in_kind, unknown_by};
 
 use crate::fault::{Fault, Refusal};
 use crate::scope::{Role, Scope};
-use gg_ast::{Argument, Expr, Port, Reference, Reset, Stmt, StmtKind};
+use gg_ast::{Argument, Expr, ExprKind, Port, Reference, Reset, Stmt, StmtKind};
 use gg_bits::Name;
 use std::alloc::{AllocError, Global};
 
@@ -130,18 +129,18 @@ fn known_in(
     line: u64,
     value: &Expr,
 ) -> Result<(), Refusal>
-    ensures { Answers (unknown_in (take count scope.now) line (term value.now)) result }
+    ensures { Answers (unknown_in (take count scope.now) line value.now) result }
 {
-    match value {
-        Expr::Named(reference) => known(alloc, scope, count, line, reference),
-        Expr::Constant(_) => Ok(()),
-        Expr::Unary(_, a) => known_in(alloc, scope, count, line, a),
-        Expr::Binary(_, a, b) => {
+    match &value.kind {
+        ExprKind::Named(reference) => known(alloc, scope, count, line, reference),
+        ExprKind::Constant(_) => Ok(()),
+        ExprKind::Unary(_, a) => known_in(alloc, scope, count, line, a),
+        ExprKind::Binary(_, a, b) => {
             known_in(alloc, scope, count, line, a)?;
             known_in(alloc, scope, count, line, b)
         }
-        Expr::Fixed(_, a, _, _) => known_in(alloc, scope, count, line, a),
-        Expr::Mux(c, a, b) => {
+        ExprKind::Fixed(_, a, _, _) => known_in(alloc, scope, count, line, a),
+        ExprKind::Mux(c, a, b) => {
             known_in(alloc, scope, count, line, c)?;
             known_in(alloc, scope, count, line, a)?;
             known_in(alloc, scope, count, line, b)

@@ -6,7 +6,7 @@ use Rattle.gg_ast.specs.declared.expression.Reference.TheVariants as references
 use Rattle.gg_ast.specs.declared.statement.Stmt.{Stmt}
 use Rattle.gg_ast.specs.declared.statement.StmtKind as statements
 use Rattle.gg_ast.specs.declared.statement.StmtKind.TheVariants.{Wire, Node, Register, Instance, Memory, Connect, Invalid, Skip, Stop, Report}
-use Rattle.gg_ast.specs.Term.{Term, term, NamedTerm, ConstantTerm, UnaryTerm, BinaryTerm, FixedTerm, MuxTerm}
+use Rattle.gg_ast.specs.Term.{Term, NamedTerm, ConstantTerm, UnaryTerm, BinaryTerm, FixedTerm, MuxTerm}
 use Rattle.gg_ast.specs.Tree.{ModuleTree}
 use Rattle.gg_shape.specs.declared.scope.Role.{Role}
 use Rattle.gg_shape.specs.declared.scope.Role.TheVariants as roles
@@ -36,11 +36,11 @@ driven_reference (references.FieldOf memory port field) lead = None
 
 abbrev pub driven_by : statements.StmtKind → Option (List ℕ × Option (List ℕ))
 driven_by (Wire name ty) = None
-driven_by (Node name value) = Some (name, bare (term value))
+driven_by (Node name value) = Some (name, bare value)
 driven_by (Register name ty clock reset) = None
 driven_by (Instance name of_module) = None
 driven_by (Memory name fields) = None
-driven_by (Connect sink source) = driven_reference sink (bare (term source))
+driven_by (Connect sink source) = driven_reference sink (bare source)
 driven_by (Invalid sink) = driven_reference sink None
 driven_by Skip = None
 driven_by (Stop clock condition code label) = None

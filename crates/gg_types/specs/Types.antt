@@ -22,7 +22,7 @@ use Rattle.gg_ast.specs.declared.statement.Reset.{Reset}
 use Rattle.gg_ast.specs.declared.statement.Stmt.{Stmt}
 use Rattle.gg_ast.specs.declared.statement.StmtKind as statements
 use Rattle.gg_ast.specs.declared.statement.StmtKind.TheVariants as kinds
-use Rattle.gg_ast.specs.Term.{Term, term, NamedTerm, ConstantTerm, UnaryTerm, BinaryTerm, FixedTerm, MuxTerm}
+use Rattle.gg_ast.specs.Term.{Term, NamedTerm, ConstantTerm, UnaryTerm, BinaryTerm, FixedTerm, MuxTerm}
 use Rattle.gg_ast.specs.Tree.{ModuleTree, CircuitTree}
 use Rattle.gg_shape.specs.declared.fault.Fault.{Fault}
 use Rattle.gg_shape.specs.declared.fault.Fault.TheVariants.{UnknownName, WrongKind, WrongWidth, WrongParameter, LiteralTooLarge, TooWide, WrongClock}
@@ -226,9 +226,9 @@ module _ (traced : List ℕ → Bool) where
   abbrev pub reset_faults : List (List ℕ × Option Sort) → Option Sort → Option Reset → List Fault
   reset_faults scope register None = []
   reset_faults scope register (Some reset) =
-      condition_faults_in scope reset.line words.Register (term reset.condition)
-      ++ (faults_in scope reset.line (term reset.init)
-      ++ connected reset.line words.Register register (sort_in scope (term reset.init)))
+      condition_faults_in scope reset.line words.Register reset.condition
+      ++ (faults_in scope reset.line reset.init
+      ++ connected reset.line words.Register register (sort_in scope reset.init))
 
   -- a register's type, its clock, and its reset, in which it is declared
   abbrev pub register_faults : List (List ℕ × Option Sort) → ℕ → List ℕ → GroundType → Term → Option Reset → List Fault
@@ -247,36 +247,36 @@ module _ (traced : List ℕ → Bool) where
   -- all arguments but the first are only typed
   abbrev pub argument_faults : List (List ℕ × Option Sort) → ℕ → List Argument → List Fault
   argument_faults scope line [] = []
-  argument_faults scope line (Value e ∷ rest) = faults_in scope line (term e) ++ argument_faults scope line rest
+  argument_faults scope line (Value e ∷ rest) = faults_in scope line e ++ argument_faults scope line rest
   argument_faults scope line (Text t ∷ rest) = argument_faults scope line rest
 
   -- the first argument stands in a clock position
   abbrev pub report_faults : List (List ℕ × Option Sort) → ℕ → Word → List Argument → List Fault
   report_faults scope line word [] = []
   report_faults scope line word (Value e ∷ rest) =
-      clock_faults_in scope line word (term e) ++ argument_faults scope line rest
+      clock_faults_in scope line word e ++ argument_faults scope line rest
   report_faults scope line word (Text t ∷ rest) = WrongKind line word ∷ argument_faults scope line rest
 
   -- the faults of a statement, in the scope of what is declared before it
   abbrev pub faults_of_kind : List (List ℕ × Option Sort) → ℕ → statements.StmtKind → List Fault
   faults_of_kind scope line (kinds.Wire name ty) = width_faults line ty
-  faults_of_kind scope line (kinds.Node name value) = faults_in scope line (term value)
-  faults_of_kind scope line (kinds.Register name ty clock reset) = register_faults scope line name ty (term clock) reset
+  faults_of_kind scope line (kinds.Node name value) = faults_in scope line value
+  faults_of_kind scope line (kinds.Register name ty clock reset) = register_faults scope line name ty clock reset
   faults_of_kind scope line (kinds.Instance name of_module) = []
   faults_of_kind scope line (kinds.Memory name fields) = []
-  faults_of_kind scope line (kinds.Connect sink source) = connection_faults scope line sink (term source)
+  faults_of_kind scope line (kinds.Connect sink source) = connection_faults scope line sink source
   faults_of_kind scope line (kinds.Invalid sink) =
       undeclared scope line sink ++ invalid_faults line sink (sort_of_reference scope sink)
   faults_of_kind scope line kinds.Skip = []
   faults_of_kind scope line (kinds.Stop clock condition code label) =
-      clock_faults_in scope line words.Stop (term clock) ++ condition_faults_in scope line words.Stop (term condition)
+      clock_faults_in scope line words.Stop clock ++ condition_faults_in scope line words.Stop condition
   faults_of_kind scope line (kinds.Report word arguments label) =
-      report_faults scope line (words.Report word) arguments.items
+      report_faults scope line (words.Report word) arguments
 
   -- the type of what a statement declares; a node's is its expression's
   abbrev pub sorts_of_kind : List (List ℕ × Option Sort) → statements.StmtKind → List (List ℕ × Option Sort)
   sorts_of_kind scope (kinds.Wire name ty) = (name, declared_sort ty) ∷ []
-  sorts_of_kind scope (kinds.Node name value) = (name, sort_in scope (term value)) ∷ []
+  sorts_of_kind scope (kinds.Node name value) = (name, sort_in scope value) ∷ []
   sorts_of_kind scope (kinds.Register name ty clock reset) = (name, register_sort ty) ∷ []
   sorts_of_kind scope (kinds.Instance name of_module) = (name, None) ∷ []
   sorts_of_kind scope (kinds.Memory name fields) = (name, None) ∷ []

@@ -1,11 +1,10 @@
 //! F14: which names lead to an input port, through the drivers of wires and nodes.
 ghost use Rattle.std.specs.Prelude.{◌≡◌, ◌<◌, ◌+◌, ◌*◌, ◌≤◌, ◌-◌, ◌%◌, ◌/◌, ℕ, List, IfOk, length, map, option_copied, slice_index, Some, None, if◌then◌else◌};
-ghost use Rattle.gg_ast.specs.Term.{term};
 ghost use Rattle.gg_types.specs.Clocks.{bare as bare_name, driven_by, is_followed as leads_on, is_input_port as is_port, leads};
 ghost use Rattle.gg_types.specs.Places.{ArePlaces, TellsNext, Reaches, next_at, with_driven, role_at};
 ghost use Rattle.gg_types.specs.Sorts.{traced_with};
 
-use gg_ast::{Expr, Reference, Stmt, StmtKind};
+use gg_ast::{Expr, ExprKind, Reference, Stmt, StmtKind};
 use gg_bits::Name;
 use gg_shape::{Role, Scope};
 use std::alloc::{AllocError, Global};
@@ -72,16 +71,16 @@ fn follow(scope: &Scope, next: &mut Vec<usize>, statement: &Stmt)
 
 // The name that an expression is, if it is a bare reference.
 fn bare(value: &Expr) -> Option<&Name>
-    ensures { option_copied result ≡ bare_name (term value.now) }
+    ensures { option_copied result ≡ bare_name value.now }
 {
-    match value {
-        Expr::Named(Reference::Local(name)) => Some(name),
-        Expr::Named(Reference::PortOf(_, _) | Reference::FieldOf(_, _, _))
-        | Expr::Constant(_)
-        | Expr::Unary(_, _)
-        | Expr::Binary(_, _, _)
-        | Expr::Fixed(_, _, _, _)
-        | Expr::Mux(_, _, _) => None,
+    match &value.kind {
+        ExprKind::Named(Reference::Local(name)) => Some(name),
+        ExprKind::Named(Reference::PortOf(_, _) | Reference::FieldOf(_, _, _))
+        | ExprKind::Constant(_)
+        | ExprKind::Unary(_, _)
+        | ExprKind::Binary(_, _, _)
+        | ExprKind::Fixed(_, _, _, _)
+        | ExprKind::Mux(_, _, _) => None,
     }
 }
 

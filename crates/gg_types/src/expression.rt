@@ -2,7 +2,6 @@
 ghost use Rattle.std.specs.Prelude.{◌≡◌, ◌++◌, Some, IfOk, Err};
 ghost use Rattle.gg_bits.specs.Shape.{shape_of};
 ghost use Rattle.gg_bits.specs.ResultType.{type1, type2, type_const, type_mux};
-ghost use Rattle.gg_ast.specs.Term.{term};
 ghost use Rattle.gg_shape.specs.Faults.{Answers};
 ghost use Rattle.gg_types.specs.Sorts.{sort, sorts_with, traced_with};
 ghost use Rattle.gg_types.specs.Types.{undeclared, clock_faults, read_sort, sort_of_reference, literal_faults, literal_sort, sort_in, faults_in, result1 as result_1, result2 as result_2, result3 as result_3, is_traced, result_faults, result_sort};
@@ -13,33 +12,33 @@ ghost use Rattle.gg_shape.specs.declared.fault.Fault.TheVariants.{WrongKind};
 use crate::known::{Known, Typing};
 use crate::literals::literal;
 use crate::places::is_width;
-use gg_ast::{Expr, Literal, Reference};
+use gg_ast::{Expr, ExprKind, Literal, Reference};
 use gg_bits::{Bad, Op1, Op2, OpN, Ty, result_const, result_mux, result1, result2};
 use gg_shape::{Fault, Refusal, Word, written};
 use std::alloc::Global;
 
 /// The type of an expression on this line, or its first fault.
 pub fn type_of(alloc: Global, known: &Known, line: u64, value: &Expr) -> Result<Typing, Refusal>
-    ensures answers { Answers (faults_in (traced_with known.now.scope known.now.traced.items) (sorts_with known.now.scope known.now.types.items) line (term value.now)) result }
-    ensures sort { IfOk result (λ t. sort_in (traced_with known.now.scope known.now.traced.items) (sorts_with known.now.scope known.now.types.items) (term value.now) ≡ Some (sort t)) }
+    ensures answers { Answers (faults_in (traced_with known.now.scope known.now.traced.items) (sorts_with known.now.scope known.now.types.items) line value.now) result }
+    ensures sort { IfOk result (λ t. sort_in (traced_with known.now.scope known.now.traced.items) (sorts_with known.now.scope known.now.types.items) value.now ≡ Some (sort t)) }
 {
-    match value {
-        Expr::Named(reference) => read(alloc, known, line, reference),
-        Expr::Constant(number) => constant(line, number),
-        Expr::Unary(operation, a) => {
+    match &value.kind {
+        ExprKind::Named(reference) => read(alloc, known, line, reference),
+        ExprKind::Constant(number) => constant(line, number),
+        ExprKind::Unary(operation, a) => {
             let ta = type_of(alloc, known, line, a)?;
             unary(line, *operation, ta)
         }
-        Expr::Binary(operation, a, b) => {
+        ExprKind::Binary(operation, a, b) => {
             let ta = type_of(alloc, known, line, a)?;
             let tb = type_of(alloc, known, line, b)?;
             binary(line, *operation, ta, tb)
         }
-        Expr::Fixed(operation, a, n, m) => {
+        ExprKind::Fixed(operation, a, n, m) => {
             let ta = type_of(alloc, known, line, a)?;
             fixed(line, *operation, ta, *n, *m)
         }
-        Expr::Mux(c, a, b) => {
+        ExprKind::Mux(c, a, b) => {
             let tc = type_of(alloc, known, line, c)?;
             let ta = type_of(alloc, known, line, a)?;
             let tb = type_of(alloc, known, line, b)?;

@@ -1,6 +1,5 @@
 //! Declared types, and places with a rule of their own: clocks, conditions, connections.
 ghost use Rattle.std.specs.Prelude.{◌≡◌, ◌≤◌, ◌++◌, true, not, Some, IsOk, IfOk};
-ghost use Rattle.gg_ast.specs.Term.{term};
 ghost use Rattle.gg_shape.specs.Faults.{Answers};
 ghost use Rattle.gg_bits.specs.Shape.{shape, of_kind};
 ghost use Rattle.gg_shape.specs.Shape.{fault_if};
@@ -67,7 +66,7 @@ pub fn clock(
     word: Word,
     value: &Expr,
 ) -> Result<(), Refusal>
-    ensures { Answers (clock_faults_in (traced_with known.now.scope known.now.traced.items) (sorts_with known.now.scope known.now.types.items) line word (term value.now)) result }
+    ensures { Answers (clock_faults_in (traced_with known.now.scope known.now.traced.items) (sorts_with known.now.scope known.now.types.items) line word value.now) result }
 {
     let typing = type_of(alloc, known, line, value)?;
     only_clock(line, word, typing)
@@ -91,7 +90,7 @@ pub fn condition(
     word: Word,
     value: &Expr,
 ) -> Result<(), Refusal>
-    ensures { Answers (condition_faults_in (traced_with known.now.scope known.now.traced.items) (sorts_with known.now.scope known.now.types.items) line word (term value.now)) result }
+    ensures { Answers (condition_faults_in (traced_with known.now.scope known.now.traced.items) (sorts_with known.now.scope known.now.types.items) line word value.now) result }
 {
     let typing = type_of(alloc, known, line, value)?;
     only_condition(line, word, typing)
@@ -121,7 +120,7 @@ pub fn clocked(
     tick: &Expr,
     test: &Expr,
 ) -> Result<(), Refusal>
-    ensures { Answers (clock_faults_in (traced_with known.now.scope known.now.traced.items) (sorts_with known.now.scope known.now.types.items) line word (term tick.now) ++ condition_faults_in (traced_with known.now.scope known.now.traced.items) (sorts_with known.now.scope known.now.types.items) line word (term test.now)) result }
+    ensures { Answers (clock_faults_in (traced_with known.now.scope known.now.traced.items) (sorts_with known.now.scope known.now.types.items) line word tick.now ++ condition_faults_in (traced_with known.now.scope known.now.traced.items) (sorts_with known.now.scope known.now.types.items) line word test.now) result }
 {
     clock(alloc, known, line, word, tick)?;
     condition(alloc, known, line, word, test)

@@ -1,6 +1,5 @@
 //! The faults of a statement's types, and the types of what it declares.
 ghost use Rattle.std.specs.Prelude.{◌≡◌, ◌++◌, ◌∷◌, [], ℕ, List, true, Some, OnOk, ◌+◌, length};
-ghost use Rattle.gg_ast.specs.Term.{term};
 ghost use Rattle.gg_shape.specs.declared.scope.Role.{Role as Roles};
 ghost use Rattle.gg_shape.specs.declared.scope.Role.TheVariants.{Register};
 ghost use Rattle.gg_shape.specs.declared.fault.Word.TheVariants as words;
@@ -79,7 +78,7 @@ fn judge_register(
     tick: &Expr,
     reset: &Option<Reset>,
 ) -> Result<(), Refusal>
-    ensures answers { (name : List ℕ) → IsDeclaredNext known.old.scope (length known.old.types.items) ((name, Register) ∷ []) → Answers (register_faults (traced_with known.old.scope known.old.traced.items) (sorts_with known.old.scope known.old.types.items) line name ty (term tick.now) reset.now) result }
+    ensures answers { (name : List ℕ) → IsDeclaredNext known.old.scope (length known.old.types.items) ((name, Register) ∷ []) → Answers (register_faults (traced_with known.old.scope known.old.traced.items) (sorts_with known.old.scope known.old.types.items) line name ty tick.now reset.now) result }
     ensures types { (name : List ℕ) → IsDeclaredNext known.old.scope (length known.old.types.items) ((name, Register) ∷ []) → OnOk result (sorts_with known.new.scope known.new.types.items ≡ sorts_with known.old.scope known.old.types.items ++ (name, register_sort ty) ∷ []) }
     ensures count { OnOk result (length known.new.types.items ≡ length known.old.types.items + 1) }
     ensures scope { known.new.scope ≡ known.old.scope }
@@ -118,7 +117,7 @@ fn judge_connection(
     sink: &Reference,
     source: &Expr,
 ) -> Result<(), Refusal>
-    ensures { Answers (connection_faults (traced_with known.now.scope known.now.traced.items) (sorts_with known.now.scope known.now.types.items) line sink.now (term source.now)) result }
+    ensures { Answers (connection_faults (traced_with known.now.scope known.now.traced.items) (sorts_with known.now.scope known.now.types.items) line sink.now source.now) result }
 {
     let wide = named(alloc, known, line, sink)?;
     let narrow = type_of(alloc, known, line, source)?;

@@ -1,5 +1,4 @@
 use Rattle.std.proofs.Common.{◌≡◌, Option, None, refl, sym, ◌∙◌, subst}
-use Rattle.gg_ast.specs.Term.{term}
 use Rattle.gg_flat.specs.declared.piece.Driver.TheVariants.{Computed}
 use Rattle.gg_elab.specs.Connection.{Connection, seen_at}
 use Rattle.gg_elab.specs.Building.{HasSource}
@@ -20,7 +19,7 @@ pub returns-clause-line : goal.returns-clause-line
 returns-clause-line c =
     let found = c.args.found in
     let line = c.in_ok-line.line in
-    has_line-ok c.add_signal.result c.args.scope.now c.args.piece.now c.add_signal.new.piece c.args.name.now found (record { ty = found.ty; driver = Computed line }) line (term c.args.value.now)
+    has_line-ok c.add_signal.result c.args.scope.now c.args.piece.now c.add_signal.new.piece c.args.name.now found (record { ty = found.ty; driver = Computed line }) line c.args.value.now
     c.requires.next refl c.in_ok-line.ensures.stands c.add_signal.ensures.added
 
 pub add_signal-requires-clause-fresh : goal.add_signal-requires-clause-fresh

@@ -1,6 +1,5 @@
 use Rattle.std.proofs.Common.{refl, ap, sym}
 use Rattle.gg_bits.specs.Shape.{shape}
-use Rattle.gg_ast.specs.Term.{term}
 use Rattle.gg_flat.specs.declared.line.Op.TheVariants.{Ref, Literal, One, Two, Fix, Mux}
 use Rattle.gg_elab.proofs.LineLemmas.{added_reference, added_literal, added_one, added_two, added_fix, added_mux}
 use Rattle.gg_elab.proofs.PlaceLemmas.{a_node, placed, operand}
@@ -13,7 +12,7 @@ returns-in-Some-clause-added t c =
     let h = c.add_node.ensures in
     placed c.add_node.result c.args.scope.now c.args.line.now c.args.line.now c.add_node.new.line n _ _
     (record { added = h.new; place = h.place; typed = h.typed })
-    (ap term c.in-Named.is)
+    (sym c.e.view_is ∙ ap term_of c.in-Named.is)
     (added_reference c.args.scope.now c.args.line.now n c.in-Named.reference found.signal (shape found.ty) c.in-Some.ensures.some c.in-Some.ensures.within c.in-Some.ensures.typed refl refl)
 
 pub returns-in-Some-literal-clause-added : goal.returns-in-Some-literal-clause-added
@@ -23,7 +22,7 @@ returns-in-Some-literal-clause-added t c =
     let h = c.add_node-in-Constant.ensures in
     placed c.add_node-in-Constant.result c.args.scope.now c.args.line.now c.args.line.now c.add_node-in-Constant.new.line n _ _
     (record { added = h.new; place = h.place; typed = h.typed })
-    (ap term c.in-Constant.is)
+    (sym c.e.view_is ∙ ap term_of c.in-Constant.is)
     (added_literal c.args.scope.now c.args.line.now n c.in-Constant.constant found.value (shape found.ty) found.ensures.some found.ensures.fits found.ensures.value refl refl)
 
 pub returns-in-Ok-clause-added : goal.returns-in-Ok-clause-added
@@ -33,9 +32,9 @@ returns-in-Ok-clause-added t c =
     let h = c.add_node-in-Unary.ensures in
     placed c.add_node-in-Unary.result c.args.scope.now c.args.line.now c.add_expression.new.line c.add_node-in-Unary.new.line n _ _
     (record { added = h.new; place = h.place; typed = h.typed })
-    (ap term c.in-Unary.is)
-    (added_one c.args.scope.now c.args.line.now c.add_expression.new.line n c.in-Unary.op (term c.in-Unary.a.value) a.node (shape a.ty) (shape c.in-Ok.ty)
-    (operand _ _ _ _ _ _ _ (ap term c.deref.ensures) c.in_ok-a-in-Unary.ensures.added)
+    (sym c.e.view_is ∙ ap term_of c.in-Unary.is)
+    (added_one c.args.scope.now c.args.line.now c.add_expression.new.line n c.in-Unary.op c.in-Unary.a.value a.node (shape a.ty) (shape c.in-Ok.ty)
+    (operand _ _ _ _ _ _ _ c.deref.ensures c.in_ok-a-in-Unary.ensures.added)
     (sym c.in-Ok.ensures.exact) refl refl)
 
 pub returns-in-Ok-result2-clause-added : goal.returns-in-Ok-result2-clause-added
@@ -46,10 +45,10 @@ returns-in-Ok-result2-clause-added t c =
     let h = c.add_node-in-Binary.ensures in
     placed c.add_node-in-Binary.result c.args.scope.now c.args.line.now c.add_expression-in-Binary-2.new.line c.add_node-in-Binary.new.line n _ _
     (record { added = h.new; place = h.place; typed = h.typed })
-    (ap term c.in-Binary.is)
-    (added_two c.args.scope.now c.args.line.now c.add_expression-in-Binary.new.line c.add_expression-in-Binary-2.new.line n c.in-Binary.op (term c.in-Binary.a.value) (term c.in-Binary.b.value) a.node b.node (shape a.ty) (shape b.ty) (shape c.in-Ok-result2.ty)
-    (operand _ _ _ _ _ _ _ (ap term c.deref-in-Binary.ensures) c.in_ok-a-in-Binary.ensures.added)
-    (operand _ _ _ _ _ _ _ (ap term c.deref-in-Binary-2.ensures) c.in_ok-b-in-Binary.ensures.added)
+    (sym c.e.view_is ∙ ap term_of c.in-Binary.is)
+    (added_two c.args.scope.now c.args.line.now c.add_expression-in-Binary.new.line c.add_expression-in-Binary-2.new.line n c.in-Binary.op c.in-Binary.a.value c.in-Binary.b.value a.node b.node (shape a.ty) (shape b.ty) (shape c.in-Ok-result2.ty)
+    (operand _ _ _ _ _ _ _ c.deref-in-Binary.ensures c.in_ok-a-in-Binary.ensures.added)
+    (operand _ _ _ _ _ _ _ c.deref-in-Binary-2.ensures c.in_ok-b-in-Binary.ensures.added)
     (sym c.in-Ok-result2.ensures.exact) refl refl)
 
 pub returns-in-Ok-result_const-clause-added : goal.returns-in-Ok-result_const-clause-added
@@ -59,9 +58,9 @@ returns-in-Ok-result_const-clause-added t c =
     let h = c.add_node-in-Fixed.ensures in
     placed c.add_node-in-Fixed.result c.args.scope.now c.args.line.now c.add_expression-in-Fixed.new.line c.add_node-in-Fixed.new.line n _ _
     (record { added = h.new; place = h.place; typed = h.typed })
-    (ap term c.in-Fixed.is)
-    (added_fix c.args.scope.now c.args.line.now c.add_expression-in-Fixed.new.line n c.in-Fixed.op (term c.in-Fixed.a.value) a.node c.in-Fixed.n c.in-Fixed.m (shape a.ty) (shape c.in-Ok-result_const.ty)
-    (operand _ _ _ _ _ _ _ (ap term c.deref-in-Fixed.ensures) c.in_ok-a-in-Fixed.ensures.added)
+    (sym c.e.view_is ∙ ap term_of c.in-Fixed.is)
+    (added_fix c.args.scope.now c.args.line.now c.add_expression-in-Fixed.new.line n c.in-Fixed.op c.in-Fixed.a.value a.node c.in-Fixed.n c.in-Fixed.m (shape a.ty) (shape c.in-Ok-result_const.ty)
+    (operand _ _ _ _ _ _ _ c.deref-in-Fixed.ensures c.in_ok-a-in-Fixed.ensures.added)
     (sym c.in-Ok-result_const.ensures.exact) refl refl)
 
 pub returns-in-Ok-result_mux-clause-added : goal.returns-in-Ok-result_mux-clause-added
@@ -73,9 +72,9 @@ returns-in-Ok-result_mux-clause-added t c =
     let h = c.add_node-in-Mux.ensures in
     placed c.add_node-in-Mux.result c.args.scope.now c.args.line.now c.add_expression-in-Mux-3.new.line c.add_node-in-Mux.new.line n _ _
     (record { added = h.new; place = h.place; typed = h.typed })
-    (ap term c.in-Mux.is)
-    (added_mux c.args.scope.now c.args.line.now c.add_expression-in-Mux.new.line c.add_expression-in-Mux-2.new.line c.add_expression-in-Mux-3.new.line n (term c.in-Mux.c.value) (term c.in-Mux.a.value) (term c.in-Mux.b.value) u.node a.node b.node (shape u.ty) (shape a.ty) (shape b.ty) (shape c.in-Ok-result_mux.ty)
-    (operand _ _ _ _ _ _ _ (ap term c.deref-in-Mux.ensures) c.in_ok-c-in-Mux.ensures.added)
-    (operand _ _ _ _ _ _ _ (ap term c.deref-in-Mux-2.ensures) c.in_ok-a-in-Mux.ensures.added)
-    (operand _ _ _ _ _ _ _ (ap term c.deref-in-Mux-3.ensures) c.in_ok-b-in-Mux.ensures.added)
+    (sym c.e.view_is ∙ ap term_of c.in-Mux.is)
+    (added_mux c.args.scope.now c.args.line.now c.add_expression-in-Mux.new.line c.add_expression-in-Mux-2.new.line c.add_expression-in-Mux-3.new.line n c.in-Mux.c.value c.in-Mux.a.value c.in-Mux.b.value u.node a.node b.node (shape u.ty) (shape a.ty) (shape b.ty) (shape c.in-Ok-result_mux.ty)
+    (operand _ _ _ _ _ _ _ c.deref-in-Mux.ensures c.in_ok-c-in-Mux.ensures.added)
+    (operand _ _ _ _ _ _ _ c.deref-in-Mux-2.ensures c.in_ok-a-in-Mux.ensures.added)
+    (operand _ _ _ _ _ _ _ c.deref-in-Mux-3.ensures c.in_ok-b-in-Mux.ensures.added)
     (sym c.in-Ok-result_mux.ensures.exact) refl refl)
