@@ -24,7 +24,3 @@ size_of (UnaryTerm o a) = size_of a + 1
 size_of (BinaryTerm o a b) = size_of a + size_of b + 1
 size_of (FixedTerm o a n m) = size_of a + 1
 size_of (MuxTerm c a b) = size_of c + size_of a + size_of b + 1
-
--- an expression is its term
-abbrev pub term : Term → Term
-term t = t

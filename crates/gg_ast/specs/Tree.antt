@@ -2,7 +2,10 @@
 -- "Circuits and Modules").
 use Rattle.std.specs.Prelude.{◌≡◌, ℕ, List, [], ◌∷◌, ◌++◌, map}
 use Rattle.gg_ast.specs.declared.module.Port.{Port}
+use Rattle.gg_ast.specs.declared.statement.Field.{Field}
 use Rattle.gg_ast.specs.declared.statement.Stmt.{Stmt}
+use Rattle.gg_ast.specs.declared.statement.StmtKind.{StmtKind}
+use Rattle.gg_ast.specs.declared.statement.StmtKind.TheVariants.{Memory}
 
 -- a module: the line on which it begins, its name, its ports and its statements
 pub record ModuleTree : Type 0 where
@@ -40,11 +43,39 @@ with_port port m = record m { ports = m.ports ++ port ∷ [] }
 abbrev pub with_statement : Stmt → ModuleTree → ModuleTree
 with_statement statement m = record m { statements = m.statements ++ statement ∷ [] }
 
--- the modules, with the last one changed
-abbrev pub on_last : (ModuleTree → ModuleTree) → List ModuleTree → List ModuleTree
+-- the list, with the last element changed
+abbrev pub on_last : {A : Type 0} → (A → A) → List A → List A
 on_last f [] = []
 on_last f (m ∷ []) = f m ∷ []
 on_last f (m ∷ (n ∷ ms)) = m ∷ on_last f (n ∷ ms)
+
+-- the list has a last element, and that is so
+abbrev pub EndsIn : {A : Type 0} → (A → Type 0) → List A → Type 0
+EndsIn P [] = ⊥
+EndsIn P (m ∷ []) = P m
+EndsIn P (m ∷ (n ∷ ms)) = EndsIn P (n ∷ ms)
+
+-- a memory with one more field; any other statement as it is
+abbrev pub with_field : Field → StmtKind → StmtKind
+with_field field (Memory name fields) = Memory name (fields ++ field ∷ [])
+with_field field other = other
+
+abbrev pub statement_with_field : Field → Stmt → Stmt
+statement_with_field field s = record s { kind = with_field field s.kind }
+
+-- a module whose last statement has one more field
+abbrev pub module_with_field : Field → ModuleTree → ModuleTree
+module_with_field field m = record m { statements = on_last (statement_with_field field) m.statements }
+
+abbrev pub IsMemory : StmtKind → Type 0
+IsMemory (Memory name fields) = Unit {0}
+IsMemory other = ⊥
+
+abbrev pub IsMemoryStatement : Stmt → Type 0
+IsMemoryStatement s = IsMemory s.kind
+
+abbrev pub EndsInMemory : ModuleTree → Type 0
+EndsInMemory m = EndsIn IsMemoryStatement m.statements
 
 -- a circuit with one more module
 abbrev pub add_module : CircuitTree → ModuleTree → CircuitTree
@@ -57,6 +88,14 @@ add_port circuit port = record circuit { modules = on_last (with_port port) circ
 -- a circuit whose last module has one more statement
 abbrev pub add_statement : CircuitTree → Stmt → CircuitTree
 add_statement circuit statement = record circuit { modules = on_last (with_statement statement) circuit.modules }
+
+-- a circuit whose last statement has one more field
+abbrev pub add_field : CircuitTree → Field → CircuitTree
+add_field circuit field = record circuit { modules = on_last (module_with_field field) circuit.modules }
+
+-- the last statement of the last module is a memory, so a field may follow
+abbrev pub IsOpenToFields : List ModuleTree → Type 0
+IsOpenToFields modules = EndsIn EndsInMemory modules
 
 -- the last module has no statements yet, so a port may follow
 abbrev pub IsOpenToPorts : List ModuleTree → Type 0

@@ -1,13 +1,13 @@
 //! The circuit and its table of modules.
 ghost use Rattle.std.specs.Prelude.{◌≡◌, ◌≢◌, ℕ, ◌+◌, ◌<◌, ◌≤◌, ◌^◌, [], ◌∷◌, ◌++◌, length, is_ok, if◌then◌else◌, OnOk, OnErr, List, IfSome, IfNone};
-ghost use Rattle.gg_ast.specs.Tree.{empty_circuit, empty_module, module_names, add_module, add_port, add_statement, IsOpenToPorts};
-ghost use Rattle.gg_ast.specs.Names.{IsName, IsPortNamed, AreNamesOfStatement, AreNamesOfCircuit};
+ghost use Rattle.gg_ast.specs.Tree.{empty_circuit, empty_module, module_names, add_module, add_port, add_statement, add_field, IsMemory, IsOpenToPorts, IsOpenToFields};
+ghost use Rattle.gg_ast.specs.Names.{IsName, IsPortNamed, AreNamesOfField, AreNamesOfStatement, AreNamesOfCircuit};
 ghost use Rattle.gg_ast.specs.Places.{place_of, IsFirstOf, Lacks, TellsPlaces};
 ghost use Rattle.gg_ast.specs.Row.{numbered, CircuitRow, ModuleRow};
-ghost use Rattle.gg_ast.specs.Rows.{rows_of, port_row, statement_rows};
+ghost use Rattle.gg_ast.specs.Rows.{rows_of, port_row, field_row, statement_rows};
 
 use crate::module::{Module, Port};
-use crate::statement::Stmt;
+use crate::statement::{Field, Stmt};
 use gg_bits::Name;
 use indexmap::IndexMap;
 use std::alloc::{AllocError, Global};
@@ -143,7 +143,7 @@ impl Circuit {
     /// Adds a statement behind the others of the last module. There has to be a module.
     ///
     /// The circuit has the rows of that statement more then: one, or for a memory, and a register whose reset has a line
-    /// of its own, several (`statement_rows`).
+    /// of its own, several (`statement_rows`). Behind a memory a field may follow (`IsOpenToFields`).
     ///
     /// # Errors
     ///
@@ -153,10 +153,29 @@ impl Circuit {
         requires named { AreNamesOfStatement statement }
         ensures value { self.new ≡ (if is_ok result then add_statement self.old statement else self.old) }
         ensures rows { OnOk result (rows_of self.new ≡ rows_of self.old ++ statement_rows statement) }
+        ensures fields { IsMemory statement.kind → OnOk result (IsOpenToFields self.new.modules) }
         ensures some { length self.new.modules ≡ length self.old.modules }
     {
         let last = self.modules.len() - 1;
         self.modules[last].push_statement(statement)
+    }
+
+    /// Adds a field behind the others of the last statement, which has to be a memory: the circuit has one row more then,
+    /// the field's, and another may follow.
+    ///
+    /// # Errors
+    ///
+    /// `AllocError` where memory is refused: the circuit stays as it was.
+    pub fn push_field(&mut self, field: Field) -> Result<(), AllocError>
+        requires open { IsOpenToFields self.old.modules }
+        requires named { AreNamesOfField field }
+        ensures value { self.new ≡ (if is_ok result then add_field self.old field else self.old) }
+        ensures rows { OnOk result (rows_of self.new ≡ rows_of self.old ++ field_row field ∷ []) }
+        ensures fields { IsOpenToFields self.new.modules }
+        ensures some { length self.new.modules ≡ length self.old.modules }
+    {
+        let last = self.modules.len() - 1;
+        self.modules[last].push_field(field)
     }
 }
 

@@ -1,8 +1,8 @@
 //! Modules and ports (FIRRTL Specification, "Circuits and Modules").
-ghost use Rattle.std.specs.Prelude.{◌≡◌, is_ok, if◌then◌else◌};
-ghost use Rattle.gg_ast.specs.Tree.{empty_module, with_port, with_statement};
+ghost use Rattle.std.specs.Prelude.{◌≡◌, ◌<◌, length, is_ok, if◌then◌else◌};
+ghost use Rattle.gg_ast.specs.Tree.{empty_module, with_port, with_statement, module_with_field};
 
-use crate::statement::Stmt;
+use crate::statement::{Field, Stmt};
 use gg_bits::Name;
 use std::alloc::{AllocError, Global};
 use std::marker::Model;
@@ -116,5 +116,15 @@ impl Module {
     {
         self.statements.push(statement)?;
         Ok(())
+    }
+
+    /// Adds a field behind the others of the last statement, if that is a memory. There has to be a statement. Where
+    /// memory is refused the module stays as it was.
+    pub(crate) fn push_field(&mut self, field: Field) -> Result<(), AllocError>
+        requires { 0 < length self.old.statements }
+        ensures { self.new ≡ (if is_ok result then module_with_field field self.old else self.old) }
+    {
+        let last = self.statements.len() - 1;
+        self.statements[last].push_field(field)
     }
 }

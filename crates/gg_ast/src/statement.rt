@@ -1,5 +1,6 @@
 //! Statements (FIRRTL Specification, "Statements", "Memories").
 ghost use Rattle.std.specs.Prelude.{◌≡◌, [], ◌∷◌, ◌++◌, is_ok, if◌then◌else◌};
+ghost use Rattle.gg_ast.specs.Tree.{statement_with_field};
 
 use crate::expression::{Expr, Reference};
 use crate::module::GroundType;
@@ -14,6 +15,18 @@ pub struct Stmt {
     pub line: u64,
     /// What it says.
     pub kind: StmtKind,
+}
+
+impl Stmt {
+    /// Adds a field behind the others of a memory; any other statement stays as it is. Where memory is refused it stays too.
+    pub(crate) fn push_field(&mut self, field: Field) -> Result<(), AllocError>
+        ensures { self.new ≡ (if is_ok result then statement_with_field field self.old else self.old) }
+    {
+        match &mut self.kind {
+            StmtKind::Memory { fields, .. } => fields.push(field),
+            _ => Ok(()),
+        }
+    }
 }
 
 /// What a statement says.

@@ -8,7 +8,7 @@ use Rattle.gg_ast.specs.declared.statement.StmtKind.TheVariants as statement
 use Rattle.gg_ast.specs.Row.{Numbered, numbered, VersionRow, CircuitRow, RegisterResetRow}
 use Rattle.gg_ast.specs.Rows.{rows_of, register_rows, kind_rows}
 use Rattle.gg_ast.specs.declared.module.GroundType.{GroundType}
-use Rattle.gg_ast.specs.Term.{Term, term}
+use Rattle.gg_ast.specs.Term.{Term}
 use Rattle.gg_ast.specs.Tree.{CircuitTree}
 use Rattle.gg_read.specs.declared.cursor.Miss.{Miss}
 use Rattle.gg_read.specs.declared.stage.OpenRegister.{OpenRegister}
@@ -52,7 +52,7 @@ if_true true x y e = refl
 if_true false x y e = absurd (cc)
 
 -- a register whose reset stands on its line has one row
-pub inline_rows : (n : ℕ) (name : List ℕ) (ty : GroundType) (clock : Term) (reset : Reset) → reset.line ≡ n → register_rows n name ty clock (Some reset) ≡ numbered n (RegisterResetRow name ty clock (term reset.condition) (term reset.init)) ∷ []
+pub inline_rows : (n : ℕ) (name : List ℕ) (ty : GroundType) (clock : Term) (reset : Reset) → reset.line ≡ n → register_rows n name ty clock (Some reset) ≡ numbered n (RegisterResetRow name ty clock reset.condition reset.init) ∷ []
 inline_rows n name ty clock reset same =
     let test : (reset.line == n) ≡ true = grind (arith, nat_tests) in
     if_true _ _ _ test
@@ -61,10 +61,10 @@ later_reset : (line at : ℕ) → line < at → (at == line) ≡ false
 later_reset line at h = grind (arith, nat_tests)
 
 -- a register's two rows
-pub rows_closed : (circuit next : CircuitTree) (register : OpenRegister) (reset : Reset) (before : List Numbered) → register.line < reset.line → rows_of next ≡ rows_of circuit ++ register_rows register.line register.name register.ty (term register.clock) (Some reset) → without_version before ≡ rows_of circuit ++ open_row register ∷ [] → without_version (before ++ reset_row reset ∷ []) ≡ rows_of next
+pub rows_closed : (circuit next : CircuitTree) (register : OpenRegister) (reset : Reset) (before : List Numbered) → register.line < reset.line → rows_of next ≡ rows_of circuit ++ register_rows register.line register.name register.ty register.clock (Some reset) → without_version before ≡ rows_of circuit ++ open_row register ∷ [] → without_version (before ++ reset_row reset ∷ []) ≡ rows_of next
 rows_closed circuit next register reset before later pushed e =
     let test : (reset.line == register.line) ≡ false = later_reset register.line reset.line later in
-    let two : register_rows register.line register.name register.ty (term register.clock) (Some reset) ≡ open_row register ∷ (reset_row reset ∷ []) = if_false _ _ _ test in
+    let two : register_rows register.line register.name register.ty register.clock (Some reset) ≡ open_row register ∷ (reset_row reset ∷ []) = if_false _ _ _ test in
     without_version-append before (reset_row reset ∷ []) _ _ e
     ∙ ap (λ (l : List Numbered). l ++ reset_row reset ∷ []) e
     ∙ append_assoc (rows_of circuit) (open_row register ∷ []) (reset_row reset ∷ [])

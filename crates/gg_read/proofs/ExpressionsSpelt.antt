@@ -23,7 +23,8 @@ use Rattle.gg_read.specs.declared.words.Operation.TheVariants.{Unary, Binary as 
 use Rattle.gg_read.specs.declared.digits.Digits.{Digits}
 use Rattle.gg_bits.specs.Spelling.{text1, text2, text_const}
 use Rattle.gg_read.specs.Words.{kind_text, operation_of}
-use Rattle.gg_read.specs.Forms.{IsName, IsNatural, SpellsReference, SpellsType, SpellsLiteral, SpellsParameters, SpellsExpr, are_digits, signed, number_token}
+use Rattle.gg_ast.specs.Names.{IsName}
+use Rattle.gg_read.specs.Forms.{IsNatural, SpellsReference, SpellsType, SpellsLiteral, SpellsParameters, SpellsExpr, are_digits, signed, number_token}
 use Rattle.gg_read.specs.Reading.{◌>>=◌, symbol_at, word_at, name_at, natural_at, third_at, second_at, reference_at, width_at, kind_at, ground_type, type_at, checked_digits, signed_digits, radix_of, text_digits, digits_at, literal_of, literal_at, operation_at, one_parameter_at, two_parameters_at, parameters_at, is_second, unary_at, binary_at, fixed_at, mux_at, operands_at, call_at, expr_at}
 use Rattle.gg_read.proofs.Leaves.{bound, chosen, not_chosen, some_same, symbol_at-spells, word_at-spells, name_at-spells, natural_at-spells}
 use Rattle.gg_read.proofs.WordLaws.{operation_text, operation_of-spells}

@@ -6,8 +6,8 @@ use Rattle.gg_lex.specs.declared.token.Tok.{Tok}
 use Rattle.gg_lex.specs.Lines.{Lexes}
 use Rattle.gg_lex.proofs.Readings.{Lexes-same}
 use Rattle.gg_ast.specs.Row.{Row, Numbered, numbered}
-use Rattle.gg_ast.specs.Rows.{rows_of}
 use Rattle.gg_ast.specs.Tree.{CircuitTree}
+use Rattle.gg_ast.proofs.TreeOf.{one_tree-law}
 use Rattle.gg_read.specs.Reading.{row_at}
 use Rattle.gg_read.specs.Forms.{SpellsRow}
 use Rattle.gg_read.specs.Text.{Place, AtStart, LineTokens, AreLineTokens, AreRows, IsBlank, IsForm, IsNoForm, IsEndPlace, IsFaultLine, Spells, place_after, without_version}
@@ -161,8 +161,8 @@ no_circuit-law text n line circuit a spells = by_fault a.fault
         incomplete (subst (λ (p : Place). IsEndPlace p) (sym rows.1) spells.whole)
 
 -- a text spells one circuit at most
-pub one_circuit-law : (text : List ℕ) (c d : CircuitTree) → Spells text c → Spells text d → rows_of c ≡ rows_of d
+pub one_circuit-law : (text : List ℕ) (c d : CircuitTree) → Spells text c → Spells text d → c ≡ d
 one_circuit-law text c d a b =
     let held : a.held ≡ b.held = AreLineTokens-same (lines text) a.held b.held a.tokens b.tokens in
     let rows = AreRows-same AtStart 1 b.held a.rows b.rows a.last b.last (subst (λ (h : List LineTokens). AreRows AtStart 1 h a.rows a.last) held a.read) b.read in
-    sym a.circuit_rows ∙ ap (λ (r : List Numbered). without_version r) rows.0 ∙ b.circuit_rows
+    one_tree-law c d (sym a.circuit_rows ∙ ap (λ (r : List Numbered). without_version r) rows.0 ∙ b.circuit_rows)

@@ -8,8 +8,9 @@ use Rattle.gg_lex.specs.declared.token.Tok.{Tok}
 use Rattle.gg_lex.specs.declared.token.Tok.TheVariants.{Word, Number, Text, Symbol}
 use Rattle.gg_lex.specs.declared.token.Symbol.{Symbol as Mark}
 use Rattle.gg_lex.specs.declared.token.Symbol.TheVariants.{Connect, Arrow, PartialConnect, Colon, Comma, Dot, OpenParen, CloseParen, Less, Greater, Equals, OpenBracket, CloseBracket, OpenBrace, CloseBrace, OpenAnnotations}
-use Rattle.gg_lex.specs.Shapes.{spelling}
-use Rattle.gg_read.specs.Forms.{IsName, is_name, IsNatural, is_natural}
+use Rattle.gg_lex.specs.Tokens.{spelling}
+use Rattle.gg_ast.specs.Names.{IsName, is_name}
+use Rattle.gg_read.specs.Forms.{IsNatural, is_natural}
 use Rattle.gg_read.specs.Reading.{◌>>=◌, choose, symbol_at, word_at, name_at, natural_of, natural_at, end_at, text_at}
 
 -- what a chain found, its first part found something to go on with

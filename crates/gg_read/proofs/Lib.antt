@@ -6,11 +6,13 @@ pub mod ExpressionsSpelt
 pub mod FaultLines
 pub mod Leaves
 pub mod LineSteps
+pub mod NamesSpelt
 pub mod RowLaws
 pub mod RowsRead
 pub mod RowsSpelt
 pub mod TextSteps
 pub mod TokenCounts
 pub mod WordLaws
+pub mod WordNames
 mod WorkedRows
 mod WorkedText

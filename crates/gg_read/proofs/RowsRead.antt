@@ -9,12 +9,15 @@ use Rattle.gg_ast.specs.declared.expression.Reference.{Reference}
 use Rattle.gg_ast.specs.declared.expression.Reference.TheVariants as reference
 use Rattle.gg_ast.specs.declared.module.GroundType.{GroundType}
 use Rattle.gg_ast.specs.declared.statement.Report.{Report}
-use Rattle.gg_ast.specs.Row.{Row, GivenArgument, GivenTerm, GivenText, VersionRow, CircuitRow, ModuleRow, PortRow, WireRow, NodeRow, RegisterRow, RegisterResetRow, RegisterOpenRow, ResetRow, InstanceRow, MemoryRow, FieldRow, ConnectRow, InvalidRow, SkipRow, StopRow, ReportRow}
+use Rattle.gg_ast.specs.Row.{Row, VersionRow, CircuitRow, ModuleRow, PortRow, WireRow, NodeRow, RegisterRow, RegisterResetRow, RegisterOpenRow, ResetRow, InstanceRow, MemoryRow, FieldRow, ConnectRow, InvalidRow, SkipRow, StopRow, ReportRow}
 use Rattle.gg_ast.specs.Term.{Term, NamedTerm, ConstantTerm, UnaryTerm, BinaryTerm, FixedTerm, MuxTerm}
+use Rattle.gg_ast.specs.declared.statement.Argument.{Argument}
+use Rattle.gg_ast.specs.declared.statement.Argument.TheVariants as given
 use Rattle.gg_read.specs.declared.words.Keyword.{Keyword}
 use Rattle.gg_read.specs.declared.words.Keyword.TheVariants as keyword
 use Rattle.gg_read.specs.Words.{direction_text}
-use Rattle.gg_read.specs.Forms.{IsName, IsNatural, SpellsReference, SpellsType, SpellsExpr, SpellsReset, SpellsLabel, SpellsArgument, SpellsArguments, SpellsRegister, SpellsRow}
+use Rattle.gg_ast.specs.Names.{IsName}
+use Rattle.gg_read.specs.Forms.{IsNatural, SpellsReference, SpellsType, SpellsExpr, SpellsReset, SpellsLabel, SpellsArgument, SpellsArguments, SpellsRegister, SpellsRow}
 use Rattle.gg_read.specs.Reading.{◌>>=◌, choose, symbol_at, word_at, name_at, natural_at, end_at, type_at, reference_at, one_parameter_at, text_at, expression_at, last_expression_at, version_at, header_at, declared_at, last_declared_at, node_at, reset_at, clocked_at, instance_at, label_at, stop_at, argument_at, arguments_at, report_at, body_at, keyword_at, driven_at, connection_at, is_invalid, is_connection, row_at}
 use Rattle.gg_read.proofs.Leaves.{goes_on, not_chosen, name_at-here, natural_at-here}
 use Rattle.gg_read.proofs.WordLaws.{keyword_text, keyword_of-here}
@@ -141,29 +144,29 @@ first_word (BinaryTerm o a b) ts rest h = rw h.2 refl
 first_word (FixedTerm o a n m) ts rest h = rw h.2 refl
 first_word (MuxTerm c a b) ts rest h = rw h.3 refl
 
-argument-read : (a : GivenArgument) (ts rest : List Tok) → Ends rest → SpellsArgument a ts rest → argument_at ts ≡ Some (a, rest)
-argument-read (GivenText x) ts rest ends h = rw h refl
-argument-read (GivenTerm e) ts rest ends h =
-    let text : (List ℕ × List Tok) → Option (GivenArgument × List Tok) = λ t. Some (GivenText t.0, t.1) in
-    let other : Option (GivenArgument × List Tok) = expression_at ts >>= λ e. Some (GivenTerm e.0, e.1) in
+argument-read : (a : Argument) (ts rest : List Tok) → Ends rest → SpellsArgument a ts rest → argument_at ts ≡ Some (a, rest)
+argument-read (given.Text x) ts rest ends h = rw h refl
+argument-read (given.Value e) ts rest ends h =
+    let text : (List ℕ × List Tok) → Option (Argument × List Tok) = λ t. Some (given.Text t.0, t.1) in
+    let other : Option (Argument × List Tok) = expression_at ts >>= λ e. Some (given.Value e.0, e.1) in
     not_chosen (text_at ts) text other (first_word e ts rest h)
-    ∙ goes_on (expression_at ts) (λ e. Some (GivenTerm e.0, e.1)) (e, rest) (expression-read e ts rest h ends)
+    ∙ goes_on (expression_at ts) (λ e. Some (given.Value e.0, e.1)) (e, rest) (expression-read e ts rest h ends)
 
-argument-shorter : (a : GivenArgument) (ts rest : List Tok) → SpellsArgument a ts rest → length rest < length ts
-argument-shorter (GivenText x) ts rest h = let e = ap length h in omega arith
-argument-shorter (GivenTerm e) ts rest h = expr-shorter e ts rest h
+argument-shorter : (a : Argument) (ts rest : List Tok) → SpellsArgument a ts rest → length rest < length ts
+argument-shorter (given.Text x) ts rest h = let e = ap length h in omega arith
+argument-shorter (given.Value e) ts rest h = expr-shorter e ts rest h
 
 -- the arguments, behind the closing bracket
-abbrev closed_with : List GivenArgument → List Tok → Option (List GivenArgument × List Tok)
+abbrev closed_with : List Argument → List Tok → Option (List Argument × List Tok)
 closed_with args u = Some (args, u)
 
 -- one turn, where an argument is spelt and the tokens behind it are `left`
-argument-turn : (n : ℕ) (before : List GivenArgument) (a : GivenArgument) (ts left : List Tok) → argument_at ts ≡ Some (a, left)
+argument-turn : (n : ℕ) (before : List Argument) (a : Argument) (ts left : List Tok) → argument_at ts ≡ Some (a, left)
     → arguments_at (suc n) before ts ≡ choose (symbol_at Comma left) (λ t. arguments_at n (before ++ a ∷ []) t) (symbol_at CloseParen left >>= closed_with (before ++ a ∷ []))
 argument-turn n before a ts left e =
     goes_on (argument_at ts) (λ a. choose (symbol_at Comma a.1) (λ t. arguments_at n (before ++ a.0 ∷ []) t) (symbol_at CloseParen a.1 >>= closed_with (before ++ a.0 ∷ []))) (a, left) e
 
-arguments-read : (args : List GivenArgument) (n : ℕ) (before : List GivenArgument) (ts rest : List Tok) → SpellsArguments args ts rest → length ts ≤ n → arguments_at n before ts ≡ Some (before ++ args, rest)
+arguments-read : (args : List Argument) (n : ℕ) (before : List Argument) (ts rest : List Tok) → SpellsArguments args ts rest → length ts ≤ n → arguments_at n before ts ≡ Some (before ++ args, rest)
 arguments-read [] n before ts rest h size = absurd h
 arguments-read (a ∷ []) zero before ts rest h size = absurd (omega (arith, argument-shorter a ts (Symbol CloseParen ∷ rest) h))
 arguments-read (a ∷ []) (suc n) before ts rest h size = argument-turn n before a ts (Symbol CloseParen ∷ rest) (argument-read a ts _ (ends_close rest) h)
@@ -172,9 +175,9 @@ arguments-read (a ∷ (b ∷ more)) (suc n) before ts rest h size =
     let shorter = argument-shorter a ts (Symbol Comma ∷ h.0) h.1 in
     argument-turn n before a ts (Symbol Comma ∷ h.0) (argument-read a ts _ (ends_comma h.0) h.1)
     ∙ arguments-read (b ∷ more) n (before ++ a ∷ []) h.0 rest h.2 (omega arith)
-    ∙ ap (λ (l : List GivenArgument). Some (l, rest)) (append_assoc before (a ∷ []) (b ∷ more))
+    ∙ ap (λ (l : List Argument). Some (l, rest)) (append_assoc before (a ∷ []) (b ∷ more))
 
-report-read : (word : Report) (args : List GivenArgument) (label : Option (List ℕ)) (t u : List Tok) → SpellsArguments args t u → SpellsLabel label u → report_at word (Symbol OpenParen ∷ t) ≡ Some (ReportRow word args label)
+report-read : (word : Report) (args : List Argument) (label : Option (List ℕ)) (t u : List Tok) → SpellsArguments args t u → SpellsLabel label u → report_at word (Symbol OpenParen ∷ t) ≡ Some (ReportRow word args label)
 report-read word args label t u p q =
     goes_on (arguments_at (length t) [] t) (λ a. label_at a.1 >>= λ l. Some (ReportRow word a.0 l)) (args, u) (arguments-read args (length t) [] t u p (omega arith))
     ∙ goes_on (label_at u) (λ l. Some (ReportRow word args l)) label (label-read label u q)

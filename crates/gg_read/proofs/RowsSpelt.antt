@@ -7,12 +7,15 @@ use Rattle.gg_lex.specs.declared.token.Symbol.TheVariants.{Connect, Arrow, Colon
 use Rattle.gg_ast.specs.declared.expression.Reference.{Reference}
 use Rattle.gg_ast.specs.declared.module.GroundType.{GroundType}
 use Rattle.gg_ast.specs.declared.statement.Report.{Report}
-use Rattle.gg_ast.specs.Row.{Row, GivenArgument, GivenTerm, GivenText, VersionRow, CircuitRow, ModuleRow, PortRow, WireRow, NodeRow, RegisterRow, RegisterResetRow, RegisterOpenRow, ResetRow, InstanceRow, ConnectRow, InvalidRow, SkipRow, StopRow, ReportRow}
+use Rattle.gg_ast.specs.Row.{Row, VersionRow, CircuitRow, ModuleRow, PortRow, WireRow, NodeRow, RegisterRow, RegisterResetRow, RegisterOpenRow, ResetRow, InstanceRow, ConnectRow, InvalidRow, SkipRow, StopRow, ReportRow}
 use Rattle.gg_ast.specs.Term.{Term}
+use Rattle.gg_ast.specs.declared.statement.Argument.{Argument}
+use Rattle.gg_ast.specs.declared.statement.Argument.TheVariants as given
 use Rattle.gg_read.specs.declared.words.Keyword.{Keyword}
 use Rattle.gg_read.specs.declared.words.Keyword.TheVariants as keyword
 use Rattle.gg_read.specs.Words.{direction_text, report_text, keyword_of}
-use Rattle.gg_read.specs.Forms.{IsName, SpellsReference, SpellsType, SpellsExpr, SpellsReset, SpellsLabel, SpellsArgument, SpellsArguments, SpellsRegister, SpellsRow}
+use Rattle.gg_ast.specs.Names.{IsName}
+use Rattle.gg_read.specs.Forms.{SpellsReference, SpellsType, SpellsExpr, SpellsReset, SpellsLabel, SpellsArgument, SpellsArguments, SpellsRegister, SpellsRow}
 use Rattle.gg_read.specs.Reading.{◌>>=◌, choose, symbol_at, word_at, name_at, natural_at, end_at, type_at, reference_at, one_parameter_at, text_at, expression_at, last_expression_at, version_at, header_at, declared_at, last_declared_at, node_at, reset_at, reset_row_at, inline_reset_at, with_at, clocked_at, register_at, instance_at, label_at, stop_at, argument_at, arguments_at, report_at, body_at, keyword_at, invalid_at, driven_at, connection_at, is_connection, row_at}
 use Rattle.gg_read.proofs.Leaves.{bound, chosen, not_chosen, some_same, symbol_at-spells, word_at-spells, name_at-spells, natural_at-spells, end_at-spells, text_at-spells}
 use Rattle.gg_read.proofs.WordLaws.{keyword_text, keyword_of-spells}
@@ -230,28 +233,28 @@ stop-spells ts row h =
       label-spells n.0.1 l.0 l.1,
     )
 
-argument-by : (ts rest : List Tok) (a : GivenArgument) (o : Option (List ℕ × List Tok)) → text_at ts ≡ o → argument_at ts ≡ Some (a, rest) → SpellsArgument a ts rest
+argument-by : (ts rest : List Tok) (a : Argument) (o : Option (List ℕ × List Tok)) → text_at ts ≡ o → argument_at ts ≡ Some (a, rest) → SpellsArgument a ts rest
 argument-by ts rest a (Some x) t e =
-    let text : (List ℕ × List Tok) → Option (GivenArgument × List Tok) = λ t. Some (GivenText t.0, t.1) in
-    let other : Option (GivenArgument × List Tok) = expression_at ts >>= λ e. Some (GivenTerm e.0, e.1) in
-    subst (λ (p : GivenArgument × List Tok). SpellsArgument p.0 ts p.1) (some_same (GivenText x.0, x.1) (a, rest) (sym (chosen (text_at ts) text other x t) ∙ e)) (text_at-spells ts x.0 x.1 t)
+    let text : (List ℕ × List Tok) → Option (Argument × List Tok) = λ t. Some (given.Text t.0, t.1) in
+    let other : Option (Argument × List Tok) = expression_at ts >>= λ e. Some (given.Value e.0, e.1) in
+    subst (λ (p : Argument × List Tok). SpellsArgument p.0 ts p.1) (some_same (given.Text x.0, x.1) (a, rest) (sym (chosen (text_at ts) text other x t) ∙ e)) (text_at-spells ts x.0 x.1 t)
 argument-by ts rest a None t e =
-    let text : (List ℕ × List Tok) → Option (GivenArgument × List Tok) = λ t. Some (GivenText t.0, t.1) in
-    let other : Option (GivenArgument × List Tok) = expression_at ts >>= λ e. Some (GivenTerm e.0, e.1) in
-    let x = bound (expression_at ts) (λ e. Some (GivenTerm e.0, e.1)) (a, rest) (sym (not_chosen (text_at ts) text other t) ∙ e) in
-    subst (λ (p : GivenArgument × List Tok). SpellsArgument p.0 ts p.1) (some_same (GivenTerm x.0.0, x.0.1) (a, rest) x.2) (expression-spells ts x.0.1 x.0.0 x.1)
+    let text : (List ℕ × List Tok) → Option (Argument × List Tok) = λ t. Some (given.Text t.0, t.1) in
+    let other : Option (Argument × List Tok) = expression_at ts >>= λ e. Some (given.Value e.0, e.1) in
+    let x = bound (expression_at ts) (λ e. Some (given.Value e.0, e.1)) (a, rest) (sym (not_chosen (text_at ts) text other t) ∙ e) in
+    subst (λ (p : Argument × List Tok). SpellsArgument p.0 ts p.1) (some_same (given.Value x.0.0, x.0.1) (a, rest) x.2) (expression-spells ts x.0.1 x.0.0 x.1)
 
 -- the arguments read so far, and those that are spelt behind them
-record SpellsMore (before all : List GivenArgument) (ts rest : List Tok) : Type 0 where
-  first : GivenArgument
-  more : List GivenArgument
+record SpellsMore (before all : List Argument) (ts rest : List Tok) : Type 0 where
+  first : Argument
+  more : List Argument
   whole : all ≡ before ++ (first ∷ more)
   spelt : SpellsArguments (first ∷ more) ts rest
 
-abbrev last_argument : List GivenArgument → List Tok → Option (List GivenArgument × List Tok)
+abbrev last_argument : List Argument → List Tok → Option (List Argument × List Tok)
 last_argument args u = Some (args, u)
 
-more-by : (n : ℕ) (before all : List GivenArgument) (a : GivenArgument) (ts left rest : List Tok) (o : Option (List Tok)) → ((b al : List GivenArgument) (us rs : List Tok) → arguments_at n b us ≡ Some (al, rs) → SpellsMore b al us rs)
+more-by : (n : ℕ) (before all : List Argument) (a : Argument) (ts left rest : List Tok) (o : Option (List Tok)) → ((b al : List Argument) (us rs : List Tok) → arguments_at n b us ≡ Some (al, rs) → SpellsMore b al us rs)
     → symbol_at Comma left ≡ o → SpellsArgument a ts left → choose (symbol_at Comma left) (λ t. arguments_at n (before ++ a ∷ []) t) (symbol_at CloseParen left >>= last_argument (before ++ a ∷ [])) ≡ Some (all, rest) → SpellsMore before all ts rest
 more-by n before all a ts left rest (Some t) ih c h e =
     let m = ih (before ++ a ∷ []) all t rest (sym (chosen (symbol_at Comma left) (λ t. arguments_at n (before ++ a ∷ []) t) (symbol_at CloseParen left >>= last_argument (before ++ a ∷ [])) t c) ∙ e) in
@@ -259,9 +262,9 @@ more-by n before all a ts left rest (Some t) ih c h e =
 more-by n before all a ts left rest None ih c h e =
     let x = bound (symbol_at CloseParen left) (last_argument (before ++ a ∷ [])) (all, rest) (sym (not_chosen (symbol_at Comma left) (λ t. arguments_at n (before ++ a ∷ []) t) (symbol_at CloseParen left >>= last_argument (before ++ a ∷ [])) c) ∙ e) in
     let same = some_same (before ++ a ∷ [], x.0) (all, rest) x.2 in
-    subst (λ (p : List GivenArgument × List Tok). SpellsMore before p.0 ts p.1) same (record { first = a; more = []; whole = refl; spelt = subst (λ l. SpellsArgument a ts l) (symbol_at-spells CloseParen left x.0 x.1) h })
+    subst (λ (p : List Argument × List Tok). SpellsMore before p.0 ts p.1) same (record { first = a; more = []; whole = refl; spelt = subst (λ l. SpellsArgument a ts l) (symbol_at-spells CloseParen left x.0 x.1) h })
 
-arguments-spells : (n : ℕ) (before all : List GivenArgument) (ts rest : List Tok) → arguments_at n before ts ≡ Some (all, rest) → SpellsMore before all ts rest
+arguments-spells : (n : ℕ) (before all : List Argument) (ts rest : List Tok) → arguments_at n before ts ≡ Some (all, rest) → SpellsMore before all ts rest
 arguments-spells zero before all ts rest e = absurd (cc)
 arguments-spells (suc n) before all ts rest e =
     let a = bound (argument_at ts) (λ a. choose (symbol_at Comma a.1) (λ t. arguments_at n (before ++ a.0 ∷ []) t) (symbol_at CloseParen a.1 >>= last_argument (before ++ a.0 ∷ []))) (all, rest) e in

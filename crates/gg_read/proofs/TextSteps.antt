@@ -8,7 +8,6 @@ use Rattle.std.proofs.lemmas.Option.{slice_get_read}
 use Rattle.std.proofs.Math.Seq.{take-length}
 use Rattle.gg_lex.specs.Lines.{Lexes}
 use Rattle.gg_ast.specs.Row.{Row, numbered}
-use Rattle.gg_ast.specs.Rows.{rows_of}
 use Rattle.gg_ast.specs.Tree.{CircuitTree}
 use Rattle.gg_read.specs.declared.cursor.Miss.{Miss}
 use Rattle.gg_read.specs.declared.cursor.Miss.TheVariants.{NoForm, NoMemory}
@@ -65,7 +64,7 @@ later Version n stays = tt
 later (Header circuit) n stays = tt
 later (Ports circuit) n stays = stays
 later (Statements circuit) n stays = stays
-later (Open circuit register) n stays = (stays.0, omega (arith, stays.1))
+later (Open circuit register) n stays = (stays.0, omega (arith, stays.1), stays.2)
 
 -- a line that holds nothing
 pub blank_step : (stage : Stage) (n : ℕ) (l : List ℕ) (line : LineTokens) → IsStage stage n → Lexes l line.tokens line.bad → IsBlank line → IsStep stage n l (Ok stage)
@@ -130,7 +129,7 @@ end_fault text k n stage (Err (because.TooDeep m)) utf8 size number read ends = 
 end_fault text k n stage (Err because.NoMemory) utf8 size number read ends = absurd ends
 
 -- a text that spells a circuit has no other answer
-pub only_circuit : (text : List ℕ) (result : Result CircuitTree ReadFault) → IfOk result (λ d. Spells text d) → IfErr result (λ f. HasReadFault text f) → (c : CircuitTree) → Spells text c → MatchResult result (λ d. rows_of d ≡ rows_of c) (λ f. f ≡ because.NoMemory)
+pub only_circuit : (text : List ℕ) (result : Result CircuitTree ReadFault) → IfOk result (λ d. Spells text d) → IfErr result (λ f. HasReadFault text f) → (c : CircuitTree) → Spells text c → MatchResult result (λ d. d ≡ c) (λ f. f ≡ because.NoMemory)
 only_circuit text (Ok d) ok err c spells = one_circuit-law text d c ok spells
 only_circuit text (Err because.NotText) ok err c spells = absurd (err spells.utf8)
 only_circuit text (Err (because.Syntax m)) ok err c spells = absurd (no_circuit-law text m err.1.0 c err.1.1 spells)

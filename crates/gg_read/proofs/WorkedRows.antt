@@ -17,8 +17,10 @@ use Rattle.gg_ast.specs.declared.expression.Reference.TheVariants as reference
 use Rattle.gg_ast.specs.declared.module.Direction.TheVariants.{Input, Output}
 use Rattle.gg_ast.specs.declared.module.GroundType.TheVariants as plain_type
 use Rattle.gg_ast.specs.declared.statement.Report.TheVariants as report
-use Rattle.gg_ast.specs.Row.{Row, GivenArgument, GivenTerm, GivenText, VersionRow, CircuitRow, ModuleRow, PortRow, WireRow, NodeRow, RegisterRow, RegisterResetRow, RegisterOpenRow, ResetRow, InstanceRow, ConnectRow, InvalidRow, SkipRow, StopRow, ReportRow}
+use Rattle.gg_ast.specs.Row.{Row, VersionRow, CircuitRow, ModuleRow, PortRow, WireRow, NodeRow, RegisterRow, RegisterResetRow, RegisterOpenRow, ResetRow, InstanceRow, ConnectRow, InvalidRow, SkipRow, StopRow, ReportRow}
 use Rattle.gg_ast.specs.Term.{Term, NamedTerm, ConstantTerm, UnaryTerm, BinaryTerm, FixedTerm, MuxTerm}
+use Rattle.gg_ast.specs.declared.statement.Argument.{Argument}
+use Rattle.gg_ast.specs.declared.statement.Argument.TheVariants as given
 use Rattle.gg_read.specs.Forms.{SpellsRow}
 use Rattle.gg_read.specs.Reading.{row_at}
 use Rattle.gg_read.proofs.Leaves.{some_same}
@@ -59,8 +61,8 @@ k = named (codes "k")
 abbrev literal : Kind → ℕ → Radix → Bool → List ℕ → Literal
 literal kind width radix negative digits = record { kind = kind; width = width; radix = radix; negative = negative; digits = digits }
 
-abbrev arguments : List GivenArgument
-arguments = GivenTerm k ∷ GivenTerm c ∷ GivenText (codes "n is %d") ∷ GivenTerm a ∷ []
+abbrev arguments : List Argument
+arguments = given.Value k ∷ given.Value c ∷ given.Text (codes "n is %d") ∷ given.Value a ∷ []
 
 -- The operations on one value: `node n = asUInt(a)`.
 abbrev of_one : List ℕ → List Tok

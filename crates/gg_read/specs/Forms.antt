@@ -1,7 +1,7 @@
 -- The forms of a line: which tokens spell which row (FIRRTL Specification, "Grammar"). Each definition goes by cases
 -- on what is spelt. What may be followed by more is said of two lists: the tokens, and the rest behind it.
-use Rattle.std.specs.Prelude.{◌≡◌, ℕ, ◌^◌, Bool, true, false, ◌&&◌, not, IsTrue, List, [], ◌∷◌, Option, None, Some, ◌==◌, nat_lt, ◌||◌, codes}
-use Rattle.std.specs.List.{list_all, list_any}
+use Rattle.std.specs.Prelude.{◌≡◌, ℕ, ◌^◌, Bool, true, false, ◌&&◌, IsTrue, List, [], ◌∷◌, Option, None, Some, ◌==◌, nat_lt, ◌||◌, codes}
+use Rattle.std.specs.List.{list_all}
 use Rattle.std.specs.Char.{is_ascii_digit, is_ascii_hexdigit}
 use Rattle.std.specs.Str.Parse.{digits_value}
 use Rattle.gg_bits.specs.declared.ops.OpN.{OpN}
@@ -16,17 +16,13 @@ use Rattle.gg_ast.specs.declared.expression.Reference.{Reference}
 use Rattle.gg_ast.specs.declared.expression.Reference.TheVariants as reference
 use Rattle.gg_ast.specs.declared.module.GroundType.{GroundType}
 use Rattle.gg_ast.specs.declared.module.GroundType.TheVariants as plain_type
-use Rattle.gg_ast.specs.Row.{Row, GivenArgument, GivenTerm, GivenText, VersionRow, CircuitRow, ModuleRow, PortRow, WireRow, NodeRow, RegisterRow, RegisterResetRow, RegisterOpenRow, ResetRow, InstanceRow, MemoryRow, FieldRow, ConnectRow, InvalidRow, SkipRow, StopRow, ReportRow}
+use Rattle.gg_ast.specs.Names.{IsName}
+use Rattle.gg_ast.specs.Row.{Row, VersionRow, CircuitRow, ModuleRow, PortRow, WireRow, NodeRow, RegisterRow, RegisterResetRow, RegisterOpenRow, ResetRow, InstanceRow, MemoryRow, FieldRow, ConnectRow, InvalidRow, SkipRow, StopRow, ReportRow}
 use Rattle.gg_ast.specs.Term.{Term, NamedTerm, ConstantTerm, UnaryTerm, BinaryTerm, FixedTerm, MuxTerm}
+use Rattle.gg_ast.specs.declared.statement.Argument.{Argument}
+use Rattle.gg_ast.specs.declared.statement.Argument.TheVariants as given
 use Rattle.gg_bits.specs.Spelling.{text1, text2, text_const}
 use Rattle.gg_read.specs.Words.{kind_text, direction_text, report_text}
-
--- a name is a word without `-`
-abbrev pub is_name : List ℕ → Bool
-is_name word = not (list_any (λ b. b == 45) word)
-
-abbrev pub IsName : List ℕ → Type 0
-IsName word = IsTrue (is_name word)
 
 -- the digits of a radix, of either case
 abbrev pub is_digit_of : Radix → ℕ → Bool
@@ -118,12 +114,12 @@ SpellsLabel None ts = ts ≡ []
 SpellsLabel (Some name) ts = IsName name × (ts ≡ Symbol Colon ∷ (Word name ∷ []))
 
 -- an expression or a text
-abbrev pub SpellsArgument : GivenArgument → List Tok → List Tok → Type 0
-SpellsArgument (GivenTerm e) ts rest = SpellsExpr e ts rest
-SpellsArgument (GivenText text) ts rest = ts ≡ Text text ∷ rest
+abbrev pub SpellsArgument : Argument → List Tok → List Tok → Type 0
+SpellsArgument (given.Value e) ts rest = SpellsExpr e ts rest
+SpellsArgument (given.Text text) ts rest = ts ≡ Text text ∷ rest
 
 -- one argument or more, commas between them, and the closing bracket
-abbrev pub SpellsArguments : List GivenArgument → List Tok → List Tok → Type 0
+abbrev pub SpellsArguments : List Argument → List Tok → List Tok → Type 0
 SpellsArguments [] ts rest = ⊥
 SpellsArguments (a ∷ []) ts rest = SpellsArgument a ts (Symbol CloseParen ∷ rest)
 SpellsArguments (a ∷ (b ∷ more)) ts rest = (t : List Tok) × SpellsArgument a ts (Symbol Comma ∷ t) × SpellsArguments (b ∷ more) t rest

@@ -13,13 +13,15 @@ use Rattle.gg_lex.specs.declared.token.Tok.{Tok}
 use Rattle.gg_lex.specs.declared.token.Tok.TheVariants.{Word, Number, Text, Symbol}
 use Rattle.gg_lex.specs.declared.token.Symbol.{Symbol as Mark}
 use Rattle.gg_lex.specs.declared.token.Symbol.TheVariants.{Connect, Arrow, Colon, Comma, Dot, OpenParen, CloseParen, Less, Greater, Equals}
-use Rattle.gg_lex.specs.Shapes.{spelling}
+use Rattle.gg_lex.specs.Tokens.{spelling}
 use Rattle.gg_ast.specs.declared.expression.Literal.{Literal}
 use Rattle.gg_ast.specs.declared.expression.Radix.{Radix}
 use Rattle.gg_ast.specs.declared.expression.Radix.TheVariants.{Binary, Octal, Decimal, Hexadecimal}
 use Rattle.gg_ast.specs.declared.expression.Reference.{Reference}
 use Rattle.gg_ast.specs.declared.expression.Reference.TheVariants as reference
 use Rattle.gg_ast.specs.Term.{Term, NamedTerm, ConstantTerm, UnaryTerm, BinaryTerm, FixedTerm, MuxTerm}
+use Rattle.gg_ast.specs.declared.statement.Argument.{Argument}
+use Rattle.gg_ast.specs.declared.statement.Argument.TheVariants as given
 use Rattle.gg_read.specs.declared.cursor.Miss.{Miss}
 use Rattle.gg_read.specs.declared.cursor.Miss.TheVariants.{NoForm, NoMemory}
 use Rattle.gg_read.specs.declared.words.Operation.{Operation}
@@ -27,9 +29,10 @@ use Rattle.gg_read.specs.declared.words.Operation.TheVariants.{Unary, Binary as 
 use Rattle.gg_read.specs.declared.words.Keyword.{Keyword}
 use Rattle.gg_read.specs.declared.words.Keyword.TheVariants as keyword
 use Rattle.gg_ast.specs.declared.statement.Report.{Report}
-use Rattle.gg_ast.specs.Row.{Row, GivenArgument, GivenTerm, GivenText, VersionRow, CircuitRow, ModuleRow, PortRow, WireRow, NodeRow, RegisterRow, RegisterResetRow, RegisterOpenRow, ResetRow, InstanceRow, ConnectRow, InvalidRow, SkipRow, StopRow, ReportRow}
+use Rattle.gg_ast.specs.Row.{Row, VersionRow, CircuitRow, ModuleRow, PortRow, WireRow, NodeRow, RegisterRow, RegisterResetRow, RegisterOpenRow, ResetRow, InstanceRow, ConnectRow, InvalidRow, SkipRow, StopRow, ReportRow}
 use Rattle.gg_read.specs.declared.digits.Digits.{Digits}
-use Rattle.gg_read.specs.Forms.{is_name, is_natural, are_digits}
+use Rattle.gg_ast.specs.Names.{is_name}
+use Rattle.gg_read.specs.Forms.{is_natural, are_digits}
 use Rattle.gg_read.specs.Words.{operation_of, keyword_of}
 use Rattle.gg_ast.specs.declared.module.GroundType.{GroundType}
 use Rattle.gg_ast.specs.declared.module.GroundType.TheVariants as plain_type
@@ -290,17 +293,17 @@ text_at (Text w ∷ ts) = Some (w, ts)
 text_at (Symbol mark ∷ ts) = None
 
 -- an expression or a text
-abbrev pub argument_at : List Tok → Option (GivenArgument × List Tok)
-argument_at ts = choose (text_at ts) (λ t. Some (GivenText t.0, t.1)) (expression_at ts >>= λ e. Some (GivenTerm e.0, e.1))
+abbrev pub argument_at : List Tok → Option (Argument × List Tok)
+argument_at ts = choose (text_at ts) (λ t. Some (given.Text t.0, t.1)) (expression_at ts >>= λ e. Some (given.Value e.0, e.1))
 
 -- arguments behind those read so far, at most so many, and the closing bracket
-abbrev pub arguments_at : ℕ → List GivenArgument → List Tok → Option (List GivenArgument × List Tok)
+abbrev pub arguments_at : ℕ → List Argument → List Tok → Option (List Argument × List Tok)
 arguments_at zero before ts = None
 arguments_at (suc n) before ts =
     argument_at ts >>= λ a. choose (symbol_at Comma a.1) (λ t. arguments_at n (before ++ a.0 ∷ []) t) (symbol_at CloseParen a.1 >>= λ u. Some (before ++ a.0 ∷ [], u))
 
 -- what one turn of reading arguments comes to: more are to follow, or these are all
-abbrev pub TakesArgument : Result Bool Miss → List GivenArgument → List Tok → List GivenArgument → List Tok → Type 0
+abbrev pub TakesArgument : Result Bool Miss → List Argument → List Tok → List Argument → List Tok → Type 0
 TakesArgument (Ok true) before ts after left = (n : ℕ) → arguments_at (suc n) before ts ≡ arguments_at n after left
 TakesArgument (Ok false) before ts after left = (n : ℕ) → arguments_at (suc n) before ts ≡ Some (after, left)
 TakesArgument (Err miss) before ts after left = (n : ℕ) → Misses miss (arguments_at (suc n) before ts)

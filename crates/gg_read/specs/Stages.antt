@@ -4,9 +4,9 @@ use Rattle.gg_lex.specs.declared.token.LexedLine.{LexedLine}
 use Rattle.gg_lex.specs.declared.token.Tok.{Tok}
 use Rattle.gg_lex.specs.Lines.{Lexes}
 use Rattle.gg_ast.specs.declared.statement.Reset.{Reset}
+use Rattle.gg_ast.specs.Names.{IsName, AreNamesOfTerm}
 use Rattle.gg_ast.specs.Row.{Row, Numbered, numbered, RegisterOpenRow, ResetRow}
 use Rattle.gg_ast.specs.Rows.{rows_of}
-use Rattle.gg_ast.specs.Term.{term}
 use Rattle.gg_ast.specs.Tree.{CircuitTree, IsOpenToPorts}
 use Rattle.gg_read.specs.declared.cursor.Miss.{Miss}
 use Rattle.gg_read.specs.declared.cursor.Miss.TheVariants.{NoForm, NoMemory}
@@ -36,11 +36,11 @@ stage_place (Open circuit register) = AwaitsReset
 
 -- the row of a register that awaits its reset
 abbrev pub open_row : OpenRegister → Numbered
-open_row register = numbered register.line (RegisterOpenRow register.name register.ty (term register.clock))
+open_row register = numbered register.line (RegisterOpenRow register.name register.ty register.clock)
 
 -- the row of a reset on a line of its own
 abbrev pub reset_row : Reset → Numbered
-reset_row reset = numbered reset.line (ResetRow (term reset.condition) (term reset.init))
+reset_row reset = numbered reset.line (ResetRow reset.condition reset.init)
 
 -- the rows of the lines so far, without the version's, are those of the stage's circuit
 abbrev pub IsBuilt : Stage → List Numbered → Type 0
@@ -51,6 +51,10 @@ IsBuilt (Ports circuit) rows = without_version rows ≡ rows_of circuit
 IsBuilt (Statements circuit) rows = without_version rows ≡ rows_of circuit
 IsBuilt (Open circuit register) rows = without_version rows ≡ rows_of circuit ++ open_row register ∷ []
 
+-- the names of a register that awaits its reset are names
+abbrev pub AreNamesOfRegister : OpenRegister → Type 0
+AreNamesOfRegister register = IsName register.name × AreNamesOfTerm register.clock
+
 -- what holds of a stage before the line of this number: there is a module where one is begun, and a register that
 -- awaits its reset stands before the line
 abbrev pub IsStage : Stage → ℕ → Type 0
@@ -59,7 +63,7 @@ IsStage Version n = Unit {0}
 IsStage (Header circuit) n = Unit {0}
 IsStage (Ports circuit) n = (0 < length circuit.modules) × IsOpenToPorts circuit.modules
 IsStage (Statements circuit) n = 0 < length circuit.modules
-IsStage (Open circuit register) n = (0 < length circuit.modules) × (register.line < n)
+IsStage (Open circuit register) n = (0 < length circuit.modules) × (register.line < n) × AreNamesOfRegister register
 
 -- the stage behind these rows, the last of which stands on line n
 pub record IsAfter (stage : Stage) (to : Option Place) (n : ℕ) (rows : List Numbered) (next : Stage) : Type 0 where

@@ -1,11 +1,10 @@
 //! A cursor over the tokens of a line.
 ghost use Rattle.std.specs.Prelude.{◌≡◌, MatchBool, is_some, length};
-ghost use Rattle.gg_read.specs.Forms.{is_name};
 ghost use Rattle.gg_read.specs.Reading.{Reads, Passes, symbol_at, word_at, name_at, natural_at, digits_at, operation_at, is_second, end_at, text_at, keyword_at, is_invalid, is_connection};
 
 use crate::digits::{Digits, natural_value, signed_digits, text_digits};
 use crate::words::{Keyword, Operation, find_keyword, find_operation};
-use gg_ast::Radix;
+use gg_ast::{Radix, is_name};
 use gg_bits::Name;
 use gg_lex::{Symbol, Tok};
 use std::alloc::{AllocError, Global};
@@ -101,7 +100,7 @@ impl<'a> Cursor<'a> {
         }
     }
 
-    /// A name, which is a word without `-`.
+    /// A name, which is a word without a dash.
     pub(crate) fn name(&mut self) -> Result<Name, Miss>
         ensures { Reads (λ name. name) result self.new (name_at self.old) }
     {
@@ -256,11 +255,4 @@ impl<'a> Cursor<'a> {
             _ => Err(Miss::NoForm),
         }
     }
-}
-
-/// Whether a word is a name: it has no `-`.
-fn is_name(word: &str) -> bool
-    ensures { result ≡ is_name word.now }
-{
-    !word.as_bytes().contains(&b'-')
 }

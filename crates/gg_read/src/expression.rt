@@ -1,11 +1,10 @@
 //! References, types, literals and expressions.
 ghost use Rattle.std.specs.Prelude.{◌≡◌, MatchResult};
-ghost use Rattle.gg_ast.specs.Term.{term};
 ghost use Rattle.gg_read.specs.Reading.{Reads, reference_at, second_at, third_at, width_at, kind_at, type_at, literal_at, parameters_at, one_parameter_at, two_parameters_at, expr_at, form_at, call_at, operands_at, unary_at, binary_at, fixed_at, mux_at};
 
 use crate::cursor::{Cursor, Miss};
 use crate::words::Operation;
-use gg_ast::{Expr, GroundType, Literal, Reference};
+use gg_ast::{Expr, ExprKind, GroundType, Literal, Reference};
 use gg_bits::{Kind, Name, Op1, Op2, OpN};
 use gg_lex::Symbol;
 use std::alloc::{AllocError, Global};
@@ -132,7 +131,7 @@ fn parameters(cursor: &mut Cursor, op: OpN) -> Result<(u32, u32), Miss>
 /// An expression with at most `depth` operations within each other.
 #[cycle(expression)]
 pub(crate) fn expr(alloc: Global, cursor: &mut Cursor, depth: usize) -> Result<Expr, Miss>
-    ensures { Reads term result cursor.new (expr_at depth cursor.old) }
+    ensures { Reads (λ e. e) result cursor.new (expr_at depth cursor.old) }
 {
     if depth == 0 {
         return Err(Miss::NoForm);
@@ -143,23 +142,27 @@ pub(crate) fn expr(alloc: Global, cursor: &mut Cursor, depth: usize) -> Result<E
 /// An operation, a literal or a reference.
 #[cycle(expression)]
 fn form(alloc: Global, cursor: &mut Cursor, depth: usize) -> Result<Expr, Miss>
-    ensures { Reads term result cursor.new (form_at (expr_at depth) cursor.old) }
+    ensures { Reads (λ e. e) result cursor.new (form_at (expr_at depth) cursor.old) }
 {
     if cursor.is_second(Symbol::OpenParen) {
         return call(alloc, cursor, depth);
     }
     if cursor.is_second(Symbol::Less) {
         let literal = literal(alloc, cursor)?;
-        return Ok(Expr::Constant(literal));
+        return Ok(Expr {
+            kind: ExprKind::Constant(literal),
+        });
     }
     let reference = reference(cursor)?;
-    Ok(Expr::Named(reference))
+    Ok(Expr {
+        kind: ExprKind::Named(reference),
+    })
 }
 
 /// An operation with its operands.
 #[cycle(expression)]
 fn call(alloc: Global, cursor: &mut Cursor, depth: usize) -> Result<Expr, Miss>
-    ensures { Reads term result cursor.new (call_at (expr_at depth) cursor.old) }
+    ensures { Reads (λ e. e) result cursor.new (call_at (expr_at depth) cursor.old) }
 {
     let operation = cursor.operation()?;
     cursor.symbol(Symbol::OpenParen)?;
@@ -174,7 +177,7 @@ fn operands(
     depth: usize,
     operation: Operation,
 ) -> Result<Expr, Miss>
-    ensures { Reads term result cursor.new (operands_at (expr_at depth) operation cursor.old) }
+    ensures { Reads (λ e. e) result cursor.new (operands_at (expr_at depth) operation cursor.old) }
 {
     match operation {
         Operation::Unary(op) => unary(alloc, cursor, depth, op),
@@ -187,7 +190,7 @@ fn operands(
 /// An operand, on the heap.
 #[cycle(expression)]
 fn operand(alloc: Global, cursor: &mut Cursor, depth: usize) -> Result<Box<Expr>, Miss>
-    ensures { Reads (λ operand. term operand.value) result cursor.new (expr_at depth cursor.old) }
+    ensures { Reads (λ operand. operand.value) result cursor.new (expr_at depth cursor.old) }
 {
     let value = expr(alloc, cursor, depth)?;
     boxed(alloc, value)
@@ -196,39 +199,45 @@ fn operand(alloc: Global, cursor: &mut Cursor, depth: usize) -> Result<Box<Expr>
 /// `a )`.
 #[cycle(expression)]
 fn unary(alloc: Global, cursor: &mut Cursor, depth: usize, op: Op1) -> Result<Expr, Miss>
-    ensures { Reads term result cursor.new (unary_at (expr_at depth) op cursor.old) }
+    ensures { Reads (λ e. e) result cursor.new (unary_at (expr_at depth) op cursor.old) }
 {
     let a = operand(alloc, cursor, depth)?;
     cursor.symbol(Symbol::CloseParen)?;
-    Ok(Expr::Unary(op, a))
+    Ok(Expr {
+        kind: ExprKind::Unary(op, a),
+    })
 }
 
 /// `a , b )`.
 #[cycle(expression)]
 fn binary(alloc: Global, cursor: &mut Cursor, depth: usize, op: Op2) -> Result<Expr, Miss>
-    ensures { Reads term result cursor.new (binary_at (expr_at depth) op cursor.old) }
+    ensures { Reads (λ e. e) result cursor.new (binary_at (expr_at depth) op cursor.old) }
 {
     let a = operand(alloc, cursor, depth)?;
     cursor.symbol(Symbol::Comma)?;
     let b = operand(alloc, cursor, depth)?;
     cursor.symbol(Symbol::CloseParen)?;
-    Ok(Expr::Binary(op, a, b))
+    Ok(Expr {
+        kind: ExprKind::Binary(op, a, b),
+    })
 }
 
 /// `a , n )` or `a , n , m )`.
 #[cycle(expression)]
 fn fixed(alloc: Global, cursor: &mut Cursor, depth: usize, op: OpN) -> Result<Expr, Miss>
-    ensures { Reads term result cursor.new (fixed_at (expr_at depth) op cursor.old) }
+    ensures { Reads (λ e. e) result cursor.new (fixed_at (expr_at depth) op cursor.old) }
 {
     let a = operand(alloc, cursor, depth)?;
     let (n, m) = parameters(cursor, op)?;
-    Ok(Expr::Fixed(op, a, n, m))
+    Ok(Expr {
+        kind: ExprKind::Fixed(op, a, n, m),
+    })
 }
 
 /// `c , a , b )`.
 #[cycle(expression)]
 fn mux(alloc: Global, cursor: &mut Cursor, depth: usize) -> Result<Expr, Miss>
-    ensures { Reads term result cursor.new (mux_at (expr_at depth) cursor.old) }
+    ensures { Reads (λ e. e) result cursor.new (mux_at (expr_at depth) cursor.old) }
 {
     let c = operand(alloc, cursor, depth)?;
     cursor.symbol(Symbol::Comma)?;
@@ -236,7 +245,9 @@ fn mux(alloc: Global, cursor: &mut Cursor, depth: usize) -> Result<Expr, Miss>
     cursor.symbol(Symbol::Comma)?;
     let b = operand(alloc, cursor, depth)?;
     cursor.symbol(Symbol::CloseParen)?;
-    Ok(Expr::Mux(c, a, b))
+    Ok(Expr {
+        kind: ExprKind::Mux(c, a, b),
+    })
 }
 
 /// The expression on the heap.

@@ -1,18 +1,17 @@
 //! The row that a line holds: one function for each form.
 ghost use Rattle.std.specs.Prelude.{◌≡◌, ℕ, List, [], ◌∷◌, ◌++◌, length, map, MatchResult};
 ghost use Rattle.gg_ast.specs.Row.{RegisterResetRow};
-ghost use Rattle.gg_ast.specs.Term.{Term, term};
-ghost use Rattle.gg_ast.specs.Rows.{given_argument};
+ghost use Rattle.gg_ast.specs.Term.{Term};
 ghost use Rattle.gg_read.specs.Reading.{Reads, Finds, expression_at, last_expression_at, version_at, header_at, declared_at, last_declared_at, node_at, reset_at, reset_row_at, inline_reset_at, with_at, clocked_at, register_at, instance_at, label_at, stop_at, argument_at, arguments_at, TakesArgument, report_at, body_at, invalid_at, driven_at, connection_at, row_at};
 ghost use Rattle.gg_read.specs.LineRows.{FindsRow};
 
 use crate::cursor::{Cursor, Miss};
 use crate::expression::{expr, ground_type, one_parameter, reference};
 use crate::words::Keyword;
-use gg_ast::{Argument, Direction, Expr, GroundType, Reference, Report, StmtKind};
+use gg_ast::{Argument, Arguments, Direction, Expr, GroundType, Reference, Report, StmtKind};
 use gg_bits::Name;
 use gg_lex::{Symbol, Tok};
-use std::alloc::{AllocError, Global};
+use std::alloc::Global;
 
 /// What a line holds.
 #[derive(Drop)]
@@ -124,7 +123,7 @@ fn wire(cursor: &mut Cursor) -> Result<LineRow, Miss>
 
 /// An expression, however many operations within each other.
 fn expression(alloc: Global, cursor: &mut Cursor) -> Result<Expr, Miss>
-    ensures { Reads term result cursor.new (expression_at cursor.old) }
+    ensures { Reads (λ e. e) result cursor.new (expression_at cursor.old) }
 {
     let depth = cursor.len();
     expr(alloc, cursor, depth)
@@ -132,7 +131,7 @@ fn expression(alloc: Global, cursor: &mut Cursor) -> Result<Expr, Miss>
 
 /// An expression up to the end.
 fn last_expression(alloc: Global, cursor: &mut Cursor) -> Result<Expr, Miss>
-    ensures { Finds term result (last_expression_at cursor.old) }
+    ensures { Finds (λ e. e) result (last_expression_at cursor.old) }
 {
     let value = expression(alloc, cursor)?;
     if cursor.is_empty() {
@@ -170,7 +169,7 @@ fn clocked(
     ty: GroundType,
     clock: Expr,
 ) -> Result<LineRow, Miss>
-    ensures { FindsRow result (clocked_at name ty (term clock) cursor.old) }
+    ensures { FindsRow result (clocked_at name ty clock cursor.old) }
 {
     if cursor.is_empty() {
         return Ok(LineRow::Statement(StmtKind::Register {
@@ -191,7 +190,7 @@ fn reset_part(
     ty: GroundType,
     clock: Expr,
 ) -> Result<LineRow, Miss>
-    ensures { FindsRow result (with_at name ty (term clock) cursor.old) }
+    ensures { FindsRow result (with_at name ty clock cursor.old) }
 {
     if !(cursor.skip_word("with") && cursor.skip(Symbol::Colon)) {
         drop(clock);
@@ -214,7 +213,7 @@ fn reset_part(
 
 /// A reset in brackets, at the end of the register's line.
 fn inline_reset(alloc: Global, cursor: &mut Cursor) -> Result<(Expr, Expr), Miss>
-    ensures { (name : List ℕ) (ty : GroundType) (clock : Term) → Finds (λ r. RegisterResetRow name ty clock (term r.0) (term r.1)) result (inline_reset_at name ty clock cursor.old) }
+    ensures { (name : List ℕ) (ty : GroundType) (clock : Term) → Finds (λ r. RegisterResetRow name ty clock r.0 r.1) result (inline_reset_at name ty clock cursor.old) }
 {
     cursor.symbol(Symbol::OpenParen)?;
     cursor.word("reset")?;
@@ -228,7 +227,7 @@ fn inline_reset(alloc: Global, cursor: &mut Cursor) -> Result<(Expr, Expr), Miss
 
 /// `=> ( CONDITION , INIT )`.
 fn reset(alloc: Global, cursor: &mut Cursor) -> Result<(Expr, Expr), Miss>
-    ensures { Reads (λ r. (term r.0, term r.1)) result cursor.new (reset_at cursor.old) }
+    ensures { Reads (λ r. r) result cursor.new (reset_at cursor.old) }
 {
     cursor.symbol(Symbol::Arrow)?;
     cursor.symbol(Symbol::OpenParen)?;
@@ -304,7 +303,7 @@ fn stop(alloc: Global, cursor: &mut Cursor) -> Result<LineRow, Miss>
 
 /// An argument: a text or an expression.
 fn argument(alloc: Global, cursor: &mut Cursor) -> Result<Argument, Miss>
-    ensures { Reads given_argument result cursor.new (argument_at cursor.old) }
+    ensures { Reads (λ a. a) result cursor.new (argument_at cursor.old) }
 {
     if cursor.is_text() {
         return Ok(Argument::Text(cursor.text()?));
@@ -314,10 +313,10 @@ fn argument(alloc: Global, cursor: &mut Cursor) -> Result<Argument, Miss>
 }
 
 /// One argument or more, with commas between them, and the closing bracket.
-fn arguments(alloc: Global, cursor: &mut Cursor) -> Result<Vec<Argument>, Miss>
-    ensures { Reads (λ v. map given_argument v.items) result cursor.new (arguments_at (length cursor.old) [] cursor.old) }
+fn arguments(alloc: Global, cursor: &mut Cursor) -> Result<Arguments, Miss>
+    ensures { Reads (λ v. v) result cursor.new (arguments_at (length cursor.old) [] cursor.old) }
 {
-    let mut arguments = Vec::new(alloc);
+    let mut arguments = Arguments::new(alloc);
     for _turn in 0..cursor.len() {
         match next_argument(alloc, cursor, &mut arguments) {
             Ok(true) => {}
@@ -332,9 +331,9 @@ fn arguments(alloc: Global, cursor: &mut Cursor) -> Result<Vec<Argument>, Miss>
 fn next_argument(
     alloc: Global,
     cursor: &mut Cursor,
-    arguments: &mut Vec<Argument>,
+    arguments: &mut Arguments,
 ) -> Result<bool, Miss>
-    ensures { TakesArgument result (map given_argument arguments.old.items) cursor.old (map given_argument arguments.new.items) cursor.new }
+    ensures { TakesArgument result arguments.old cursor.old arguments.new cursor.new }
 {
     let next = argument(alloc, cursor)?;
     add_argument(arguments, next)?;
@@ -346,12 +345,12 @@ fn next_argument(
 }
 
 /// Adds an argument behind the others.
-fn add_argument(arguments: &mut Vec<Argument>, next: Argument) -> Result<(), Miss>
-    ensures { MatchResult result (λ _. arguments.new.items ≡ arguments.old.items ++ next ∷ []) (λ miss. miss ≡ Miss.NoMemory) }
+fn add_argument(arguments: &mut Arguments, next: Argument) -> Result<(), Miss>
+    ensures { MatchResult result (λ _. arguments.new ≡ arguments.old ++ next ∷ []) (λ miss. miss ≡ Miss.NoMemory) }
 {
     match arguments.push(next) {
         Ok(()) => Ok(()),
-        Err(error) => Err(Miss::from(AllocError::from(error))),
+        Err(error) => Err(Miss::from(error)),
     }
 }
 

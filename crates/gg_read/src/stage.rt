@@ -1,12 +1,12 @@
 //! The circuit that is built, row by row, and the place that the rows have reached.
 ghost use Rattle.std.specs.Prelude.{◌≡◌, ℕ, ◌∷◌, [], ◌<◌, length, IfSome};
+ghost use Rattle.gg_ast.specs.Names.{IsName, IsPortNamed, AreNamesOfTerm, AreNamesOfReset, AreNamesOfStatement};
 ghost use Rattle.gg_ast.specs.Row.{numbered, VersionRow, CircuitRow, ModuleRow, RegisterResetRow};
 ghost use Rattle.gg_ast.specs.Rows.{port_row, statement_rows};
-ghost use Rattle.gg_ast.specs.Term.{term};
 ghost use Rattle.gg_ast.specs.Tree.{IsOpenToPorts};
-ghost use Rattle.gg_read.specs.LineRows.{row_of};
+ghost use Rattle.gg_read.specs.LineRows.{row_of, AreNamesOfLine};
 ghost use Rattle.gg_read.specs.Text.{InPorts, InStatements, place_after, after_version, after_circuit, after_module, after_port, after_statement, after_open, after_reset};
-ghost use Rattle.gg_read.specs.Stages.{stage_place, IsStage, Advances, TellsStart, TellsBare, IsWhole, IsBody, IsOpened, open_row, reset_row, Ends};
+ghost use Rattle.gg_read.specs.Stages.{stage_place, AreNamesOfRegister, IsStage, Advances, TellsStart, TellsBare, IsWhole, IsBody, IsOpened, open_row, reset_row, Ends};
 
 use crate::cursor::Miss;
 use crate::row::LineRow;
@@ -48,6 +48,7 @@ pub(crate) enum Stage {
 /// register with its reset, nothing is said: no reader of lines gives one.
 pub(crate) fn advance(alloc: Global, stage: Stage, line: u64, row: LineRow) -> Result<Stage, Miss>
     requires stage { IsStage stage line }
+    requires named { AreNamesOfLine row }
     ensures { IfSome (row_of row) (λ held. Advances stage (place_after (stage_place stage) held) line (numbered line held ∷ []) result) }
 {
     match row {
@@ -97,8 +98,9 @@ fn register(
     condition: Expr,
     init: Expr,
 ) -> Result<Stage, Miss>
-    requires { (before : ℕ) × IsStage stage before }
-    ensures { Advances stage (after_statement (stage_place stage)) line (numbered line (RegisterResetRow name ty (term clock) (term condition) (term init)) ∷ []) result }
+    requires stage { (before : ℕ) × IsStage stage before }
+    requires named { IsName name × AreNamesOfTerm clock × AreNamesOfTerm condition × AreNamesOfTerm init }
+    ensures { Advances stage (after_statement (stage_place stage)) line (numbered line (RegisterResetRow name ty clock condition init) ∷ []) result }
 {
     let reset = Some(Reset {
         line,
@@ -144,6 +146,7 @@ fn is_start(stage: &Stage) -> bool
 /// The circuit's line, which stands at the beginning or behind the version line.
 #[tactic(auto, using(crate::proofs::Builds::header_next))]
 fn header(alloc: Global, stage: Stage, line: u64, name: Name) -> Result<Stage, Miss>
+    requires named { IsName name }
     ensures { Advances stage (after_circuit (stage_place stage)) line (numbered line (CircuitRow name) ∷ []) result }
 {
     let is_next = is_bare(&stage);
@@ -168,6 +171,7 @@ fn is_bare(stage: &Stage) -> bool
 
 /// A module's line.
 fn module(alloc: Global, stage: Stage, line: u64, name: Name) -> Result<Stage, Miss>
+    requires named { IsName name }
     ensures { Advances stage (after_module (stage_place stage)) line (numbered line (ModuleRow name) ∷ []) result }
 {
     let mut circuit = whole(stage)?;
@@ -189,7 +193,8 @@ fn whole(stage: Stage) -> Result<Circuit, Miss>
 
 /// A port, which stands behind its module's line or another port.
 fn port(stage: Stage, port: Port) -> Result<Stage, Miss>
-    requires { (line : ℕ) × IsStage stage line }
+    requires named { IsPortNamed port }
+    requires stage { (line : ℕ) × IsStage stage line }
     ensures { Advances stage (after_port (stage_place stage)) port.line (port_row port ∷ []) result }
 {
     match stage {
@@ -206,6 +211,7 @@ fn port(stage: Stage, port: Port) -> Result<Stage, Miss>
 fn add_port(circuit: Circuit, port: Port) -> Result<Stage, Miss>
     requires some { 0 < length circuit.modules }
     requires ports { IsOpenToPorts circuit.modules }
+    requires named { IsPortNamed port }
     ensures { Advances (Stage.Ports circuit) (Some InPorts) port.line (port_row port ∷ []) result }
 {
     let mut circuit = circuit;
@@ -227,7 +233,8 @@ fn body(stage: Stage) -> Result<Circuit, Miss>
 
 /// A statement, which stands behind a port, a module's line or another statement.
 fn statement(stage: Stage, statement: Stmt) -> Result<Stage, Miss>
-    requires { (line : ℕ) × IsStage stage line }
+    requires named { AreNamesOfStatement statement }
+    requires stage { (line : ℕ) × IsStage stage line }
     ensures { Advances stage (after_statement (stage_place stage)) statement.line (statement_rows statement) result }
 {
     match body(stage) {
@@ -241,7 +248,8 @@ fn statement(stage: Stage, statement: Stmt) -> Result<Stage, Miss>
 
 /// A statement behind the others of the last module.
 fn add_statement(circuit: Circuit, statement: Stmt) -> Result<Stage, Miss>
-    requires { 0 < length circuit.modules }
+    requires named { AreNamesOfStatement statement }
+    requires some { 0 < length circuit.modules }
     ensures { Advances (Stage.Statements circuit) (Some InStatements) statement.line (statement_rows statement) result }
 {
     let mut circuit = circuit;
@@ -251,7 +259,8 @@ fn add_statement(circuit: Circuit, statement: Stmt) -> Result<Stage, Miss>
 
 /// The first line of a register whose reset stands on the next.
 fn open(stage: Stage, register: OpenRegister) -> Result<Stage, Miss>
-    requires { (line : ℕ) × IsStage stage line }
+    requires named { AreNamesOfRegister register }
+    requires stage { (line : ℕ) × IsStage stage line }
     ensures { Advances stage (after_open (stage_place stage)) register.line (open_row register ∷ []) result }
 {
     let circuit = body(stage)?;
@@ -260,7 +269,8 @@ fn open(stage: Stage, register: OpenRegister) -> Result<Stage, Miss>
 
 /// The line of a reset, which stands behind its register's.
 fn reset(stage: Stage, reset: Reset) -> Result<Stage, Miss>
-    requires { IsStage stage reset.line }
+    requires named { AreNamesOfReset reset }
+    requires stage { IsStage stage reset.line }
     ensures { Advances stage (after_reset (stage_place stage)) reset.line (reset_row reset ∷ []) result }
 {
     match opened(stage) {
@@ -288,6 +298,7 @@ fn opened(stage: Stage) -> Result<(Circuit, OpenRegister), Miss>
 fn close(circuit: Circuit, register: OpenRegister, reset: Reset) -> Result<Stage, Miss>
     requires some { 0 < length circuit.modules }
     requires after { register.line < reset.line }
+    requires named { AreNamesOfRegister register × AreNamesOfReset reset }
     ensures { Advances (Stage.Open circuit register) (Some InStatements) reset.line (reset_row reset ∷ []) result }
 {
     let mut circuit = circuit;

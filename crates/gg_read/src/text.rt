@@ -1,7 +1,6 @@
 //! The text of a circuit, line by line.
 ghost use Rattle.std.specs.Prelude.{◌≡◌, ℕ, ◌+◌, ◌<◌, ◌≤◌, ◌^◌, Err, length, IfOk, IfErr, MatchResult};
 ghost use Rattle.std.specs.Str.{IsUtf8};
-ghost use Rattle.gg_ast.specs.Rows.{rows_of};
 ghost use Rattle.gg_ast.specs.Tree.{CircuitTree};
 ghost use Rattle.gg_read.specs.Causes.{IsFaultOf};
 ghost use Rattle.gg_read.specs.Stages.{line_of, IsStage, IsRowOf, IsPlaced, IsStep, IsMissed, TellsBlank};
@@ -48,7 +47,7 @@ pub fn read_circuit(alloc: Global, bytes: &[u8]) -> Result<Circuit, ReadFault>
     ensures fault { IfErr result (HasReadFault bytes.now) }
 
     // a text that spells a circuit has no other answer, nor one with a fault line, nor bytes that are no text
-    ensures only_circuit { (c : CircuitTree) → Spells bytes.now c → MatchResult result (λ d. rows_of d ≡ rows_of c) (λ fault. fault ≡ ReadFault.NoMemory) }
+    ensures only_circuit { (c : CircuitTree) → Spells bytes.now c → MatchResult result (λ d. d ≡ c) (λ fault. fault ≡ ReadFault.NoMemory) }
     ensures only_fault { (n : ℕ) (line : LineTokens) → IsUtf8 bytes.now → IsFaultLine bytes.now n line → MatchResult result (λ _. ⊥) (IsFaultOf n line.tokens) }
     ensures only_not_text { (IsUtf8 bytes.now → ⊥) → result ≡ Err ReadFault.NotText }
 {

@@ -1,9 +1,7 @@
 use Rattle.std.proofs.Common.{◌≡◌, ◌-◌, [], length}
-use Rattle.std.specs.Prelude.{map}
-use Rattle.gg_ast.specs.Rows.{given_argument}
 use Rattle.gg_read.specs.Reading.{arguments_at}
 use Rattle.gg_read.proofs.row.arguments.Given as goal
 
 abbrev pub invariant-loop-turn : goal.invariant-loop-turn
 invariant-loop-turn l =
-    arguments_at (length l.fn.cursor) [] l.fn.cursor ≡ arguments_at (l._turn-end - l._turn) (map given_argument l.arguments.items) l.cursor
+    arguments_at (length l.fn.cursor) [] l.fn.cursor ≡ arguments_at (l._turn-end - l._turn) l.arguments l.cursor

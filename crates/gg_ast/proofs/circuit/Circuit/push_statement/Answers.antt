@@ -5,7 +5,7 @@ use Rattle.gg_ast.specs.Tree.{CircuitTree, on_last, with_statement}
 use Rattle.gg_ast.specs.Places.{place_of}
 use Rattle.gg_ast.specs.Rows.{statement_rows}
 use Rattle.gg_ast.proofs.KeptNames.{named-if, named-statement}
-use Rattle.gg_ast.proofs.LastModule.{slice_set-if, names_of-if, value-if, rows_of-if, rows_of_modules-with_statement}
+use Rattle.gg_ast.proofs.LastModule.{slice_set-if, names_of-if, value-if, rows_of-if, rows_of_modules-with_statement, memory-if}
 use Rattle.gg_ast.proofs.circuit.Circuit.push_statement.Goals as goal
 
 written : (c : goal.After-self-1) → slice_set c.self.inside.modules.items (c.len-last.result - 1) c.push_statement.new.self ≡ (if is_ok c.push_statement.result then on_last (with_statement c.args.statement) c.self.inside.modules.items else c.self.inside.modules.items)
@@ -32,3 +32,6 @@ returns-clause-value c = rw (← c.self.view_is)
 pub returns-clause-rows : goal.returns-clause-rows
 returns-clause-rows c = rw (← c.self.view_is)
     (rows_of-if (with_statement c.args.statement) (statement_rows c.args.statement) (the_view c.self.inside) _ c.push_statement.result (written c) (rows_of_modules-with_statement c.args.statement c.self.inside.modules.items (some_left c)))
+
+pub returns-clause-fields : goal.returns-clause-fields
+returns-clause-fields c = memory-if c.args.statement c.self.inside.modules.items _ c.push_statement.result (written c) (some_left c)

@@ -1,0 +1,93 @@
+-- The names of a line that is a row are names.
+use Rattle.std.proofs.Common.{List, [], ◌∷◌, Option, Some, None}
+use Rattle.std.specs.Prelude.{ℕ, MatchOption, IfSome}
+use Rattle.std.specs.List.{All}
+use Rattle.std.proofs.lemmas.List.Elements.{All-nil, All-cons}
+use Rattle.gg_lex.specs.declared.token.Tok.{Tok}
+use Rattle.gg_lex.specs.declared.token.Tok.TheVariants.{Symbol}
+use Rattle.gg_lex.specs.declared.token.Symbol.TheVariants.{CloseParen, Comma, Connect}
+use Rattle.gg_ast.specs.declared.expression.Reference.{Reference}
+use Rattle.gg_ast.specs.declared.expression.Reference.TheVariants as reference
+use Rattle.gg_ast.specs.declared.module.GroundType.{GroundType}
+use Rattle.gg_ast.specs.declared.statement.Argument.{Argument}
+use Rattle.gg_ast.specs.declared.statement.Argument.TheVariants as given
+use Rattle.gg_ast.specs.declared.statement.StmtKind.{StmtKind}
+use Rattle.gg_ast.specs.declared.statement.StmtKind.TheVariants as statement
+use Rattle.gg_ast.specs.Names.{IsName, AreNamesOfReference, AreNamesOfTerm, AreNamesOfArgument, AreNamesOfKind}
+use Rattle.gg_ast.specs.Term.{Term, NamedTerm, ConstantTerm, UnaryTerm, BinaryTerm, FixedTerm, MuxTerm}
+use Rattle.gg_read.specs.declared.row.LineRow.{LineRow}
+use Rattle.gg_read.specs.declared.row.LineRow.TheVariants as line
+use Rattle.gg_read.specs.Forms.{SpellsReference, SpellsExpr, SpellsReset, SpellsLabel, SpellsArgument, SpellsArguments, SpellsRegister}
+use Rattle.gg_read.specs.LineRows.{statement_row, row_of, AreNamesOfLine}
+use Rattle.gg_read.specs.Stages.{IsWholeRow}
+use Rattle.gg_read.specs.Text.{LineTokens}
+
+reference-named : (r : Reference) (ts rest : List Tok) → SpellsReference r ts rest → AreNamesOfReference r
+reference-named (reference.Local a) ts rest h = h.0
+reference-named (reference.PortOf a b) ts rest h = (h.0, h.1)
+reference-named (reference.FieldOf a b c) ts rest h = (h.0, h.1, h.2)
+
+expr-named : (e : Term) (ts rest : List Tok) → SpellsExpr e ts rest → AreNamesOfTerm e
+expr-named (NamedTerm r) ts rest h = reference-named r ts rest h
+expr-named (ConstantTerm l) ts rest h = tt
+expr-named (UnaryTerm o a) ts rest (t, is, h) = expr-named a t (Symbol CloseParen ∷ rest) h
+expr-named (BinaryTerm o a b) ts rest (t, u, is, h, k) = (expr-named a t (Symbol Comma ∷ u) h, expr-named b u (Symbol CloseParen ∷ rest) k)
+expr-named (FixedTerm o a n m) ts rest (t, u, is, h, k) = expr-named a t u h
+expr-named (MuxTerm c a b) ts rest (t, u, v, is, h, k, l) =
+    (expr-named c t (Symbol Comma ∷ u) h, expr-named a u (Symbol Comma ∷ v) k, expr-named b v (Symbol CloseParen ∷ rest) l)
+
+reset-named : (condition init : Term) (ts rest : List Tok) → SpellsReset condition init ts rest → AreNamesOfTerm condition × AreNamesOfTerm init
+reset-named condition init ts rest (t, u, is, h, k) = (expr-named condition t (Symbol Comma ∷ u) h, expr-named init u (Symbol CloseParen ∷ rest) k)
+
+label-named : (label : Option (List ℕ)) (ts : List Tok) → SpellsLabel label ts → IfSome label IsName
+label-named None ts h = tt
+label-named (Some name) ts h = h.0
+
+argument-named : (a : Argument) (ts rest : List Tok) → SpellsArgument a ts rest → AreNamesOfArgument a
+argument-named (given.Value e) ts rest h = expr-named e ts rest h
+argument-named (given.Text t) ts rest h = tt
+
+arguments-named : (args : List Argument) (ts rest : List Tok) → SpellsArguments args ts rest → All AreNamesOfArgument args
+arguments-named [] ts rest h = absurd h
+arguments-named (a ∷ []) ts rest h =
+    All-cons AreNamesOfArgument a [] (argument-named a ts (Symbol CloseParen ∷ rest) h) (All-nil AreNamesOfArgument)
+arguments-named (a ∷ (b ∷ more)) ts rest (t, h, k) =
+    All-cons AreNamesOfArgument a (b ∷ more) (argument-named a ts (Symbol Comma ∷ t) h) (arguments-named (b ∷ more) t rest k)
+
+register-named : (name : List ℕ) (ty : GroundType) (clock : Term) (ts rest : List Tok) → SpellsRegister name ty clock ts rest → IsName name × AreNamesOfTerm clock
+register-named name ty clock ts rest (t, u, named, is, h, k) = (named, expr-named clock u rest k)
+
+kind-named : (kind : StmtKind) (at : LineTokens) → MatchOption (statement_row kind) ⊥ (IsWholeRow at) → AreNamesOfKind kind
+kind-named (statement.Wire name ty) at h = h.spelt.1
+kind-named (statement.Node name value) at h = (h.spelt.1, expr-named value h.spelt.0 [] h.spelt.3)
+kind-named (statement.Register name ty clock None) at h =
+    let named = register-named name ty clock at.tokens [] h.spelt in
+    (named.0, named.1, tt)
+kind-named (statement.Register name ty clock (Some reset)) at h = absurd h
+kind-named (statement.Instance name m) at h = (h.spelt.0, h.spelt.1)
+kind-named (statement.Memory name fields) at h = absurd h
+kind-named (statement.Connect sink source) at h = spelt h.spelt
+  where
+    spelt : (t : List Tok) × SpellsReference sink at.tokens (Symbol Connect ∷ t) × SpellsExpr source t [] → AreNamesOfReference sink × AreNamesOfTerm source
+    spelt (t, r, e) = (reference-named sink at.tokens (Symbol Connect ∷ t) r, expr-named source t [] e)
+kind-named (statement.Invalid sink) at h = reference-named sink at.tokens _ h.spelt
+kind-named statement.Skip at h = tt
+kind-named (statement.Stop clock condition code label) at h =
+    let s = h.spelt in
+    (expr-named clock s.0 (Symbol Comma ∷ s.1) s.5, expr-named condition s.1 _ s.6, label-named label s.3 s.8)
+kind-named (statement.Report word arguments label) at h =
+    let s = h.spelt in
+    (arguments-named arguments s.0 s.1 s.3, label-named label s.1 s.4)
+
+pub line-named : (held : LineRow) (at : LineTokens) → MatchOption (row_of held) ⊥ (IsWholeRow at) → AreNamesOfLine held
+line-named (line.Version a b c) at h = tt
+line-named (line.Circuit name) at h = h.spelt.0
+line-named (line.Module name) at h = h.spelt.0
+line-named (line.Port direction name ty) at h = h.spelt.1
+line-named (line.Statement kind) at h = kind-named kind at h
+line-named (line.RegisterReset name ty clock condition init) at h =
+    let r = register-named name ty clock at.tokens _ h.spelt.1 in
+    let s = reset-named condition init h.spelt.0 _ h.spelt.2 in
+    (r.0, r.1, s.0, s.1)
+line-named (line.RegisterOpen name ty clock) at h = register-named name ty clock at.tokens _ h.spelt
+line-named (line.Reset condition init) at h = reset-named condition init at.tokens [] h.spelt
