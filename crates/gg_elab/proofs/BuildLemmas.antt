@@ -12,7 +12,7 @@ use Rattle.gg_flat.specs.declared.line.Node.{Node}
 use Rattle.gg_flat.specs.declared.piece.Register.{Register}
 use Rattle.gg_flat.specs.declared.piece.Signal.{Signal}
 use Rattle.gg_flat.specs.declared.piece.Driver.{Driver}
-use Rattle.gg_flat.specs.declared.piece.Driver.TheVariants.{Input, Held, Read, Computed}
+use Rattle.gg_flat.specs.declared.piece.Driver.TheVariants.{Input, Held, MemoryWord, ReadRegister, Computed}
 use Rattle.gg_flat.specs.Circuit.{FlatCircuit, driver_at}
 use Rattle.gg_flat.specs.Line.{shape_at, value_at, HasType, IsSource}
 use Rattle.gg_flat.specs.WellFormed.{IsRegister}
@@ -129,7 +129,8 @@ turn_same : (next count : ℕ) (ds : List Driver) (d : Driver) → HoldInTurn co
 turn_same next count [] d own h = subst (λ (k : ℕ). HoldInTurn k count (d ∷ [])) (sym h) own
 turn_same next count (Input place ∷ ds) d own h = turn_same next count ds d own h
 turn_same next count (Held r ∷ ds) d own h = (h.0, turn_same (next + 1) count ds d own h.1)
-turn_same next count (Read memory port ∷ ds) d own h = turn_same next count ds d own h
+turn_same next count (MemoryWord memory reader addr en ∷ ds) d own h = turn_same next count ds d own h
+turn_same next count (ReadRegister memory reader ∷ ds) d own h = turn_same next count ds d own h
 turn_same next count (Computed line ∷ ds) d own h = turn_same next count ds d own h
 
 -- a signal that holds the next register
@@ -137,7 +138,8 @@ turn_more : (next count : ℕ) (ds : List Driver) → HoldInTurn next count ds �
 turn_more next count [] h = (sym h, ap (λ (k : ℕ). k + 1) h)
 turn_more next count (Input place ∷ ds) h = turn_more next count ds h
 turn_more next count (Held r ∷ ds) h = (h.0, turn_more (next + 1) count ds h.1)
-turn_more next count (Read memory port ∷ ds) h = turn_more next count ds h
+turn_more next count (MemoryWord memory reader addr en ∷ ds) h = turn_more next count ds h
+turn_more next count (ReadRegister memory reader ∷ ds) h = turn_more next count ds h
 turn_more next count (Computed line ∷ ds) h = turn_more next count ds h
 
 drivers_more : (flat new : FlatCircuit) (sig : Signal) → new.signals ≡ flat.signals ++ sig ∷ [] → drivers_of new ≡ drivers_of flat ++ sig.driver ∷ []
@@ -233,7 +235,8 @@ IsBuilt-step signals table flat new name sig found built next is step = record {
 given_same : (signals : Signals) (table : List (Option Source)) (flat new : FlatCircuit) (s : ℕ) (d : Driver) → new.ins ≡ flat.ins → new.registers ≡ flat.registers → IsGiven signals table flat s d → IsGiven signals table new s d
 given_same signals table flat new s (Input place) ins registers h = (omega (arith, h.0, ap length ins), ap (λ (l : List ℕ). value_at l place) ins ∙ h.1, h.2)
 given_same signals table flat new s (Held r) ins registers h = subst (λ (l : List Register). IsGivenRegister signals table l s r) (sym registers) h
-given_same signals table flat new s (Read memory port) ins registers h = h
+given_same signals table flat new s (MemoryWord memory reader addr en) ins registers h = h
+given_same signals table flat new s (ReadRegister memory reader) ins registers h = h
 given_same signals table flat new s (Computed line) ins registers h = h
 
 extends_signal : (flat new : FlatCircuit) (sig : Signal) → new.signals ≡ flat.signals ++ sig ∷ [] → new.registers ≡ flat.registers → Extends flat new
@@ -305,7 +308,8 @@ given_more signals table flat new reg s (Held r) ins more h = record {
   typed = h.typed;
   next = h.next;
 }
-given_more signals table flat new reg s (Read memory port) ins more h = h
+given_more signals table flat new reg s (MemoryWord memory reader addr en) ins more h = h
+given_more signals table flat new reg s (ReadRegister memory reader) ins more h = h
 given_more signals table flat new reg s (Computed line) ins more h = h
 
 -- a signal that is a register
@@ -403,7 +407,8 @@ with_in signals table flat new name found sig place built next is drives placed 
     given_in : (s : ℕ) (d : Driver) → IsGiven signals table flat s d → IsGiven signals table new s d
     given_in s (Input p) h = (omega (arith, h.0, ap length more, length-append flat.ins (found.signal ∷ [])), old_at p h.0 ∙ h.1, h.2)
     given_in s (Held r) h = subst (λ (l : List Register). IsGivenRegister signals table l s r) (sym registers) h
-    given_in s (Read memory port) h = h
+    given_in s (MemoryWord memory reader addr en) h = h
+    given_in s (ReadRegister memory reader) h = h
     given_in s (Computed line) h = h
 
     ins_at : (p : ℕ) → p < length flat.ins + 1 → ((p < length flat.ins) × (value_at new.ins p ≡ value_at flat.ins p)) ⊎ ((value_at new.ins p ≡ length flat.signals) × (sig.driver ≡ Input p))

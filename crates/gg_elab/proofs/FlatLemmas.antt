@@ -14,7 +14,7 @@ use Rattle.gg_ast.specs.Tree.{ModuleTree, CircuitTree}
 use Rattle.gg_flat.specs.declared.line.Node.{Node}
 use Rattle.gg_flat.specs.declared.piece.Register.{Register}
 use Rattle.gg_flat.specs.declared.piece.Driver.{Driver}
-use Rattle.gg_flat.specs.declared.piece.Driver.TheVariants.{Input, Held, Read, Computed}
+use Rattle.gg_flat.specs.declared.piece.Driver.TheVariants.{Input, Held, MemoryWord, ReadRegister, Computed}
 use Rattle.gg_flat.specs.Circuit.{FlatCircuit, signal_shapes, driver_at}
 use Rattle.gg_flat.specs.Line.{shape_at, value_at, HasType, IsSource}
 use Rattle.gg_flat.specs.WellFormed.{IsWellFormed, IsRegister, MayDrive}
@@ -59,7 +59,8 @@ gets_by : (signals : Signals) (table : List (Option Source)) (flat : FlatCircuit
 gets_by signals table flat s c (Input place) drives h seen = absurd (let none : seen_at table s ≡ None = h.2 in cc)
 gets_by signals table flat s c (Held r) drives h seen =
     next_of signals flat s r h.register c h.register.next drives h.numbered refl (subst (λ (o : Option Connection). HasNext signals o h.register.next) seen h.next)
-gets_by signals table flat s c (Read memory port) drives h seen = absurd h
+gets_by signals table flat s c (MemoryWord memory reader addr en) drives h seen = absurd h
+gets_by signals table flat s c (ReadRegister memory reader) drives h seen = absurd h
 gets_by signals table flat s c (Computed line) drives h seen = record {
   line = line;
   gives = inl drives;
@@ -154,7 +155,8 @@ may_drive signals table flat s (Held r) shapes h =
       get_or-map (λ (x : Register). shape x.ty) flat.registers r h.register (uint 0) at.0
           ∙ ap (λ (x : Register). shape x.ty) at.1 ∙ h.typed ∙ ap (λ (l : List Shape). shape_at l s) (sym shapes),
     )
-may_drive signals table flat s (Read memory port) shapes h = h
+may_drive signals table flat s (MemoryWord memory reader addr en) shapes h = absurd h
+may_drive signals table flat s (ReadRegister memory reader) shapes h = absurd h
 may_drive signals table flat s (Computed line) shapes h =
     subst (λ (l : List Shape). IsSource (HasType l) (shape_at l s) line) (sym shapes) h.0
 
@@ -166,7 +168,8 @@ IsWellFormed-whole signals statements table flat whole named distinct = record {
   ins = whole.built.ins;
   outs = whole.built.outs;
   registers = subst (λ (l : List Shape). All (IsRegister (HasType l)) flat.registers) (sym whole.shapes) whole.built.registers;
-  memories = whole.built.memories;
+  memories = λ m d lt. absurd (omega (arith, lt, ap length whole.built.memories));
+  reads = λ m lt. absurd (omega (arith, lt, ap length whole.built.memories));
 }
 
 pub IsFlat-ok : {E : Type 0} (r : Result FlatCircuit E) (circuit : CircuitTree) (top : ModuleTree) → IsFaultless circuit → circuit.modules ≡ top ∷ [] → top.name ≡ circuit.name → IfOk r (λ flat. IsFlatModule top flat) → IfOk r (λ flat. IsFlat circuit flat)

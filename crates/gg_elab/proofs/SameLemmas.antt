@@ -15,9 +15,11 @@ use Rattle.gg_flat.specs.declared.piece.Driver.TheVariants.{Input, Held, Compute
 use Rattle.gg_flat.specs.declared.piece.Register.{Register}
 use Rattle.gg_flat.specs.declared.piece.Reset.{Reset}
 use Rattle.gg_flat.specs.declared.piece.Signal.{Signal}
-use Rattle.gg_flat.specs.Circuit.{FlatCircuit, Memory, signal_shapes, driver_at}
+use Rattle.gg_flat.specs.declared.memory.Memory.{Memory}
+use Rattle.gg_flat.specs.Circuit.{FlatCircuit, signal_shapes, driver_at}
+use Rattle.gg_flat.specs.Memory.{Bank, opening_bank, next_banks}
 use Rattle.gg_flat.specs.Line.{shape_at, value_at, AreTyped, line_shape, line_value, connected_value}
-use Rattle.gg_flat.specs.Run.{row_at, inputs_at, state_at, IsRun}
+use Rattle.gg_flat.specs.Run.{row_at, inputs_at, opening_start, state_at, IsRun}
 use Rattle.gg_flat.specs.Settled.{driver_value, Settled}
 use Rattle.gg_flat.specs.State.{State, opening, connected_or, reset_or, next_register, next_registers, next_state}
 use Rattle.gg_elab.specs.Connection.{Connection, ConnectedTo, Zeroed, IsZeroLine, IsLineFor}
@@ -236,25 +238,24 @@ known f g same =
       numbers = t.numbers;
     }
 
-state_same : (a b : State) → a.registers ≡ b.registers → a.words ≡ b.words → a.reads ≡ b.reads → a ≡ b
-state_same a b registers words reads =
-    ap (λ (x : List ℕ). let s : State = record { registers = x; words = a.words; reads = a.reads } in s) registers
-    ∙ ap (λ (x : List (List ℕ)). let s : State = record { registers = b.registers; words = x; reads = a.reads } in s) words
-    ∙ ap (λ (x : List (List ℕ)). let s : State = record { registers = b.registers; words = b.words; reads = x } in s) reads
+state_same : (a b : State) → a.registers ≡ b.registers → a.banks ≡ b.banks → a ≡ b
+state_same a b registers banks =
+    ap (λ (x : List ℕ). let s : State = record { registers = x; banks = a.banks } in s) registers
+    ∙ ap (λ (x : List Bank). let s : State = record { registers = b.registers; banks = x } in s) banks
 
 opening_same : (f g : FlatCircuit) → length f.registers ≡ length g.registers → f.memories ≡ g.memories → opening f ≡ opening g
 opening_same f g count memories =
     state_same (opening f) (opening g)
     (ap (λ (n : ℕ). replicate n 0) count)
-    (ap (λ (l : List Memory). map (λ memory. replicate memory.depth 0) l) memories)
-    (ap (λ (l : List Memory). map (λ memory. []) l) memories)
+    (ap (λ (l : List Memory). map (λ memory. opening_bank memory) l) memories)
 
-states_same : (f g : FlatCircuit) (rows : List (List ℕ)) → SameRegisters f.registers g.registers → f.memories ≡ g.memories → (t : ℕ) → state_at f rows t ≡ state_at g rows t
+states_same : (f g : FlatCircuit) (rows : List (List ℕ)) → SameRegisters f.registers g.registers → f.memories ≡ g.memories → (t : ℕ) → state_at f (opening_start f) rows t ≡ state_at g (opening_start g) rows t
 states_same f g rows registers memories zero = opening_same f g registers.count memories
 states_same f g rows registers memories (suc t) =
     ap (λ (s : State). next_state f s (row_at rows t)) (states_same f g rows registers memories t)
-    ∙ state_same (next_state f (state_at g rows t) (row_at rows t)) (next_state g (state_at g rows t) (row_at rows t))
-    (registers_same (row_at rows t) f.registers g.registers (state_at g rows t).registers registers) refl refl
+    ∙ state_same (next_state f (state_at g (opening_start g) rows t) (row_at rows t)) (next_state g (state_at g (opening_start g) rows t) (row_at rows t))
+    (registers_same (row_at rows t) f.registers g.registers (state_at g (opening_start g) rows t).registers registers)
+    (ap (λ (l : List Memory). next_banks (row_at rows t) l (state_at g (opening_start g) rows t).banks) memories)
 
 settled_same : (f g : FlatCircuit) (state : State) (inputs signals : List ℕ) → SameCircuits f g → Known f g → Settled f state inputs signals → Settled g state inputs signals
 settled_same f g state inputs signals same k h = record {
@@ -274,5 +275,5 @@ run_same f g columns n rows same run =
       count = run.count;
       settled = λ t lt.
           subst (λ (s : State). Settled g s (inputs_at columns t) (row_at rows t)) (states_same f g rows k.registers same.memories t)
-          (settled_same f g (state_at f rows t) (inputs_at columns t) (row_at rows t) same k (run.settled t lt));
+          (settled_same f g (state_at f (opening_start f) rows t) (inputs_at columns t) (row_at rows t) same k (run.settled t lt));
     }

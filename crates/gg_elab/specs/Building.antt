@@ -10,7 +10,7 @@ use Rattle.gg_flat.specs.declared.line.Node.{Node}
 use Rattle.gg_flat.specs.declared.piece.Register.{Register}
 use Rattle.gg_flat.specs.declared.piece.Signal.{Signal}
 use Rattle.gg_flat.specs.declared.piece.Driver.{Driver}
-use Rattle.gg_flat.specs.declared.piece.Driver.TheVariants.{Input, Held, Read, Computed}
+use Rattle.gg_flat.specs.declared.piece.Driver.TheVariants.{Input, Held, MemoryWord, ReadRegister, Computed}
 use Rattle.gg_flat.specs.Circuit.{FlatCircuit, signal_shapes, driver_at}
 use Rattle.gg_flat.specs.Line.{shape_at, value_at, HasType, IsSource}
 use Rattle.gg_flat.specs.WellFormed.{IsRegister}
@@ -48,7 +48,8 @@ pub record IsGivenRegister (signals : Signals) (table : List (Option Source)) (r
 abbrev pub IsGiven : Signals → List (Option Source) → FlatCircuit → ℕ → Driver → Type 0
 IsGiven signals table flat s (Input place) = (place < length flat.ins) × (value_at flat.ins place ≡ s) × (seen_at table s ≡ None)
 IsGiven signals table flat s (Held r) = IsGivenRegister signals table flat.registers s r
-IsGiven signals table flat s (Read memory port) = ⊥
+IsGiven signals table flat s (MemoryWord memory reader addr en) = ⊥
+IsGiven signals table flat s (ReadRegister memory reader) = ⊥
 IsGiven signals table flat s (Computed line) = IsSource (HasType signals.shapes) (shape_at signals.shapes s) line × HasSource signals (seen_at table s) line
 
 -- The flat circuit has the first of the signals, each with its driver.

@@ -17,7 +17,7 @@ use Rattle.gg_flat.specs.declared.line.Node.{Node}
 use Rattle.gg_flat.specs.declared.piece.Register.{Register}
 use Rattle.gg_flat.specs.declared.piece.Reset as kept
 use Rattle.gg_flat.specs.declared.piece.Driver.{Driver}
-use Rattle.gg_flat.specs.declared.piece.Driver.TheVariants.{Input, Held, Read, Computed}
+use Rattle.gg_flat.specs.declared.piece.Driver.TheVariants.{Input, Held, MemoryWord, ReadRegister, Computed}
 use Rattle.gg_flat.specs.Circuit.{FlatCircuit, signal_shapes, driver_at}
 use Rattle.gg_elab.specs.Expression.{Signals}
 use Rattle.gg_elab.specs.Lines.{IsLineOf}
@@ -103,7 +103,8 @@ abbrev pub HoldInTurn : ℕ → ℕ → List Driver → Type 0
 HoldInTurn next count [] = next ≡ count
 HoldInTurn next count (Input place ∷ drivers) = HoldInTurn next count drivers
 HoldInTurn next count (Held register ∷ drivers) = (register ≡ next) × HoldInTurn (next + 1) count drivers
-HoldInTurn next count (Read memory port ∷ drivers) = HoldInTurn next count drivers
+HoldInTurn next count (MemoryWord memory reader addr en ∷ drivers) = HoldInTurn next count drivers
+HoldInTurn next count (ReadRegister memory reader ∷ drivers) = HoldInTurn next count drivers
 HoldInTurn next count (Computed line ∷ drivers) = HoldInTurn next count drivers
 
 -- A flat circuit of a module: its signals are those that the module declares, by name and shape, in the order of the

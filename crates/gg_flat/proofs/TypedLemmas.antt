@@ -86,7 +86,7 @@ some-memory [] m within = absurd (omega arith)
 some-memory (memory ∷ memories) m within = memory
 
 -- a memory that has a reader is one of the list
-within-readers : (memories : List Memory) (m r : ℕ) → r < length (slice_index_or (map (λ (k : Memory). k.readers) memories) m []) → m < length memories
+pub within-readers : (memories : List Memory) (m r : ℕ) → r < length (slice_index_or (map (λ (k : Memory). k.readers) memories) m []) → m < length memories
 within-readers [] zero r lt = absurd (omega arith)
 within-readers [] (suc m) r lt = absurd (omega arith)
 within-readers (memory ∷ memories) zero r lt = omega arith

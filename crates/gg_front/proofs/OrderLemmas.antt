@@ -32,7 +32,8 @@ use Rattle.gg_flat.specs.declared.piece.Driver.{Driver}
 use Rattle.gg_flat.specs.declared.piece.Driver.TheVariants as drives
 use Rattle.gg_flat.specs.Circuit.{FlatCircuit, driver_at}
 use Rattle.gg_flat.specs.Reads.{Names, NamesSignal}
-use Rattle.gg_flat.specs.WellFormed.{IsWellFormed}
+use Rattle.gg_flat.specs.WellFormed.{IsWellFormed, MayDrive, IsDataOf}
+use Rattle.gg_flat.proofs.TypedLemmas.{within-readers}
 use Rattle.gg_order.specs.Places.{IsTangled}
 use Rattle.gg_elab.specs.Expression.{Signals, TermNames}
 use Rattle.gg_elab.specs.Signals.{signals_of, no_signals, declare_port, declare_statement, type_shape, goes, port_names, is_clock, same_direction}
@@ -409,13 +410,17 @@ module _ (m : ModuleTree) (flat : FlatCircuit) (j : Judged m flat) where
     pub driver : driver_at flat a ≡ drives.Computed line
     pub names : Names line b
 
-  computed : (a b : ℕ) → NamesSignal (driver_at flat a) b → IsLineNaming a b
-  computed a b h = go (driver_at flat a) refl h
+  computed : (a b : ℕ) → a < length flat.signals → NamesSignal (driver_at flat a) b → IsLineNaming a b
+  computed a b within h = go (driver_at flat a) refl h
     where
+      no-memory : (memory reader : ℕ) → IsDataOf flat memory reader a → ⊥
+      no-memory memory reader of = omega (arith, within-readers flat.memories memory reader of.0, ap length j.is_module.memories)
+
       go : (d : Driver) → driver_at flat a ≡ d → NamesSignal d b → IsLineNaming a b
       go (drives.Input place) e q = absurd q
       go (drives.Held register) e q = absurd q
-      go (drives.Read memory port) e q = absurd q
+      go (drives.MemoryWord memory reader addr en) e q = absurd (no-memory memory reader (subst (MayDrive flat a) e (j.formed.drivers a within)))
+      go (drives.ReadRegister memory reader) e q = absurd q
       go (drives.Computed line) e q = record { line = line; driver = e; names = q }
 
   -- a signal that an expression names reads only what stands before it
@@ -445,8 +450,8 @@ module _ (m : ModuleTree) (flat : FlatCircuit) (j : Judged m flat) where
 
   pub not-tangled : IsTangled flat → ⊥
   not-tangled t =
-      let first = computed t.reader t.middle t.first_reads.names in
+      let first = computed t.reader t.middle t.first_reads.signal t.first_reads.names in
       let named = read-named t.reader t.middle first.line t.first_reads.signal first.driver first.names in
-      let before : t.last < t.middle = reads-before t.middle t.last t.then_reads.signal named (computed t.middle t.last t.then_reads.names) in
+      let before : t.last < t.middle = reads-before t.middle t.last t.then_reads.signal named (computed t.middle t.last t.then_reads.signal t.then_reads.names) in
       let late = t.late in
       omega arith

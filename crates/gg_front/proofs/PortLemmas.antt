@@ -11,7 +11,7 @@ use Rattle.gg_flat.specs.Circuit.{FlatCircuit}
 use Rattle.gg_flat.specs.WellFormed.{IsWellFormed}
 use Rattle.gg_flat.specs.declared.ports.Port.{Port}
 use Rattle.gg_elab.specs.FlatModule.{path_at}
-use Rattle.gg_front.specs.Ports.{port_with, port_at, ports_at, in_ports, out_ports}
+use Rattle.gg_flat.specs.Ports.{port_with, port_at, ports_at, in_ports, out_ports}
 use Rattle.gg_front.proofs.RowLemmas.{AreAlike}
 
 -- ---- types of one shape are equal

@@ -1,5 +1,4 @@
 -- What the front end's contracts speak of.
 pub mod Plain
-pub mod Ports
 pub mod Meaning
 pub mod Fault

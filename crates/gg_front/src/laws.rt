@@ -6,7 +6,7 @@ ghost use Rattle.gg_flat.specs.Run.{IsRun};
 ghost use Rattle.gg_read.specs.Text.{Spells};
 ghost use Rattle.gg_front.specs.Meaning.{Means};
 ghost use Rattle.gg_front.specs.Plain.{IsPlainTree};
-ghost use Rattle.gg_front.specs.Ports.{in_ports, out_ports};
+ghost use Rattle.gg_flat.specs.Ports.{in_ports, out_ports};
 
 use gg_read::one_circuit;
 

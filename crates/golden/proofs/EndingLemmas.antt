@@ -3,7 +3,7 @@ use Rattle.std.proofs.Common.{◌≡◌, ℕ, List, [], refl, sym, ap, subst, in
 use Rattle.std.specs.Prelude.{Option, Result, Ok, Err, codes}
 use Rattle.gg_flat.specs.Circuit.{FlatCircuit}
 use Rattle.gg_front.specs.Meaning.{Means}
-use Rattle.gg_front.specs.Ports.{in_ports}
+use Rattle.gg_flat.specs.Ports.{in_ports}
 use Rattle.gg_flat.specs.declared.ports.Port.{Port}
 use Rattle.gg_trace.specs.Trace.{Columns}
 use Rattle.gg_io.specs.Told.{Told}

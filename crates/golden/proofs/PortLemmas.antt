@@ -18,21 +18,7 @@ use Rattle.gg_flat.specs.declared.ports.Port.{Port}
 use Rattle.gg_trace.specs.Ports.{name_at, width_at, HasDistinctNames}
 use Rattle.gg_trace.specs.Table.{row_of}
 use Rattle.gg_trace.specs.Trace.{Columns, HaveWidths}
-use Rattle.gg_front.specs.Ports.{port_with, port_at, ports_at, in_ports, out_ports}
-
--- one more signal
-ports_at-more : (circuit : FlatCircuit) (ss : List ℕ) (i : ℕ) (port : Port) → i < length ss → port_at circuit (value_at ss i) ≡ Some port
-    → ports_at circuit (take (i + 1) ss) ≡ ports_at circuit (take i ss) ++ port ∷ []
-ports_at-more circuit ss i port lt is =
-    ap (ports_at circuit) (take_more ss i 0 lt)
-    ∙ filter_map-append (port_at circuit) (take i ss) (value_at ss i ∷ [])
-    ∙ ap (λ (o : Option Port). ports_at circuit (take i ss) ++ cons_option o []) is
-
--- the ports so far, with one more pushed
-pub ports_at-push : (circuit : FlatCircuit) (ss : List ℕ) (i : ℕ) (port : Port) (old new : List Port) → i < length ss → port_at circuit (value_at ss i) ≡ Some port
-    → old ≡ ports_at circuit (take i ss) → new ≡ old ++ port ∷ [] → new ≡ ports_at circuit (take (i + 1) ss)
-ports_at-push circuit ss i port old new lt is before pushed =
-    pushed ∙ ap (λ (ps : List Port). ps ++ port ∷ []) before ∙ sym (ports_at-more circuit ss i port lt is)
+use Rattle.gg_flat.specs.Ports.{port_with, port_at, ports_at, in_ports, out_ports}
 
 module _ (circuit : FlatCircuit) where
   -- a signal's port

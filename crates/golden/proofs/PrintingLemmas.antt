@@ -7,7 +7,7 @@ use Rattle.std.proofs.Math.Nat.{eq-or-lt_of_le}
 use Rattle.gg_flat.specs.Circuit.{FlatCircuit}
 use Rattle.gg_flat.specs.Line.{value_at}
 use Rattle.gg_flat.specs.Order.{IsOrder}
-use Rattle.gg_flat.specs.Run.{IsRun, row_at, state_at, inputs_at, column}
+use Rattle.gg_flat.specs.Run.{IsRun, row_at, opening_start, state_at, inputs_at, column}
 use Rattle.gg_flat.specs.Settled.{Settled}
 use Rattle.gg_flat.specs.State.{State, next_state}
 use Rattle.gg_io.specs.Count.{Rose}
@@ -18,7 +18,7 @@ use Rattle.gg_trace.specs.Table.{Table, row_of}
 use Rattle.golden.specs.declared.stops.Stop.{Stop}
 use Rattle.golden.specs.declared.stops.Stop.TheVariants.{Refused, Unwritten, NoMemory}
 use Rattle.golden.specs.Outcome.{IsFront, StandsFront}
-use Rattle.gg_front.specs.Ports.{out_ports}
+use Rattle.gg_flat.specs.Ports.{out_ports}
 use Rattle.golden.specs.RunText.{out_columns}
 use Rattle.golden.specs.Stops.{Prints}
 use Rattle.golden.proofs.WritingLemmas.{append_known-append, append_known-nil}
@@ -27,7 +27,7 @@ use Rattle.golden.proofs.WritingLemmas.{append_known-append, append_known-nil}
 pub record PrintedTo (circuit : FlatCircuit) (inputs : Table) (ports : List Port) (before now : Option (List ℕ)) (faults faults' refused refused' : ℕ) (cycle : ℕ) (mono : Simulation) (outs : List ℕ) : Type 0 where
   pub same : mono.circuit ≡ circuit
   pub count : length outs ≡ length circuit.outs
-  pub state : (rows : List (List ℕ)) → IsRun circuit inputs.columns inputs.rows rows → mono.state ≡ state_at circuit rows cycle
+  pub state : (rows : List (List ℕ)) → IsRun circuit inputs.columns inputs.rows rows → mono.state ≡ state_at circuit (opening_start circuit) rows cycle
   pub written : (rows : List (List ℕ)) (base : Option (List ℕ)) → IsRun circuit inputs.columns inputs.rows rows
       → before ≡ append_known base (trace_text ports (out_columns circuit rows) 0)
       → now ≡ append_known base (trace_text ports (out_columns circuit rows) cycle)
@@ -49,10 +49,10 @@ SettledOnce = (circuit : FlatCircuit) (order : List ℕ) (state : State) (inputs
 -- a cycle from the state before cycle t of a run, with its inputs, is cycle t of the run
 pub cycle-row : SettledOnce → (circuit : FlatCircuit) (order : List ℕ) (columns : List (List ℕ)) (n : ℕ) (rows : List (List ℕ)) (t : ℕ)
     (before after : State) (inputs printed : List ℕ) → IsOrder circuit order → IsRun circuit columns n rows → t < n
-    → before ≡ state_at circuit rows t → inputs ≡ inputs_at columns t → (cycle : Cycle circuit before inputs printed after) → cycle.row ≡ row_at rows t
+    → before ≡ state_at circuit (opening_start circuit) rows t → inputs ≡ inputs_at columns t → (cycle : Cycle circuit before inputs printed after) → cycle.row ≡ row_at rows t
 cycle-row once circuit order columns n rows t before after inputs printed ordered run lt is given cycle =
     once circuit order before inputs cycle.row (row_at rows t) ordered cycle.settled
-    (subst (λ (s : State). Settled circuit s inputs (row_at rows t)) (sym is) (subst (λ (i : List ℕ). Settled circuit (state_at circuit rows t) i (row_at rows t)) (sym given) (run.settled t lt)))
+    (subst (λ (s : State). Settled circuit s inputs (row_at rows t)) (sym is) (subst (λ (i : List ℕ). Settled circuit (state_at circuit (opening_start circuit) rows t) i (row_at rows t)) (sym given) (run.settled t lt)))
 
 -- the front of a text of rows
 pub trace_text-front : (ports : List Port) (columns : List (List ℕ)) (n t : ℕ) → t ≤ n → IsFront (trace_text ports columns t) (trace_text ports columns n)
@@ -77,19 +77,19 @@ trace_text-more ports columns t values e =
 
 -- what a cycle of a run leaves: the next state, and the outputs' row
 pub record Follows (circuit : FlatCircuit) (rows : List (List ℕ)) (t : ℕ) (after : State) (printed : List ℕ) : Type 0 where
-  pub state : after ≡ state_at circuit rows (t + 1)
+  pub state : after ≡ state_at circuit (opening_start circuit) rows (t + 1)
   pub row : printed ≡ row_of (out_columns circuit rows) t
 
 pub cycle-follows : SettledOnce → (circuit : FlatCircuit) (order : List ℕ) (columns : List (List ℕ)) (n : ℕ) (rows : List (List ℕ)) (t : ℕ)
     (before after : State) (inputs printed : List ℕ) → IsOrder circuit order → IsRun circuit columns n rows → t < n
-    → before ≡ state_at circuit rows t → inputs ≡ inputs_at columns t → Cycle circuit before inputs printed after → Follows circuit rows t after printed
+    → before ≡ state_at circuit (opening_start circuit) rows t → inputs ≡ inputs_at columns t → Cycle circuit before inputs printed after → Follows circuit rows t after printed
 cycle-follows once circuit order columns n rows t before after inputs printed ordered run lt is given cycle =
     let row = cycle-row once circuit order columns n rows t before after inputs printed ordered run lt is given cycle in
     let turned : suc t ≡ t + 1 = omega arith in
     let counted = run.count in
     let within : t < length rows = omega arith in
     record {
-      state = cycle.next ∙ ap (λ (s : State). next_state circuit s cycle.row) is ∙ ap (next_state circuit (state_at circuit rows t)) row ∙ ap (state_at circuit rows) turned;
+      state = cycle.next ∙ ap (λ (s : State). next_state circuit s cycle.row) is ∙ ap (next_state circuit (state_at circuit (opening_start circuit) rows t)) row ∙ ap (state_at circuit (opening_start circuit) rows) turned;
       row = cycle.outputs_are ∙ ap (outputs circuit) row ∙ outputs-row circuit rows t within circuit.outs;
     }
 

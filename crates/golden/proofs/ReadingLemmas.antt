@@ -9,7 +9,7 @@ use Rattle.gg_flat.specs.Run.{IsColumns}
 use Rattle.golden.specs.declared.stops.Stop.{Stop}
 use Rattle.golden.specs.declared.stops.Stop.TheVariants.{Refused, Unwritten, NoMemory}
 use Rattle.golden.specs.Lines.{Said}
-use Rattle.gg_front.specs.Ports.{ports_at, in_ports, out_ports}
+use Rattle.gg_flat.specs.Ports.{in_ports, out_ports}
 use Rattle.golden.specs.RunText.{Feeds}
 use Rattle.golden.proofs.PortLemmas.{in_ports-distinct, out_ports-count, trace-columns}
 use Rattle.golden.specs.Stops.{IfRefused}
@@ -21,9 +21,8 @@ IfRefused-map f Unwritten h = h
 IfRefused-map f NoMemory h = h
 
 -- the ports of a circuit's inputs
-pub ports-are : (circuit piece : FlatCircuit) (ins : List ℕ) (ports : List Port) → ports ≡ ports_at piece ins → ins ≡ piece.ins → piece ≡ circuit
-    → ports ≡ in_ports circuit
-ports-are circuit piece ins ports p q r = p ∙ ap (ports_at piece) q ∙ ap (λ (c : FlatCircuit). in_ports c) r
+pub ports-are : (circuit piece : FlatCircuit) (ports : List Port) → ports ≡ in_ports piece → piece ≡ circuit → ports ≡ in_ports circuit
+ports-are circuit piece ports p r = p ∙ ap (λ (c : FlatCircuit). in_ports c) r
 
 -- their names differ
 pub ports-distinct : (circuit : FlatCircuit) (ports : List Port) → ports ≡ in_ports circuit → IsWellFormed circuit → HasDistinctNames ports
@@ -42,9 +41,8 @@ ports-feed circuit ports bytes slice e f n columns cols =
     subst (λ (p : List Port). Columns p bytes n columns) e (subst (λ (b : List ℕ). Columns ports b n columns) f cols)
 
 -- the ports of a circuit's outputs
-pub outs-are : (circuit piece : FlatCircuit) (outs : List ℕ) (ports : List Port) → ports ≡ ports_at piece outs → outs ≡ piece.outs → piece ≡ circuit
-    → ports ≡ out_ports circuit
-outs-are circuit piece outs ports p q r = p ∙ ap (ports_at piece) q ∙ ap (λ (c : FlatCircuit). out_ports c) r
+pub outs-are : (circuit piece : FlatCircuit) (ports : List Port) → ports ≡ out_ports piece → piece ≡ circuit → ports ≡ out_ports circuit
+outs-are circuit piece ports p r = p ∙ ap (λ (c : FlatCircuit). out_ports c) r
 
 -- as many as the simulated circuit has
 pub outs-count : (circuit simulated : FlatCircuit) (ports : List Port) → ports ≡ out_ports circuit → simulated ≡ circuit → IsWellFormed circuit

@@ -5,7 +5,7 @@ use Rattle.gg_flat.specs.Order.{IsOrder}
 use Rattle.gg_flat.specs.Run.{IsRun, column}
 use Rattle.gg_flat.specs.declared.ports.Port.{Port}
 use Rattle.gg_front.specs.Meaning.{Means}
-use Rattle.gg_front.specs.Ports.{in_ports, out_ports}
+use Rattle.gg_flat.specs.Ports.{in_ports, out_ports}
 use Rattle.gg_trace.specs.Printing.{trace_text}
 use Rattle.gg_trace.specs.Trace.{Columns}
 use Rattle.golden.specs.Run.{IsTextOf}

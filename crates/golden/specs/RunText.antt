@@ -5,7 +5,7 @@ use Rattle.gg_flat.specs.Circuit.{FlatCircuit}
 use Rattle.gg_flat.specs.Run.{IsRun, column}
 use Rattle.gg_trace.specs.Trace.{Columns}
 use Rattle.gg_trace.specs.Printing.{trace_text}
-use Rattle.gg_front.specs.Ports.{in_ports, out_ports}
+use Rattle.gg_flat.specs.Ports.{in_ports, out_ports}
 
 -- the columns of the outputs, in port order
 abbrev pub out_columns : FlatCircuit → List (List ℕ) → List (List ℕ)

@@ -25,7 +25,6 @@
 mod call;
 mod laws;
 mod loading;
-mod ports;
 mod printing;
 mod reading;
 mod run;

@@ -8,12 +8,11 @@ ghost use Rattle.gg_flat.specs.State.{opening};
 ghost use Rattle.gg_io.specs.Count.{Rose};
 ghost use Rattle.gg_refsim.specs.Cycle.{Cycle};
 ghost use Rattle.gg_trace.specs.Printing.{row_line, trace_text};
-ghost use Rattle.gg_front.specs.Ports.{out_ports};
+ghost use Rattle.gg_flat.specs.Ports.{out_ports};
 ghost use Rattle.golden.specs.RunText.{out_columns};
 ghost use Rattle.golden.specs.Stops.{Prints};
 ghost use Rattle.golden.specs.WentOn.{SinkWentOn};
 
-use crate::ports::ports_of;
 use crate::stops::Stop;
 use crate::writing::put;
 use gg_flat::{Ports, runs_along, settled_once};
@@ -109,7 +108,7 @@ pub(crate) fn print_run<K: Sink>(
     // for what the design says of its order
     let _ = design.order();
     let piece = design.piece();
-    let ports = ports_of(alloc, piece, piece.outs())?;
+    let ports = piece.out_ports(alloc)?;
     let mut mono = Mono::new(alloc, design)?;
     print_all(alloc, &mut mono, &ports, inputs, out)
 }

@@ -12,7 +12,6 @@ ghost use Rattle.golden.specs.Stops.{IfRefused, TellsFront};
 ghost use Rattle.golden.specs.WentOn.{ShelfWentOn};
 
 use crate::loading::load;
-use crate::ports::ports_of;
 use crate::stops::{Stop, stop_not_plain};
 use crate::unread::stop_unread;
 use gg_front::{FrontFault, front};
@@ -104,7 +103,7 @@ pub(crate) fn read_inputs<S: Shelf>(
 {
     let bytes = load(alloc, shelf, name, TRACE_LIMIT)?;
     let piece = design.piece();
-    let ports = ports_of(alloc, piece, piece.ins())?;
+    let ports = piece.in_ports(alloc)?;
     match read_trace(alloc, &ports, bytes.as_slice()) {
         Ok(trace) => Ok(trace),
         Err(fault) => Err(stop_at_trace(alloc, name, fault)),

@@ -10,7 +10,7 @@ returns-in_err-ports-clause-prints g c =
     let p = err_from_is_err_and c.from_residual.result c.from_residual.ensures.1 in
     rw (p.1, p.2) (
       _,
-      c.runs_along.ensures c.args.design.now.circuit c.args.design.now.order c.args.inputs.now.columns c.args.inputs.now.rows c.piece-piece.ensures.formed c.order.ensures.ordered c.requires.fed,
+      c.runs_along.ensures.opening c.args.design.now.circuit c.args.design.now.order c.args.inputs.now.columns c.args.inputs.now.rows c.piece-piece.ensures.formed c.order.ensures.ordered c.requires.fed,
       none-front _ _ _ refl,
     )
 
@@ -19,19 +19,19 @@ returns-in_err-mono-clause-prints g c =
     let p = err_from_is_err_and c.from_residual-in_err-mono.result c.from_residual-in_err-mono.ensures.1 in
     rw (p.1, p.2) (
       _,
-      c.runs_along.ensures c.args.design.now.circuit c.args.design.now.order c.args.inputs.now.columns c.args.inputs.now.rows c.piece-piece.ensures.formed c.order.ensures.ordered c.requires.fed,
+      c.runs_along.ensures.opening c.args.design.now.circuit c.args.design.now.order c.args.inputs.now.columns c.args.inputs.now.rows c.piece-piece.ensures.formed c.order.ensures.ordered c.requires.fed,
       none-front _ _ _ refl,
     )
 
 pub print_all-requires-clause-ports : goal.print_all-requires-clause-ports
 print_all-requires-clause-ports g c =
-    outs-count c.args.design.now.circuit _ _ (outs-are _ _ _ _ c.in_ok-ports.ensures c.outs.ensures c.piece-piece.ensures.circuit) c.in_ok-mono.ensures.circuit c.piece-piece.ensures.formed
+    outs-count c.args.design.now.circuit _ _ (outs-are _ _ _ c.in_ok-ports.ensures c.piece-piece.ensures.circuit) c.in_ok-mono.ensures.circuit c.piece-piece.ensures.formed
 
 pub returns-clause-prints : goal.returns-clause-prints
 returns-clause-prints g c =
-    let run = c.runs_along.ensures c.args.design.now.circuit c.args.design.now.order c.args.inputs.now.columns c.args.inputs.now.rows c.piece-piece.ensures.formed c.order.ensures.ordered c.requires.fed in (
+    let run = c.runs_along.ensures.opening c.args.design.now.circuit c.args.design.now.order c.args.inputs.now.columns c.args.inputs.now.rows c.piece-piece.ensures.formed c.order.ensures.ordered c.requires.fed in (
       _,
       run,
       run-prints (Unit {0}) _ _ _ c.print_all.result c.args.design.now.circuit _ c.in_ok-ports.ports c.args.inputs.now.columns c.args.inputs.now.rows c.in_ok-mono.ensures.circuit
-          (outs-are _ _ _ _ c.in_ok-ports.ensures c.outs.ensures c.piece-piece.ensures.circuit) _ run c.print_all.ensures.prints,
+          (outs-are _ _ _ c.in_ok-ports.ensures c.piece-piece.ensures.circuit) _ run c.print_all.ensures.prints,
     )

@@ -1,15 +1,15 @@
 use Rattle.std.proofs.Common.{◌≡◌, inr}
-use Rattle.gg_front.specs.Ports.{in_ports}
+use Rattle.gg_flat.specs.Ports.{in_ports}
 use Rattle.golden.proofs.ReadingLemmas.{IfRefused-map, ports-are, ports-distinct, feeds-ports, ports-feed, ports-fed}
 use Rattle.golden.proofs.reading.read_inputs.Goals as goal
 
 pub read_trace-requires : goal.read_trace-requires
 read_trace-requires g c =
-    ports-distinct c.args.design.now.circuit _ (ports-are _ _ _ _ c.in_ok-ports.ensures c.ins.ensures c.piece-piece.ensures.circuit) c.piece-piece.ensures.formed
+    ports-distinct c.args.design.now.circuit _ (ports-are _ _ _ c.in_ok-ports.ensures c.piece-piece.ensures.circuit) c.piece-piece.ensures.formed
 
 pub returns-clause-refused : goal.returns-clause-refused
 returns-clause-refused g c =
-    let e : c.in_ok-ports.ports ≡ in_ports c.args.design.now.circuit = ports-are _ _ _ _ c.in_ok-ports.ensures c.ins.ensures c.piece-piece.ensures.circuit in
+    let e : c.in_ok-ports.ports ≡ in_ports c.args.design.now.circuit = ports-are _ _ _ c.in_ok-ports.ensures c.piece-piece.ensures.circuit in
     IfRefused-map
     (λ said h. inr (
       c.in_ok-bytes.bytes.items,
@@ -20,12 +20,12 @@ returns-clause-refused g c =
 
 pub returns-in-Ok-clause-fed : goal.returns-in-Ok-clause-fed
 returns-in-Ok-clause-fed g c =
-    ports-fed c.args.design.now.circuit c.in_ok-ports.ports _ _ _ (ports-are _ _ _ _ c.in_ok-ports.ensures c.ins.ensures c.piece-piece.ensures.circuit) c.piece-piece.ensures.formed
+    ports-fed c.args.design.now.circuit c.in_ok-ports.ports _ _ _ (ports-are _ _ _ c.in_ok-ports.ensures c.piece-piece.ensures.circuit) c.piece-piece.ensures.formed
     c.in-Ok.ensures.columns c.in-Ok.ensures.widths
 
 pub returns-in-Ok-clause-accepted : goal.returns-in-Ok-clause-accepted
 returns-in-Ok-clause-accepted g c =
-    let e : c.in_ok-ports.ports ≡ in_ports c.args.design.now.circuit = ports-are _ _ _ _ c.in_ok-ports.ensures c.ins.ensures c.piece-piece.ensures.circuit in (
+    let e : c.in_ok-ports.ports ≡ in_ports c.args.design.now.circuit = ports-are _ _ _ c.in_ok-ports.ensures c.piece-piece.ensures.circuit in (
       c.in_ok-bytes.bytes.items,
       record { held = c.in_ok-bytes.ensures.held; within = c.in_ok-bytes.ensures.within },
       record {
