@@ -1,4 +1,5 @@
 pub mod RingLemmas
+pub mod RotationLemmas
 pub mod StageLemmas
 pub mod StepLemmas
 pub mod ListLemmas

@@ -1,0 +1,4 @@
+pub mod FaultLemmas
+pub mod KeyOrder
+pub mod ListSteps
+mod WorkedRows

@@ -1,0 +1,100 @@
+-- Small partition files, with what they ask for, and what is wrong with others.
+use Rattle.std.proofs.Common.{◌≡◌, ℕ, List, [], ◌∷◌, Option, Some, None, refl, codes}
+use Rattle.std.specs.Prelude.{option_and_then}
+use Rattle.serde_json.specs.Data.{Data}
+use Rattle.serde_json.specs.Read.{read}
+use Rattle.serde_json.proofs.OnLiterals.{serde_json_on_literals}
+use Rattle.gg_partfile.specs.Partition.{texts, groups, numbers, under}
+use Rattle.gg_partfile.specs.Fault.{wrong_key}
+
+-- the key that is told of a text, if one is
+abbrev told_of : Option Data → Option (List ℕ)
+told_of None = Some (codes "-")
+told_of (Some d) = wrong_key d
+
+abbrev told : List ℕ → Option (List ℕ)
+told text = told_of (read text)
+
+empty : told (codes "{}") ≡ None
+unfolding serde_json_on_literals
+empty = refl
+
+whole : told (codes "{\"units\": [\"a\", \"b.c\"], \"share\": [[\"a\", \"b.c\"], []], \"memories\": [\"b.m\"], \"capacity\": {\"y\": 4, \"x\": 0}}") ≡ None
+unfolding serde_json_on_literals
+whole = refl
+
+units : option_and_then (under texts (codes "units")) (read (codes "{\"units\": [\"a\", \"b.c\"]}")) ≡ Some (codes "a" ∷ codes "b.c" ∷ [])
+unfolding serde_json_on_literals
+units = refl
+
+share : option_and_then (under groups (codes "share")) (read (codes "{\"share\": [[\"a\", \"b\"], []]}")) ≡ Some ((codes "a" ∷ codes "b" ∷ []) ∷ [] ∷ [])
+unfolding serde_json_on_literals
+share = refl
+
+absent : option_and_then (under texts (codes "memories")) (read (codes "{\"units\": []}")) ≡ Some []
+unfolding serde_json_on_literals
+absent = refl
+
+capacity : option_and_then (under numbers (codes "capacity")) (read (codes "{\"capacity\": {\"y\": 4, \"x\": 0}}")) ≡ Some ((codes "x", 0) ∷ (codes "y", 4) ∷ [])
+unfolding serde_json_on_literals
+capacity = refl
+
+nothing : told [] ≡ Some (codes "-")
+unfolding serde_json_on_literals
+nothing = refl
+
+cut_short : told (codes "{\"units\": [") ≡ Some (codes "-")
+unfolding serde_json_on_literals
+cut_short = refl
+
+no_object : told (codes "[]") ≡ Some (codes "-")
+unfolding serde_json_on_literals
+no_object = refl
+
+first_wrong_key : told (codes "{\"a\": 0, \"capacity\": [], \"share\": [\"x\"], \"memories\": 1}") ≡ Some (codes "share")
+unfolding serde_json_on_literals
+first_wrong_key = refl
+
+no_texts : told (codes "{\"units\": [\"a\", 1]}") ≡ Some (codes "units")
+unfolding serde_json_on_literals
+no_texts = refl
+
+null_key : told (codes "{\"memories\": null}") ≡ Some (codes "memories")
+unfolding serde_json_on_literals
+null_key = refl
+
+least_unknown_key : told (codes "{\"zone\": 0, \"Units\": [], \"units\": []}") ≡ Some (codes "Units")
+unfolding serde_json_on_literals
+least_unknown_key = refl
+
+last_stands : told (codes "{\"units\": 1, \"units\": [\"a\"]}") ≡ None
+unfolding serde_json_on_literals
+last_stands = refl
+
+last_is_wrong : told (codes "{\"units\": [\"a\"], \"units\": 1}") ≡ Some (codes "units")
+unfolding serde_json_on_literals
+last_is_wrong = refl
+
+largest : told (codes "{\"capacity\": {\"x\": 18446744073709551615}}") ≡ None
+unfolding serde_json_on_literals
+largest = refl
+
+too_large : told (codes "{\"capacity\": {\"x\": 18446744073709551616}}") ≡ Some (codes "capacity")
+unfolding serde_json_on_literals
+too_large = refl
+
+below_zero : told (codes "{\"capacity\": {\"x\": -1}}") ≡ Some (codes "capacity")
+unfolding serde_json_on_literals
+below_zero = refl
+
+minus_zero : told (codes "{\"capacity\": {\"x\": -0}}") ≡ Some (codes "capacity")
+unfolding serde_json_on_literals
+minus_zero = refl
+
+with_a_point : told (codes "{\"capacity\": {\"x\": 1.0}}") ≡ Some (codes "capacity")
+unfolding serde_json_on_literals
+with_a_point = refl
+
+with_an_exponent : told (codes "{\"capacity\": {\"x\": 1e0}}") ≡ Some (codes "capacity")
+unfolding serde_json_on_literals
+with_an_exponent = refl

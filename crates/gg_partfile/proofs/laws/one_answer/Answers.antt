@@ -1,0 +1,5 @@
+use Rattle.gg_partfile.proofs.FaultLemmas.{refused-apart, refused-once}
+use Rattle.gg_partfile.proofs.laws.one_answer.Goals as goal
+
+pub returns : goal.returns
+returns c = record { apart = refused-apart; key = refused-once }

@@ -1,0 +1,42 @@
+//! What is wrong with a partition file.
+ghost use Rattle.std.specs.Prelude.{◌≡◌};
+ghost use Rattle.gg_partfile.specs.declared.fault.PartFault.TheVariants.{NoMemory};
+
+use gg_bits::Name;
+use std::alloc::AllocError;
+use std::error::Error;
+use std::fmt;
+
+/// Why a partition file gave no request.
+#[derive(Debug, Drop)]
+pub enum PartFault {
+    /// The first of the keys `units`, `share`, `memories` and `capacity` whose value is of a wrong shape; else the least
+    /// unknown key; `-` where the file is no JSON text, or no object.
+    WrongKey(Name),
+    /// Memory was refused.
+    NoMemory,
+}
+
+impl From<AllocError> for PartFault {
+    ghost from_gives = { λ _ e. e ≡ NoMemory };
+
+    fn from(_error: AllocError) -> PartFault {
+        PartFault::NoMemory
+    }
+}
+
+impl fmt::Display for PartFault {
+    ghost use Rattle.std.specs.Prelude.{Some};
+    ghost use Rattle.gg_partfile.specs.Fault.{fault_text};
+
+    ghost output = { λ fault. Some (fault_text fault) };
+
+    fn fmt<W: fmt::Write>(&self, f: &mut fmt::Formatter<W>) -> fmt::Result {
+        match self {
+            PartFault::WrongKey(key) => write!(f, "P1 {key}"),
+            PartFault::NoMemory => f.write_str("out of memory"),
+        }
+    }
+}
+
+impl Error for PartFault {}

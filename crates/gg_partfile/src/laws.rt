@@ -1,0 +1,24 @@
+//! Laws: facts about the definitions, each on a function with an empty body.
+ghost use Rattle.std.specs.Prelude.{◌≡◌, ℕ, List, Some, AllPairs};
+ghost use Rattle.serde_json.specs.Data.{Data};
+ghost use Rattle.serde_json.specs.Read.{read};
+ghost use Rattle.gg_partfile.specs.Partition.{unknown, IsPartition};
+ghost use Rattle.gg_partfile.specs.Fault.{IsRefused};
+ghost use Rattle.gg_partfile.specs.Order.{IsBefore, IsLeastUnknown};
+ghost use Rattle.gg_partfile.specs.declared.request.Request.{Request};
+
+/// Bytes that hold a request are not refused, and bytes that are refused are refused with one key.
+pub fn one_answer()
+    ensures apart { (bytes key : List ℕ) (request : Request) → IsPartition bytes request → ¬ IsRefused bytes key }
+    ensures key { (bytes first second : List ℕ) → IsRefused bytes first → IsRefused bytes second → first ≡ second }
+{}
+
+/// The unknown key that is told is the least by bytes.
+pub fn least_unknown()
+    ensures { (bytes key : List ℕ) (d : Data) → read bytes ≡ Some d → unknown d ≡ Some key → IsLeastUnknown d key }
+{}
+
+/// A request's capacities stand in the order of their names' bytes, each name once.
+pub fn capacities_in_order()
+    ensures { (bytes : List ℕ) (request : Request) → IsPartition bytes request → AllPairs (λ p q. IsBefore p.0 q.0) request.capacity }
+{}

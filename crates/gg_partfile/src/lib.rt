@@ -1,0 +1,22 @@
+//! Partition files: which instances become units, which of them share a host, which memories are hosts of their own, and
+//! the capacities of channels.
+//!
+//! A partition file is JSON text (RFC 8259). The crate promises that `read_partition` gives the request that the bytes
+//! hold (`IsPartition`), or the key that is wrong (`IsRefused`), or that memory was refused.
+#![tactic(auto)]
+
+mod fault;
+mod keys;
+mod laws;
+mod lists;
+mod reader;
+mod request;
+mod shapes;
+#[cfg(test)]
+mod tests;
+
+pub use fault::PartFault;
+pub use laws::{capacities_in_order, least_unknown, one_answer};
+pub use lists::{Capacities, Groups};
+pub use reader::read_partition;
+pub use request::Request;
