@@ -10,6 +10,7 @@ mod cells;
 mod faults;
 mod field_cuts;
 mod heading;
+mod laws;
 mod line_cuts;
 mod port_table;
 mod printing;
@@ -20,6 +21,7 @@ mod trace_table;
 
 pub use faults::TraceFault;
 pub use field_cuts::fields_part_their_line;
+pub use laws::one_first_fault;
 pub use line_cuts::lines_part_their_text;
 pub use printing::{header_text, printed_values_are_read, row_text};
 pub use reading::read_trace;

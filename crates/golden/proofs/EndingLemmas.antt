@@ -1,46 +1,38 @@
 -- How a command has ended, file by file.
-use Rattle.std.proofs.Common.{◌≡◌, ℕ, List, [], refl, sym, ap, subst, inl, inr}
-use Rattle.std.specs.Prelude.{Option, Result, Ok, Err, codes}
+use Rattle.std.proofs.Common.{◌≡◌, ℕ, List, [], refl, sym, subst, inl, inr}
+use Rattle.std.specs.Prelude.{Option, Result, Ok, Err}
 use Rattle.gg_flat.specs.Circuit.{FlatCircuit}
 use Rattle.gg_front.specs.Meaning.{Means}
-use Rattle.gg_flat.specs.Ports.{in_ports}
-use Rattle.gg_flat.specs.declared.ports.Port.{Port}
-use Rattle.gg_trace.specs.Trace.{Columns}
 use Rattle.gg_io.specs.Told.{Told}
-use Rattle.golden.specs.declared.stops.Stop.{Stop}
-use Rattle.golden.specs.declared.stops.Stop.TheVariants.{Refused, Unwritten, NoMemory}
-use Rattle.golden.specs.Lines.{Said, no_command}
+use Rattle.golden.specs.declared.endings.Ending.{Ending}
+use Rattle.golden.specs.declared.endings.Ending.TheVariants.{Refused, Unwritten, NoMemory}
+use Rattle.golden.specs.Lines.{Said}
 use Rattle.golden.specs.Order.{File, Order, Load, CanBe, IsRefused, IsWritten}
-use Rattle.golden.specs.Outcome.{Ends, Unasked, NoCommand, WantsMemoryToo, Answered, Reports}
-use Rattle.golden.specs.Run.{trace_file, IsPlainTrace}
-use Rattle.golden.specs.RunText.{IsTraceOf}
-use Rattle.golden.specs.Stops.{IfRefused, Prints, EndedOn, CallEnded, said_by}
-use Rattle.golden.specs.Words.{IsCommand}
+use Rattle.golden.specs.Outcome.{Ends, Unasked, WantsMemoryFirst, Answered, Reports}
+use Rattle.golden.specs.Run.{trace_file_of, trace_file_for}
+use Rattle.golden.specs.Endings.{IfRefused, Prints, EndedOn, CallEnded, said_by}
+use Rattle.golden.specs.Words.{IsCommand, TellsUnasked}
 use Rattle.golden.proofs.OrderLemmas.{stops-more}
 use Rattle.golden.proofs.WritingLemmas.{append_known-nil}
 
 module _ (files : List ℕ → Told) (lost cut unwritten : Type 0) (T : Type 0) (before : Option (List ℕ)) where
   -- a file was refused, and nothing was written
-  pub refused-ends : (file : File) (next : List ℕ → Order) (stop : Stop) → IfRefused (IsRefused files lost cut file) stop
-      → EndedOn files lost cut unwritten {T = T} before before (Load file next) (Err stop)
+  pub refused-ends : (file : File) (next : List ℕ → Order) (ending : Ending) → IfRefused (IsRefused files lost cut file) ending
+      → EndedOn files lost cut unwritten {T = T} before before (Load file next) (Err ending)
   refused-ends file next (Refused said) refused = ([], sym (append_known-nil before), Ends.Refused said (inl refused) (refl, refl) refl)
   refused-ends file next Unwritten refused = absurd refused
   refused-ends file next NoMemory refused = ([], sym (append_known-nil before), Ends.WantsMemory (inl refl) (refl, refl))
 
-  -- the words were no command, and nothing was written
-  pub unasked-ends : (words : List (List ℕ)) (stop : Stop) → ¬ IsCommand words → IfRefused (λ said. said ≡ no_command) stop
-      → CallEnded files lost cut unwritten {T = T} before before words (Err stop)
-  unasked-ends words (Refused said) unasked refused = (
-    [],
-    sym (append_known-nil before),
-    Unasked unasked (NoCommand (codes ": the command is run CIRCUIT PARTITION TRACE") (ap (λ (s : Said). s.status) refused, ap (λ (s : Said). s.line) refused) refl),
-  )
-  unasked-ends words Unwritten unasked refused = absurd refused
-  unasked-ends words NoMemory unasked refused = ([], sym (append_known-nil before), Unasked unasked (WantsMemoryToo (refl, refl) refl))
+  -- the words were no command that is there, or weren't read for want of memory, and nothing was written
+  pub unasked-ends : (words : List (List ℕ)) (ending : Ending) → IfRefused (λ said. (¬ IsCommand words) × TellsUnasked words said) ending
+      → CallEnded files lost cut unwritten {T = T} before before words (Err ending)
+  unasked-ends words (Refused said) refused = ([], sym (append_known-nil before), Unasked refused.0 said refused.1 (refl, refl) refl)
+  unasked-ends words Unwritten refused = absurd refused
+  unasked-ends words NoMemory refused = ([], sym (append_known-nil before), WantsMemoryFirst (refl, refl) refl)
 
   module _ (now : Option (List ℕ)) where
     -- the whole text was written, or it stopped
-    pub printed-ends : (order : Order) (whole : List ℕ) (r : Result T Stop) → IsWritten files order whole → Prints before now unwritten whole r
+    pub printed-ends : (order : Order) (whole : List ℕ) (r : Result T Ending) → IsWritten files order whole → Prints before now unwritten whole r
         → EndedOn files lost cut unwritten before now order r
     printed-ends order whole (Ok done) written prints = (whole, prints, Ends.Done written (refl, refl))
     printed-ends order whole (Err (Refused said)) written prints = absurd prints
@@ -61,7 +53,7 @@ module _ (files : List ℕ → Told) (lost cut unwritten : Type 0) (T : Type 0) 
         Ends.WantsMemory (inr (front.0, (bytes, can, accepts, front.1), front.2)) says
 
     pub accepted-ends : (files' : List ℕ → Told) (lost' cut' : Type 0) → files' ≡ files → (lost' → lost) → (cut' → cut) → (file : File) (next : List ℕ → Order) (bytes : List ℕ)
-        → CanBe files file bytes → file.accepts bytes → (r : Result T Stop)
+        → CanBe files file bytes → file.accepts bytes → (r : Result T Ending)
         → EndedOn files' lost' cut' unwritten before now (next bytes) r → EndedOn files lost cut unwritten before now (Load file next) r
     accepted-ends files' lost' cut' same f g file next bytes can accepts r ended = (
       ended.0,
@@ -70,25 +62,15 @@ module _ (files : List ℕ → Told) (lost cut unwritten : Type 0) (T : Type 0) 
           (subst (λ (t : List ℕ → Told). Ends t lost' cut' unwritten (next bytes) (said_by r).status ended.0 (said_by r).line) same ended.2),
     )
 
--- a trace of the circuit's inputs, where another circuit has the same inputs
-trace-of-same : (one other : FlatCircuit) (trace : List ℕ) → in_ports one ≡ in_ports other → IsTraceOf one trace → IsTraceOf other trace
-trace-of-same one other trace e (n, columns, feeds) = (n, columns, subst (λ (ports : List Port). Columns ports trace n columns) e feeds)
-
--- a trace that is refused for the circuit is refused for its bytes, since all circuits that they mean have its inputs
-pub trace-refused : ((bytes : List ℕ) (one other : FlatCircuit) → Means bytes one → Means bytes other → in_ports one ≡ in_ports other)
-    → (files : List ℕ → Told) (lost cut : Type 0) (circuit : List ℕ) (flat : FlatCircuit) (name : List ℕ) → Means circuit flat
-    → (said : Said) → IsRefused files lost cut (trace_file (IsTraceOf flat) name) said → IsRefused files lost cut (trace_file (IsPlainTrace circuit) name) said
-trace-refused agree files lost cut circuit flat name means said (inl load) = inl load
-trace-refused agree files lost cut circuit flat name means said (inr (bytes, can, (wrong, is))) =
-    inr (
-      bytes,
-      record { held = can.held; within = can.within },
-      ((λ t. wrong (trace-of-same t.0 flat bytes (agree circuit t.0 flat t.1 means) t.2)), is),
-    )
+-- a trace that is refused for the circuit is refused for its bytes
+pub trace-refused : (files : List ℕ → Told) (lost cut : Type 0) (circuit : List ℕ) (flat : FlatCircuit) (name : List ℕ) → Means circuit flat
+    → (said : Said) → IsRefused files lost cut (trace_file_of flat name) said → IsRefused files lost cut (trace_file_for circuit name) said
+trace-refused files lost cut circuit flat name means said (inl load) = inl load
+trace-refused files lost cut circuit flat name means said (inr (bytes, can, tells)) = inr (bytes, record { held = can.held; within = can.within }, (flat, means, tells))
 
 -- a call that has ended so, and whose line was reported, has answered its status
 pub status-answered : (files : List ℕ → Told) (lost cut unwritten : Type 0) (T : Type 0) (words : List (List ℕ)) (trouble : Type 0) (out out' err err' : Option (List ℕ))
-    (r : Result T Stop) (status : ℕ) → status ≡ (said_by r).status → CallEnded files lost cut unwritten out out' words r
+    (r : Result T Ending) (status : ℕ) → status ≡ (said_by r).status → CallEnded files lost cut unwritten out out' words r
     → Reports err err' trouble (said_by r).line → Answered words files lost cut unwritten trouble out out' err err' status
 status-answered files lost cut unwritten T words trouble out out' err err' r status e ended reported =
     subst (λ (s : ℕ). Answered words files lost cut unwritten trouble out out' err err' s) (sym e)

@@ -1,5 +1,5 @@
 -- What is said of a circuit's text that is refused.
-use Rattle.std.proofs.Common.{◌≡◌, ℕ, ◌++◌, List, None, Some, sym, ap, ◌∙◌, subst, inl, inr}
+use Rattle.std.proofs.Common.{◌≡◌, ℕ, ◌++◌, List, None, Some, refl, sym, ap, ◌∙◌, subst, inl, inr}
 use Rattle.std.specs.Prelude.{codes, decimal}
 use Rattle.std.specs.Str.{IsUtf8}
 use Rattle.gg_ast.specs.Tree.{CircuitTree}
@@ -15,7 +15,7 @@ use Rattle.gg_front.specs.declared.front_end.FrontFault.TheVariants.{Read, Plain
 use Rattle.golden.specs.Lines.{Said, IsUnreadText, circuit_fault}
 use Rattle.golden.specs.Order.{IsExactFile}
 use Rattle.golden.specs.Run.{TellsCircuit, circuit_file}
-use Rattle.golden.specs.Stops.{TellsFront}
+use Rattle.golden.specs.Endings.{TellsFront}
 
 -- a text that means a flat circuit is plain
 pub means-plain : (bytes : List ℕ) (flat : FlatCircuit) → Means bytes flat → IsPlain bytes
@@ -101,4 +101,5 @@ circuit_file-exact never one name = record {
   apart = λ bytes said accepts refuses. circuit-apart never one name bytes said accepts refuses;
   once = λ bytes said other refuses refuses'. circuit-once never one name bytes said other refuses refuses';
   status = λ bytes said refuses. circuit-status never one name bytes said refuses;
+  judges = inl refl;
 }

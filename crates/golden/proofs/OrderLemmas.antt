@@ -2,7 +2,7 @@
 use Rattle.std.proofs.Common.{◌≡◌, ℕ, ◌<◌, ◌≤◌, List, sym, ap, ◌∙◌, subst, inl, inr, length, arith}
 use Rattle.gg_io.specs.Told.{Told, Holds, CanHold, CanBeOver}
 use Rattle.golden.specs.Lines.{Said}
-use Rattle.golden.specs.Order.{File, Order, Load, Write, CanBe, IsRefused, StopsAt, IsWritten, IsTold, IsDueOf, DueAt, IsDueAccepted, IsExactFile, IsExact}
+use Rattle.golden.specs.Order.{File, Order, Load, Write, CanBe, IsRefused, StopsAt, IsWritten, IsTold, IsDueOf, DueAt, IsDueAccepted, IsExactFile, IsExact, IsJudgement}
 
 module _ (files : List ℕ → Told) where
   -- the bytes of a told file are those that are told
@@ -78,19 +78,19 @@ stops-more files lost lost' cut cut' f g (Write IsText) said stops = stops
 pub data Why (files : List ℕ → Told) (lost cut : Type 0) (order : Order) (said : Said) : Type 0 where
   Lost : (status : said.status ≡ 3) (rose : lost) → Why files lost cut order said
   Cut : (status : said.status ≡ 8) (rose : cut) (stops : StopsAt files ⊥ cut order said) → Why files lost cut order said
-  NotPlain : (status : said.status ≡ 1) (stops : StopsAt files ⊥ ⊥ order said) → Why files lost cut order said
+  Judged : (status : IsJudgement said.status) (stops : StopsAt files ⊥ ⊥ order said) → Why files lost cut order said
 
 pub why-later : (files : List ℕ → Told) (lost cut : Type 0) (file : File) (next : List ℕ → Order) (bytes : List ℕ) (said : Said)
     → CanBe files file bytes → file.accepts bytes → Why files lost cut (next bytes) said → Why files lost cut (Load file next) said
 why-later files lost cut file next bytes said can accepts (Lost status rose) = Lost status rose
 why-later files lost cut file next bytes said can accepts (Cut status rose stops) = Cut status rose (inr (bytes, can, accepts, stops))
-why-later files lost cut file next bytes said can accepts (NotPlain status stops) = NotPlain status (inr (bytes, can, accepts, stops))
+why-later files lost cut file next bytes said can accepts (Judged status stops) = Judged status (inr (bytes, can, accepts, stops))
 
 pub why-stops : (files : List ℕ → Told) (lost cut : Type 0) (order : Order) (said : Said) → IsExact order → StopsAt files lost cut order said
     → Why files lost cut order said
 why-stops files lost cut (Load file next) said exact (inl (inl (inl h))) = Lost (ap (λ (s : Said). s.status) h.1) h.0
 why-stops files lost cut (Load file next) said exact (inl (inl (inr h))) = Cut (ap (λ (s : Said). s.status) h.2) h.0 (inl (inl (inr h)))
-why-stops files lost cut (Load file next) said exact (inl (inr h)) = NotPlain (exact.0.status h.0 said h.2) (inl (inr h))
+why-stops files lost cut (Load file next) said exact (inl (inr h)) = Judged (subst IsJudgement (sym (exact.0.status h.0 said h.2)) exact.0.judges) (inl (inr h))
 why-stops files lost cut (Load file next) said exact (inr (bytes, can, accepts, later)) =
     why-later files lost cut file next bytes said can accepts (why-stops files lost cut (next bytes) said (exact.1 bytes) later)
 why-stops files lost cut (Write IsText) said exact stops = absurd stops

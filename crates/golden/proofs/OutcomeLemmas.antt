@@ -1,20 +1,76 @@
 -- What an outcome says of its status, clause by clause.
-use Rattle.std.proofs.Common.{◌≡◌, ◌≢◌, ℕ, List, [], ◌≤◌, length, ap, sym, ◌∙◌, subst, inl, inr, arith, ◌⊎◌}
-use Rattle.std.specs.Prelude.{Option}
+use Rattle.std.proofs.Common.{◌≡◌, ◌≢◌, ℕ, Bool, List, [], ◌≤◌, length, refl, ap, sym, ◌∙◌, subst, inl, inr, arith, ◌⊎◌}
+use Rattle.std.specs.Prelude.{Option, Result, Ok}
 use Rattle.std.specs.Io.KnownBytes.{append_known}
 use Rattle.gg_io.specs.Told.{Told, Holds}
 use Rattle.gg_read.specs.Text.{HasReadFault}
 use Rattle.gg_read.specs.declared.text.ReadFault.{ReadFault}
+use Rattle.gg_words.specs.Meaning as line
+use Rattle.gg_words.specs.Meaning.{Says}
+use Rattle.gg_words.specs.declared.command.Cmd.{Cmd}
+use Rattle.gg_words.specs.declared.command.Cmd.TheVariants as cmd
+use Rattle.gg_words.specs.declared.command.WordFault.{WordFault}
+use Rattle.gg_words.specs.declared.command.WordFault.TheVariants as word
 use Rattle.golden.specs.Lines.{Said, TellsUnread}
-use Rattle.golden.specs.Order.{Order, StopsAt, IsWritten, DueAt, IsDueAccepted, IsExact}
-use Rattle.golden.specs.Outcome.{Ends, Refused, Done, Unwritten, WantsMemory, EndsUnasked, NoCommand, WantsMemoryToo, Outcome, Asked, Unasked, Answered, Reports}
-use Rattle.golden.specs.Words.{Command, Run, Asks, IsCommand, order_of}
-use Rattle.golden.proofs.OrderLemmas.{Why, Lost, Cut, NotPlain, why-stops, stops-due, written-due, stops-accepted}
+use Rattle.golden.specs.Order.{Order, StopsAt, IsWritten, DueAt, IsDueAccepted, IsExact, IsJudgement}
+use Rattle.golden.specs.Outcome.{Ends, Refused, Done, Unwritten, WantsMemory, Outcome, Asked, Unasked, WantsMemoryFirst, Answered, Reports}
+use Rattle.golden.specs.Words.{Command, Run, Asks, IsCommand, TellsUnasked, TellsWords, circuit_of, order_of}
+use Rattle.golden.proofs.OrderLemmas.{Why, Lost, Cut, Judged, why-stops, stops-due, written-due, stops-accepted}
 use Rattle.golden.proofs.WritingLemmas.{append_known-nil}
 
--- the words ask for one command at most
-pub asks-once : (words : List (List ℕ)) (command other : Command) → Asks words command → Asks words other → command ≡ other
-asks-once words (Run a b c) (Run x y z) asks others = let e = asks.0 in let f = others.0 in cc
+-- words mean one thing at most
+abbrev pub OneMeaning : Type 0
+OneMeaning = (words : List (List ℕ)) (one other : Result Cmd (List ℕ)) → Says words one → Says words other → one ≡ other
+
+-- so they ask for one command at most
+asks-once : OneMeaning → (words : List (List ℕ)) (command other : Command) → Asks words command → Asks words other → command ≡ other
+asks-once once words (Run a b c k w m) (Run x y z l v n) asks others = let e = once words (Ok (cmd.Run a b c k w m)) (Ok (cmd.Run x y z l v n)) asks others in cc
+
+-- words that ask for `check` ask for no command that is there
+pub check-unasked : OneMeaning → (words : List (List ℕ)) (circuit partition : List ℕ) (capacity : ℕ) → line.IsCommand words (cmd.Check circuit partition capacity) → IsCommand words → ⊥
+check-unasked once words circuit partition capacity check (Run a b c k w m, asks) =
+    let e = once words (Ok (cmd.Check circuit partition capacity)) (Ok (cmd.Run a b c k w m)) check asks in cc
+
+-- a fault that is no want of memory is one of the words
+pub word-fault : (words : List (List ℕ)) (fault : WordFault) → fault ≢ word.NoMemory → line.IfWordFault words fault → line.IsWordFault words fault
+word-fault words (word.Refused kind) some h = h
+word-fault words (word.Number value) some h = h
+word-fault words word.NoMemory some h = absurd (some refl)
+
+-- what is said of words that are no command has status 2
+fault-status : (fault : WordFault) (said : Said) → TellsWords fault said → said.status ≡ 2
+fault-status (word.Refused kind) said tells = ap (λ (s : Said). s.status) tells
+fault-status (word.Number value) said tells = ap (λ (s : Said). s.status) tells
+fault-status word.NoMemory said tells = absurd tells
+
+unasked-status : (words : List (List ℕ)) (said : Said) → TellsUnasked words said → said.status ≡ 2
+unasked-status words said (inl (fault, has, tells)) = fault-status fault said tells
+unasked-status words said (inr (circuit, partition, capacity, asks, is)) = ap (λ (s : Said). s.status) is
+
+-- the other statuses are none of a judgement
+unjudged-0 : IsJudgement 0 → ⊥
+unjudged-0 (inl e) = absurd (omega arith)
+unjudged-0 (inr e) = absurd (omega arith)
+
+unjudged-2 : IsJudgement 2 → ⊥
+unjudged-2 (inl e) = absurd (omega arith)
+unjudged-2 (inr e) = absurd (omega arith)
+
+unjudged-3 : IsJudgement 3 → ⊥
+unjudged-3 (inl e) = absurd (omega arith)
+unjudged-3 (inr e) = absurd (omega arith)
+
+unjudged-4 : IsJudgement 4 → ⊥
+unjudged-4 (inl e) = absurd (omega arith)
+unjudged-4 (inr e) = absurd (omega arith)
+
+unjudged-5 : IsJudgement 5 → ⊥
+unjudged-5 (inl e) = absurd (omega arith)
+unjudged-5 (inr e) = absurd (omega arith)
+
+unjudged-8 : IsJudgement 8 → ⊥
+unjudged-8 (inl e) = absurd (omega arith)
+unjudged-8 (inr e) = absurd (omega arith)
 
 -- each command's order is exact
 abbrev pub ExactOrders : Type 0
@@ -38,8 +94,8 @@ module _ (files : List ℕ → Told) (lost cut unwritten : Type 0) where
   data Cause (words : List (List ℕ)) (status : ℕ) (text line : List ℕ) : Type 0 where
     IsLost : (is : status ≡ 3) (rose : lost) (none : text ≡ []) → Cause words status text line
     IsCut : (is : status ≡ 8) (rose : cut) (command : Command) (said : Said) (asks : Asks words command) (stops : StopsAt files ⊥ cut (order_of command) said) (at : said.status ≡ 8) (none : text ≡ []) → Cause words status text line
-    IsNotPlain : (is : status ≡ 1) (command : Command) (said : Said) (asks : Asks words command) (stops : StopsAt files ⊥ ⊥ (order_of command) said) (tells : line ≡ said.line) (none : text ≡ []) → Cause words status text line
-    IsNoCommand : (is : status ≡ 2) (unasked : ¬ IsCommand words) (none : text ≡ []) → Cause words status text line
+    IsJudged : (judged : IsJudgement status) (command : Command) (said : Said) (asks : Asks words command) (stops : StopsAt files ⊥ ⊥ (order_of command) said) (is : status ≡ said.status) (tells : line ≡ said.line) (none : text ≡ []) → Cause words status text line
+    IsNoCommand : (is : status ≡ 2) (unasked : ¬ IsCommand words) (said : Said) (told : TellsUnasked words said) (tells : line ≡ said.line) (none : text ≡ []) → Cause words status text line
     IsDone : (is : status ≡ 0) → Cause words status text line
     IsUnwritten : (is : status ≡ 4) (failed : unwritten) → Cause words status text line
     IsWanting : (is : status ≡ 5) → Cause words status text line
@@ -48,7 +104,7 @@ module _ (files : List ℕ → Told) (lost cut unwritten : Type 0) where
       → status ≡ said.status → line ≡ said.line → text ≡ [] → Why files lost cut (order_of command) said → Cause words status text line
   cause-stopped words status text line command said asks is tells none (Lost e rose) = IsLost (is ∙ e) rose none
   cause-stopped words status text line command said asks is tells none (Cut e rose stops) = IsCut (is ∙ e) rose command said asks stops e none
-  cause-stopped words status text line command said asks is tells none (NotPlain e stops) = IsNotPlain (is ∙ e) command said asks stops tells none
+  cause-stopped words status text line command said asks is tells none (Judged e stops) = IsJudged (subst IsJudgement (sym is) e) command said asks stops is tells none
 
   cause-ends : ExactOrders → (words : List (List ℕ)) (status : ℕ) (text line : List ℕ) (command : Command) → Asks words command
       → WhyEnds (order_of command) status text line → Cause words status text line
@@ -58,20 +114,17 @@ module _ (files : List ℕ → Told) (lost cut unwritten : Type 0) where
   cause-ends exact words status text line command asks (Failed failed whole written is) = IsUnwritten is failed
   cause-ends exact words status text line command asks (Wanted is) = IsWanting is
 
-  cause-unasked : (words : List (List ℕ)) (status : ℕ) (text line : List ℕ) → ¬ IsCommand words → EndsUnasked status text line → Cause words status text line
-  cause-unasked words status text line unasked (NoCommand rest says none) = IsNoCommand says.0 unasked none
-  cause-unasked words status text line unasked (WantsMemoryToo says none) = IsWanting says.0
-
   cause : ExactOrders → (words : List (List ℕ)) (status : ℕ) (text line : List ℕ) → Outcome words files lost cut unwritten status text line → Cause words status text line
   cause exact words status text line (Asked command asks ends) = cause-ends exact words status text line command asks (ends-why (order_of command) status text line ends)
-  cause exact words status text line (Unasked unasked ends) = cause-unasked words status text line unasked ends
+  cause exact words status text line (Unasked unasked said tells says none) = IsNoCommand (says.0 ∙ unasked-status words said tells) unasked said tells says.1 none
+  cause exact words status text line (WantsMemoryFirst says none) = IsWanting says.0
 
   module _ (words : List (List ℕ)) (status : ℕ) (text line : List ℕ) where
     lost-3 : Cause words status text line → status ≡ 3 → lost
     lost-3 (IsLost is rose none) e = rose
     lost-3 (IsCut is rose command said asks stops at none) e = absurd (omega arith)
-    lost-3 (IsNotPlain is command said asks stops tells none) e = absurd (omega arith)
-    lost-3 (IsNoCommand is unasked none) e = absurd (omega arith)
+    lost-3 (IsJudged judged command said asks stops is tells none) e = absurd (unjudged-3 (subst IsJudgement e judged))
+    lost-3 (IsNoCommand is unasked said told tells none) e = absurd (omega arith)
     lost-3 (IsDone is) e = absurd (omega arith)
     lost-3 (IsUnwritten is failed) e = absurd (omega arith)
     lost-3 (IsWanting is) e = absurd (omega arith)
@@ -80,8 +133,8 @@ module _ (files : List ℕ → Told) (lost cut unwritten : Type 0) where
         × ((command : Command) × Asks words command × ((said : Said) × StopsAt files ⊥ cut (order_of command) said × (said.status ≡ 8)))
     cut-8 (IsLost is rose none) e = absurd (omega arith)
     cut-8 (IsCut is rose command said asks stops at none) e = (rose, (command, asks, (said, stops, at)))
-    cut-8 (IsNotPlain is command said asks stops tells none) e = absurd (omega arith)
-    cut-8 (IsNoCommand is unasked none) e = absurd (omega arith)
+    cut-8 (IsJudged judged command said asks stops is tells none) e = absurd (unjudged-8 (subst IsJudgement e judged))
+    cut-8 (IsNoCommand is unasked said told tells none) e = absurd (omega arith)
     cut-8 (IsDone is) e = absurd (omega arith)
     cut-8 (IsUnwritten is failed) e = absurd (omega arith)
     cut-8 (IsWanting is) e = absurd (omega arith)
@@ -89,27 +142,27 @@ module _ (files : List ℕ → Told) (lost cut unwritten : Type 0) where
     unwritten-4 : Cause words status text line → status ≡ 4 → unwritten
     unwritten-4 (IsLost is rose none) e = absurd (omega arith)
     unwritten-4 (IsCut is rose command said asks stops at none) e = absurd (omega arith)
-    unwritten-4 (IsNotPlain is command said asks stops tells none) e = absurd (omega arith)
-    unwritten-4 (IsNoCommand is unasked none) e = absurd (omega arith)
+    unwritten-4 (IsJudged judged command said asks stops is tells none) e = absurd (unjudged-4 (subst IsJudgement e judged))
+    unwritten-4 (IsNoCommand is unasked said told tells none) e = absurd (omega arith)
     unwritten-4 (IsDone is) e = absurd (omega arith)
     unwritten-4 (IsUnwritten is failed) e = failed
     unwritten-4 (IsWanting is) e = absurd (omega arith)
 
-    not_plain-1 : Cause words status text line → status ≡ 1
-        → (command : Command) × Asks words command × ((said : Said) × StopsAt files ⊥ ⊥ (order_of command) said × (line ≡ said.line))
-    not_plain-1 (IsLost is rose none) e = absurd (omega arith)
-    not_plain-1 (IsCut is rose command said asks stops at none) e = absurd (omega arith)
-    not_plain-1 (IsNotPlain is command said asks stops tells none) e = (command, asks, (said, stops, tells))
-    not_plain-1 (IsNoCommand is unasked none) e = absurd (omega arith)
-    not_plain-1 (IsDone is) e = absurd (omega arith)
-    not_plain-1 (IsUnwritten is failed) e = absurd (omega arith)
-    not_plain-1 (IsWanting is) e = absurd (omega arith)
+    judged-1-7 : Cause words status text line → IsJudgement status
+        → (command : Command) × Asks words command × ((said : Said) × StopsAt files ⊥ ⊥ (order_of command) said × (status ≡ said.status) × (line ≡ said.line))
+    judged-1-7 (IsLost is rose none) j = absurd (unjudged-3 (subst IsJudgement is j))
+    judged-1-7 (IsCut is rose command said asks stops at none) j = absurd (unjudged-8 (subst IsJudgement is j))
+    judged-1-7 (IsJudged judged command said asks stops is tells none) j = (command, asks, (said, stops, is, tells))
+    judged-1-7 (IsNoCommand is unasked said told tells none) j = absurd (unjudged-2 (subst IsJudgement is j))
+    judged-1-7 (IsDone is) j = absurd (unjudged-0 (subst IsJudgement is j))
+    judged-1-7 (IsUnwritten is failed) j = absurd (unjudged-4 (subst IsJudgement is j))
+    judged-1-7 (IsWanting is) j = absurd (unjudged-5 (subst IsJudgement is j))
 
-    no_command-2 : Cause words status text line → status ≡ 2 → ¬ IsCommand words
+    no_command-2 : Cause words status text line → status ≡ 2 → (¬ IsCommand words) × ((said : Said) × TellsUnasked words said × (line ≡ said.line))
     no_command-2 (IsLost is rose none) e = absurd (omega arith)
     no_command-2 (IsCut is rose command said asks stops at none) e = absurd (omega arith)
-    no_command-2 (IsNotPlain is command said asks stops tells none) e = absurd (omega arith)
-    no_command-2 (IsNoCommand is unasked none) e = unasked
+    no_command-2 (IsJudged judged command said asks stops is tells none) e = absurd (unjudged-2 (subst IsJudgement e judged))
+    no_command-2 (IsNoCommand is unasked said told tells none) e = (unasked, (said, told, tells))
     no_command-2 (IsDone is) e = absurd (omega arith)
     no_command-2 (IsUnwritten is failed) e = absurd (omega arith)
     no_command-2 (IsWanting is) e = absurd (omega arith)
@@ -117,16 +170,16 @@ module _ (files : List ℕ → Told) (lost cut unwritten : Type 0) where
     none-written : Cause words status text line → status ≢ 0 → status ≢ 4 → status ≢ 5 → text ≡ []
     none-written (IsLost is rose none) a b c = none
     none-written (IsCut is rose command said asks stops at none) a b c = none
-    none-written (IsNotPlain is command said asks stops tells none) a b c = none
-    none-written (IsNoCommand is unasked none) a b c = none
+    none-written (IsJudged judged command said asks stops is tells none) a b c = none
+    none-written (IsNoCommand is unasked said told tells none) a b c = none
     none-written (IsDone is) a b c = absurd (a is)
     none-written (IsUnwritten is failed) a b c = absurd (b is)
     none-written (IsWanting is) a b c = absurd (c is)
 
     unasked-2 : Outcome words files lost cut unwritten status text line → ¬ IsCommand words → (status ≡ 2) ⊎ (status ≡ 5)
     unasked-2 (Asked command asks ends) unasked = absurd (unasked (command, asks))
-    unasked-2 (Unasked none (NoCommand rest says nothing)) unasked = inl says.0
-    unasked-2 (Unasked none (WantsMemoryToo says nothing)) unasked = inr says.0
+    unasked-2 (Unasked none said tells says nothing) unasked = inl (says.0 ∙ unasked-status words said tells)
+    unasked-2 (WantsMemoryFirst says nothing) unasked = inr says.0
 
     due-ends : (order : Order) (due : Said) → IsExact order → DueAt files order due → (lost → ⊥) → WhyEnds order status text line
         → ((status ≡ due.status) × (line ≡ due.line)) ⊎ (status ≡ 5)
@@ -137,12 +190,13 @@ module _ (files : List ℕ → Told) (lost cut unwritten : Type 0) where
     due-ends order due exact d none (Failed failed whole written is) = absurd (written-due files order due whole exact d written)
     due-ends order due exact d none (Wanted is) = inr is
 
-    due-said : ExactOrders → Outcome words files lost cut unwritten status text line → (lost → ⊥)
+    due-said : ExactOrders → OneMeaning → Outcome words files lost cut unwritten status text line → (lost → ⊥)
         → (command : Command) (due : Said) → Asks words command → DueAt files (order_of command) due → ((status ≡ due.status) × (line ≡ due.line)) ⊎ (status ≡ 5)
-    due-said exact (Asked command asks ends) none other due others d =
-        let same = asks-once words other command others asks in
+    due-said exact once (Asked command asks ends) none other due others d =
+        let same = asks-once once words other command others asks in
         due-ends (order_of command) due (exact command) (subst (λ (c : Command). DueAt files (order_of c) due) same d) none (ends-why (order_of command) status text line ends)
-    due-said exact (Unasked unasked ends) none other due others d = absurd (unasked (other, others))
+    due-said exact once (Unasked unasked said tells says nothing) none other due others d = absurd (unasked (other, others))
+    due-said exact once (WantsMemoryFirst says nothing) none other due others d = inr says.0
 
     complete-ends : (order : Order) → IsExact order → IsDueAccepted files order → (lost → ⊥) → (unwritten → ⊥) → WhyEnds order status text line
         → (status ≡ 0) ⊎ (status ≡ 5)
@@ -151,12 +205,13 @@ module _ (files : List ℕ → Told) (lost cut unwritten : Type 0) where
     complete-ends order exact d none wrote (Failed failed part written is) = absurd (wrote failed)
     complete-ends order exact d none wrote (Wanted is) = inr is
 
-    complete-status : ExactOrders → Outcome words files lost cut unwritten status text line → (lost → ⊥) → (unwritten → ⊥)
+    complete-status : ExactOrders → OneMeaning → Outcome words files lost cut unwritten status text line → (lost → ⊥) → (unwritten → ⊥)
         → (command : Command) → Asks words command → IsDueAccepted files (order_of command) → (status ≡ 0) ⊎ (status ≡ 5)
-    complete-status exact (Asked command asks ends) none wrote other others d =
-        let same = asks-once words other command others asks in
+    complete-status exact once (Asked command asks ends) none wrote other others d =
+        let same = asks-once once words other command others asks in
         complete-ends (order_of command) (exact command) (subst (λ (c : Command). IsDueAccepted files (order_of c)) same d) none wrote (ends-why (order_of command) status text line ends)
-    complete-status exact (Unasked unasked ends) none wrote other others d = absurd (unasked (other, others))
+    complete-status exact once (Unasked unasked said tells says nothing) none wrote other others d = absurd (unasked (other, others))
+    complete-status exact once (WantsMemoryFirst says nothing) none wrote other others d = inr says.0
 
 -- the clauses of a call that answered this status
 module _ {words : List (List ℕ)} {files : List ℕ → Told} {lost cut unwritten trouble : Type 0} {out out' err err' : Option (List ℕ)} {status : ℕ} (a : Answered words files lost cut unwritten trouble out out' err err' status) where
@@ -177,14 +232,16 @@ module _ {words : List (List ℕ)} {files : List ℕ → Told} {lost cut unwritt
     pub answered-unwritten : status ≡ 4 → unwritten
     answered-unwritten = unwritten-4 files lost cut unwritten words status a.text a.line caused
 
-    pub answered-not_plain : status ≡ 1
-        → (command : Command) × Asks words command × ((said : Said) × StopsAt files ⊥ ⊥ (order_of command) said × Reports err err' trouble said.line)
-    answered-not_plain is =
-        let why = not_plain-1 files lost cut unwritten words status a.text a.line caused is in
-        (why.0, why.1, (why.2.0, why.2.1, reported-as why.2.0.line why.2.2))
+    pub answered-judged : IsJudgement status
+        → (command : Command) × Asks words command × ((said : Said) × StopsAt files ⊥ ⊥ (order_of command) said × (status ≡ said.status) × Reports err err' trouble said.line)
+    answered-judged judged =
+        let why = judged-1-7 files lost cut unwritten words status a.text a.line caused judged in
+        (why.0, why.1, (why.2.0, why.2.1, why.2.2, reported-as why.2.0.line why.2.3))
 
-    pub answered-no_command : status ≡ 2 → ¬ IsCommand words
-    answered-no_command = no_command-2 files lost cut unwritten words status a.text a.line caused
+    pub answered-no_command : status ≡ 2 → (¬ IsCommand words) × ((said : Said) × TellsUnasked words said × Reports err err' trouble said.line)
+    answered-no_command is =
+        let why = no_command-2 files lost cut unwritten words status a.text a.line caused is in
+        (why.0, (why.1.0, why.1.1, reported-as why.1.0.line why.1.2))
 
     pub answered-nothing_written : status ≢ 0 → status ≢ 4 → status ≢ 5 → out' ≡ out
     answered-nothing_written x y z =
@@ -202,23 +259,24 @@ module _ {words : List (List ℕ)} {files : List ℕ → Told} {lost cut unwritt
     status-one due one (inl h) = inl (h.0 ∙ one, h.1)
     status-one due one (inr h) = inr h
 
-    pub answered-due : (lost → ⊥) → (command : Command) (due : Said) → Asks words command → DueAt files (order_of command) due
-        → ((status ≡ due.status) × Reports err err' trouble due.line) ⊎ (status ≡ 5)
-    answered-due none command due asks d =
-        said-reported due (due-said files lost cut unwritten words status a.text a.line exact a.outcome none command due asks d)
+    module _ (once : OneMeaning) where
+      pub answered-due : (lost → ⊥) → (command : Command) (due : Said) → Asks words command → DueAt files (order_of command) due
+          → ((status ≡ due.status) × Reports err err' trouble due.line) ⊎ (status ≡ 5)
+      answered-due none command due asks d =
+          said-reported due (due-said files lost cut unwritten words status a.text a.line exact once a.outcome none command due asks d)
 
-    pub answered-unread : (lost → ⊥) → (circuit partition trace bytes : List ℕ) (fault : ReadFault) (said : Said)
-        → Asks words (Run circuit partition trace) → files circuit ≡ Holds bytes → length bytes ≤ 4194304
-        → HasReadFault bytes fault → TellsUnread fault said → ((status ≡ 1) × Reports err err' trouble said.line) ⊎ (status ≡ 5)
-    answered-unread none circuit partition trace bytes fault said asks told short has tells =
-        status-one said (ap (λ (s : Said). s.status) tells.2)
-        (answered-due none (Run circuit partition trace) said asks (bytes, told, inl (inr (short, inl (fault, has, tells)))))
+      pub answered-unread : (lost → ⊥) → (command : Command) (bytes : List ℕ) (fault : ReadFault) (said : Said)
+          → Asks words command → files (circuit_of command) ≡ Holds bytes → length bytes ≤ 4194304
+          → HasReadFault bytes fault → TellsUnread fault said → ((status ≡ 1) × Reports err err' trouble said.line) ⊎ (status ≡ 5)
+      answered-unread none (Run circuit partition trace capacity workers mono) bytes fault said asks told short has tells =
+          status-one said (ap (λ (s : Said). s.status) tells.2)
+          (answered-due none (Run circuit partition trace capacity workers mono) said asks (bytes, told, inl (inr (short, inl (fault, has, tells)))))
 
-    pub answered-complete : (lost → ⊥) → (unwritten → ⊥) → (command : Command) → Asks words command → IsDueAccepted files (order_of command)
-        → (status ≡ 0) ⊎ (status ≡ 5)
-    answered-complete = complete-status files lost cut unwritten words status a.text a.line exact a.outcome
+      pub answered-complete : (lost → ⊥) → (unwritten → ⊥) → (command : Command) → Asks words command → IsDueAccepted files (order_of command)
+          → (status ≡ 0) ⊎ (status ≡ 5)
+      answered-complete = complete-status files lost cut unwritten words status a.text a.line exact once a.outcome
 
 -- the words ask for a command of the same names
-pub asks-same : (words : List (List ℕ)) (a b c x y z : List ℕ) → x ≡ a → y ≡ b → z ≡ c → Asks words (Run a b c) → Asks words (Run x y z)
-asks-same words a b c x y z p q r asks =
-    subst (λ (n : List ℕ). Asks words (Run n y z)) (sym p) (subst (λ (n : List ℕ). Asks words (Run a n z)) (sym q) (subst (λ (n : List ℕ). Asks words (Run a b n)) (sym r) asks))
+pub asks-same : (words : List (List ℕ)) (a b c x y z : List ℕ) (k w : ℕ) (m : Bool) → x ≡ a → y ≡ b → z ≡ c → Asks words (Run a b c k w m) → Asks words (Run x y z k w m)
+asks-same words a b c x y z k w m p q r asks =
+    subst (λ (n : List ℕ). Asks words (Run n y z k w m)) (sym p) (subst (λ (n : List ℕ). Asks words (Run a n z k w m)) (sym q) (subst (λ (n : List ℕ). Asks words (Run a b n k w m)) (sym r) asks))

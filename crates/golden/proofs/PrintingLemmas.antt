@@ -15,12 +15,12 @@ use Rattle.gg_refsim.specs.Cycle.{Simulation, Cycle, outputs}
 use Rattle.gg_flat.specs.declared.ports.Port.{Port}
 use Rattle.gg_trace.specs.Printing.{header_line, row_line, trace_text}
 use Rattle.gg_trace.specs.Table.{Table, row_of}
-use Rattle.golden.specs.declared.stops.Stop.{Stop}
-use Rattle.golden.specs.declared.stops.Stop.TheVariants.{Refused, Unwritten, NoMemory}
+use Rattle.golden.specs.declared.endings.Ending.{Ending}
+use Rattle.golden.specs.declared.endings.Ending.TheVariants.{Refused, Unwritten, NoMemory}
 use Rattle.golden.specs.Outcome.{IsFront, StandsFront}
 use Rattle.gg_flat.specs.Ports.{out_ports}
 use Rattle.golden.specs.RunText.{out_columns}
-use Rattle.golden.specs.Stops.{Prints}
+use Rattle.golden.specs.Endings.{Prints}
 use Rattle.golden.proofs.WritingLemmas.{append_known-append, append_known-nil}
 
 -- the first `cycle` rows stand behind the header, and the simulator is in the state before the next, of any run
@@ -111,9 +111,9 @@ stands-within base now now' text row whole is front (part, rest, puts) = (
 )
 
 -- where a row stops, a front part of the whole text stands
-pub stop-within : (T : Type 0) (base now now' : Option (List ℕ)) (failed failed' : Type 0) (text row whole : List ℕ) (stop : Stop)
+pub stop-within : (T : Type 0) (base now now' : Option (List ℕ)) (failed failed' : Type 0) (text row whole : List ℕ) (ending : Ending)
     → now ≡ append_known base text → (failed → failed') → IsFront (text ++ row) whole
-    → Prints {T = T} now now' failed row (Err stop) → Prints {T = T} base now' failed' whole (Err stop)
+    → Prints {T = T} now now' failed row (Err ending) → Prints {T = T} base now' failed' whole (Err ending)
 stop-within T base now now' failed failed' text row whole (Refused said) is more front prints = prints
 stop-within T base now now' failed failed' text row whole Unwritten is more front prints = (more prints.0, stands-within base now now' text row whole is front prints.1)
 stop-within T base now now' failed failed' text row whole NoMemory is more front prints = stands-within base now now' text row whole is front prints
@@ -146,30 +146,30 @@ module _ (circuit : FlatCircuit) (inputs : Table) (ports : List Port) (before no
   -- where a row stops, a front part of the whole text stands
   pub printed-stop : SettledOnce → (order : List ℕ) → IsOrder circuit order → t < inputs.rows → (row : List ℕ) → row ≡ row_of inputs.columns t
       → PrintedTo circuit inputs ports before now f f' r r' t mono outs
-      → Cycle mono.circuit mono.state row outs' mono'.state → (T : Type 0) (stop : Stop) → Prints {T = T} now now' (Rose f' f'') (row_line ports t outs') (Err stop)
+      → Cycle mono.circuit mono.state row outs' mono'.state → (T : Type 0) (ending : Ending) → Prints {T = T} now now' (Rose f' f'') (row_line ports t outs') (Err ending)
       → (rows : List (List ℕ)) (base : Option (List ℕ)) → IsRun circuit inputs.columns inputs.rows rows
       → before ≡ append_known base (trace_text ports (out_columns circuit rows) 0)
-      → Prints {T = T} base now' (Rose f f'') (trace_text ports (out_columns circuit rows) inputs.rows) (Err stop)
-  printed-stop once order ordered lt row given printed cycle T stop prints rows base run begins =
+      → Prints {T = T} base now' (Rose f f'') (trace_text ports (out_columns circuit rows) inputs.rows) (Err ending)
+  printed-stop once order ordered lt row given printed cycle T ending prints rows base run begins =
       let here : Cycle circuit mono.state row outs' mono'.state = subst (λ (c : FlatCircuit). Cycle c mono.state row outs' mono'.state) printed.same cycle in
       let follows : Follows circuit rows t mono'.state outs' =
       cycle-follows once circuit order inputs.columns inputs.rows rows t mono.state mono'.state row outs' ordered run lt (printed.state rows run) given here in
       let front = trace_text-front ports (out_columns circuit rows) inputs.rows (t + 1) (omega arith) in
       stop-within T base now now' (Rose f' f'') (Rose f f'') (trace_text ports (out_columns circuit rows) t) (row_line ports t outs')
-      (trace_text ports (out_columns circuit rows) inputs.rows) stop (printed.written rows base run begins)
+      (trace_text ports (out_columns circuit rows) inputs.rows) ending (printed.written rows base run begins)
       (rose-earlier f f' f'' printed.faults_stay_or_rise)
       (subst (λ (x : List ℕ). IsFront x (trace_text ports (out_columns circuit rows) inputs.rows)) (sym (trace_text-more ports (out_columns circuit rows) t outs' follows.row)) front)
       prints
 
 -- what stands after a header that stopped
-pub header-stop : (T : Type 0) (before now : Option (List ℕ)) (failed : Type 0) (ports : List Port) (columns : List (List ℕ)) (n : ℕ) (piece : List ℕ) (stop : Stop)
-    → piece ≡ header_line ports → Prints {T = T} before now failed piece (Err stop) → Prints {T = T} before now failed (trace_text ports columns n) (Err stop)
-header-stop T before now failed ports columns n piece stop e prints =
-    stop-within T before before now failed failed [] (header_line ports) (trace_text ports columns n) stop (sym (append_known-nil before)) (λ x. x)
-    (trace_text-front ports columns n 0 (omega arith)) (subst (λ (p : List ℕ). Prints {T = T} before now failed p (Err stop)) e prints)
+pub header-stop : (T : Type 0) (before now : Option (List ℕ)) (failed : Type 0) (ports : List Port) (columns : List (List ℕ)) (n : ℕ) (piece : List ℕ) (ending : Ending)
+    → piece ≡ header_line ports → Prints {T = T} before now failed piece (Err ending) → Prints {T = T} before now failed (trace_text ports columns n) (Err ending)
+header-stop T before now failed ports columns n piece ending e prints =
+    stop-within T before before now failed failed [] (header_line ports) (trace_text ports columns n) ending (sym (append_known-nil before)) (λ x. x)
+    (trace_text-front ports columns n 0 (omega arith)) (subst (λ (p : List ℕ). Prints {T = T} before now failed p (Err ending)) e prints)
 
 -- a failed put is one of the whole call
-pub prints-more : (T : Type 0) (before now : Option (List ℕ)) (failed failed' : Type 0) (text : List ℕ) (r : Result T Stop) → (failed → failed')
+pub prints-more : (T : Type 0) (before now : Option (List ℕ)) (failed failed' : Type 0) (text : List ℕ) (r : Result T Ending) → (failed → failed')
     → Prints before now failed text r → Prints before now failed' text r
 prints-more T before now failed failed' text (Ok done) more prints = prints
 prints-more T before now failed failed' text (Err (Refused said)) more prints = prints
@@ -177,7 +177,7 @@ prints-more T before now failed failed' text (Err Unwritten) more prints = (more
 prints-more T before now failed failed' text (Err NoMemory) more prints = prints
 
 -- the text of a run, by the ports that were made and the circuit that is simulated
-pub run-prints : (T : Type 0) (before now : Option (List ℕ)) (failed : Type 0) (r : Result T Stop) (circuit simulated : FlatCircuit) (ports : List Port) (columns : List (List ℕ)) (n : ℕ)
+pub run-prints : (T : Type 0) (before now : Option (List ℕ)) (failed : Type 0) (r : Result T Ending) (circuit simulated : FlatCircuit) (ports : List Port) (columns : List (List ℕ)) (n : ℕ)
     → simulated ≡ circuit → ports ≡ out_ports circuit → (rows : List (List ℕ)) → IsRun circuit columns n rows
     → ((rows : List (List ℕ)) → IsRun simulated columns n rows → Prints before now failed (trace_text ports (out_columns simulated rows) n) r)
     → Prints before now failed (trace_text (out_ports circuit) (out_columns circuit rows) n) r

@@ -1,21 +1,40 @@
 -- Why a trace is refused.
-use Rattle.std.proofs.Common.{◌≡◌, ℕ, List, sym, ap, ◌∙◌, subst, length}
+use Rattle.std.proofs.Common.{◌≡◌, ◌≢◌, ℕ, List, refl, sym, ap, ◌∙◌, subst, length}
 use Rattle.gg_flat.specs.Circuit.{FlatCircuit}
 use Rattle.gg_flat.specs.WellFormed.{IsWellFormed}
 use Rattle.gg_flat.specs.declared.ports.Port.{Port}
 use Rattle.gg_trace.specs.Ports.{HasDistinctNames}
-use Rattle.gg_trace.specs.Trace.{Columns, HaveWidths}
+use Rattle.gg_trace.specs.Trace.{Columns, HaveWidths, IfFirstFault, IsFirstFault}
+use Rattle.gg_trace.specs.declared.faults.TraceFault.{TraceFault}
+use Rattle.gg_trace.specs.declared.faults.TraceFault.TheVariants as trace
+use Rattle.gg_trace.specs.declared.faults.TraceFault.TheVariants.{T1, T2, T3, T4, T5, T6}
 use Rattle.gg_flat.specs.Run.{IsColumns}
-use Rattle.golden.specs.declared.stops.Stop.{Stop}
-use Rattle.golden.specs.declared.stops.Stop.TheVariants.{Refused, Unwritten, NoMemory}
+use Rattle.golden.specs.declared.endings.Ending.{Ending}
+use Rattle.golden.specs.declared.endings.Ending.TheVariants.{Refused, Unwritten, NoMemory}
 use Rattle.golden.specs.Lines.{Said}
 use Rattle.gg_flat.specs.Ports.{in_ports, out_ports}
 use Rattle.golden.specs.RunText.{Feeds}
 use Rattle.golden.proofs.PortLemmas.{in_ports-distinct, out_ports-count, trace-columns}
-use Rattle.golden.specs.Stops.{IfRefused}
+use Rattle.golden.specs.Endings.{IfRefused}
 
--- what is said of a stop
-pub IfRefused-map : {P Q : Said → Type 0} → ((said : Said) → P said → Q said) → (stop : Stop) → IfRefused P stop → IfRefused Q stop
+-- a fault that is no want of memory is the trace's first
+pub first-of : (ports : List Port) (bytes : List ℕ) (fault : TraceFault) → fault ≢ trace.NoMemory → IfFirstFault ports bytes fault → IsFirstFault ports bytes fault
+first-of ports bytes (T1 f) some h = h
+first-of ports bytes (T2 r) some h = h
+first-of ports bytes (T3 r f) some h = h
+first-of ports bytes (T4 r f) some h = h
+first-of ports bytes (T5 r c) some h = h
+first-of ports bytes (T6 r) some h = h
+first-of ports bytes trace.NoMemory some h = absurd (some refl)
+
+-- the first fault for a circuit's ports is that of its inputs
+pub fault-of : (circuit : FlatCircuit) (ports : List Port) (bytes slice : List ℕ) (fault : TraceFault) → ports ≡ in_ports circuit → slice ≡ bytes
+    → fault ≢ trace.NoMemory → IfFirstFault ports slice fault → IsFirstFault (in_ports circuit) bytes fault
+fault-of circuit ports bytes slice fault e f some h =
+    subst (λ (p : List Port). IsFirstFault p bytes fault) e (subst (λ (b : List ℕ). IsFirstFault ports b fault) f (first-of ports slice fault some h))
+
+-- what is said of an ending
+pub IfRefused-map : {P Q : Said → Type 0} → ((said : Said) → P said → Q said) → (ending : Ending) → IfRefused P ending → IfRefused Q ending
 IfRefused-map f (Refused said) h = f said h
 IfRefused-map f Unwritten h = h
 IfRefused-map f NoMemory h = h

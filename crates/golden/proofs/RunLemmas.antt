@@ -1,8 +1,15 @@
 -- The order of `run`.
-use Rattle.std.proofs.Common.{ℕ, List, sym, ap, ◌∙◌}
-use Rattle.golden.specs.Lines.{Said}
+use Rattle.std.proofs.Common.{◌≡◌, ℕ, List, refl, sym, ap, ◌∙◌, subst, inl, inr}
+use Rattle.gg_flat.specs.Circuit.{FlatCircuit}
+use Rattle.gg_flat.specs.declared.ports.Port.{Port}
+use Rattle.gg_front.specs.Meaning.{Means}
+use Rattle.gg_front.specs.Ports.{in_ports}
+use Rattle.gg_trace.specs.FaultText.{fault_words}
+use Rattle.gg_trace.specs.Trace.{Columns, IsFirstFault}
+use Rattle.gg_trace.specs.declared.faults.TraceFault.{TraceFault}
+use Rattle.golden.specs.Lines.{Said, trace_fault}
 use Rattle.golden.specs.Order.{IsExact, IsExactFile}
-use Rattle.golden.specs.Run.{plain_file}
+use Rattle.golden.specs.Run.{plain_file, trace_file_for, IsTraceFor, TellsTraceFor}
 use Rattle.golden.specs.Words.{Command, Run, order_of}
 use Rattle.golden.proofs.FrontLemmas.{NoCircuit, OneFaultLine, circuit_file-exact}
 
@@ -12,8 +19,39 @@ plain_file-exact name limit IsPlain = record {
   apart = λ bytes said accepts refuses. refuses.0 accepts;
   once = λ bytes said other refuses refuses'. refuses.1 ∙ sym refuses'.1;
   status = λ bytes said refuses. ap (λ (s : Said). s.status) refuses.1;
+  judges = inl refl;
 }
 
-pub order-exact : NoCircuit → OneFaultLine → (command : Command) → IsExact (order_of command)
-order-exact never one (Run circuit partition trace) =
-    (circuit_file-exact never one circuit, λ c. (plain_file-exact partition 1048576 _, λ p. (plain_file-exact trace 67108864 _, λ t. tt)))
+-- all flat circuits that some bytes mean have the same inputs
+abbrev pub InsAgree : Type 0
+InsAgree = (bytes : List ℕ) (one other : FlatCircuit) → Means bytes one → Means bytes other → in_ports one ≡ in_ports other
+
+-- a trace has one first fault
+abbrev pub OneFirstFault : Type 0
+OneFirstFault = (ports : List Port) (bytes : List ℕ) (one other : TraceFault) → IsFirstFault ports bytes one → IsFirstFault ports bytes other → one ≡ other
+
+-- and a trace with columns has none
+abbrev pub NoFault : Type 0
+NoFault = (ports : List Port) (bytes : List ℕ) (n : ℕ) (columns : List (List ℕ)) (fault : TraceFault) → Columns ports bytes n columns → IsFirstFault ports bytes fault → ⊥
+
+module _ (agree : InsAgree) (once : OneFirstFault) (never : NoFault) (circuit : List ℕ) where
+  trace-apart : (bytes : List ℕ) (said : Said) → IsTraceFor circuit bytes → TellsTraceFor circuit bytes said → ⊥
+  trace-apart bytes said (one, means, (n, columns, feeds)) (other, means', (fault, first, is)) =
+      never (in_ports one) bytes n columns fault feeds (subst (λ (ports : List Port). IsFirstFault ports bytes fault) (agree circuit other one means' means) first)
+
+  trace-once : (bytes : List ℕ) (said said' : Said) → TellsTraceFor circuit bytes said → TellsTraceFor circuit bytes said' → said ≡ said'
+  trace-once bytes said said' (one, means, (fault, first, is)) (other, means', (fault', first', is')) =
+      is
+      ∙ ap (λ (f : TraceFault). trace_fault (fault_words f)) (once (in_ports other) bytes fault fault' (subst (λ (ports : List Port). IsFirstFault ports bytes fault) (agree circuit one other means means') first) first')
+      ∙ sym is'
+
+  trace-status : (bytes : List ℕ) (said : Said) → TellsTraceFor circuit bytes said → said.status ≡ 7
+  trace-status bytes said (one, means, (fault, first, is)) = ap (λ (s : Said). s.status) is
+
+  -- of the bytes of a trace one thing is said at most, and nothing of a trace without a fault
+  trace_file-exact : (name : List ℕ) → IsExactFile (trace_file_for circuit name)
+  trace_file-exact name = record { apart = trace-apart; once = trace-once; status = trace-status; judges = inr refl }
+
+pub order-exact : NoCircuit → OneFaultLine → InsAgree → OneFirstFault → NoFault → (command : Command) → IsExact (order_of command)
+order-exact never one agree once none (Run circuit partition trace capacity workers mono) =
+    (circuit_file-exact never one circuit, λ c. (plain_file-exact partition 1048576 _, λ p. (trace_file-exact agree once none c trace, λ t. tt)))

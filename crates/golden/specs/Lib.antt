@@ -4,6 +4,6 @@ pub mod Order
 pub mod Outcome
 pub mod Run
 pub mod RunText
-pub mod Stops
+pub mod Endings
 pub mod WentOn
 pub mod Words

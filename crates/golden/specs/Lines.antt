@@ -13,9 +13,21 @@ pub record Said : Type 0 where
 abbrev pub line_of : List ℕ → List ℕ
 line_of text = text ++ 10 ∷ []
 
--- the words are no command; what stands behind `golden: words` isn't fixed, and is this for now
+-- the words are no command: `golden: words` and this
+abbrev pub words_said : List ℕ → Said
+words_said text = record { status = 2; line = line_of (codes "golden: words" ++ text) }
+
+-- the words are none of the commands
 abbrev pub no_command : Said
-no_command = record { status = 2; line = line_of (codes "golden: words: the command is run CIRCUIT PARTITION TRACE") }
+no_command = words_said (codes ": the commands are run CIRCUIT PARTITION TRACE [--capacity K] [--workers W] [--mono] and check CIRCUIT PARTITION [--capacity K]")
+
+-- this value of an option is no number in its range
+abbrev pub bad_number : List ℕ → Said
+bad_number value = words_said (codes ": " ++ value ++ codes " is no number in its range; --capacity takes 1 to 4096, --workers 0 to 64")
+
+-- the words ask for `check`
+abbrev pub no_check : Said
+no_check = words_said (codes ": check is not there yet, run is")
 
 -- the file of this name isn't plain
 abbrev pub not_plain : List ℕ → Said
@@ -36,6 +48,10 @@ IsUnreadText NoMemory text = ⊥
 -- this is said of a circuit's text with this fault of reading
 abbrev pub TellsUnread : ReadFault → Said → Type 0
 TellsUnread fault said = (text : List ℕ) × IsUnreadText fault text × (said ≡ circuit_fault text)
+
+-- the trace has a fault, in these words
+abbrev pub trace_fault : List ℕ → Said
+trace_fault text = record { status = 7; line = line_of (codes "golden: trace: " ++ text) }
 
 -- the file of this name can't be loaded
 abbrev pub cannot_load : List ℕ → Said

@@ -4,11 +4,12 @@ use Rattle.std.specs.Prelude.{◌≡◌, ℕ, ◌<◌, ◌≤◌, List, length, 
 use Rattle.gg_io.specs.Told.{Told, Holds, CanHold, CanBeOver}
 use Rattle.golden.specs.Lines.{Said, cannot_load, is_over}
 
--- A file of a command: its name, how many bytes it may have, which bytes are accepted, and what is said of bytes that
--- are refused.
+-- A file of a command: its name, how many bytes it may have, the status with which its bytes are refused, which bytes are
+-- accepted, and what is said of bytes that are refused.
 pub record File : Type 1 where
   pub name : List ℕ
   pub limit : ℕ
+  pub status : ℕ
   pub accepts : List ℕ → Type 0
   pub refuses : List ℕ → Said → Type 0
 
@@ -17,11 +18,16 @@ pub data Order : Type 1 where
   Load : (file : File) (next : List ℕ → Order) → Order
   Write : (IsText : List ℕ → Type 0) → Order
 
--- Of the bytes of a file one thing is said at most, with status 1, and nothing of bytes that are accepted.
+-- a status with which the bytes of a file are refused: 1 for circuits and partitions, 7 for traces
+abbrev pub IsJudgement : ℕ → Type 0
+IsJudgement status = (status ≡ 1) ⊎ (status ≡ 7)
+
+-- Of the bytes of a file one thing is said at most, with the file's own status, and nothing of bytes that are accepted.
 pub record IsExactFile (file : File) : Type 0 where
   pub apart : (bytes : List ℕ) (said : Said) → file.accepts bytes → file.refuses bytes said → ⊥
   pub once : (bytes : List ℕ) (said other : Said) → file.refuses bytes said → file.refuses bytes other → said ≡ other
-  pub status : (bytes : List ℕ) (said : Said) → file.refuses bytes said → said.status ≡ 1
+  pub status : (bytes : List ℕ) (said : Said) → file.refuses bytes said → said.status ≡ file.status
+  pub judges : IsJudgement file.status
 
 -- and so for each file of an order
 abbrev pub IsExact : Order → Type 0

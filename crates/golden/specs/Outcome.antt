@@ -1,11 +1,11 @@
 -- How a call ends: its status, the text that it wrote on `out`, and its line.
-use Rattle.std.specs.Prelude.{◌≡◌, ℕ, List, [], ◌++◌, ◌⊎◌, Option, codes}
+use Rattle.std.specs.Prelude.{◌≡◌, ℕ, List, [], ◌++◌, ◌⊎◌, Option}
 use Rattle.std.specs.Io.KnownBytes.{append_known}
 use Rattle.gg_io.specs.Count.{Rose}
 use Rattle.gg_io.specs.Told.{Told}
-use Rattle.golden.specs.Lines.{Said, line_of, cannot_write, out_of_memory}
+use Rattle.golden.specs.Lines.{Said, cannot_write, out_of_memory}
 use Rattle.golden.specs.Order.{Order, StopsAt, IsWritten}
-use Rattle.golden.specs.Words.{Command, Asks, IsCommand, order_of}
+use Rattle.golden.specs.Words.{Command, Asks, IsCommand, TellsUnasked, order_of}
 
 -- a front part of a text, from nothing to all of it
 abbrev pub IsFront : (part whole : List ℕ) → Type 0
@@ -39,15 +39,13 @@ pub data Ends (files : List ℕ → Told) (lost cut unwritten : Type 0) (order :
   -- memory ran out, and nothing or a front part of the text is written
   WantsMemory : (front : (text ≡ []) ⊎ ((whole : List ℕ) × IsWritten files order whole × IsFront text whole)) (says : Says status line out_of_memory) → Ends files lost cut unwritten order status text line
 
--- the ends of a call whose words are no command: that is said, or memory ran out
-pub data EndsUnasked (status : ℕ) (text line : List ℕ) : Type 0 where
-  NoCommand : (rest : List ℕ) (says : Says status line (record { status = 2; line = line_of (codes "golden: words" ++ rest) })) (none : text ≡ []) → EndsUnasked status text line
-  WantsMemoryToo : (says : Says status line out_of_memory) (none : text ≡ []) → EndsUnasked status text line
-
--- The outcome of a call with these words: that of the command that they ask for, or that they ask for none.
+-- The outcome of a call with these words: that of the command that they ask for, or that they ask for none that is there.
 pub data Outcome (words : List (List ℕ)) (files : List ℕ → Told) (lost cut unwritten : Type 0) (status : ℕ) (text line : List ℕ) : Type 0 where
   Asked : (command : Command) (asks : Asks words command) (ends : Ends files lost cut unwritten (order_of command) status text line) → Outcome words files lost cut unwritten status text line
-  Unasked : (none : ¬ IsCommand words) (ends : EndsUnasked status text line) → Outcome words files lost cut unwritten status text line
+  -- the words are no command that is there, and nothing is written
+  Unasked : (unasked : ¬ IsCommand words) (said : Said) (tells : TellsUnasked words said) (says : Says status line said) (none : text ≡ []) → Outcome words files lost cut unwritten status text line
+  -- memory ran out while the words were read, and nothing is written
+  WantsMemoryFirst : (says : Says status line out_of_memory) (none : text ≡ []) → Outcome words files lost cut unwritten status text line
 
 -- A call with these words answered this status: it has an outcome, whose text stands on `out` behind what stood before, and
 -- whose line is reported on `err`.

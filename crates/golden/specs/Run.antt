@@ -6,7 +6,11 @@ use Rattle.gg_front.specs.Fault.{IsReadUnplain}
 use Rattle.gg_front.specs.Plain.{IsPlain}
 use Rattle.gg_read.specs.Text.{HasReadFault}
 use Rattle.gg_read.specs.declared.text.ReadFault.{ReadFault}
-use Rattle.golden.specs.Lines.{Said, line_of, not_plain, TellsUnread}
+use Rattle.gg_front.specs.Ports.{in_ports}
+use Rattle.gg_trace.specs.FaultText.{fault_words}
+use Rattle.gg_trace.specs.Trace.{IsFirstFault}
+use Rattle.gg_trace.specs.declared.faults.TraceFault.{TraceFault}
+use Rattle.golden.specs.Lines.{Said, line_of, not_plain, trace_fault, TellsUnread}
 use Rattle.golden.specs.Order.{File, Order, Load, Write}
 use Rattle.golden.specs.RunText.{IsTraceOf, IsRunText}
 
@@ -16,6 +20,7 @@ plain_file name limit IsPlainFile =
     record {
       name = name;
       limit = limit;
+      status = 1;
       accepts = IsPlainFile;
       refuses = λ bytes said. (¬ IsPlainFile bytes) × (said ≡ not_plain name);
     }
@@ -29,7 +34,7 @@ TellsCircuit name bytes said =
 
 -- the circuit's file: at most 4,194,304 bytes
 abbrev pub circuit_file : (name : List ℕ) → File
-circuit_file name = record { name = name; limit = 4194304; accepts = IsPlain; refuses = TellsCircuit name }
+circuit_file name = record { name = name; limit = 4194304; status = 1; accepts = IsPlain; refuses = TellsCircuit name }
 
 -- a plain partition: `{}`, with or without a line feed
 abbrev pub IsPlainPartition : List ℕ → Type 0
@@ -39,13 +44,29 @@ IsPlainPartition bytes = (bytes ≡ codes "{}") ⊎ (bytes ≡ line_of (codes "{
 abbrev pub partition_file : (name : List ℕ) → File
 partition_file name = plain_file name 1048576 IsPlainPartition
 
--- a file of a trace of these: at most 67,108,864 bytes
-abbrev pub trace_file : (IsTrace : List ℕ → Type 0) (name : List ℕ) → File
-trace_file IsTrace name = plain_file name 67108864 IsTrace
+-- This is said of the bytes of a trace of a circuit's inputs: their first fault.
+abbrev pub TellsTraceOf : (flat : FlatCircuit) (trace : List ℕ) → Said → Type 0
+TellsTraceOf flat trace said = (fault : TraceFault) × IsFirstFault (in_ports flat) trace fault × (said ≡ trace_fault (fault_words fault))
+
+-- a trace's file: at most 67,108,864 bytes
+abbrev pub trace_file : (name : List ℕ) (IsTrace : List ℕ → Type 0) (TellsFault : List ℕ → Said → Type 0) → File
+trace_file name IsTrace TellsFault = record { name = name; limit = 67108864; status = 7; accepts = IsTrace; refuses = TellsFault }
+
+-- that of a trace of a circuit's inputs
+abbrev pub trace_file_of : (flat : FlatCircuit) (name : List ℕ) → File
+trace_file_of flat name = trace_file name (IsTraceOf flat) (TellsTraceOf flat)
 
 -- a trace of the inputs of the circuit that these bytes are
-abbrev pub IsPlainTrace : (circuit trace : List ℕ) → Type 0
-IsPlainTrace circuit trace = (flat : FlatCircuit) × Means circuit flat × IsTraceOf flat trace
+abbrev pub IsTraceFor : (circuit trace : List ℕ) → Type 0
+IsTraceFor circuit trace = (flat : FlatCircuit) × Means circuit flat × IsTraceOf flat trace
+
+-- and this is said of one with a fault
+abbrev pub TellsTraceFor : (circuit trace : List ℕ) → Said → Type 0
+TellsTraceFor circuit trace said = (flat : FlatCircuit) × Means circuit flat × TellsTraceOf flat trace said
+
+-- its file
+abbrev pub trace_file_for : (circuit name : List ℕ) → File
+trace_file_for circuit name = trace_file name (IsTraceFor circuit) (TellsTraceFor circuit)
 
 -- the text of a run of a flat circuit that these bytes mean, on this trace
 abbrev pub IsTextOf : (circuit trace text : List ℕ) → Type 0
@@ -59,7 +80,7 @@ pub record IsOnlyText (circuit trace text : List ℕ) : Type 0 where
 
 -- what is left of the order where the circuit's bytes are known and its partition was accepted
 abbrev pub trace_order : (circuit trace : List ℕ) → Order
-trace_order circuit trace = Load (trace_file (IsPlainTrace circuit) trace) (λ t. Write (IsOnlyText circuit t))
+trace_order circuit trace = Load (trace_file_for circuit trace) (λ t. Write (IsOnlyText circuit t))
 
 -- and where its partition is still to be loaded
 abbrev pub partition_order : (circuit partition trace : List ℕ) → Order

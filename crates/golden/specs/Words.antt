@@ -1,35 +1,51 @@
--- What the words of a call ask for.
-use Rattle.std.specs.Prelude.{◌≡◌, ℕ, List, [], ◌∷◌, String, codes, map, string_bytes, slice_index_or}
+-- What the words of a call ask for. Which words are which command is defined in gg_words, by `clap`'s own definitions.
+use Rattle.std.specs.Prelude.{◌≡◌, ◌⊎◌, ℕ, Bool, List, String, map, string_bytes}
+use Rattle.gg_words.specs.Meaning as line
+use Rattle.gg_words.specs.declared.command.Cmd.{Cmd}
+use Rattle.gg_words.specs.declared.command.Cmd.TheVariants as cmd
+use Rattle.gg_words.specs.declared.command.WordFault.{WordFault}
+use Rattle.gg_words.specs.declared.command.WordFault.TheVariants.{Refused, Number, NoMemory}
+use Rattle.golden.specs.Lines.{Said, bad_number, no_check, no_command}
 use Rattle.golden.specs.Order.{Order}
 use Rattle.golden.specs.Run.{run_order}
 
--- the commands: `run`, with the names of its files
+-- The commands that are there: `run`, with the names of its files, its numbers, and whether it runs without a network.
+-- The command line has `check` too; it has no order yet, so words that ask for it ask for none of these.
 pub data Command : Type 0 where
-  Run : (circuit partition trace : List ℕ) → Command
+  Run : (circuit partition trace : List ℕ) (capacity workers : ℕ) (mono : Bool) → Command
 
--- the word begins with `-`
-abbrev pub IsDashed : List ℕ → Type 0
-IsDashed [] = ⊥
-IsDashed (byte ∷ rest) = byte ≡ 45
+-- the same as a command of the command line
+abbrev pub cmd_of : Command → Cmd
+cmd_of (Run circuit partition trace capacity workers mono) = cmd.Run circuit partition trace capacity workers mono
 
--- The words ask for this command: the program's own name, `run`, and three names that don't begin with `-`.
+-- the words ask for this command
 abbrev pub Asks : List (List ℕ) → Command → Type 0
-Asks words (Run circuit partition trace) =
-    (words ≡ codes "golden" ∷ codes "run" ∷ circuit ∷ partition ∷ trace ∷ [])
-    × (¬ IsDashed circuit) × (¬ IsDashed partition) × (¬ IsDashed trace)
+Asks words command = line.IsCommand words (cmd_of command)
 
--- the words are a command
+-- the words are a command that is there
 abbrev pub IsCommand : List (List ℕ) → Type 0
 IsCommand words = (command : Command) × Asks words command
+
+-- this is said of words with this fault; want of memory is no fault of words
+abbrev pub TellsWords : WordFault → Said → Type 0
+TellsWords (Refused kind) said = said ≡ no_command
+TellsWords (Number value) said = said ≡ bad_number value
+TellsWords NoMemory said = ⊥
+
+-- this is said of words that are no command that is there: their fault, or that they ask for `check`
+abbrev pub TellsUnasked : List (List ℕ) → Said → Type 0
+TellsUnasked words said =
+    ((fault : WordFault) × line.IsWordFault words fault × TellsWords fault said)
+    ⊎ ((circuit partition : List ℕ) × (capacity : ℕ) × line.IsCommand words (cmd.Check circuit partition capacity) × (said ≡ no_check))
 
 -- the texts of the words
 abbrev pub texts : {Y : Type 0} → List (String Y) → List (List ℕ)
 texts words = map string_bytes words
 
--- word i
-abbrev pub text_at : {Y : Type 0} → List (String Y) → ℕ → List ℕ
-text_at words i = slice_index_or (texts words) i []
-
--- the order of refusals of a command
+-- the order of refusals of a command: neither its numbers nor the network have a part in it yet
 abbrev pub order_of : Command → Order
-order_of (Run circuit partition trace) = run_order circuit partition trace
+order_of (Run circuit partition trace capacity workers mono) = run_order circuit partition trace
+
+-- the name of its circuit's file
+abbrev pub circuit_of : Command → List ℕ
+circuit_of (Run circuit partition trace capacity workers mono) = circuit

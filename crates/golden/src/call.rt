@@ -4,57 +4,84 @@ ghost use Rattle.gg_io.specs.Count.{Rose};
 ghost use Rattle.gg_io.specs.Told.{Holds};
 ghost use Rattle.gg_read.specs.Text.{HasReadFault};
 ghost use Rattle.gg_read.specs.declared.text.ReadFault.{ReadFault};
+ghost use Rattle.gg_words.specs.Meaning as line;
 ghost use Rattle.golden.specs.Lines.{Said, TellsUnread};
-ghost use Rattle.golden.specs.Order.{StopsAt, DueAt, IsDueAccepted};
+ghost use Rattle.golden.specs.Order.{StopsAt, DueAt, IsDueAccepted, IsJudgement};
 ghost use Rattle.golden.specs.Outcome.{Answered, Reports, HasTrouble};
-ghost use Rattle.golden.specs.Stops.{CallEnded, said_by};
+ghost use Rattle.golden.specs.Endings.{CallEnded, said_by};
 ghost use Rattle.golden.specs.WentOn.{ShelfWentOn, SinkWentOn};
-ghost use Rattle.golden.specs.Words.{Command, Run, Asks, IsCommand, order_of, texts};
+ghost use Rattle.golden.specs.Words.{Command, Run, Asks, IsCommand, TellsUnasked, circuit_of, order_of, texts};
 
+use crate::endings::Ending;
 use crate::laws::refusals_are_exact;
 use crate::run::run;
-use crate::stops::{Stop, stop_unasked};
-use crate::words::{asks_run, word_at};
+use crate::words::{end_at_check, end_at_words};
 use crate::writing::report;
 use gg_io::{Gate, Shelf, Sink};
+use gg_words::{Cmd, one_meaning, words};
 use std::alloc::Global;
+
+// A command of the command line, done.
+fn do_command<S: Shelf, K: Sink>(
+    alloc: Global,
+    cmd: &Cmd,
+    shelf: &mut S,
+    out: &mut K,
+) -> Result<(), Ending>
+    ensures ended { (words : List (List ℕ)) → line.IsCommand words cmd.now → CallEnded (S.files shelf.old)
+        (Rose (S.faults shelf.old) (S.faults shelf.new)) (Rose (S.cuts shelf.old) (S.cuts shelf.new)) (Rose (K.faults out.old) (K.faults out.new))
+        (K.written out.old) (K.written out.new) words result }
+    ensures shelf { ShelfWentOn (S.files shelf.old) (S.files shelf.new) (S.faults shelf.old) (S.faults shelf.new) (S.cuts shelf.old) (S.cuts shelf.new) }
+    ensures out { SinkWentOn (K.faults out.old) (K.faults out.new) (K.refused out.old) (K.refused out.new) }
+{
+    one_meaning();
+    match cmd {
+        Cmd::Run {
+            circuit,
+            partition,
+            trace,
+            ..
+        } => run(
+            alloc,
+            circuit.as_str(),
+            partition.as_str(),
+            trace.as_str(),
+            shelf,
+            out,
+        ),
+        Cmd::Check { .. } => Err(end_at_check(alloc)),
+    }
+}
 
 // The command that the words ask for.
 fn command<S: Shelf, K: Sink>(
     alloc: Global,
-    words: &[String],
+    given: &[String],
     shelf: &mut S,
     out: &mut K,
-) -> Result<(), Stop>
+) -> Result<(), Ending>
     ensures ended { CallEnded (S.files shelf.old)
         (Rose (S.faults shelf.old) (S.faults shelf.new)) (Rose (S.cuts shelf.old) (S.cuts shelf.new)) (Rose (K.faults out.old) (K.faults out.new))
-        (K.written out.old) (K.written out.new) (texts words.now) result }
+        (K.written out.old) (K.written out.new) (texts given.now) result }
     ensures shelf { ShelfWentOn (S.files shelf.old) (S.files shelf.new) (S.faults shelf.old) (S.faults shelf.new) (S.cuts shelf.old) (S.cuts shelf.new) }
     ensures out { SinkWentOn (K.faults out.old) (K.faults out.new) (K.refused out.old) (K.refused out.new) }
 {
-    if !asks_run(words) {
-        return Err(stop_unasked(alloc));
+    match words(alloc, given) {
+        Ok(cmd) => do_command(alloc, &cmd, shelf, out),
+        Err(fault) => Err(end_at_words(alloc, &fault)),
     }
-    run(
-        alloc,
-        word_at(words, 2),
-        word_at(words, 3),
-        word_at(words, 4),
-        shelf,
-        out,
-    )
 }
 
 // Puts the line on how a command ended, if it didn't write its whole text, and gives its status. Where the line can't
 // be put the status is the same.
-fn status_of<E: Sink>(ended: &Result<(), Stop>, err: &mut E) -> u8
+fn status_of<E: Sink>(ended: &Result<(), Ending>, err: &mut E) -> u8
     ensures status { result ≡ (said_by ended.now).status }
     ensures line { Reports (E.written err.old) (E.written err.new) (HasTrouble (E.faults err.old) (E.faults err.new) (E.refused err.old) (E.refused err.new)) (said_by ended.now).line }
     ensures err { SinkWentOn (E.faults err.old) (E.faults err.new) (E.refused err.old) (E.refused err.new) }
 {
     match ended {
         Ok(()) => 0,
-        Err(stop) => report(stop, err),
+        Err(ending) => report(ending, err),
     }
 }
 
@@ -87,11 +114,12 @@ fn answer<S: Shelf, K: Sink, E: Sink>(
 /// cycle. Statuses:
 ///
 /// - 0: the text was written whole;
-/// - 1: a circuit isn't read, or a file isn't plain, and each before it was; nothing was written;
-/// - 2: the words are no command; nothing was written;
+/// - 1: the circuit isn't read, or it or the partition isn't plain, and each file before it was; nothing was written;
+/// - 2: the words are no command that is there; nothing was written;
 /// - 3: a load failed, which the shelf counts as a fault; nothing was written;
 /// - 4: a put on `out` failed, which it counts as a fault; a front part of the text stands there;
 /// - 5: memory ran out; nothing or a front part of the text stands there;
+/// - 7: the trace has a fault, and the files before it have none; nothing was written;
 /// - 8: a file is longer than its limit; nothing was written.
 ///
 /// Where the files are told and no load or put fails, the files and the words decide the status, want of memory aside.
@@ -110,11 +138,12 @@ pub fn golden<S: Shelf, K: Sink, E: Sink, G: Gate>(
         (HasTrouble (E.faults err.old) (E.faults err.new) (E.refused err.old) (E.refused err.new))
         (K.written out.old) (K.written out.new) (E.written err.old) (E.written err.new) result }
 
-    // The cause of each status, and of status 1 the line too.
-    ensures not_plain { result ≡ 1 → (command : Command) × Asks (texts words.now) command
-        × ((said : Said) × StopsAt (S.files shelf.old) ⊥ ⊥ (order_of command) said
+    // The cause of each status; of a judgement on a file, and of words that are no command, the line too.
+    ensures judged { IsJudgement result → (command : Command) × Asks (texts words.now) command
+        × ((said : Said) × StopsAt (S.files shelf.old) ⊥ ⊥ (order_of command) said × (result ≡ said.status)
         × Reports (E.written err.old) (E.written err.new) (HasTrouble (E.faults err.old) (E.faults err.new) (E.refused err.old) (E.refused err.new)) said.line) }
-    ensures no_command { result ≡ 2 → ¬ IsCommand (texts words.now) }
+    ensures no_command { result ≡ 2 → (¬ IsCommand (texts words.now)) × ((said : Said) × TellsUnasked (texts words.now) said
+        × Reports (E.written err.old) (E.written err.new) (HasTrouble (E.faults err.old) (E.faults err.new) (E.refused err.old) (E.refused err.new)) said.line) }
     ensures lost { result ≡ 3 → Rose (S.faults shelf.old) (S.faults shelf.new) }
     ensures unwritten { result ≡ 4 → Rose (K.faults out.old) (K.faults out.new) }
     ensures over { result ≡ 8 → Rose (S.cuts shelf.old) (S.cuts shelf.new) × ((command : Command) × Asks (texts words.now) command
@@ -132,8 +161,8 @@ pub fn golden<S: Shelf, K: Sink, E: Sink, G: Gate>(
         ⊎ (result ≡ 5) }
 
     // So a circuit's file that is told and has a fault of reading is refused with that, whatever the other files are.
-    ensures unread { (Rose (S.faults shelf.old) (S.faults shelf.new) → ⊥) → (circuit partition trace bytes : List ℕ) (fault : ReadFault) (said : Said)
-        → Asks (texts words.now) (Run circuit partition trace) → S.files shelf.old circuit ≡ Holds bytes → length bytes ≤ 4194304
+    ensures unread { (Rose (S.faults shelf.old) (S.faults shelf.new) → ⊥) → (command : Command) (bytes : List ℕ) (fault : ReadFault) (said : Said)
+        → Asks (texts words.now) command → S.files shelf.old (circuit_of command) ≡ Holds bytes → length bytes ≤ 4194304
         → HasReadFault bytes fault → TellsUnread fault said
         → ((result ≡ 1)
         × Reports (E.written err.old) (E.written err.new) (HasTrouble (E.faults err.old) (E.faults err.new) (E.refused err.old) (E.refused err.new)) said.line)
@@ -154,5 +183,6 @@ pub fn golden<S: Shelf, K: Sink, E: Sink, G: Gate>(
 {
     let _ = gate;
     refusals_are_exact();
+    one_meaning();
     answer(alloc, words, shelf, out, err)
 }

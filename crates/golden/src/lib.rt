@@ -1,6 +1,6 @@
 //! The program golden as one call: [`golden`] does what the words of a call ask for, with files from a shelf, the
-//! text on one sink and at most one line on another, and answers the status. The one command is `run CIRCUIT PARTITION
-//! TRACE`: the circuit's own run on the trace, printed.
+//! text on one sink and at most one line on another, and answers the status. Which words are which command gg_words
+//! says. The one command that is there is `run`: the circuit's own run on the trace, printed; `check` is refused by name.
 //!
 //! What its clauses promise, for every shelf and every sink:
 //!
@@ -9,10 +9,10 @@
 //!   accepted), where a put fails, for want of memory, or with its whole text. With status 0 the text on `out` is that
 //!   of the circuit's own run on the trace (`IsOnlyText`): whichever flat circuit the bytes are taken to mean, each of its
 //!   runs on the trace has this text and no other.
-//! - Causes (`not_plain`, `no_command`, `lost`, `unwritten`, `over`): each status but 0 and 5 has its reason; a load or a
+//! - Causes (`judged`, `no_command`, `lost`, `unwritten`, `over`): each status but 0 and 5 has its reason; a load or a
 //!   put that failed is counted where it failed. `nothing_written`: a refusal leaves `out` as it was.
-//! - What is due is said (`unasked`, `due`, `unread`): words that are no command, and where no load fails a file that is
-//!   told and is to be refused, give just that status and line.
+//! - What is due is said (`unasked`, `due`, `unread`): words that are no command give their status, and where no load
+//!   fails a file that is told and is to be refused gives just its status and line.
 //! - `complete`: where no load and no put fails, files that are told, within their limits and accepted give status 0.
 //! - The shelf's files stay, and no count falls.
 //!
@@ -23,12 +23,12 @@
 #![tactic(auto)]
 
 mod call;
+mod endings;
 mod laws;
 mod loading;
 mod printing;
 mod reading;
 mod run;
-mod stops;
 mod unread;
 mod words;
 mod writing;

@@ -3,10 +3,10 @@ ghost use Rattle.std.specs.Prelude.{◌≡◌, ◌-◌, ◌^◌, ◌<◌, ◌≤
 ghost use Rattle.gg_io.specs.Count.{Rose};
 ghost use Rattle.gg_io.specs.Told.{CanHold, CanBeOver};
 ghost use Rattle.golden.specs.Lines.{cannot_load, is_over};
-ghost use Rattle.golden.specs.Stops.{IfRefused};
+ghost use Rattle.golden.specs.Endings.{IfRefused};
 ghost use Rattle.golden.specs.WentOn.{ShelfWentOn};
 
-use crate::stops::{Stop, stop_cannot_load, stop_over};
+use crate::endings::{Ending, end_cannot_load, end_over};
 use gg_io::{LoadFail, Shelf};
 use std::alloc::Global;
 
@@ -16,7 +16,7 @@ pub(crate) fn load<S: Shelf>(
     shelf: &mut S,
     name: &str,
     limit: u64,
-) -> Result<Vec<u8>, Stop>
+) -> Result<Vec<u8>, Ending>
     requires { limit < 2 ^ 64 - 1 }
     ensures within { IfOk result (λ bytes. length bytes.items ≤ limit) }
     ensures held { IfOk result (λ bytes. CanHold (S.files shelf.old name.now) bytes.items) }
@@ -27,8 +27,8 @@ pub(crate) fn load<S: Shelf>(
 {
     match shelf.load(alloc, name, limit) {
         Ok(bytes) => Ok(bytes),
-        Err(LoadFail::Failed) => Err(stop_cannot_load(alloc, name)),
-        Err(LoadFail::TooLong { .. }) => Err(stop_over(alloc, name, limit)),
-        Err(LoadFail::NoMemory) => Err(Stop::NoMemory),
+        Err(LoadFail::Failed) => Err(end_cannot_load(alloc, name)),
+        Err(LoadFail::TooLong { .. }) => Err(end_over(alloc, name, limit)),
+        Err(LoadFail::NoMemory) => Err(Ending::NoMemory),
     }
 }

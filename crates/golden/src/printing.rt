@@ -10,10 +10,10 @@ ghost use Rattle.gg_refsim.specs.Cycle.{Cycle};
 ghost use Rattle.gg_trace.specs.Printing.{row_line, trace_text};
 ghost use Rattle.gg_flat.specs.Ports.{out_ports};
 ghost use Rattle.golden.specs.RunText.{out_columns};
-ghost use Rattle.golden.specs.Stops.{Prints};
+ghost use Rattle.golden.specs.Endings.{Prints};
 ghost use Rattle.golden.specs.WentOn.{SinkWentOn};
 
-use crate::stops::Stop;
+use crate::endings::Ending;
 use crate::writing::put;
 use gg_flat::{Ports, runs_along, settled_once};
 use gg_io::Sink;
@@ -31,7 +31,7 @@ fn print_row<K: Sink>(
     inputs: &[u128],
     outs: &mut [u128],
     out: &mut K,
-) -> Result<(), Stop>
+) -> Result<(), Ending>
     requires inputs { IsInputs mono.old.circuit inputs.now }
     requires outs { length outs.old ≡ length mono.old.circuit.outs }
     requires ports { length ports.now ≡ length mono.old.circuit.outs }
@@ -53,7 +53,7 @@ fn print_rows<K: Sink>(
     inputs: &Trace,
     outs: &mut [u128],
     out: &mut K,
-) -> Result<(), Stop>
+) -> Result<(), Ending>
     requires opening { mono.old.state ≡ opening mono.old.circuit }
     requires ordered { (order : List ℕ) × IsOrder mono.old.circuit order }
     requires fed { IsColumns mono.old.circuit inputs.now.rows inputs.now.columns }
@@ -78,7 +78,7 @@ fn print_all<K: Sink>(
     ports: &Ports,
     inputs: &Trace,
     out: &mut K,
-) -> Result<(), Stop>
+) -> Result<(), Ending>
     requires opening { mono.old.state ≡ opening mono.old.circuit }
     requires fed { IsColumns mono.old.circuit inputs.now.rows inputs.now.columns }
     requires ports { length ports.now ≡ length mono.old.circuit.outs }
@@ -98,7 +98,7 @@ pub(crate) fn print_run<K: Sink>(
     design: &Design,
     inputs: &Trace,
     out: &mut K,
-) -> Result<(), Stop>
+) -> Result<(), Ending>
     requires fed { IsColumns design.now.circuit inputs.now.rows inputs.now.columns }
     ensures prints { (rows : List (List ℕ)) × IsRun design.now.circuit inputs.now.columns inputs.now.rows rows
         × Prints (K.written out.old) (K.written out.new) (Rose (K.faults out.old) (K.faults out.new)) (trace_text (out_ports design.now.circuit) (out_columns design.now.circuit rows) inputs.now.rows) result }

@@ -4,16 +4,17 @@ ghost use Rattle.gg_io.specs.Count.{Rose};
 ghost use Rattle.gg_front.specs.Meaning.{Means};
 ghost use Rattle.gg_flat.specs.Run.{IsColumns};
 ghost use Rattle.gg_trace.specs.declared.faults.TraceFault.TheVariants.{NoMemory};
-ghost use Rattle.golden.specs.Lines.{not_plain};
+ghost use Rattle.gg_trace.specs.FaultText.{fault_words};
+ghost use Rattle.golden.specs.Lines.{not_plain, trace_fault};
 ghost use Rattle.golden.specs.Order.{CanBe, IsRefused};
-ghost use Rattle.golden.specs.Run.{circuit_file, partition_file, trace_file, IsPlainPartition};
-ghost use Rattle.golden.specs.RunText.{FeedsOnly, IsTraceOf};
-ghost use Rattle.golden.specs.Stops.{IfRefused, TellsFront};
+ghost use Rattle.golden.specs.Run.{circuit_file, partition_file, trace_file_of, IsPlainPartition};
+ghost use Rattle.golden.specs.RunText.{FeedsOnly};
+ghost use Rattle.golden.specs.Endings.{IfRefused, TellsFront};
 ghost use Rattle.golden.specs.WentOn.{ShelfWentOn};
 
+use crate::endings::{Ending, end_not_plain, end_with, make_refusal};
 use crate::loading::load;
-use crate::stops::{Stop, stop_not_plain};
-use crate::unread::stop_unread;
+use crate::unread::end_unread;
 use gg_front::{FrontFault, front};
 use gg_io::Shelf;
 use gg_order::Design;
@@ -27,14 +28,14 @@ const PARTITION_LIMIT: u64 = 1_048_576;
 
 const TRACE_LIMIT: u64 = 67_108_864;
 
-// The stop at a circuit of which the front end answers this.
-fn stop_at_circuit(alloc: Global, name: &str, fault: &FrontFault) -> Stop
+// The ending at a circuit of which the front end answers this.
+fn end_at_circuit(alloc: Global, name: &str, fault: &FrontFault) -> Ending
     ensures { IfRefused (TellsFront name.now fault.now) result }
 {
     match fault {
-        FrontFault::Read(fault) => stop_unread(alloc, fault),
-        FrontFault::Plain => stop_not_plain(alloc, name),
-        FrontFault::NoMemory => Stop::NoMemory,
+        FrontFault::Read(fault) => end_unread(alloc, fault),
+        FrontFault::Plain => end_not_plain(alloc, name),
+        FrontFault::NoMemory => Ending::NoMemory,
     }
 }
 
@@ -43,7 +44,7 @@ pub(crate) fn read_circuit<S: Shelf>(
     alloc: Global,
     shelf: &mut S,
     name: &str,
-) -> Result<Design, Stop>
+) -> Result<Design, Ending>
     ensures accepted { IfOk result (λ design. (bytes : List ℕ) × CanBe (S.files shelf.old) (circuit_file name.now) bytes × Means bytes design.circuit) }
     ensures refused { IfErr result (IfRefused (IsRefused (S.files shelf.old)
         (Rose (S.faults shelf.old) (S.faults shelf.new)) (Rose (S.cuts shelf.old) (S.cuts shelf.new)) (circuit_file name.now))) }
@@ -52,7 +53,7 @@ pub(crate) fn read_circuit<S: Shelf>(
     let bytes = load(alloc, shelf, name, CIRCUIT_LIMIT)?;
     match front(alloc, bytes.as_slice()) {
         Ok(design) => Ok(design),
-        Err(fault) => Err(stop_at_circuit(alloc, name, &fault)),
+        Err(fault) => Err(end_at_circuit(alloc, name, &fault)),
     }
 }
 
@@ -64,7 +65,11 @@ fn is_plain_partition(bytes: &[u8]) -> bool
 }
 
 /// Reads the partition's file, from which nothing is kept.
-pub(crate) fn read_partition<S: Shelf>(alloc: Global, shelf: &mut S, name: &str) -> Result<(), Stop>
+pub(crate) fn read_partition<S: Shelf>(
+    alloc: Global,
+    shelf: &mut S,
+    name: &str,
+) -> Result<(), Ending>
     ensures accepted { IfOk result (λ _. (bytes : List ℕ) × CanBe (S.files shelf.old) (partition_file name.now) bytes × IsPlainPartition bytes) }
     ensures refused { IfErr result (IfRefused (IsRefused (S.files shelf.old)
         (Rose (S.faults shelf.old) (S.faults shelf.new)) (Rose (S.cuts shelf.old) (S.cuts shelf.new)) (partition_file name.now))) }
@@ -72,19 +77,22 @@ pub(crate) fn read_partition<S: Shelf>(alloc: Global, shelf: &mut S, name: &str)
 {
     let bytes = load(alloc, shelf, name, PARTITION_LIMIT)?;
     if !is_plain_partition(bytes.as_slice()) {
-        return Err(stop_not_plain(alloc, name));
+        return Err(end_not_plain(alloc, name));
     }
     Ok(())
 }
 
-// The stop at a faulty trace.
-fn stop_at_trace(alloc: Global, name: &str, fault: TraceFault) -> Stop
-    ensures { IfRefused (λ said. (fault ≢ NoMemory) × (said ≡ not_plain name.now)) result }
+// The ending at a trace with this fault.
+fn end_at_trace(alloc: Global, fault: TraceFault) -> Ending
+    ensures { IfRefused (λ said. (fault ≢ NoMemory) × (said ≡ trace_fault (fault_words fault))) result }
 {
     if let TraceFault::NoMemory = fault {
-        return Stop::NoMemory;
+        return Ending::NoMemory;
     }
-    stop_not_plain(alloc, name)
+    match format!(in alloc; "{fault}") {
+        Ok(text) => end_with(make_refusal(alloc, 7, "golden: trace: ", text.as_str(), "")),
+        Err(_) => Ending::NoMemory,
+    }
 }
 
 /// The columns that the trace's file gives the inputs of a circuit.
@@ -93,12 +101,12 @@ pub(crate) fn read_inputs<S: Shelf>(
     shelf: &mut S,
     name: &str,
     design: &Design,
-) -> Result<Trace, Stop>
-    ensures accepted { IfOk result (λ trace. (bytes : List ℕ) × CanBe (S.files shelf.old) (trace_file (IsTraceOf design.now.circuit) name.now) bytes
+) -> Result<Trace, Ending>
+    ensures accepted { IfOk result (λ trace. (bytes : List ℕ) × CanBe (S.files shelf.old) (trace_file_of design.now.circuit name.now) bytes
         × FeedsOnly design.now.circuit bytes trace.rows trace.columns) }
     ensures fed { IfOk result (λ trace. IsColumns design.now.circuit trace.rows trace.columns) }
     ensures refused { IfErr result (IfRefused (IsRefused (S.files shelf.old)
-        (Rose (S.faults shelf.old) (S.faults shelf.new)) (Rose (S.cuts shelf.old) (S.cuts shelf.new)) (trace_file (IsTraceOf design.now.circuit) name.now))) }
+        (Rose (S.faults shelf.old) (S.faults shelf.new)) (Rose (S.cuts shelf.old) (S.cuts shelf.new)) (trace_file_of design.now.circuit name.now))) }
     ensures shelf { ShelfWentOn (S.files shelf.old) (S.files shelf.new) (S.faults shelf.old) (S.faults shelf.new) (S.cuts shelf.old) (S.cuts shelf.new) }
 {
     let bytes = load(alloc, shelf, name, TRACE_LIMIT)?;
@@ -106,6 +114,6 @@ pub(crate) fn read_inputs<S: Shelf>(
     let ports = piece.in_ports(alloc)?;
     match read_trace(alloc, &ports, bytes.as_slice()) {
         Ok(trace) => Ok(trace),
-        Err(fault) => Err(stop_at_trace(alloc, name, fault)),
+        Err(fault) => Err(end_at_trace(alloc, fault)),
     }
 }

@@ -3,12 +3,12 @@ ghost use Rattle.std.specs.Prelude.{◌≡◌, ℕ, List};
 ghost use Rattle.gg_io.specs.Count.{Rose};
 ghost use Rattle.gg_front.specs.Meaning.{Means};
 ghost use Rattle.golden.specs.Run.{run_order, partition_order, trace_order};
-ghost use Rattle.golden.specs.Stops.{EndedOn};
+ghost use Rattle.golden.specs.Endings.{EndedOn};
 ghost use Rattle.golden.specs.WentOn.{ShelfWentOn, SinkWentOn};
 
+use crate::endings::Ending;
 use crate::printing::print_run;
 use crate::reading::{read_circuit, read_inputs, read_partition};
-use crate::stops::Stop;
 use gg_flat::run_once;
 use gg_front::{one_run, ports_agree};
 use gg_io::{Shelf, Sink};
@@ -22,7 +22,7 @@ fn run_trace<S: Shelf, K: Sink>(
     trace: &str,
     shelf: &mut S,
     out: &mut K,
-) -> Result<(), Stop>
+) -> Result<(), Ending>
     ensures ended { (circuit : List ℕ) → Means circuit design.now.circuit → EndedOn (S.files shelf.old)
         (Rose (S.faults shelf.old) (S.faults shelf.new)) (Rose (S.cuts shelf.old) (S.cuts shelf.new)) (Rose (K.faults out.old) (K.faults out.new))
         (K.written out.old) (K.written out.new) (trace_order circuit trace.now) result }
@@ -46,7 +46,7 @@ fn run_design<S: Shelf, K: Sink>(
     trace: &str,
     shelf: &mut S,
     out: &mut K,
-) -> Result<(), Stop>
+) -> Result<(), Ending>
     ensures ended { (circuit : List ℕ) → Means circuit design.now.circuit → EndedOn (S.files shelf.old)
         (Rose (S.faults shelf.old) (S.faults shelf.new)) (Rose (S.cuts shelf.old) (S.cuts shelf.new)) (Rose (K.faults out.old) (K.faults out.new))
         (K.written out.old) (K.written out.new) (partition_order circuit partition.now trace.now) result }
@@ -65,7 +65,7 @@ pub(crate) fn run<S: Shelf, K: Sink>(
     trace: &str,
     shelf: &mut S,
     out: &mut K,
-) -> Result<(), Stop>
+) -> Result<(), Ending>
     ensures ended { EndedOn (S.files shelf.old)
         (Rose (S.faults shelf.old) (S.faults shelf.new)) (Rose (S.cuts shelf.old) (S.cuts shelf.new)) (Rose (K.faults out.old) (K.faults out.new))
         (K.written out.old) (K.written out.new) (run_order circuit.now partition.now trace.now) result }

@@ -5,6 +5,7 @@ use super::golden;
 use gg_io::{
     FailingPut, MemFiles, MemShelf, MemSink, NoGate, PutFail, Sink, SureShelf, SureSink, hold,
 };
+use itoa::Buffer;
 use std::alloc::{AllocError, Global};
 use std::collections::BTreeMap;
 use std::process::Abort;
@@ -30,14 +31,20 @@ const TRACE: &str = "cycle reset\n0 1\n1 0\n2 0\n3 0\n";
 const TEXT: &str = "cycle out\n0 00\n1 00\n2 01\n3 02\n";
 
 // Circuits that are plain, a trace of each, and the text of its run.
-static RUNS: [(&str, &str, &str); 11] = [
+static RUNS: [(&str, &str, &str); 12] = [
     // the counter with lines that end with CR LF, comments, tabs and file information
     (
         "circuit Counter :\r\nmodule Counter : ; the top\r\n\tinput clock : Clock\r\ninput reset : UInt<1> @[a b] @[c]\r\noutput out : UInt<8>\r\nreg c : UInt<8> , clock with : (reset => (UInt<1>(\"h0\"), c)) ; @[ no\r\nnode n = add(c,UInt<1>(\"h1\"))\r\nout<=c\r\nc <= mux(reset, UInt<8>(\"h0\"), bits(n, 7, 0))",
         "cycle \treset\r\n0 1\r\n1 0\r\n2 0\r\n3 0",
         TEXT,
     ),
-    // and with a line of the version, and a report
+    // and with a trace whose value has zeros before it
+    (
+        "circuit Free :\nmodule Free :\ninput r : UInt<1>\noutput q : UInt<1>\nq <= r\n",
+        "cycle r\n0 0001\n",
+        "cycle q\n0 1\n",
+    ),
+    // the counter with a line of the version, and a report
     (
         "FIRRTL version 1.2.0\r\ncircuit Counter :\r\n  module Counter :\r\n    input clock : Clock\r\n    input reset : UInt<1>\r\n    output out : UInt<8>\r\n\r\n    reg c : UInt<8>, clock with : (reset => (UInt<1>(\"h0\"), c))\r\n    node n = add(c, UInt<1>(\"h1\"))\r\n    out <= c\r\n    c <= mux(reset, UInt<8>(\"h0\"), bits(n, 7, 0))\r\n    printf(clock, reset, \"x;@[%d]\\n\", c) : p ; done",
         TRACE,
@@ -98,35 +105,38 @@ static RUNS: [(&str, &str, &str); 11] = [
     ),
 ];
 
-// The counter with a line changed, counted from 1 (0: none), the other files, how many files are loaded, and the line of
-// the refusal.
-static REFUSED: [(usize, &str, &str, &str, u64, &str); 9] = [
+// The counter with a line changed, counted from 1 (0: none), the other files, the status, how many files are loaded, and the
+// line of the refusal.
+static REFUSED: [(usize, &str, &str, &str, u8, u64, &str); 9] = [
     // the first fault is told: the circuit's before the partition's, the partition's before the trace's
-    (10, "", "[]", "cycle", 1, "golden: plain k1.fir\n"),
+    (10, "", "[]", "cycle", 1, 1, "golden: plain k1.fir\n"),
     (
         9,
         "node n add(c, c)",
         "[]",
         "cycle",
         1,
+        1,
         "golden: circuit: syntax line 9\n",
     ),
-    (0, "", "[]", "cycle", 2, "golden: plain p.json\n"),
-    (0, "", "{}", "cycle", 3, "golden: plain k1.trace\n"),
+    (0, "", "[]", "cycle", 1, 2, "golden: plain p.json\n"),
+    (0, "", "{}", "cycle", 7, 3, "golden: trace: T1 field 1\n"),
     (
         0,
         "",
         "{}\n",
         "cycle reset\n0 1\n1 2\n",
+        7,
         3,
-        "golden: plain k1.trace\n",
+        "golden: trace: T4 row 1 field 1\n",
     ),
-    (0, "", "{}\r\n", TRACE, 2, "golden: plain p.json\n"),
+    (0, "", "{}\r\n", TRACE, 1, 2, "golden: plain p.json\n"),
     (
         3,
         "input clock : Analog<1>",
         "{}",
         TRACE,
+        1,
         1,
         "golden: circuit: outside line 3 Analog\n",
     ),
@@ -136,6 +146,7 @@ static REFUSED: [(usize, &str, &str, &str, u64, &str); 9] = [
         "{}",
         TRACE,
         1,
+        1,
         "golden: circuit: outside line 10 when\n",
     ),
     (
@@ -144,11 +155,64 @@ static REFUSED: [(usize, &str, &str, &str, u64, &str); 9] = [
         "{}",
         TRACE,
         1,
+        1,
         "golden: plain k1.fir\n",
     ),
 ];
 
-const RUN: [&str; 5] = ["golden", "run", "k1.fir", "p.json", "k1.trace"];
+const RUN: &str = "golden run k1.fir p.json k1.trace";
+
+// Words that run the counter.
+static ASKED: [&str; 12] = [
+    "golden run k1.fir p.json k1.trace --mono",
+    "golden run k1.fir p.json k1.trace --workers 0",
+    "golden run k1.fir p.json k1.trace --workers 1",
+    "golden run k1.fir p.json k1.trace --workers=2",
+    "golden run --workers 3 k1.fir p.json k1.trace",
+    "golden run k1.fir --workers 64 p.json k1.trace",
+    "golden run k1.fir p.json k1.trace --capacity 1",
+    "golden run k1.fir p.json k1.trace --capacity=3",
+    "golden run k1.fir p.json --capacity 4096 k1.trace",
+    "golden run --mono k1.fir p.json k1.trace --capacity 0002 --workers 00",
+    "golden run --mono -- k1.fir p.json k1.trace",
+    "gold run k1.fir -- p.json k1.trace",
+];
+
+const COMMANDS: &str =
+    "golden: words: the commands are run CIRCUIT PARTITION TRACE [--capacity K] [--workers W] [--mono] and check CIRCUIT PARTITION [--capacity K]\n";
+
+// Words that are no command that is there, and the line of their refusal.
+static UNASKED: [(&str, &str); 14] = [
+    ("golden", COMMANDS),
+    ("golden run k1.fir", COMMANDS),
+    ("golden run k1.fir p.json k1.trace k1.trace", COMMANDS),
+    ("golden run -k1.fir p.json k1.trace", COMMANDS),
+    ("golden run k1.fir p.json k1.trace --mono --mono", COMMANDS),
+    ("golden run k1.fir p.json k1.trace --capacity", COMMANDS),
+    ("golden walk k1.fir p.json k1.trace", COMMANDS),
+    ("golden replay k1.fir p.json k1.trace s.steps", COMMANDS),
+    ("golden --help", COMMANDS),
+    (
+        "golden run k1.fir p.json k1.trace --capacity 0",
+        "golden: words: 0 is no number in its range; --capacity takes 1 to 4096, --workers 0 to 64\n",
+    ),
+    (
+        "golden run k1.fir p.json k1.trace --capacity 4097",
+        "golden: words: 4097 is no number in its range; --capacity takes 1 to 4096, --workers 0 to 64\n",
+    ),
+    (
+        "golden run k1.fir p.json k1.trace --workers 65",
+        "golden: words: 65 is no number in its range; --capacity takes 1 to 4096, --workers 0 to 64\n",
+    ),
+    (
+        "golden check k1.fir p.json --capacity +7",
+        "golden: words: +7 is no number in its range; --capacity takes 1 to 4096, --workers 0 to 64\n",
+    ),
+    (
+        "golden check k1.fir p.json",
+        "golden: words: check is not there yet, run is\n",
+    ),
+];
 
 // The counter's first lines, so many, where this line, counted from 1, is changed.
 fn counter(alloc: Global, lines: usize, changed: usize, text: &str) -> Result<String, AllocError> {
@@ -195,25 +259,25 @@ struct Answer {
     err: Vec<u8>,
 }
 
-// The words of a call.
-fn owned(alloc: Global, words: &[&str]) -> Result<Vec<String>, AllocError> {
-    let mut owned = Vec::new(alloc);
-    for word in words {
-        owned.push(String::from_str(alloc, *word)?)?;
+// The words of a call, of a line that parts them by blanks.
+fn words_of(alloc: Global, line: &str) -> Result<Vec<String>, AllocError> {
+    let mut words = Vec::new(alloc);
+    for word in line.split(' ') {
+        words.push(String::from_str(alloc, word)?)?;
     }
-    Ok(owned)
+    Ok(words)
 }
 
 // A call with these words and files, where these loads and puts are to fail.
 fn call(
     alloc: Global,
-    words: &[&str],
+    line: &str,
     files: MemFiles,
     loads: Vec<u64>,
     puts: Vec<FailingPut>,
     err_puts: Vec<FailingPut>,
 ) -> Result<Answer, Fail> {
-    let words = owned(alloc, words)?;
+    let words = words_of(alloc, line)?;
     let mut shelf = MemShelf::new(files, loads);
     let mut out = MemSink::new(alloc, puts);
     let mut err = MemSink::new(alloc, err_puts);
@@ -238,7 +302,7 @@ fn call(
 fn run(alloc: Global, files: MemFiles) -> Result<Answer, Fail> {
     call(
         alloc,
-        &RUN,
+        RUN,
         files,
         Vec::new(alloc),
         Vec::new(alloc),
@@ -269,7 +333,7 @@ fn plain_files_are_run(rt: HostRuntime) -> Result<(), Fail> {
 #[test]
 fn the_first_fault_is_told(rt: HostRuntime) -> Result<(), Fail> {
     let alloc = rt.alloc();
-    for (line, text, partition, trace, loads, err) in &REFUSED {
+    for (line, text, partition, trace, status, loads, err) in &REFUSED {
         let circuit = counter(alloc, 11, *line, text)?;
         let files = files_of(
             alloc,
@@ -277,7 +341,7 @@ fn the_first_fault_is_told(rt: HostRuntime) -> Result<(), Fail> {
             partition.as_bytes(),
             trace.as_bytes(),
         )?;
-        check(&rt, &run(alloc, files)?, 1, *loads, "", err);
+        check(&rt, &run(alloc, files)?, *status, *loads, "", err);
     }
     for (lines, err) in [
         (0, "golden: circuit: syntax line 1\n"),
@@ -300,45 +364,89 @@ fn the_first_fault_is_told(rt: HostRuntime) -> Result<(), Fail> {
     Ok(())
 }
 
-// A call with these words is refused as no command.
-fn check_unasked(rt: &impl Abort, alloc: Global, words: &[&str]) -> Result<(), Fail> {
-    let answer = call(
+// Traces of the counter with a fault, and what the line tells of it.
+static TRACES: [(&str, &str); 15] = [
+    ("", "golden: trace: T1 field 0\n"),
+    ("\n0 1\n", "golden: trace: T1 field 0\n"),
+    (" \n0 1\n", "golden: trace: T1 field 0\n"),
+    ("cycle\n", "golden: trace: T1 field 1\n"),
+    ("cycle rst\n", "golden: trace: T1 field 1\n"),
+    ("cycle reset reset\n0 2\n", "golden: trace: T1 field 2\n"),
+    ("cycle reset\n1 0\n", "golden: trace: T2 row 0\n"),
+    ("cycle reset\n0 0\n01 g\n", "golden: trace: T2 row 1\n"),
+    ("cycle reset\n \n", "golden: trace: T2 row 0\n"),
+    ("cycle reset\n0 g\n", "golden: trace: T3 row 0 field 1\n"),
+    ("cycle reset\n0 \n", "golden: trace: T3 row 0 field 1\n"),
+    ("cycle reset\n0 2\n", "golden: trace: T4 row 0 field 1\n"),
+    ("cycle reset\n0\n", "golden: trace: T5 row 0 1\n"),
+    ("cycle reset\n1 g 0\n", "golden: trace: T5 row 0 3\n"),
+    ("cycle reset\n0 0\n\n", "golden: trace: T5 row 1 0\n"),
+];
+
+#[test]
+fn traces_with_a_fault(rt: HostRuntime) -> Result<(), Fail> {
+    let alloc = rt.alloc();
+    let circuit = counter(alloc, 11, 0, "")?;
+    for (trace, err) in &TRACES {
+        let files = files_of(alloc, circuit.as_bytes(), b"{}", trace.as_bytes())?;
+        check(&rt, &run(alloc, files)?, 7, 3, "", err);
+    }
+    Ok(())
+}
+
+// A header and so many rows.
+fn good_rows(alloc: Global, rows: u64) -> Result<String, AllocError> {
+    let mut buffer = Buffer::new();
+    let mut text = String::from_str(alloc, "cycle reset\n")?;
+    for row in 0..rows {
+        text.push_str(buffer.format(row))?;
+        text.push_str(" 0001\n")?;
+    }
+    Ok(text)
+}
+
+#[test]
+fn a_trace_with_a_row_too_many(rt: HostRuntime) -> Result<(), Fail> {
+    let alloc = rt.alloc();
+    let circuit = counter(alloc, 11, 0, "")?;
+    let trace = good_rows(alloc, 1_000_001)?;
+    let files = files_of(alloc, circuit.as_bytes(), b"{}", trace.as_bytes())?;
+    check(
+        &rt,
+        &run(alloc, files)?,
+        7,
+        3,
+        "",
+        "golden: trace: T6 row 1000000\n",
+    );
+    Ok(())
+}
+
+// A call with these words and the counter's files, where nothing fails.
+fn ask(alloc: Global, line: &str) -> Result<Answer, Fail> {
+    call(
         alloc,
-        words,
+        line,
         counter_files(alloc)?,
         Vec::new(alloc),
         Vec::new(alloc),
         Vec::new(alloc),
-    )?;
-    assert_eq!(rt; answer.status, 2);
-    assert_eq!(rt; (answer.loads, answer.puts), (0, 0));
-    assert!(rt; answer.out.is_empty());
-    assert!(rt;
-        answer
-            .err
-            .as_slice()
-            .starts_with(b"golden: words".as_slice())
-    );
-    assert_eq!(rt; answer.err.last(), Some(&b'\n'));
+    )
+}
+
+#[test]
+fn options_that_change_nothing(rt: HostRuntime) -> Result<(), Fail> {
+    for line in &ASKED {
+        check(&rt, &ask(rt.alloc(), line)?, 0, 3, TEXT, "");
+    }
     Ok(())
 }
 
 #[test]
 fn words_that_are_no_command(rt: HostRuntime) -> Result<(), Fail> {
-    let alloc = rt.alloc();
-    check_unasked(&rt, alloc, &["golden", "run", "k1.fir"])?;
-    check_unasked(
-        &rt,
-        alloc,
-        &["golden", "run", "k1.fir", "p.json", "k1.trace", "--mono"],
-    )?;
-    check_unasked(&rt, alloc, &["golden", "run", "k1.fir", "p.json", "-"])?;
-    check_unasked(
-        &rt,
-        alloc,
-        &["golden", "walk", "k1.fir", "p.json", "k1.trace"],
-    )?;
-    check_unasked(&rt, alloc, &["gold", "run", "k1.fir", "p.json", "k1.trace"])?;
+    for (line, err) in &UNASKED {
+        check(&rt, &ask(rt.alloc(), line)?, 2, 0, "", err);
+    }
     Ok(())
 }
 
@@ -362,7 +470,7 @@ fn files_that_are_not_loaded(rt: HostRuntime) -> Result<(), Fail> {
     ] {
         let answer = call(
             alloc,
-            &RUN,
+            RUN,
             counter_files(alloc)?,
             vec![in alloc; failing]?,
             Vec::new(alloc),
@@ -448,7 +556,7 @@ impl Sink for FullSink {
 #[test]
 fn puts_that_find_no_memory(rt: HostRuntime) -> Result<(), Fail> {
     let alloc = rt.alloc();
-    let words = owned(alloc, &RUN)?;
+    let words = words_of(alloc, RUN)?;
     for (room, status, text, line) in [
         (0, 5, "", "golden: out of memory\n"),
         (2, 5, "cycle out\n0 00\n", "golden: out of memory\n"),
@@ -489,7 +597,7 @@ fn puts_that_fail(rt: HostRuntime) -> Result<(), Fail> {
     ] {
         let answer = call(
             alloc,
-            &RUN,
+            RUN,
             counter_files(alloc)?,
             Vec::new(alloc),
             vec![in alloc; FailingPut { number, takes: 3 }]?,
@@ -499,7 +607,7 @@ fn puts_that_fail(rt: HostRuntime) -> Result<(), Fail> {
     }
     let answer = call(
         alloc,
-        &RUN,
+        RUN,
         counter_files(alloc)?,
         vec![in alloc; 1]?,
         Vec::new(alloc),

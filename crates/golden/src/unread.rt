@@ -1,9 +1,9 @@
 //! What is said of a circuit that isn't read.
 ghost use Rattle.std.specs.Prelude.{IfOk, string_bytes};
 ghost use Rattle.golden.specs.Lines.{IsUnreadText, TellsUnread};
-ghost use Rattle.golden.specs.Stops.{IfRefused};
+ghost use Rattle.golden.specs.Endings.{IfRefused};
 
-use crate::stops::{Stop, make_refusal, numbered, stop_with};
+use crate::endings::{Ending, end_with, make_refusal, numbered};
 use gg_read::ReadFault;
 use std::alloc::{AllocError, Global};
 
@@ -25,12 +25,12 @@ fn unread_text(alloc: Global, fault: &ReadFault) -> Result<String, AllocError>
     }
 }
 
-/// The stop at a circuit with this fault of reading.
-pub(crate) fn stop_unread(alloc: Global, fault: &ReadFault) -> Stop
+/// The ending at a circuit with this fault of reading.
+pub(crate) fn end_unread(alloc: Global, fault: &ReadFault) -> Ending
     ensures { IfRefused (TellsUnread fault.now) result }
 {
     match unread_text(alloc, fault) {
-        Ok(text) => stop_with(make_refusal(alloc, 1, "golden: circuit: ", text.as_str(), "")),
-        Err(_) => Stop::NoMemory,
+        Ok(text) => end_with(make_refusal(alloc, 1, "golden: circuit: ", text.as_str(), "")),
+        Err(_) => Ending::NoMemory,
     }
 }

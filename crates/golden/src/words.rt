@@ -1,64 +1,60 @@
-//! The words of a call.
-ghost use Rattle.std.specs.Prelude.{◌≡◌, ◌≢◌, ◌<◌, ◌↔◌, length, IsTrue, codes};
-ghost use Rattle.std.specs.Bool.{OnTrue, OnFalse};
-ghost use Rattle.golden.specs.Words.{Run, Asks, IsCommand, IsDashed, texts, text_at};
+//! The words of a call that are no command that is there.
+ghost use Rattle.std.specs.Prelude.{◌≡◌, ◌≢◌};
+ghost use Rattle.golden.specs.Endings.{IfRefused};
+ghost use Rattle.golden.specs.Lines.{bad_number, no_check, no_command};
+ghost use Rattle.golden.specs.Words.{TellsWords};
+ghost use Rattle.gg_words.specs.declared.command.WordFault.{WordFault};
 
-/// The text of a word.
-pub(crate) fn word_at(words: &[String], place: usize) -> &str
-    requires { place < length words.now }
-    ensures { result.now ≡ text_at words.now place }
+use crate::endings::{Ending, end_with, make_refusal};
+use gg_words::WordFault;
+use std::alloc::Global;
+
+// The ending at words that are none of the commands.
+fn end_at_no_command(alloc: Global) -> Ending
+    ensures { IfRefused (λ said. said ≡ no_command) result }
 {
-    words[place].as_str()
+    end_with(make_refusal(
+        alloc,
+        2,
+        "golden: words",
+        ": the commands are run CIRCUIT PARTITION TRACE [--capacity K] [--workers W] [--mono] and check CIRCUIT PARTITION [--capacity K]",
+        "",
+    ))
 }
 
-// Whether a word begins with `-`.
-fn is_dashed(word: &str) -> bool
-    ensures { IsTrue result ↔ IsDashed word.now }
+// The ending at a value that is no number in its range.
+fn end_at_number(alloc: Global, value: &str) -> Ending
+    ensures { IfRefused (λ said. said ≡ bad_number value.now) result }
 {
-    match word.as_bytes() {
-        [] => false,
-        [first, ..] => *first == b'-',
-    }
+    end_with(make_refusal(
+        alloc,
+        2,
+        "golden: words: ",
+        value,
+        " is no number in its range; --capacity takes 1 to 4096, --workers 0 to 64",
+    ))
 }
 
-// Whether the first two words are those of `run`.
-fn names_run(words: &[String]) -> bool
-    requires { length words.now ≡ 5 }
-    ensures yes { OnTrue result ((text_at words.now 0 ≡ codes "golden") × (text_at words.now 1 ≡ codes "run")) }
-    ensures no { OnFalse result (text_at words.now 0 ≡ codes "golden" → text_at words.now 1 ≢ codes "run") }
+/// The ending at words that ask for `check`.
+pub(crate) fn end_at_check(alloc: Global) -> Ending
+    ensures { IfRefused (λ said. said ≡ no_check) result }
 {
-    if word_at(words, 0) != "golden" {
-        return false;
-    }
-    word_at(words, 1) == "run"
+    end_with(make_refusal(
+        alloc,
+        2,
+        "golden: words",
+        ": check is not there yet, run is",
+        "",
+    ))
 }
 
-// Whether the other words are names of files.
-fn names_files(words: &[String]) -> bool
-    requires { length words.now ≡ 5 }
-    ensures yes { OnTrue result ((¬ IsDashed (text_at words.now 2)) × (¬ IsDashed (text_at words.now 3)) × (¬ IsDashed (text_at words.now 4))) }
-    ensures no { OnFalse result ((¬ IsDashed (text_at words.now 2)) → (¬ IsDashed (text_at words.now 3)) → (¬ IsDashed (text_at words.now 4)) → ⊥) }
+/// The ending at words with this fault.
+pub(crate) fn end_at_words(alloc: Global, fault: &WordFault) -> Ending
+    ensures { IfRefused (λ said. (fault.now ≢ WordFault.NoMemory) × TellsWords fault.now said) result }
 {
-    if is_dashed(word_at(words, 2)) {
-        return false;
+    match fault {
+        WordFault::Refused(_) => end_at_no_command(alloc),
+        WordFault::Number(value) => end_at_number(alloc, value.as_str()),
+        WordFault::NoMemory => Ending::NoMemory,
     }
-    if is_dashed(word_at(words, 3)) {
-        return false;
-    }
-    !is_dashed(word_at(words, 4))
-}
-
-/// Whether the words ask for `run`, the one command: they are `golden run` and three names that don't begin with `-`.
-pub(crate) fn asks_run(words: &[String]) -> bool
-    ensures count { OnTrue result (length words.now ≡ 5) }
-    ensures yes { OnTrue result (Asks (texts words.now) (Run (text_at words.now 2) (text_at words.now 3) (text_at words.now 4))) }
-    ensures no { OnFalse result (¬ IsCommand (texts words.now)) }
-{
-    if words.len() != 5 {
-        return false;
-    }
-    if !names_run(words) {
-        return false;
-    }
-    names_files(words)
 }

@@ -1,31 +1,31 @@
 //! Writing text.
 ghost use Rattle.std.specs.Prelude.{◌≡◌};
 ghost use Rattle.gg_io.specs.Count.{Rose};
-ghost use Rattle.golden.specs.Stops.{Prints, said_of};
+ghost use Rattle.golden.specs.Endings.{Prints, said_of};
 ghost use Rattle.golden.specs.Outcome.{Reports, HasTrouble};
 ghost use Rattle.golden.specs.WentOn.{SinkWentOn};
 
-use crate::stops::Stop;
+use crate::endings::Ending;
 use gg_io::{PutFail, Sink};
 
 /// Puts one piece of the text.
-pub(crate) fn put<K: Sink>(out: &mut K, piece: &[u8]) -> Result<(), Stop>
+pub(crate) fn put<K: Sink>(out: &mut K, piece: &[u8]) -> Result<(), Ending>
     ensures prints { Prints (K.written out.old) (K.written out.new) (Rose (K.faults out.old) (K.faults out.new)) piece.now result }
     ensures out { SinkWentOn (K.faults out.old) (K.faults out.new) (K.refused out.old) (K.refused out.new) }
 {
     match out.put(piece) {
         Ok(()) => Ok(()),
-        Err(PutFail::Failed) => Err(Stop::Unwritten),
-        Err(PutFail::NoMemory) => Err(Stop::NoMemory),
+        Err(PutFail::Failed) => Err(Ending::Unwritten),
+        Err(PutFail::NoMemory) => Err(Ending::NoMemory),
     }
 }
 
 /// Puts the line on why a command stopped, and gives its status. Where the line can't be put the status is the same.
-pub(crate) fn report<E: Sink>(stop: &Stop, err: &mut E) -> u8
-    ensures status { result ≡ (said_of stop.now).status }
-    ensures line { Reports (E.written err.old) (E.written err.new) (HasTrouble (E.faults err.old) (E.faults err.new) (E.refused err.old) (E.refused err.new)) (said_of stop.now).line }
+pub(crate) fn report<E: Sink>(ending: &Ending, err: &mut E) -> u8
+    ensures status { result ≡ (said_of ending.now).status }
+    ensures line { Reports (E.written err.old) (E.written err.new) (HasTrouble (E.faults err.old) (E.faults err.new) (E.refused err.old) (E.refused err.new)) (said_of ending.now).line }
     ensures err { SinkWentOn (E.faults err.old) (E.faults err.new) (E.refused err.old) (E.refused err.new) }
 {
-    let _ = err.put(stop.line());
-    stop.status()
+    let _ = err.put(ending.line());
+    ending.status()
 }

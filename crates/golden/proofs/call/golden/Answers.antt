@@ -1,8 +1,8 @@
-use Rattle.golden.proofs.OutcomeLemmas.{answered-not_plain, answered-no_command, answered-lost, answered-unwritten, answered-over, answered-nothing_written, answered-unasked, answered-due, answered-unread, answered-complete}
+use Rattle.golden.proofs.OutcomeLemmas.{answered-judged, answered-no_command, answered-lost, answered-unwritten, answered-over, answered-nothing_written, answered-unasked, answered-due, answered-unread, answered-complete}
 use Rattle.golden.proofs.call.golden.Goals as goal
 
-pub returns-clause-not_plain : goal.returns-clause-not_plain
-returns-clause-not_plain g c = answered-not_plain c.answer.ensures.answered c.refusals_are_exact.ensures
+pub returns-clause-judged : goal.returns-clause-judged
+returns-clause-judged g c = answered-judged c.answer.ensures.answered c.refusals_are_exact.ensures
 
 pub returns-clause-no_command : goal.returns-clause-no_command
 returns-clause-no_command g c = answered-no_command c.answer.ensures.answered c.refusals_are_exact.ensures
@@ -23,10 +23,10 @@ pub returns-clause-unasked : goal.returns-clause-unasked
 returns-clause-unasked g c = answered-unasked c.answer.ensures.answered c.refusals_are_exact.ensures
 
 pub returns-clause-due : goal.returns-clause-due
-returns-clause-due g c = answered-due c.answer.ensures.answered c.refusals_are_exact.ensures
+returns-clause-due g c = answered-due c.answer.ensures.answered c.refusals_are_exact.ensures c.one_meaning.ensures.once
 
 pub returns-clause-unread : goal.returns-clause-unread
-returns-clause-unread g c = answered-unread c.answer.ensures.answered c.refusals_are_exact.ensures
+returns-clause-unread g c = answered-unread c.answer.ensures.answered c.refusals_are_exact.ensures c.one_meaning.ensures.once
 
 pub returns-clause-complete : goal.returns-clause-complete
-returns-clause-complete g c = answered-complete c.answer.ensures.answered c.refusals_are_exact.ensures
+returns-clause-complete g c = answered-complete c.answer.ensures.answered c.refusals_are_exact.ensures c.one_meaning.ensures.once

@@ -13,4 +13,4 @@ returns-clause-refused g c =
       subst (λ (b : List ℕ). TellsCircuit c.args.name.now b said) c.as_slice.ensures.value
           (front-tells c.args.name.now c.as_slice.result.now c.in-Err.fault said c.in-Err.ensures.refused h),
     ))
-    c.stop_at_circuit.result c.stop_at_circuit.ensures
+    c.end_at_circuit.result c.end_at_circuit.ensures

@@ -1,6 +1,6 @@
 use Rattle.std.proofs.Common.{◌≡◌, inr}
 use Rattle.gg_flat.specs.Ports.{in_ports}
-use Rattle.golden.proofs.ReadingLemmas.{IfRefused-map, ports-are, ports-distinct, feeds-ports, ports-feed, ports-fed}
+use Rattle.golden.proofs.ReadingLemmas.{IfRefused-map, ports-are, ports-distinct, fault-of, feeds-ports, ports-feed, ports-fed}
 use Rattle.golden.proofs.reading.read_inputs.Goals as goal
 
 pub read_trace-requires : goal.read_trace-requires
@@ -14,9 +14,9 @@ returns-clause-refused g c =
     (λ said h. inr (
       c.in_ok-bytes.bytes.items,
       record { held = c.in_ok-bytes.ensures.held; within = c.in_ok-bytes.ensures.within },
-      ((λ t. h.0 (c.in-Err.ensures.complete t.0 t.1 (feeds-ports c.args.design.now.circuit c.in_ok-ports.ports c.in_ok-bytes.bytes.items c.as_slice.result.now e c.as_slice.ensures.value t.0 t.1 t.2))), h.1),
+      (c.in-Err.fault, fault-of c.args.design.now.circuit c.in_ok-ports.ports c.in_ok-bytes.bytes.items c.as_slice.result.now c.in-Err.fault e c.as_slice.ensures.value h.0 c.in-Err.ensures.fault, h.1),
     ))
-    c.stop_at_trace.result c.stop_at_trace.ensures
+    c.end_at_trace.result c.end_at_trace.ensures
 
 pub returns-in-Ok-clause-fed : goal.returns-in-Ok-clause-fed
 returns-in-Ok-clause-fed g c =

@@ -2,7 +2,7 @@ use Rattle.std.proofs.Common.{refl}
 use Rattle.std.proofs.lemmas.Result.{err_from_is_err_and}
 use Rattle.gg_io.specs.Count.{Rose}
 use Rattle.golden.specs.Order.{Write}
-use Rattle.golden.specs.Run.{trace_file, trace_order, IsPlainTrace, IsOnlyText}
+use Rattle.golden.specs.Run.{trace_file_for, trace_order, IsOnlyText}
 use Rattle.golden.proofs.EndingLemmas.{refused-ends, printed-ends, trace-refused}
 use Rattle.golden.proofs.ReadingLemmas.{IfRefused-map}
 use Rattle.golden.proofs.TextLemmas.{only-text}
@@ -15,9 +15,9 @@ returns-in_err-inputs-clause-ended g c =
     (refused-ends (g.S.Shelf.files c.args.shelf.now)
     (Rose (g.S.Shelf.faults c.args.shelf.now) (g.S.Shelf.faults c.read_inputs.new.shelf)) (Rose (g.S.Shelf.cuts c.args.shelf.now) (g.S.Shelf.cuts c.read_inputs.new.shelf))
     (Rose (g.K.Sink.faults c.args.out.now) (g.K.Sink.faults c.args.out.now)) (Unit {0}) (g.K.Sink.written c.args.out.now)
-    (trace_file (IsPlainTrace circuit) c.args.trace.now) (λ t. Write (IsOnlyText circuit t)) c.in_err-inputs.field-0.0
+    (trace_file_for circuit c.args.trace.now) (λ t. Write (IsOnlyText circuit t)) c.in_err-inputs.field-0.0
     (IfRefused-map
-    (trace-refused c.ports_agree.ensures.ins (g.S.Shelf.files c.args.shelf.now)
+    (trace-refused (g.S.Shelf.files c.args.shelf.now)
     (Rose (g.S.Shelf.faults c.args.shelf.now) (g.S.Shelf.faults c.read_inputs.new.shelf)) (Rose (g.S.Shelf.cuts c.args.shelf.now) (g.S.Shelf.cuts c.read_inputs.new.shelf))
     circuit c.args.design.now.circuit c.args.trace.now means)
     c.in_err-inputs.field-0.0 c.in_err-inputs.ensures.refused))

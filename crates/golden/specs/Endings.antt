@@ -7,11 +7,11 @@ use Rattle.gg_front.specs.declared.front_end.FrontFault.TheVariants as front
 use Rattle.golden.specs.Lines.{Said, not_plain, cannot_write, out_of_memory, TellsUnread}
 use Rattle.golden.specs.Order.{Order}
 use Rattle.golden.specs.Outcome.{StandsFront, Ends, Outcome}
-use Rattle.golden.specs.declared.stops.Stop.{Stop}
-use Rattle.golden.specs.declared.stops.Stop.TheVariants.{Refused, Unwritten, NoMemory}
+use Rattle.golden.specs.declared.endings.Ending.{Ending}
+use Rattle.golden.specs.declared.endings.Ending.TheVariants.{Refused, Unwritten, NoMemory}
 
 -- a refusal that says something of this kind, or want of memory
-abbrev pub IfRefused : (Said → Type 0) → Stop → Type 0
+abbrev pub IfRefused : (Said → Type 0) → Ending → Type 0
 IfRefused P (Refused said) = P said
 IfRefused P Unwritten = ⊥
 IfRefused P NoMemory = ⊤
@@ -22,20 +22,20 @@ TellsFront name (front.Read fault) said = TellsUnread fault said
 TellsFront name front.Plain said = said ≡ not_plain name
 TellsFront name front.NoMemory said = ⊥
 
--- what is said of the stop
-abbrev pub said_of : Stop → Said
+-- what is said of the ending
+abbrev pub said_of : Ending → Said
 said_of (Refused said) = said
 said_of Unwritten = cannot_write
 said_of NoMemory = out_of_memory
 
 -- what is said where a command ended so: nothing, with status 0, where it is done
-abbrev pub said_by : {T : Type 0} → Result T Stop → Said
+abbrev pub said_by : {T : Type 0} → Result T Ending → Said
 said_by (Ok done) = record { status = 0; line = [] }
-said_by (Err stop) = said_of stop
+said_by (Err ending) = said_of ending
 
 -- What stands on a sink after a text was written there, or stopped: all of it, or a front part; `failed` says that a
 -- put failed. A text that is being written is not refused.
-abbrev pub Prints : {T : Type 0} → (before now : Option (List ℕ)) (failed : Type 0) (text : List ℕ) → Result T Stop → Type 0
+abbrev pub Prints : {T : Type 0} → (before now : Option (List ℕ)) (failed : Type 0) (text : List ℕ) → Result T Ending → Type 0
 Prints before now failed text (Ok done) = now ≡ append_known before text
 Prints before now failed text (Err (Refused said)) = ⊥
 Prints before now failed text (Err Unwritten) = failed × StandsFront before now text
@@ -43,11 +43,11 @@ Prints before now failed text (Err NoMemory) = StandsFront before now text
 
 module _ (files : List ℕ → Told) (lost cut unwritten : Type 0) where
   -- a command with this order has ended so, and wrote its text behind what stood before
-  abbrev pub EndedOn : {T : Type 0} → (before now : Option (List ℕ)) → Order → Result T Stop → Type 0
+  abbrev pub EndedOn : {T : Type 0} → (before now : Option (List ℕ)) → Order → Result T Ending → Type 0
   EndedOn before now order result = (text : List ℕ) × (now ≡ append_known before text)
       × Ends files lost cut unwritten order (said_by result).status text (said_by result).line
 
   -- a call with these words has ended so, and wrote its text behind what stood before
-  abbrev pub CallEnded : {T : Type 0} → (before now : Option (List ℕ)) → List (List ℕ) → Result T Stop → Type 0
+  abbrev pub CallEnded : {T : Type 0} → (before now : Option (List ℕ)) → List (List ℕ) → Result T Ending → Type 0
   CallEnded before now words result = (text : List ℕ) × (now ≡ append_known before text)
       × Outcome words files lost cut unwritten (said_by result).status text (said_by result).line

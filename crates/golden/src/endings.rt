@@ -1,8 +1,8 @@
 //! Why a command stops, and what is said then.
 ghost use Rattle.std.specs.Prelude.{◌≡◌, ◌++◌, IfOk, MatchResult, codes, decimal, string_bytes};
-ghost use Rattle.golden.specs.Lines.{line_of, no_command, not_plain, cannot_load, is_over};
-ghost use Rattle.golden.specs.Stops.{IfRefused, said_of};
-ghost use Rattle.golden.specs.declared.stops.Stop.TheVariants.{NoMemory};
+ghost use Rattle.golden.specs.Lines.{line_of, not_plain, cannot_load, is_over};
+ghost use Rattle.golden.specs.Endings.{IfRefused, said_of};
+ghost use Rattle.golden.specs.declared.endings.Ending.TheVariants.{NoMemory};
 
 use itoa::Buffer;
 use std::alloc::{AllocError, Global};
@@ -42,7 +42,7 @@ impl Refusal {
 
 /// Why a command stops before its whole text is written.
 #[derive(Debug, Drop)]
-pub enum Stop {
+pub enum Ending {
     /// The words or a file are refused. Nothing was written.
     Refused(Refusal),
     /// The output can't be written. A front part of the text may stand there.
@@ -51,15 +51,15 @@ pub enum Stop {
     NoMemory,
 }
 
-impl Stop {
+impl Ending {
     /// The status.
     pub fn status(&self) -> u8
         ensures { result ≡ (said_of self.now).status }
     {
         match self {
-            Stop::Refused(refusal) => refusal.status(),
-            Stop::Unwritten => 4,
-            Stop::NoMemory => 5,
+            Ending::Refused(refusal) => refusal.status(),
+            Ending::Unwritten => 4,
+            Ending::NoMemory => 5,
         }
     }
 
@@ -68,26 +68,26 @@ impl Stop {
         ensures { result.now ≡ (said_of self.now).line }
     {
         match self {
-            Stop::Refused(refusal) => refusal.line(),
-            Stop::Unwritten => b"golden: cannot write\n",
-            Stop::NoMemory => b"golden: out of memory\n",
+            Ending::Refused(refusal) => refusal.line(),
+            Ending::Unwritten => b"golden: cannot write\n",
+            Ending::NoMemory => b"golden: out of memory\n",
         }
     }
 }
 
-impl From<AllocError> for Stop {
-    ghost from_gives = { λ _ stop. stop ≡ NoMemory };
+impl From<AllocError> for Ending {
+    ghost from_gives = { λ _ ending. ending ≡ NoMemory };
 
-    fn from(_error: AllocError) -> Stop {
-        Stop::NoMemory
+    fn from(_error: AllocError) -> Ending {
+        Ending::NoMemory
     }
 }
 
-impl From<gg_refsim::NoMemory> for Stop {
-    ghost from_gives = { λ _ stop. stop ≡ NoMemory };
+impl From<gg_refsim::NoMemory> for Ending {
+    ghost from_gives = { λ _ ending. ending ≡ NoMemory };
 
-    fn from(_error: gg_refsim::NoMemory) -> Stop {
-        Stop::NoMemory
+    fn from(_error: gg_refsim::NoMemory) -> Ending {
+        Ending::NoMemory
     }
 }
 
@@ -108,41 +108,28 @@ pub(crate) fn make_refusal(
     Ok(Refusal { status, line })
 }
 
-/// The stop with this refusal, or for want of memory.
-pub(crate) fn stop_with(refusal: Result<Refusal, AllocError>) -> Stop
-    ensures { MatchResult refusal (λ said. IfRefused (λ given. given ≡ said) result) (λ _. result ≡ Stop.NoMemory) }
+/// The ending with this refusal, or for want of memory.
+pub(crate) fn end_with(refusal: Result<Refusal, AllocError>) -> Ending
+    ensures { MatchResult refusal (λ said. IfRefused (λ given. given ≡ said) result) (λ _. result ≡ Ending.NoMemory) }
 {
     match refusal {
-        Ok(refusal) => Stop::Refused(refusal),
-        Err(_) => Stop::NoMemory,
+        Ok(refusal) => Ending::Refused(refusal),
+        Err(_) => Ending::NoMemory,
     }
 }
 
-/// The stop at words that are no command.
-pub(crate) fn stop_unasked(alloc: Global) -> Stop
-    ensures { IfRefused (λ said. said ≡ no_command) result }
-{
-    stop_with(make_refusal(
-        alloc,
-        2,
-        "golden: words",
-        ": the command is run CIRCUIT PARTITION TRACE",
-        "",
-    ))
-}
-
-/// The stop at a file that isn't plain.
-pub(crate) fn stop_not_plain(alloc: Global, name: &str) -> Stop
+/// The ending at a file that isn't plain.
+pub(crate) fn end_not_plain(alloc: Global, name: &str) -> Ending
     ensures { IfRefused (λ said. said ≡ not_plain name.now) result }
 {
-    stop_with(make_refusal(alloc, 1, "golden: plain ", name, ""))
+    end_with(make_refusal(alloc, 1, "golden: plain ", name, ""))
 }
 
-/// The stop at a file that can't be loaded.
-pub(crate) fn stop_cannot_load(alloc: Global, name: &str) -> Stop
+/// The ending at a file that can't be loaded.
+pub(crate) fn end_cannot_load(alloc: Global, name: &str) -> Ending
     ensures { IfRefused (λ said. said ≡ cannot_load name.now) result }
 {
-    stop_with(make_refusal(alloc, 3, "golden: cannot load ", name, ""))
+    end_with(make_refusal(alloc, 3, "golden: cannot load ", name, ""))
 }
 
 /// A text with a number behind it.
@@ -164,12 +151,12 @@ fn over_text(alloc: Global, limit: u64) -> Result<String, AllocError>
     Ok(text)
 }
 
-/// The stop at a file that is longer than this limit.
-pub(crate) fn stop_over(alloc: Global, name: &str, limit: u64) -> Stop
+/// The ending at a file that is longer than this limit.
+pub(crate) fn end_over(alloc: Global, name: &str, limit: u64) -> Ending
     ensures { IfRefused (λ said. said ≡ is_over name.now limit) result }
 {
     match over_text(alloc, limit) {
-        Ok(text) => stop_with(make_refusal(alloc, 8, "golden: ", name, text.as_str())),
-        Err(_) => Stop::NoMemory,
+        Ok(text) => end_with(make_refusal(alloc, 8, "golden: ", name, text.as_str())),
+        Err(_) => Ending::NoMemory,
     }
 }

@@ -1,0 +1,5 @@
+pub mod TextLaws
+pub mod NumberLaws
+pub mod FileLaws
+pub mod TakenLaws
+pub mod WorkedRows

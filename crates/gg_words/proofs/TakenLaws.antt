@@ -1,0 +1,160 @@
+-- Where clap refuses nothing, a command is found, and each of its files was given.
+use Rattle.std.proofs.Common.{◌≡◌, ℕ, Bool, cond, true, false, not, true≢false, List, [], ◌∷◌, Option, None, Some, is_some, refl, sym, ap, ◌∙◌, subst, codes, inl, inr, ◌⊎◌}
+use Rattle.std.specs.Prelude.{◌&&◌, ◌||◌, find, option_and_then, option_map, slice_get}
+use Rattle.std.specs.List.{list_all}
+use Rattle.std.specs.Option.{option_map_or}
+use Rattle.std.specs.Str.{bytes_eq}
+use Rattle.clap.specs.Walk.{Held, Names, Row, Rule, Text, arg_by_long, arg_by_short, first_of, finished, has_long, nothing_held, settled, stop_after, walk, walk_from}
+use Rattle.clap.specs.Simple.{App, Shape, argument_words, built, entered, label_of, names_of, rows_at, subcommand_of}
+use Rattle.clap.specs.Takes.{is_given}
+use Rattle.clap.specs.Kinds.{Kinds, check_kinds, or_else}
+use Rattle.clap.specs.Faults.{check_fault, defaults_fault, entered_fault, fault_of, level_fault, settle_fault, walk_fault}
+use Rattle.clap.specs.Walk.{answers_to}
+use Rattle.clap.specs.declared.error.kind.ErrorKind.{ErrorKind}
+use Rattle.gg_words.specs.Line.{golden_app}
+use Rattle.gg_words.specs.Meaning.{HaveTexts, NamesFiles, run_files, check_files}
+use Rattle.gg_words.proofs.FileLaws.{AreFull, IsHeldFull, find-all, find-passes, full-finished, full-walk, has_value}
+
+cons≢nil : (k : ErrorKind) (ks : Kinds) → k ∷ ks ≡ [] → ⊥
+cons≢nil k ks e = true≢false (ap (λ (xs : Kinds). some xs) e)
+  where
+    some : Kinds → Bool
+    some [] = false
+    some (x ∷ xs) = true
+
+none-both : (a b : Kinds) → or_else a b ≡ [] → (a ≡ []) × (b ≡ [])
+none-both [] b e = (refl, e)
+none-both (k ∷ ks) b e = absurd (cons≢nil k ks e)
+
+either-false : (a b : Bool) → (a || b) ≡ false → (a ≡ false) × (b ≡ false)
+either-false true b e = absurd (true≢false e)
+either-false false b e = (refl, e)
+
+not-false : (b : Bool) → not b ≡ false → b ≡ true
+not-false true e = refl
+not-false false e = absurd (true≢false e)
+
+is-there : (b : Bool) → (not b && true) ≡ false → b ≡ true
+is-there true e = refl
+is-there false e = absurd (true≢false e)
+
+-- a check that refuses nothing found no fault
+check-none : (a b c : Bool) → check_kinds a b c ≡ [] → (b ≡ false) × (c ≡ false)
+check-none true b c e = absurd (cons≢nil _ _ e)
+check-none false true c e = absurd (cons≢nil _ _ e)
+check-none false false true e = absurd (cons≢nil _ _ e)
+check-none false false false e = (refl, refl)
+
+-- a level that refuses nothing: what is below it doesn't, and its check doesn't
+level-none : (s : Shape) (names : Names) (h : Held) (words : List Text) (has : Bool) (below : Kinds) → level_fault s names h words has below ≡ []
+    → (below ≡ []) × (check_fault s (finished s.rules (walk s.rules names h words).held) has ≡ [])
+level-none s names h words has below e =
+    let end = (walk s.rules names h words).held in
+    let first = none-both (walk_fault s names (walk_from h) words) _ e in
+    let second = none-both below _ first.1 in
+    let third = none-both (settle_fault s.rules s.args_override_self end) _ second.1 in
+    let fourth = none-both (defaults_fault (settled s.rules end).rows s.rules) _ third.1 in
+    (second.0, fourth.1)
+
+-- an argument that was given has a text
+given-text : (id : Text) (rows : List Row) → AreFull id rows → is_given id rows ≡ true → is_some (first_of id rows) ≡ true
+given-text id [] full given = absurd (true≢false (sym given))
+given-text id (r ∷ rs) full given = go (bytes_eq r.id id) refl (given-text id rs full.1) given
+  where
+    first-there : (values : List Text) → has_value values ≡ true → is_some (slice_get values 0) ≡ true
+    first-there [] e = absurd (true≢false (sym e))
+    first-there (v ∷ vs) e = refl
+
+    go : (b : Bool) → bytes_eq r.id id ≡ b → (is_given id rs ≡ true → is_some (first_of id rs) ≡ true)
+        → option_map_or (λ (x : Row). Rattle.clap.specs.Facts.explicit_source x.source) (cond b (Some r) (find (λ (x : Row). bytes_eq x.id id) rs)) false ≡ true
+        → is_some (option_and_then (λ (x : Row). slice_get x.values 0) (cond b (Some r) (find (λ (x : Row). bytes_eq x.id id) rs))) ≡ true
+    go true is later h = first-there r.values (full.0 (Rattle.gg_words.proofs.FileLaws.same-text r.id id is))
+    go false is later h = later h
+
+-- the rule isn't this argument, unless it is a positional
+abbrev is_apart : Text → Rule → Bool
+is_apart id a = is_some a.index || not (bytes_eq a.id id)
+
+apart : (id : Text) (a : Rule) (name : Text) → is_apart id a ≡ true → (not (is_some a.index) && has_long a name) ≡ true → a.id ≡ id → ⊥
+apart id a name e long is = go (is_some a.index) (bytes_eq a.id id) e long (subst (λ t. bytes_eq a.id t ≡ true) is ((Rattle.std.proofs.lemmas.Slice.Eq.bytes_eq-Decides a.id a.id).1 refl))
+  where
+    go : (i b : Bool) → (i || not b) ≡ true → (not i && has_long a name) ≡ true → b ≡ true → ⊥
+    go true b h k t = true≢false (sym k)
+    go false true h k t = true≢false (sym h)
+    go false false h k t = true≢false (sym t)
+
+-- a file of a command without short options has a text where it was given
+file-text : (id : Text) (c : List Rule) → list_all (is_apart id) c ≡ true → ((x : ℕ) → arg_by_short c x ≡ None) → (names : Names) (words : List Text)
+    → is_given id (finished c (walk c names nothing_held words).held) ≡ true → is_some (first_of id (finished c (walk c names nothing_held words).held)) ≡ true
+file-text id c all no_short names words given =
+    let no_option : (name : Text) (a : Rule) → arg_by_long c name ≡ Some a → a.id ≡ id → ⊥ =
+    λ name a found. apart id a name (find-all (λ (r : Rule). not (is_some r.index) && has_long r name) (is_apart id) c a found all) (find-passes (λ (r : Rule). not (is_some r.index) && has_long r name) c a found) in
+    given-text id (finished c (walk c names nothing_held words).held)
+    (full-finished id c (walk c names nothing_held words).held (full-walk id c no_option no_short names words (walk_from nothing_held) (tt, tt))) given
+
+-- the commands as `clap` builds them
+abbrev whole : App
+whole = built golden_app
+
+abbrev shape_at : List Shape → ℕ → Shape
+shape_at ss i = Rattle.std.proofs.Common.get_or ss i golden_app.top
+
+abbrev run_built : Shape
+run_built = shape_at whole.subs 0
+
+abbrev check_built : Shape
+check_built = shape_at whole.subs 1
+
+-- a file isn't given
+abbrev lacks : List Row → Text → Bool
+lacks rows id = not (is_given id rows)
+
+run-texts : (words : List Text) → level_fault run_built [] nothing_held words false [] ≡ [] → HaveTexts run_files (rows_at run_built words).1
+run-texts words e =
+    let rows = (rows_at run_built words).1 in
+    let circuit = lacks rows (codes "circuit") in
+    let partition = lacks rows (codes "partition") in
+    let trace = lacks rows (codes "trace") in
+    let wanted : (circuit || (partition || (trace || false))) ≡ false =
+    (check-none false false (circuit || (partition || (trace || false))) (level-none run_built [] nothing_held words false [] e).1).1 in
+    let first = either-false circuit (partition || (trace || false)) wanted in
+    let second = either-false partition (trace || false) first.1 in
+    let third = either-false trace false second.1 in (
+      file-text (codes "circuit") run_built.rules refl (λ x. refl) [] words (not-false _ first.0),
+      (
+        file-text (codes "partition") run_built.rules refl (λ x. refl) [] words (not-false _ second.0),
+        (file-text (codes "trace") run_built.rules refl (λ x. refl) [] words (not-false _ third.0), tt),
+      ),
+    )
+
+check-texts : (words : List Text) → level_fault check_built [] nothing_held words false [] ≡ [] → HaveTexts check_files (rows_at check_built words).1
+check-texts words e =
+    let rows = (rows_at check_built words).1 in
+    let circuit = lacks rows (codes "circuit") in
+    let partition = lacks rows (codes "partition") in
+    let wanted : (circuit || (partition || false)) ≡ false =
+    (check-none false false (circuit || (partition || false)) (level-none check_built [] nothing_held words false [] e).1).1 in
+    let first = either-false circuit (partition || false) wanted in
+    let second = either-false partition false first.1 in (
+      file-text (codes "circuit") check_built.rules refl (λ x. refl) [] words (not-false _ first.0),
+      (file-text (codes "partition") check_built.rules refl (λ x. refl) [] words (not-false _ second.0), tt),
+    )
+
+-- the command that was entered, by which of the two it is
+by-command : (words : List Text) (b d : Bool)
+    → option_map_or (λ (s : Shape). level_fault s [] nothing_held words false []) (cond b (Some run_built) (cond d (Some check_built) None)) [] ≡ []
+    → is_some (option_map (λ (s : Shape). rows_at s words) (cond b (Some run_built) (cond d (Some check_built) None))) ≡ true
+    → NamesFiles (option_map (λ (s : Shape). rows_at s words) (cond b (Some run_built) (cond d (Some check_built) None)))
+by-command words true d none met = inl (refl, run-texts words none)
+by-command words false true none met = inr (refl, check-texts words none)
+by-command words false false none met = absurd (true≢false (sym met))
+
+entered-names : (stop : Option (Text × List Text)) → entered_fault whole stop ≡ [] → is_some (entered whole stop) ≡ true → NamesFiles (entered whole stop)
+entered-names None none met = absurd (true≢false (sym met))
+entered-names (Some p) none met = by-command p.1 (answers_to p.0 (label_of run_built)) (answers_to p.0 (label_of check_built)) none met
+
+pub taken-names : (words : List Text) → fault_of golden_app words ≡ [] → NamesFiles (subcommand_of golden_app words)
+taken-names words e =
+    let stop = stop_after whole.top.rules (names_of whole) (argument_words golden_app words) in
+    let parts = level-none whole.top (names_of whole) nothing_held (argument_words golden_app words) (is_some (entered whole stop)) (entered_fault whole stop) e in
+    entered-names stop parts.0 (is-there _ (check-none _ _ false parts.1).0)

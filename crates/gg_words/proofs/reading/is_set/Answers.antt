@@ -1,0 +1,10 @@
+use Rattle.std.proofs.Common.{refl}
+use Rattle.clap.specs.Matches.{found_of}
+use Rattle.gg_words.proofs.TextLaws.{first-some, first-none}
+use Rattle.gg_words.proofs.reading.is_set.Goals as goal
+
+pub returns-in-Some : goal.returns-in-Some
+returns-in-Some c = rw (first-some (found_of c.args.matches.now) c.args.id.now _ c.get_str.ensures c.in-Some.text c.in-Some.is) c.eq.ensures
+
+pub returns-in-None : goal.returns-in-None
+returns-in-None c = rw (first-none (found_of c.args.matches.now) c.args.id.now _ c.get_str.ensures c.in-None.is) refl

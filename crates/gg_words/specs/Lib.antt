@@ -1,0 +1,4 @@
+-- What the contracts of the command line speak of.
+pub mod Line
+pub mod Number
+pub mod Meaning

@@ -1,0 +1,50 @@
+-- The command line as `clap` sees it: the program's commands, and what each takes.
+-- Source: the definitions of `clap` (`new_shape`, `new_rule`), which say what `Command::new` and `Arg::new` make.
+use Rattle.std.specs.Prelude.{List, [], ◌∷◌, Some, true, false, codes}
+use Rattle.clap.specs.Walk.{Rule, Text}
+use Rattle.clap.specs.Simple.{App, Shape, new_rule, new_shape}
+use Rattle.clap.specs.declared.builder.action.ArgAction.TheVariants.{SetTrue}
+
+-- a file that must be named
+abbrev pub file_rule : Text → Rule
+file_rule id = record (new_rule id) { required = true }
+
+-- an option with a value: `--NAME VALUE` or `--NAME=VALUE`
+abbrev pub value_rule : Text → Rule
+value_rule name = record (new_rule name) { long = Some name }
+
+-- an option without a value: `--NAME`
+abbrev pub flag_rule : Text → Rule
+flag_rule name = record (new_rule name) { long = Some name; action = Some SetTrue }
+
+-- `run CIRCUIT PARTITION TRACE [--capacity K] [--workers W] [--mono]`
+abbrev pub run_rules : List Rule
+run_rules =
+    file_rule (codes "circuit") ∷ file_rule (codes "partition") ∷ file_rule (codes "trace")
+    ∷ value_rule (codes "capacity") ∷ value_rule (codes "workers") ∷ flag_rule (codes "mono") ∷ []
+
+-- `check CIRCUIT PARTITION [--capacity K]`
+abbrev pub check_rules : List Rule
+check_rules = file_rule (codes "circuit") ∷ file_rule (codes "partition") ∷ value_rule (codes "capacity") ∷ []
+
+-- a command of the program
+abbrev pub command_shape : Text → List Rule → Shape
+command_shape name rules = record (new_shape name) { rules = rules }
+
+abbrev pub run_shape : Shape
+run_shape = command_shape (codes "run") run_rules
+
+abbrev pub check_shape : Shape
+check_shape = command_shape (codes "check") check_rules
+
+-- The program: it wants a command, and has no words that ask for help.
+abbrev pub golden_app : App
+golden_app = record {
+  top = record (new_shape (codes "golden")) {
+    is_leaf = false;
+    disable_help_flag = true;
+    disable_help_subcommand = true;
+    subcommand_required = true;
+  };
+  subs = run_shape ∷ check_shape ∷ [];
+}

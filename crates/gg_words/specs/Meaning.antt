@@ -1,0 +1,108 @@
+-- What words mean: a command, or that they are none.
+-- Source: `clap`'s definitions for which words are taken (`fault_of`) and what is found in them (`subcommand_of`).
+use Rattle.std.specs.Prelude.{◌≡◌, ◌⊎◌, ℕ, Bool, true, false, List, [], ◌∷◌, Option, None, Some, is_some, Result, Ok, Err, MatchResult, String, codes, cond, map, string_bytes, unwrap_or, ⊤}
+use Rattle.std.specs.Option.{option_map_or}
+use Rattle.std.specs.Str.{bytes_eq}
+use Rattle.clap.specs.Walk.{Row, Text, first_of}
+use Rattle.clap.specs.Simple.{subcommand_of}
+use Rattle.clap.specs.Faults.{fault_of}
+use Rattle.clap.specs.Kinds.{IsAmong}
+use Rattle.gg_words.specs.Line.{golden_app}
+use Rattle.gg_words.specs.Number.{number_of}
+use Rattle.gg_words.specs.declared.command.Cmd.{Cmd}
+use Rattle.gg_words.specs.declared.command.Cmd.TheVariants.{Run, Check}
+use Rattle.gg_words.specs.declared.command.WordFault.{WordFault}
+use Rattle.gg_words.specs.declared.command.WordFault.TheVariants.{Refused, Number, NoMemory}
+
+-- The text that was given to this argument. Where `clap` takes the words there is one for each file.
+abbrev pub text_of : Text → List Row → Text
+text_of id rows = unwrap_or (first_of id rows) []
+
+-- the option without a value was given
+abbrev pub is_set : Text → List Row → Bool
+is_set id rows = option_map_or (λ text. bytes_eq text (codes "true")) (first_of id rows) false
+
+-- the capacity: 1 to 4,096, and 2 where it is left out
+abbrev pub capacity_of : List Row → Result ℕ Text
+capacity_of rows = number_of 1 4096 2 (first_of (codes "capacity") rows)
+
+-- the number of workers: 0 to 64, and 0 where it is left out
+abbrev pub workers_of : List Row → Result ℕ Text
+workers_of rows = number_of 0 64 0 (first_of (codes "workers") rows)
+
+-- a number and what comes of it, or the value that is none
+abbrev pub with_number : Result ℕ Text → (ℕ → Result Cmd Text) → Result Cmd Text
+with_number (Ok n) next = next n
+with_number (Err value) next = Err value
+
+-- what is found in the words of `run`: the command, or its first value that is no number in its range
+abbrev pub run_of : List Row → Result Cmd Text
+run_of rows = with_number (capacity_of rows) (λ capacity. with_number (workers_of rows) (λ workers.
+    Ok (Run (text_of (codes "circuit") rows) (text_of (codes "partition") rows) (text_of (codes "trace") rows)
+    capacity workers (is_set (codes "mono") rows))))
+
+-- and of `check`
+abbrev pub check_of : List Row → Result Cmd Text
+check_of rows = with_number (capacity_of rows) (λ capacity.
+    Ok (Check (text_of (codes "circuit") rows) (text_of (codes "partition") rows) capacity))
+
+-- what was found under the command's name says this
+abbrev pub CommandSays : Text → List Row → Result Cmd Text → Type 0
+CommandSays name rows said = cond (bytes_eq name (codes "run")) (said ≡ run_of rows)
+    (cond (bytes_eq name (codes "check")) (said ≡ check_of rows) ⊥)
+
+abbrev pub FoundSays : Option (Text × List Row) → Result Cmd Text → Type 0
+FoundSays None said = ⊥
+FoundSays (Some found) said = CommandSays found.0 found.1 said
+
+-- `clap` takes the words, and what it finds in them says this
+pub record Says (words : List Text) (said : Result Cmd Text) : Type 0 where
+  pub taken : fault_of golden_app words ≡ []
+  pub found : FoundSays (subcommand_of golden_app words) said
+
+-- the words are this command
+abbrev pub IsCommand : List Text → Cmd → Type 0
+IsCommand words cmd = Says words (Ok cmd)
+
+-- the words aren't a command, because of this
+abbrev pub IsWordFault : List Text → WordFault → Type 0
+IsWordFault words (Refused kind) = IsAmong kind (fault_of golden_app words)
+IsWordFault words (Number value) = Says words (Err value)
+IsWordFault words NoMemory = ⊥
+
+-- and memory may have run out
+abbrev pub IfWordFault : List Text → WordFault → Type 0
+IfWordFault words (Refused kind) = IsWordFault words (Refused kind)
+IfWordFault words (Number value) = IsWordFault words (Number value)
+IfWordFault words NoMemory = ⊤
+
+-- a fault says this of what was found; `clap` refused nothing there
+abbrev pub SaysFault : {T : Type 0} → WordFault → Result T Text → Type 0
+SaysFault (Refused kind) said = ⊥
+SaysFault (Number value) said = said ≡ Err value
+SaysFault NoMemory said = ⊤
+
+-- what was found is answered, unless memory runs out
+abbrev pub Answers : {T : Type 0} → Result T WordFault → Result T Text → Type 0
+Answers result said = MatchResult result (λ x. said ≡ Ok x) (λ fault. SaysFault fault said)
+
+-- each of these arguments has a text
+abbrev pub HaveTexts : List Text → List Row → Type 0
+HaveTexts [] rows = ⊤
+HaveTexts (id ∷ ids) rows = (is_some (first_of id rows) ≡ true) × HaveTexts ids rows
+
+-- the files of each command
+abbrev pub run_files : List Text
+run_files = codes "circuit" ∷ codes "partition" ∷ codes "trace" ∷ []
+
+abbrev pub check_files : List Text
+check_files = codes "circuit" ∷ codes "partition" ∷ []
+
+-- a command was found, and each of its files is named
+abbrev pub NamesFiles : Option (Text × List Row) → Type 0
+NamesFiles None = ⊥
+NamesFiles (Some found) = ((found.0 ≡ codes "run") × HaveTexts run_files found.1) ⊎ ((found.0 ≡ codes "check") × HaveTexts check_files found.1)
+
+-- the texts of the words
+abbrev pub texts : {Y : Type 0} → List (String Y) → List Text
+texts words = map string_bytes words

@@ -1,0 +1,16 @@
+-- Numbers among the words.
+use Rattle.std.specs.Prelude.{ℕ, ◌&&◌, nat_lt, nat_le, if◌then◌else◌, List, length, Option, None, Some, Result, Ok, Err}
+use Rattle.std.specs.Option.{option_map_or}
+use Rattle.std.specs.Str.{all_ascii_digits}
+use Rattle.std.specs.Str.Parse.{digits_value}
+
+-- a number in this range: one or more decimal digits, and no sign; zeros may lead
+abbrev pub number_in : (least most : ℕ) → List ℕ → Option ℕ
+number_in least most text =
+    if nat_lt 0 (length text) && all_ascii_digits text && nat_le least (digits_value 10 text) && nat_le (digits_value 10 text) most
+    then Some (digits_value 10 text) else None
+
+-- The number of an option whose value may be left out: its default then, else the value as a number in this range; `Err`
+-- is a value that is no such number.
+abbrev pub number_of : (least most default : ℕ) → Option (List ℕ) → Result ℕ (List ℕ)
+number_of least most default given = option_map_or (λ text. option_map_or (λ n. Ok n) (number_in least most text) (Err text)) given (Ok default)

@@ -1,0 +1,19 @@
+//! Laws of the command line.
+ghost use Rattle.std.specs.Prelude.{◌≡◌, ℕ, List, [], Result};
+ghost use Rattle.clap.specs.Simple.{subcommand_of};
+ghost use Rattle.clap.specs.Faults.{fault_of};
+ghost use Rattle.gg_words.specs.Line.{golden_app};
+ghost use Rattle.gg_words.specs.Meaning.{IsWordFault, NamesFiles, Says, IsCommand};
+ghost use Rattle.gg_words.specs.declared.command.Cmd.{Cmd};
+ghost use Rattle.gg_words.specs.declared.command.WordFault.{WordFault};
+
+/// Where `clap` takes words, it finds a command in them, and each of the command's files is named.
+pub fn files_are_named()
+    ensures { (words : List (List ℕ)) → fault_of golden_app words ≡ [] → NamesFiles (subcommand_of golden_app words) }
+{}
+
+/// Words mean one thing at most, and words that mean a command have no fault.
+pub fn one_meaning()
+    ensures once { (words : List (List ℕ)) (one other : Result Cmd (List ℕ)) → Says words one → Says words other → one ≡ other }
+    ensures apart { (words : List (List ℕ)) (cmd : Cmd) (fault : WordFault) → IsCommand words cmd → IsWordFault words fault → ⊥ }
+{}

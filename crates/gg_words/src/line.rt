@@ -1,0 +1,83 @@
+//! The command line as `clap` reads it.
+ghost use Rattle.std.specs.Prelude.{◌≡◌, [], IfOk, true, false, codes};
+ghost use Rattle.clap.specs.Walk.{rule_of};
+ghost use Rattle.clap.specs.Simple.{app_of, new_app, with_rule, shape_of};
+ghost use Rattle.clap.specs.declared.builder.command.Command.TheViews.{out-Command};
+ghost use Rattle.gg_words.specs.Line.{file_rule, value_rule, flag_rule, run_shape, check_shape, golden_app};
+
+use clap::{Arg, ArgAction, Command};
+use std::alloc::{AllocError, Global};
+
+// A file that must be named.
+fn file<'a>(alloc: Global, id: &'a str) -> Arg<'a>
+    ensures rule { rule_of result ≡ file_rule id.entry.now }
+    ensures local { result.global ≡ false }
+{
+    Arg::new(alloc, id).required(true)
+}
+
+// An option with a value.
+fn value<'a>(alloc: Global, name: &'a str) -> Arg<'a>
+    ensures rule { rule_of result ≡ value_rule name.entry.now }
+    ensures local { result.global ≡ false }
+{
+    Arg::new(alloc, name).long(name)
+}
+
+// An option without a value.
+fn flag<'a>(alloc: Global, name: &'a str) -> Arg<'a>
+    ensures rule { rule_of result ≡ flag_rule name.entry.now }
+    ensures local { result.global ≡ false }
+{
+    Arg::new(alloc, name).long(name).action(ArgAction::SetTrue)
+}
+
+// A command with the files that each command has.
+fn with_files<'a>(alloc: Global, name: &'a str) -> Result<Command<'a>, AllocError>
+    ensures shape { IfOk result (λ c. app_of c ≡ with_rule (with_rule (new_app name.entry.now) (file_rule (codes "circuit"))) (file_rule (codes "partition"))) }
+    ensures local { IfOk result (λ c. (out-Command c).has_globals ≡ false) }
+{
+    Command::new(alloc, name)
+        .arg(file(alloc, "circuit"))?
+        .arg(file(alloc, "partition"))
+}
+
+// The command `run`.
+fn run_line<'a>(alloc: Global) -> Result<Command<'a>, AllocError>
+    ensures shape { IfOk result (λ c. shape_of c ≡ run_shape) }
+    ensures local { IfOk result (λ c. (out-Command c).has_globals ≡ false) }
+{
+    with_files(alloc, "run")?
+        .arg(file(alloc, "trace"))?
+        .arg(value(alloc, "capacity"))?
+        .arg(value(alloc, "workers"))?
+        .arg(flag(alloc, "mono"))
+}
+
+// The command `check`.
+fn check_line<'a>(alloc: Global) -> Result<Command<'a>, AllocError>
+    ensures shape { IfOk result (λ c. shape_of c ≡ check_shape) }
+    ensures local { IfOk result (λ c. (out-Command c).has_globals ≡ false) }
+{
+    with_files(alloc, "check")?.arg(value(alloc, "capacity"))
+}
+
+// The program without its commands.
+fn program<'a>(alloc: Global) -> Command<'a>
+    ensures shape { app_of result ≡ record { top = record golden_app.top { is_leaf = true }; subs = [] } }
+    ensures local { (out-Command result).has_globals ≡ false }
+{
+    Command::new(alloc, "golden")
+        .disable_help_flag(true)
+        .disable_help_subcommand(true)
+        .subcommand_required(true)
+}
+
+/// The program's command line.
+pub(crate) fn golden_line<'a>(alloc: Global) -> Result<Command<'a>, AllocError>
+    ensures { IfOk result (λ c. app_of c ≡ golden_app) }
+{
+    program(alloc)
+        .subcommand(run_line(alloc)?)?
+        .subcommand(check_line(alloc)?)
+}

@@ -1,0 +1,169 @@
+//! The words of a call, read.
+ghost use Rattle.std.specs.Prelude.{◌≡◌, ◌≢◌, ℕ, ◌⊎◌, [], true, List, IfOk, IfErr, IsErr, MatchResult, Result, Ok, Err};
+ghost use Rattle.clap.specs.Walk.{first_of, rows_of};
+ghost use Rattle.clap.specs.Matches.{found_of, has_subcommand};
+ghost use Rattle.clap.specs.Simple.{subcommand_rows_of, subcommand_of};
+ghost use Rattle.clap.specs.Faults.{fault_of};
+ghost use Rattle.clap.specs.Kinds.{HasKind};
+ghost use Rattle.clap.specs.Values.{kind_of};
+ghost use Rattle.gg_words.specs.Line.{golden_app};
+ghost use Rattle.gg_words.specs.Number.{number_of};
+ghost use Rattle.gg_words.specs.Meaning.{Answers, FoundSays, IfWordFault, IsCommand, IsWordFault, NamesFiles, SaysFault, capacity_of, check_of, is_set, run_of, text_of, texts};
+ghost use Rattle.gg_words.specs.declared.command.Cmd.{Cmd};
+ghost use Rattle.gg_words.specs.declared.command.WordFault.{WordFault};
+
+use crate::command::{Cmd, WordFault};
+use crate::laws::{files_are_named, one_meaning};
+use crate::line::golden_line;
+use crate::numbers::number_in;
+use clap::error::ErrorKind;
+use clap::{ArgMatches, Error};
+use gg_bits::Name;
+use std::alloc::{AllocError, Global};
+
+// The text that was given to an argument.
+fn name_of(alloc: Global, matches: &ArgMatches<'_>, id: &str) -> Result<Name, AllocError>
+    ensures { IfOk result (λ name. name ≡ text_of id.now (rows_of (found_of matches.now))) }
+{
+    Ok(Name::from(String::from_str(alloc, matches.get_str(id).unwrap_or(""))?))
+}
+
+// Whether an option without a value was given.
+fn is_set(matches: &ArgMatches<'_>, id: &str) -> bool
+    ensures { result ≡ is_set id.now (rows_of (found_of matches.now)) }
+{
+    match matches.get_str(id) {
+        Some(text) => text == "true",
+        None => false,
+    }
+}
+
+// The fault of a value that is no number in its range.
+fn no_number(alloc: Global, value: &str) -> WordFault
+    ensures { SaysFault {T = ℕ} result (Err value.now) }
+{
+    match String::from_str(alloc, value) {
+        Ok(text) => WordFault::Number(Name::from(text)),
+        Err(_) => WordFault::NoMemory,
+    }
+}
+
+// The number that an option gives, in its range, or its default.
+fn number_of(
+    alloc: Global,
+    matches: &ArgMatches<'_>,
+    id: &str,
+    least: u32,
+    most: u32,
+    default: u32,
+) -> Result<u32, WordFault>
+    ensures { Answers result (number_of least most default (first_of id.now (rows_of (found_of matches.now)))) }
+{
+    match matches.get_str(id) {
+        None => Ok(default),
+        Some(text) => match number_in(text, least, most) {
+            Some(number) => Ok(number),
+            None => Err(no_number(alloc, text)),
+        },
+    }
+}
+
+// The capacity of channels.
+fn capacity_of(alloc: Global, matches: &ArgMatches<'_>) -> Result<u32, WordFault>
+    ensures { Answers result (capacity_of (rows_of (found_of matches.now))) }
+{
+    number_of(alloc, matches, "capacity", 1, 4096, 2)
+}
+
+// The command `run`.
+fn run_of(alloc: Global, matches: &ArgMatches<'_>) -> Result<Cmd, WordFault>
+    ensures { Answers result (run_of (rows_of (found_of matches.now))) }
+{
+    let capacity = capacity_of(alloc, matches)?;
+    let workers = number_of(alloc, matches, "workers", 0, 64, 0)?;
+    Ok(Cmd::Run {
+        circuit: name_of(alloc, matches, "circuit")?,
+        partition: name_of(alloc, matches, "partition")?,
+        trace: name_of(alloc, matches, "trace")?,
+        capacity,
+        workers,
+        mono: is_set(matches, "mono"),
+    })
+}
+
+// The command `check`.
+fn check_of(alloc: Global, matches: &ArgMatches<'_>) -> Result<Cmd, WordFault>
+    ensures { Answers result (check_of (rows_of (found_of matches.now))) }
+{
+    let capacity = capacity_of(alloc, matches)?;
+    Ok(Cmd::Check {
+        circuit: name_of(alloc, matches, "circuit")?,
+        partition: name_of(alloc, matches, "partition")?,
+        capacity,
+    })
+}
+
+// The command that was found.
+fn command_of(alloc: Global, matches: &ArgMatches<'_>) -> Result<Cmd, WordFault>
+    requires { NamesFiles (subcommand_rows_of matches.now) }
+    ensures { (said : Result Cmd (List ℕ)) × FoundSays (subcommand_rows_of matches.now) said × Answers result said }
+{
+    let (name, inner) = matches.subcommand().unwrap();
+    if name == "run" {
+        run_of(alloc, inner)
+    } else {
+        check_of(alloc, inner)
+    }
+}
+
+// The fault of words that `clap` refuses.
+fn refusal_of(error: &Error) -> WordFault
+    ensures memory { kind_of error.now ≡ ErrorKind.OutOfMemory → result ≡ WordFault.NoMemory }
+    ensures other { kind_of error.now ≢ ErrorKind.OutOfMemory → result ≡ WordFault.Refused (kind_of error.now) }
+{
+    match error.kind() {
+        ErrorKind::OutOfMemory => WordFault::NoMemory,
+        kind => WordFault::Refused(kind),
+    }
+}
+
+// The words, read.
+fn read_words(alloc: Global, words: &[String]) -> Result<Cmd, WordFault>
+    ensures { MatchResult result (IsCommand (texts words.now)) (IfWordFault (texts words.now)) }
+{
+    files_are_named();
+    let line = golden_line(alloc)?;
+    match line.try_get_matches_from(words) {
+        Ok(matches) => command_of(alloc, &matches),
+        Err(error) => Err(refusal_of(&error)),
+    }
+}
+
+/// The command that these words are. The first of them is the program's own name, and isn't looked at.
+///
+/// The commands are `run CIRCUIT PARTITION TRACE [--capacity K] [--workers W] [--mono]` and
+/// `check CIRCUIT PARTITION [--capacity K]`, as `clap` reads them: options stand anywhere behind the command's name, at
+/// most once each, a value as the next word or behind `=`, and behind `--` each word is a file. So a file whose name
+/// begins with `-` needs `--` before it. K is 1 to 4,096, and 2 where it is left out; W is 0 to 64, and 0 where it is
+/// left out. A number is one or more decimal digits, and zeros may lead.
+///
+/// # Errors
+///
+/// `Refused` where `clap` refuses the words, also those that ask for help; else `Number` with the first value, in the order
+/// above, that is no number in its range. `NoMemory` where memory ran out.
+pub fn words(alloc: Global, words: &[String]) -> Result<Cmd, WordFault>
+    // What is answered is the command that the words are.
+    ensures command { IfOk result (IsCommand (texts words.now)) }
+    // A fault is one of the words, or memory ran out.
+    ensures fault { IfErr result (IfWordFault (texts words.now)) }
+    // A command is read, unless memory runs out.
+    ensures complete { (cmd : Cmd) → IsCommand (texts words.now) cmd →
+        MatchResult result (λ given. given ≡ cmd) (λ given. given ≡ WordFault.NoMemory) }
+    // Words with a fault are no command.
+    ensures due { (fault : WordFault) → IsWordFault (texts words.now) fault → IsErr result }
+    // Where a fault other than want of memory is answered, the words are no command.
+    ensures none { IfErr result (λ given. given ≢ WordFault.NoMemory → (cmd : Cmd) → IsCommand (texts words.now) cmd → ⊥) }
+{
+    one_meaning();
+    read_words(alloc, words)
+}
