@@ -3,7 +3,7 @@ use Rattle.std.proofs.Common.{◌≡◌, ℕ, List, refl, sym, ap, ◌∙◌, su
 use Rattle.gg_flat.specs.Circuit.{FlatCircuit}
 use Rattle.gg_flat.specs.declared.ports.Port.{Port}
 use Rattle.gg_front.specs.Meaning.{Means}
-use Rattle.gg_front.specs.Ports.{in_ports}
+use Rattle.gg_flat.specs.Ports.{in_ports}
 use Rattle.gg_trace.specs.FaultText.{fault_words}
 use Rattle.gg_trace.specs.Trace.{Columns, IsFirstFault}
 use Rattle.gg_trace.specs.declared.faults.TraceFault.{TraceFault}
