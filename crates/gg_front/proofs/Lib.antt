@@ -1,8 +1,4 @@
-pub mod RowLemmas
 pub mod PortLemmas
-pub mod SeenLemmas
-pub mod AlikeLemmas
-pub mod FlatAlike
 pub mod CountLemmas
 pub mod PlaceLemmas
 pub mod OriginLemmas

@@ -17,7 +17,7 @@ use Rattle.gg_ast.specs.declared.statement.Stmt.{Stmt}
 use Rattle.gg_ast.specs.declared.statement.StmtKind.{StmtKind}
 use Rattle.gg_ast.specs.declared.statement.StmtKind.TheVariants as says
 use Rattle.gg_ast.specs.Places.{place_of}
-use Rattle.gg_ast.specs.Term.{Term, term}
+use Rattle.gg_ast.specs.Term.{Term}
 use Rattle.gg_ast.specs.Tree.{ModuleTree}
 use Rattle.gg_shape.specs.declared.fault.Fault.TheVariants.{Unconnected}
 use Rattle.gg_shape.specs.declared.scope.Role.{Role}
@@ -143,7 +143,7 @@ by-kind signals flat (says.Wire w ty) n role s e f h at = inl (sym (ap first_rol
 by-kind signals flat (says.Node w value) n role s e f h at =
     let same : w ≡ n = ap first_declared e in
     let placed : place_of w flat.paths ≡ Some s = ap (λ (x : List ℕ). place_of x flat.paths) same ∙ at in
-    inr (inl (record { value = term value; drives = h s placed; unknown = λ scope line. refl; plain = λ scope. refl }))
+    inr (inl (record { value = value; drives = h s placed; unknown = λ scope line. refl; plain = λ scope. refl }))
 by-kind signals flat (says.Register w ty clock reset) n role s e f h at =
     let same : w ≡ n = ap first_declared e in
     let placed : place_of w flat.paths ≡ Some s = ap (λ (x : List ℕ). place_of x flat.paths) same ∙ at in
@@ -177,7 +177,7 @@ by-connection m flat (says.Connect (references.Local w) source) n a b line c h p
     let same : n ≡ w = eq_same n w c in
     let g = h a (ap (λ (x : List ℕ). place_of x flat.paths) (sym same) ∙ at) in
     elim g.gives [
-      | inl e ↦ record { value = term source; names = (g.stands.names b).0 (same_line flat a line g.line b d e names); plain = p }
+      | inl e ↦ record { value = source; names = (g.stands.names b).0 (same_line flat a line g.line b d e names); plain = p }
       | inr t ↦ let e = t.driver in absurd (cc)
     ]
 by-connection m flat (says.Connect (references.PortOf i q) source) n a b line c h p at d names = absurd (cc)

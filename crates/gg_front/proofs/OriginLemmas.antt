@@ -11,7 +11,7 @@ use Rattle.gg_ast.specs.declared.statement.Stmt.{Stmt}
 use Rattle.gg_ast.specs.declared.statement.StmtKind.{StmtKind}
 use Rattle.gg_ast.specs.declared.statement.StmtKind.TheVariants as says
 use Rattle.gg_ast.specs.Places.{place_of}
-use Rattle.gg_ast.specs.Term.{Term, term, NamedTerm, ConstantTerm, UnaryTerm, BinaryTerm, FixedTerm, MuxTerm}
+use Rattle.gg_ast.specs.Term.{Term, NamedTerm, ConstantTerm, UnaryTerm, BinaryTerm, FixedTerm, MuxTerm}
 use Rattle.gg_shape.specs.declared.fault.Fault.TheVariants.{RepeatedName}
 use Rattle.gg_shape.specs.declared.scope.Role.{Role}
 use Rattle.gg_shape.specs.declared.scope.Role.TheVariants as roles
@@ -68,7 +68,7 @@ named-kind old kind name shape role e =
 
 grew-kind : (old : Signals) (kind : StmtKind) → Grew old (declare_kind old kind) (DeclaresName kind)
 grew-kind old (says.Wire name ty) = named-kind old (says.Wire name ty) name (type_shape ty) roles.Wire refl
-grew-kind old (says.Node name value) = named-kind old (says.Node name value) name (term_shape old (term value)) roles.Node refl
+grew-kind old (says.Node name value) = named-kind old (says.Node name value) name (term_shape old value) roles.Node refl
 grew-kind old (says.Register name ty clock reset) = named-kind old (says.Register name ty clock reset) name (type_shape ty) roles.Register refl
 grew-kind old (says.Instance name m) = grew-none old _
 grew-kind old (says.Memory name fields) = grew-none old _

@@ -1,4 +1,4 @@
--- The ports of flat circuits that are alike.
+-- The ports of the flat circuits of one circuit.
 use Rattle.std.proofs.Common.{◌≡◌, ◌≢◌, ℕ, zero, suc, ◌<◌, ◌≤◌, List, [], ◌∷◌, Option, None, Some, refl, sym, ◌∙◌, ap, subst, map, length, get_or, arith}
 use Rattle.std.specs.Prelude.{AllPairs, slice_get}
 use Rattle.std.specs.List.{filter_map}
@@ -7,12 +7,34 @@ use Rattle.gg_bits.specs.declared.types.Kind.{Kind}
 use Rattle.gg_bits.specs.declared.types.Ty.{Ty}
 use Rattle.gg_bits.specs.Shape.{Shape, shape}
 use Rattle.gg_flat.specs.declared.piece.Signal.{Signal}
-use Rattle.gg_flat.specs.Circuit.{FlatCircuit}
+use Rattle.gg_ast.specs.declared.module.Direction.TheVariants.{Input, Output}
+use Rattle.gg_ast.specs.Tree.{ModuleTree, CircuitTree}
+use Rattle.gg_flat.specs.Circuit.{FlatCircuit, signal_shapes}
 use Rattle.gg_flat.specs.WellFormed.{IsWellFormed}
 use Rattle.gg_flat.specs.declared.ports.Port.{Port}
-use Rattle.gg_elab.specs.FlatModule.{path_at}
+use Rattle.gg_elab.specs.FlatModule.{path_at, IsFlat, IsFlatModule}
+use Rattle.gg_elab.specs.Signals.{signals_of, port_names}
 use Rattle.gg_flat.specs.Ports.{port_with, port_at, ports_at, in_ports, out_ports}
-use Rattle.gg_front.proofs.RowLemmas.{AreAlike}
+
+-- ---- what all flat circuits of a circuit have in common
+
+record AreAlike (one other : FlatCircuit) : Type 0 where
+  pub paths : one.paths ≡ other.paths
+  pub shapes : signal_shapes one ≡ signal_shapes other
+  pub ins : map (path_at one) one.ins ≡ map (path_at other) other.ins
+  pub outs : map (path_at one) one.outs ≡ map (path_at other) other.outs
+
+alike-by : (m n : ModuleTree) (one other : FlatCircuit) → m ≡ n → IsFlatModule m one → IsFlatModule n other → AreAlike one other
+alike-by m n one other same a b = record {
+    paths = a.paths ∙ ap (λ (t : ModuleTree). (signals_of t).paths) same ∙ sym b.paths;
+    shapes = a.shapes ∙ ap (λ (t : ModuleTree). (signals_of t).shapes) same ∙ sym b.shapes;
+    ins = a.ins ∙ ap (λ (t : ModuleTree). port_names Input t.ports) same ∙ sym b.ins;
+    outs = a.outs ∙ ap (λ (t : ModuleTree). port_names Output t.ports) same ∙ sym b.outs
+  }
+
+alike : (circuit : CircuitTree) (one other : FlatCircuit) → IsFlat circuit one → IsFlat circuit other → AreAlike one other
+alike circuit one other a b =
+    alike-by a.top b.top one other (ap (λ (ms : List ModuleTree). get_or ms 0 a.top) (sym a.only ∙ b.only)) a.module_flat b.module_flat
 
 -- ---- types of one shape are equal
 
@@ -101,8 +123,12 @@ signals-same one other f a g xs ys hx hy e =
     (λ k lt. let h = hy k lt in omega (arith, g.named, counted))
     (e ∙ ap (λ (paths : List (List ℕ)). names_at paths ys) (sym a.paths))
 
-pub ins-agree : (one other : FlatCircuit) → IsWellFormed one → IsWellFormed other → AreAlike one other → in_ports one ≡ in_ports other
-ins-agree one other f g a = ports-same one other a one.ins other.ins (signals-same one other f a g one.ins other.ins (λ k lt. (f.ins k lt).0) (λ k lt. (g.ins k lt).0) a.ins)
+pub ins-agree : (circuit : CircuitTree) (one other : FlatCircuit) → IsFlat circuit one → IsFlat circuit other → IsWellFormed one → IsWellFormed other → in_ports one ≡ in_ports other
+ins-agree circuit one other m n f g =
+    let a = alike circuit one other m n in
+    ports-same one other a one.ins other.ins (signals-same one other f a g one.ins other.ins (λ k lt. (f.ins k lt).0) (λ k lt. (g.ins k lt).0) a.ins)
 
-pub outs-agree : (one other : FlatCircuit) → IsWellFormed one → IsWellFormed other → AreAlike one other → out_ports one ≡ out_ports other
-outs-agree one other f g a = ports-same one other a one.outs other.outs (signals-same one other f a g one.outs other.outs (λ k lt. f.outs k lt) (λ k lt. g.outs k lt) a.outs)
+pub outs-agree : (circuit : CircuitTree) (one other : FlatCircuit) → IsFlat circuit one → IsFlat circuit other → IsWellFormed one → IsWellFormed other → out_ports one ≡ out_ports other
+outs-agree circuit one other m n f g =
+    let a = alike circuit one other m n in
+    ports-same one other a one.outs other.outs (signals-same one other f a g one.outs other.outs (λ k lt. f.outs k lt) (λ k lt. g.outs k lt) a.outs)

@@ -1,18 +1,20 @@
--- Two circuits that a text spells have the same rows, so a flat circuit of the one is one of the other.
-use Rattle.gg_front.proofs.FlatAlike.{meant-by}
+-- A text spells one circuit at most, so a flat circuit that the bytes mean is one of that circuit.
+use Rattle.std.proofs.Common.{subst}
+use Rattle.gg_ast.specs.Tree.{CircuitTree}
+use Rattle.gg_elab.specs.FlatModule.{IsFlat}
 use Rattle.gg_front.proofs.laws.one_run.Goals as goal
 
 pub returns-clause-ins : goal.returns-clause-ins
 returns-clause-ins c = λ bytes one other a b.
-    let flat = meant-by bytes one other a b (c.one_circuit.ensures bytes a.circuit b.circuit a.plain.spelt b.plain.spelt) in
+    let flat = subst (λ (t : CircuitTree). IsFlat t one) (c.one_circuit.ensures bytes a.circuit b.circuit a.plain.spelt b.plain.spelt) a.flattened in
     c.one_run.ensures.ins b.circuit one other flat b.flattened a.formed b.formed
 
 pub returns-clause-outs : goal.returns-clause-outs
 returns-clause-outs c = λ bytes one other a b.
-    let flat = meant-by bytes one other a b (c.one_circuit.ensures bytes a.circuit b.circuit a.plain.spelt b.plain.spelt) in
+    let flat = subst (λ (t : CircuitTree). IsFlat t one) (c.one_circuit.ensures bytes a.circuit b.circuit a.plain.spelt b.plain.spelt) a.flattened in
     c.one_run.ensures.outs b.circuit one other flat b.flattened a.formed b.formed
 
 pub returns-clause-runs : goal.returns-clause-runs
 returns-clause-runs c = λ bytes one other columns n rows a b run.
-    let flat = meant-by bytes one other a b (c.one_circuit.ensures bytes a.circuit b.circuit a.plain.spelt b.plain.spelt) in
+    let flat = subst (λ (t : CircuitTree). IsFlat t one) (c.one_circuit.ensures bytes a.circuit b.circuit a.plain.spelt b.plain.spelt) a.flattened in
     c.one_run.ensures.runs b.circuit one other columns n rows flat b.flattened a.formed b.formed run

@@ -1,6 +1,7 @@
--- Two circuits that a text spells have the same rows, of which the static checks see the same.
-use Rattle.gg_front.proofs.AlikeLemmas.{plain-agrees}
+-- A text spells one circuit at most.
+use Rattle.std.proofs.Common.{subst}
+use Rattle.gg_front.specs.Plain.{IsPlainTree}
 use Rattle.gg_front.proofs.laws.plainness_agrees.Goals as goal
 
 pub returns : goal.returns
-returns c = λ text one other a b. plain-agrees one other (c.one_circuit.ensures text one other a b)
+returns c = λ text one other a b plain. subst IsPlainTree (c.one_circuit.ensures text one other a b) plain
