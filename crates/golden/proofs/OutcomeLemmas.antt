@@ -5,16 +5,24 @@ use Rattle.std.specs.Io.KnownBytes.{append_known}
 use Rattle.gg_io.specs.Told.{Told, Holds}
 use Rattle.gg_read.specs.Text.{HasReadFault}
 use Rattle.gg_read.specs.declared.text.ReadFault.{ReadFault}
+use Rattle.gg_flat.specs.Circuit.{FlatCircuit}
+use Rattle.gg_front.specs.Meaning.{Means}
+use Rattle.gg_front.specs.Ports.{in_ports}
+use Rattle.gg_trace.specs.FaultText.{fault_words}
+use Rattle.gg_trace.specs.Trace.{IsFirstFault}
+use Rattle.gg_trace.specs.declared.faults.TraceFault.{TraceFault}
 use Rattle.gg_words.specs.Meaning as line
 use Rattle.gg_words.specs.Meaning.{Says}
 use Rattle.gg_words.specs.declared.command.Cmd.{Cmd}
 use Rattle.gg_words.specs.declared.command.Cmd.TheVariants as cmd
 use Rattle.gg_words.specs.declared.command.WordFault.{WordFault}
 use Rattle.gg_words.specs.declared.command.WordFault.TheVariants as word
-use Rattle.golden.specs.Lines.{Said, TellsUnread}
+use Rattle.golden.specs.Lines.{Said, TellsUnread, trace_fault}
 use Rattle.golden.specs.Order.{Order, StopsAt, IsWritten, DueAt, IsDueAccepted, IsExact, IsJudgement}
 use Rattle.golden.specs.Outcome.{Ends, Refused, Done, Unwritten, WantsMemory, Outcome, Asked, Unasked, WantsMemoryFirst, Answered, Reports}
-use Rattle.golden.specs.Words.{Command, Run, Asks, IsCommand, TellsUnasked, TellsWords, circuit_of, order_of}
+use Rattle.golden.specs.Words.{Command, Run, Asks, IsCommand, TellsUnasked, TellsWords, circuit_of, order_of, partition_of, trace_of}
+use Rattle.golden.specs.Run.{IsPlainPartition}
+use Rattle.golden.proofs.FrontLemmas.{means-plain}
 use Rattle.golden.proofs.OrderLemmas.{Why, Lost, Cut, Judged, why-stops, stops-due, written-due, stops-accepted}
 use Rattle.golden.proofs.WritingLemmas.{append_known-nil}
 
@@ -271,6 +279,15 @@ module _ {words : List (List ℕ)} {files : List ℕ → Told} {lost cut unwritt
       answered-unread none (Run circuit partition trace capacity workers mono) bytes fault said asks told short has tells =
           status-one said (ap (λ (s : Said). s.status) tells.2)
           (answered-due none (Run circuit partition trace capacity workers mono) said asks (bytes, told, inl (inr (short, inl (fault, has, tells)))))
+
+      pub answered-traced : (lost → ⊥) → (command : Command) (c p t : List ℕ) (flat : FlatCircuit) (fault : TraceFault) → Asks words command
+          → files (circuit_of command) ≡ Holds c → length c ≤ 4194304 → Means c flat
+          → files (partition_of command) ≡ Holds p → length p ≤ 1048576 → IsPlainPartition p
+          → files (trace_of command) ≡ Holds t → length t ≤ 67108864 → IsFirstFault (in_ports flat) t fault
+          → ((status ≡ 7) × Reports err err' trouble (trace_fault (fault_words fault)).line) ⊎ (status ≡ 5)
+      answered-traced none (Run circuit partition trace capacity workers mono) c p t flat fault asks hc lc means hp lp plain ht lt first =
+          answered-due none (Run circuit partition trace capacity workers mono) (trace_fault (fault_words fault)) asks
+          (c, hc, inr (lc, means-plain c flat means, (p, hp, inr (lp, plain, (t, ht, inl (inr (lt, (flat, means, (fault, first, refl)))))))))
 
       pub answered-complete : (lost → ⊥) → (unwritten → ⊥) → (command : Command) → Asks words command → IsDueAccepted files (order_of command)
           → (status ≡ 0) ⊎ (status ≡ 5)

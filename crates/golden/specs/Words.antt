@@ -49,3 +49,11 @@ order_of (Run circuit partition trace capacity workers mono) = run_order circuit
 -- the name of its circuit's file
 abbrev pub circuit_of : Command → List ℕ
 circuit_of (Run circuit partition trace capacity workers mono) = circuit
+
+-- of its partition's
+abbrev pub partition_of : Command → List ℕ
+partition_of (Run circuit partition trace capacity workers mono) = partition
+
+-- and of its trace's
+abbrev pub trace_of : Command → List ℕ
+trace_of (Run circuit partition trace capacity workers mono) = trace

@@ -4,13 +4,20 @@ ghost use Rattle.gg_io.specs.Count.{Rose};
 ghost use Rattle.gg_io.specs.Told.{Holds};
 ghost use Rattle.gg_read.specs.Text.{HasReadFault};
 ghost use Rattle.gg_read.specs.declared.text.ReadFault.{ReadFault};
+ghost use Rattle.gg_flat.specs.Circuit.{FlatCircuit};
+ghost use Rattle.gg_front.specs.Meaning.{Means};
+ghost use Rattle.gg_front.specs.Ports.{in_ports};
+ghost use Rattle.gg_trace.specs.FaultText.{fault_words};
+ghost use Rattle.gg_trace.specs.Trace.{IsFirstFault};
+ghost use Rattle.gg_trace.specs.declared.faults.TraceFault.{TraceFault};
 ghost use Rattle.gg_words.specs.Meaning as line;
-ghost use Rattle.golden.specs.Lines.{Said, TellsUnread};
+ghost use Rattle.golden.specs.Lines.{Said, TellsUnread, trace_fault};
+ghost use Rattle.golden.specs.Run.{IsPlainPartition};
 ghost use Rattle.golden.specs.Order.{StopsAt, DueAt, IsDueAccepted, IsJudgement};
 ghost use Rattle.golden.specs.Outcome.{Answered, Reports, HasTrouble};
 ghost use Rattle.golden.specs.Endings.{CallEnded, said_by};
 ghost use Rattle.golden.specs.WentOn.{ShelfWentOn, SinkWentOn};
-ghost use Rattle.golden.specs.Words.{Command, Run, Asks, IsCommand, TellsUnasked, circuit_of, order_of, texts};
+ghost use Rattle.golden.specs.Words.{Command, Run, Asks, IsCommand, TellsUnasked, circuit_of, order_of, partition_of, texts, trace_of};
 
 use crate::endings::Ending;
 use crate::laws::refusals_are_exact;
@@ -166,6 +173,16 @@ pub fn golden<S: Shelf, K: Sink, E: Sink, G: Gate>(
         → HasReadFault bytes fault → TellsUnread fault said
         → ((result ≡ 1)
         × Reports (E.written err.old) (E.written err.new) (HasTrouble (E.faults err.old) (E.faults err.new) (E.refused err.old) (E.refused err.new)) said.line)
+        ⊎ (result ≡ 5) }
+
+    // And a trace's file that is told and has a fault is refused with its first, where the files before it are accepted.
+    ensures traced { (Rose (S.faults shelf.old) (S.faults shelf.new) → ⊥) → (command : Command) (c p t : List ℕ) (flat : FlatCircuit) (fault : TraceFault)
+        → Asks (texts words.now) command
+        → S.files shelf.old (circuit_of command) ≡ Holds c → length c ≤ 4194304 → Means c flat
+        → S.files shelf.old (partition_of command) ≡ Holds p → length p ≤ 1048576 → IsPlainPartition p
+        → S.files shelf.old (trace_of command) ≡ Holds t → length t ≤ 67108864 → IsFirstFault (in_ports flat) t fault
+        → ((result ≡ 7)
+        × Reports (E.written err.old) (E.written err.new) (HasTrouble (E.faults err.old) (E.faults err.new) (E.refused err.old) (E.refused err.new)) (trace_fault (fault_words fault)).line)
         ⊎ (result ≡ 5) }
 
     // Where no load and no put fails, files that are told and accepted are run: `outcome` then names the text.

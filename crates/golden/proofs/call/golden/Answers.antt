@@ -1,4 +1,4 @@
-use Rattle.golden.proofs.OutcomeLemmas.{answered-judged, answered-no_command, answered-lost, answered-unwritten, answered-over, answered-nothing_written, answered-unasked, answered-due, answered-unread, answered-complete}
+use Rattle.golden.proofs.OutcomeLemmas.{answered-judged, answered-no_command, answered-lost, answered-unwritten, answered-over, answered-nothing_written, answered-unasked, answered-due, answered-unread, answered-traced, answered-complete}
 use Rattle.golden.proofs.call.golden.Goals as goal
 
 pub returns-clause-judged : goal.returns-clause-judged
@@ -27,6 +27,9 @@ returns-clause-due g c = answered-due c.answer.ensures.answered c.refusals_are_e
 
 pub returns-clause-unread : goal.returns-clause-unread
 returns-clause-unread g c = answered-unread c.answer.ensures.answered c.refusals_are_exact.ensures c.one_meaning.ensures.once
+
+pub returns-clause-traced : goal.returns-clause-traced
+returns-clause-traced g c = answered-traced c.answer.ensures.answered c.refusals_are_exact.ensures c.one_meaning.ensures.once
 
 pub returns-clause-complete : goal.returns-clause-complete
 returns-clause-complete g c = answered-complete c.answer.ensures.answered c.refusals_are_exact.ensures c.one_meaning.ensures.once
