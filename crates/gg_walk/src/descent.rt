@@ -7,8 +7,8 @@ ghost use Rattle.gg_walk.specs.declared.state.Stage.TheVariants.{New};
 
 use crate::fault::WalkFault;
 use crate::nodes::Graph;
-use crate::scan::next_waiting;
-use crate::state::{Progress, Stage, enter, leave, ring_of, started};
+use crate::scan::next_candidate;
+use crate::state::{Progress, Stage, enter, leave, new_progress, ring_of};
 use std::alloc::Global;
 
 /// The order of a graph's nodes: each once, behind all its targets.
@@ -21,7 +21,7 @@ pub fn walk<G: Graph>(alloc: Global, graph: &G) -> Result<Vec<u32>, WalkFault>
     ensures free { IfOk result (λ order. (ring : List ℕ) → ¬ IsRing (G.edge graph.now) (G.nodes graph.now) ring) }
     ensures ring { IfErr result (IfRing (IsRing (G.edge graph.now) (G.nodes graph.now))) }
 {
-    let mut walk = started(alloc, graph)?;
+    let mut walk = new_progress(alloc, graph)?;
     for root in 0..graph.node_count() {
         visit(graph, &mut walk, root)?;
     }
@@ -73,7 +73,7 @@ fn step<G: Graph>(graph: &G, walk: &mut Progress, node: u32) -> Result<Option<u3
     ensures ring { IfErr result (IfRing (IsRing (G.edge graph.now) (G.nodes graph.now))) }
 {
     let start = walk.places[node as usize];
-    match next_waiting(graph, walk.stages.as_slice(), node, start) {
+    match next_candidate(graph, walk.stages.as_slice(), node, start) {
         None => Ok(leave(walk, node)?),
         Some(found) => match walk.stages[found.node as usize] {
             Stage::New => {

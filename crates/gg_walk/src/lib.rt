@@ -7,7 +7,7 @@
 //! - a graph that has an order has no ring (`no_ring`).
 //!
 //! A walk asks for each target of a node at most twice, so its time is linear in nodes and targets. It keeps its path in a
-//! list, so that a long chain of nodes takes no stack.
+//! list, so a long chain of nodes takes no stack.
 #![tactic(auto)]
 
 mod descent;

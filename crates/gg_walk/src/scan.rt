@@ -6,26 +6,26 @@ ghost use Rattle.gg_walk.specs.declared.state.Stage.TheVariants.{Done};
 use crate::nodes::Graph;
 use crate::state::Stage;
 
-// A target that waits, and a place below which no target waits.
+// A target that isn't done, and a place below which all targets are.
 #[derive(Clone, Copy)]
-pub(crate) struct Waiting {
+pub(crate) struct Candidate {
     pub(crate) node: u32,
     pub(crate) place: usize,
 }
 
 // The first target at or behind a place that isn't done, where all below it are.
-pub(crate) fn next_waiting<G: Graph>(
+pub(crate) fn next_candidate<G: Graph>(
     graph: &G,
     stages: &[Stage],
     node: u32,
     start: usize,
-) -> Option<Waiting>
+) -> Option<Candidate>
     requires node { node < G.nodes graph.now }
     requires count { length stages.now ≡ G.nodes graph.now }
     requires scanned { (t : ℕ) → G.edge_below graph.now node start t → stage_at stages.now t ≡ Done }
     ensures edge { IfSome result (λ found. G.edge graph.now node found.node) }
     ensures within { IfSome result (λ found. found.node < G.nodes graph.now) }
-    ensures waits { IfSome result (λ found. stage_at stages.now found.node ≢ Done) }
+    ensures not_done { IfSome result (λ found. stage_at stages.now found.node ≢ Done) }
     ensures scanned { IfSome result (λ found. (t : ℕ) → G.edge_below graph.now node found.place t → stage_at stages.now t ≡ Done) }
     ensures none { IfNone result ((t : ℕ) → G.edge graph.now node t → stage_at stages.now t ≡ Done) }
 {
@@ -34,7 +34,7 @@ pub(crate) fn next_waiting<G: Graph>(
         match stages[target.node as usize] {
             Stage::Done => place = target.next,
             Stage::New | Stage::Open => {
-                return Some(Waiting {
+                return Some(Candidate {
                     node: target.node,
                     place,
                 })

@@ -4,7 +4,7 @@ ghost use Rattle.gg_walk.specs.Walk.{IsUnderWay, IsEndFrom};
 ghost use Rattle.gg_walk.specs.declared.state.Stage.TheVariants.{New, Open, Done};
 
 use crate::nodes::Graph;
-use crate::scan::Waiting;
+use crate::scan::Candidate;
 use std::alloc::{AllocError, Global};
 
 // How far the walk is with a node: it hasn't come to it, the node is on its path, or it stands in the order.
@@ -26,7 +26,7 @@ pub(crate) struct Progress {
 }
 
 // A walk that has come to no node.
-pub(crate) fn started<G: Graph>(alloc: Global, graph: &G) -> Result<Progress, AllocError>
+pub(crate) fn new_progress<G: Graph>(alloc: Global, graph: &G) -> Result<Progress, AllocError>
     ensures walks { IfOk result (IsUnderWay (G.edge graph.now) (G.edge_below graph.now) (G.nodes graph.now) []) }
     ensures path { IfOk result (λ walk. walk.path.items ≡ []) }
 {
@@ -54,7 +54,7 @@ fn all_first(alloc: Global, count: usize) -> Result<Vec<usize>, AllocError>
 }
 
 // Goes from a node to a target of it.
-pub(crate) fn enter(walk: &mut Progress, node: u32, found: Waiting) -> Result<(), AllocError>
+pub(crate) fn enter(walk: &mut Progress, node: u32, found: Candidate) -> Result<(), AllocError>
     requires node { node < length walk.old.places.items }
     requires target { found.node < length walk.old.stages.items }
     ensures path { IfOk result (λ _. walk.new.path.items ≡ walk.old.path.items ++ node ∷ []) }

@@ -15,12 +15,12 @@ index-start-requires g c =
     let walk = c.args.walk.now in
     omega (arith, at-within c.args.node c.requires.walks (contains_new walk.path.items c.args.node), c.requires.walks.place_count, walk.places.ok.0)
 
-pub next_waiting-requires-clause-node : goal.next_waiting-requires-clause-node
-next_waiting-requires-clause-node g c =
+pub next_candidate-requires-clause-node : goal.next_candidate-requires-clause-node
+next_candidate-requires-clause-node g c =
     at-within c.args.node c.requires.walks (contains_new c.args.walk.now.path.items c.args.node)
 
-pub next_waiting-requires-clause-scanned : goal.next_waiting-requires-clause-scanned
-next_waiting-requires-clause-scanned g c = λ t below.
+pub next_candidate-requires-clause-scanned : goal.next_candidate-requires-clause-scanned
+next_candidate-requires-clause-scanned g c = λ t below.
     let walk = c.args.walk.now in
     let lt : c.args.node < length walk.places.items = omega (arith, at-within c.args.node c.requires.walks (contains_new walk.path.items c.args.node), c.requires.walks.place_count) in
     let start : c.index-start.result.now ≡ node_at walk.places.items c.args.node = get_or_read walk.places.items c.args.node c.index-start.result.now lt c.index-start.ensures 0 in

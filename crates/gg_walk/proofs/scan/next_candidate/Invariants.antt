@@ -1,7 +1,7 @@
 use Rattle.std.proofs.Common.{◌≡◌, ℕ, ◌-◌, ◌^◌}
 use Rattle.gg_walk.specs.Walk.{stage_at}
 use Rattle.gg_walk.specs.declared.state.Stage.TheVariants.{Done}
-use Rattle.gg_walk.proofs.scan.next_waiting.Given as goal
+use Rattle.gg_walk.proofs.scan.next_candidate.Given as goal
 
 abbrev pub invariant-loop-target : goal.invariant-loop-target
 invariant-loop-target g l = (t : ℕ) → g.G.Graph.edge_below l.graph l.node l.place t → stage_at l.stages t ≡ Done
