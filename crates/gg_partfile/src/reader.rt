@@ -26,12 +26,12 @@ pub fn read_partition(alloc: Global, bytes: &[u8]) -> Result<Request, PartFault>
     match Value::from_slice(alloc, bytes) {
         Ok(value) => request_of(alloc, &value),
         Err(error) if error.is_memory() => Err(PartFault::NoMemory),
-        Err(_) => Err(told(alloc, "-")),
+        Err(_) => Err(fault_of(alloc, "-")),
     }
 }
 
 // The fault of a key.
-fn told(alloc: Global, key: &str) -> PartFault
+fn fault_of(alloc: Global, key: &str) -> PartFault
     ensures { IfKey (λ told. told ≡ key.now) result }
 {
     match name_of(alloc, key) {
@@ -46,14 +46,14 @@ fn request_of(alloc: Global, value: &Value) -> Result<Request, PartFault>
     ensures wrong { IfErr result (IfKey (λ key. wrong_key (view value.now) ≡ Some key)) }
 {
     let Some(members) = value.as_object() else {
-        return Err(told(alloc, "-"));
+        return Err(fault_of(alloc, "-"));
     };
     let units = units_of(alloc, value, "units")?;
     let share = share_of(alloc, value)?;
     let memories = units_of(alloc, value, "memories")?;
     let capacity = capacity_of(alloc, value)?;
     if let Some(key) = first_unknown(members) {
-        return Err(told(alloc, key));
+        return Err(fault_of(alloc, key));
     }
     Ok(Request {
         units,
@@ -73,7 +73,7 @@ fn units_of(alloc: Global, value: &Value, key: &str) -> Result<Names, PartFault>
     };
     match texts_of(alloc, held)? {
         Some(names) => Ok(names),
-        None => Err(told(alloc, key)),
+        None => Err(fault_of(alloc, key)),
     }
 }
 
@@ -87,7 +87,7 @@ fn share_of(alloc: Global, value: &Value) -> Result<Groups, PartFault>
     };
     match groups_of(alloc, held)? {
         Some(lists) => Ok(lists),
-        None => Err(told(alloc, "share")),
+        None => Err(fault_of(alloc, "share")),
     }
 }
 
@@ -101,6 +101,6 @@ fn capacity_of(alloc: Global, value: &Value) -> Result<Capacities, PartFault>
     };
     match numbers_of(alloc, held)? {
         Some(pairs) => Ok(pairs),
-        None => Err(told(alloc, "capacity")),
+        None => Err(fault_of(alloc, "capacity")),
     }
 }
