@@ -26,11 +26,11 @@ record AreAlike (one other : FlatCircuit) : Type 0 where
 
 alike-by : (m n : ModuleTree) (one other : FlatCircuit) → m ≡ n → IsFlatModule m one → IsFlatModule n other → AreAlike one other
 alike-by m n one other same a b = record {
-    paths = a.paths ∙ ap (λ (t : ModuleTree). (signals_of t).paths) same ∙ sym b.paths;
-    shapes = a.shapes ∙ ap (λ (t : ModuleTree). (signals_of t).shapes) same ∙ sym b.shapes;
-    ins = a.ins ∙ ap (λ (t : ModuleTree). port_names Input t.ports) same ∙ sym b.ins;
-    outs = a.outs ∙ ap (λ (t : ModuleTree). port_names Output t.ports) same ∙ sym b.outs
-  }
+  paths = a.paths ∙ ap (λ (t : ModuleTree). (signals_of t).paths) same ∙ sym b.paths;
+  shapes = a.shapes ∙ ap (λ (t : ModuleTree). (signals_of t).shapes) same ∙ sym b.shapes;
+  ins = a.ins ∙ ap (λ (t : ModuleTree). port_names Input t.ports) same ∙ sym b.ins;
+  outs = a.outs ∙ ap (λ (t : ModuleTree). port_names Output t.ports) same ∙ sym b.outs;
+}
 
 alike : (circuit : CircuitTree) (one other : FlatCircuit) → IsFlat circuit one → IsFlat circuit other → AreAlike one other
 alike circuit one other a b =

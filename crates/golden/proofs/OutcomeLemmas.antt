@@ -7,7 +7,7 @@ use Rattle.gg_read.specs.Text.{HasReadFault}
 use Rattle.gg_read.specs.declared.text.ReadFault.{ReadFault}
 use Rattle.gg_flat.specs.Circuit.{FlatCircuit}
 use Rattle.gg_front.specs.Meaning.{Means}
-use Rattle.gg_front.specs.Ports.{in_ports}
+use Rattle.gg_flat.specs.Ports.{in_ports}
 use Rattle.gg_trace.specs.FaultText.{fault_words}
 use Rattle.gg_trace.specs.Trace.{IsFirstFault}
 use Rattle.gg_trace.specs.declared.faults.TraceFault.{TraceFault}

@@ -6,7 +6,7 @@ ghost use Rattle.gg_read.specs.Text.{HasReadFault};
 ghost use Rattle.gg_read.specs.declared.text.ReadFault.{ReadFault};
 ghost use Rattle.gg_flat.specs.Circuit.{FlatCircuit};
 ghost use Rattle.gg_front.specs.Meaning.{Means};
-ghost use Rattle.gg_front.specs.Ports.{in_ports};
+ghost use Rattle.gg_flat.specs.Ports.{in_ports};
 ghost use Rattle.gg_trace.specs.FaultText.{fault_words};
 ghost use Rattle.gg_trace.specs.Trace.{IsFirstFault};
 ghost use Rattle.gg_trace.specs.declared.faults.TraceFault.{TraceFault};
