@@ -11,7 +11,7 @@ use Rattle.gg_flat.specs.Ports.{in_ports}
 use Rattle.gg_trace.specs.FaultText.{fault_words}
 use Rattle.gg_trace.specs.Trace.{IsFirstFault}
 use Rattle.gg_trace.specs.declared.faults.TraceFault.{TraceFault}
-use Rattle.gg_words.specs.Meaning as line
+use Rattle.gg_words.specs.Meaning as command_line
 use Rattle.gg_words.specs.Meaning.{Says}
 use Rattle.gg_words.specs.declared.command.Cmd.{Cmd}
 use Rattle.gg_words.specs.declared.command.Cmd.TheVariants as cmd
@@ -35,12 +35,12 @@ asks-once : OneMeaning → (words : List (List ℕ)) (command other : Command) �
 asks-once once words (Run a b c k w m) (Run x y z l v n) asks others = let e = once words (Ok (cmd.Run a b c k w m)) (Ok (cmd.Run x y z l v n)) asks others in cc
 
 -- words that ask for `check` ask for no command that is there
-pub check-unasked : OneMeaning → (words : List (List ℕ)) (circuit partition : List ℕ) (capacity : ℕ) → line.IsCommand words (cmd.Check circuit partition capacity) → IsCommand words → ⊥
+pub check-unasked : OneMeaning → (words : List (List ℕ)) (circuit partition : List ℕ) (capacity : ℕ) → command_line.IsCommand words (cmd.Check circuit partition capacity) → IsCommand words → ⊥
 check-unasked once words circuit partition capacity check (Run a b c k w m, asks) =
     let e = once words (Ok (cmd.Check circuit partition capacity)) (Ok (cmd.Run a b c k w m)) check asks in cc
 
 -- a fault that is no want of memory is one of the words
-pub word-fault : (words : List (List ℕ)) (fault : WordFault) → fault ≢ word.NoMemory → line.IfWordFault words fault → line.IsWordFault words fault
+pub word-fault : (words : List (List ℕ)) (fault : WordFault) → fault ≢ word.NoMemory → command_line.IfWordFault words fault → command_line.IsWordFault words fault
 word-fault words (word.Refused kind) some h = h
 word-fault words (word.Number value) some h = h
 word-fault words word.NoMemory some h = absurd (some refl)

@@ -1,6 +1,6 @@
 -- What the words of a call ask for. Which words are which command is defined in gg_words, by `clap`'s own definitions.
 use Rattle.std.specs.Prelude.{◌≡◌, ◌⊎◌, ℕ, Bool, List, String, map, string_bytes}
-use Rattle.gg_words.specs.Meaning as line
+use Rattle.gg_words.specs.Meaning as command_line
 use Rattle.gg_words.specs.declared.command.Cmd.{Cmd}
 use Rattle.gg_words.specs.declared.command.Cmd.TheVariants as cmd
 use Rattle.gg_words.specs.declared.command.WordFault.{WordFault}
@@ -20,7 +20,7 @@ cmd_of (Run circuit partition trace capacity workers mono) = cmd.Run circuit par
 
 -- the words ask for this command
 abbrev pub Asks : List (List ℕ) → Command → Type 0
-Asks words command = line.IsCommand words (cmd_of command)
+Asks words command = command_line.IsCommand words (cmd_of command)
 
 -- the words are a command that is there
 abbrev pub IsCommand : List (List ℕ) → Type 0
@@ -35,8 +35,8 @@ TellsWords NoMemory said = ⊥
 -- this is said of words that are no command that is there: their fault, or that they ask for `check`
 abbrev pub TellsUnasked : List (List ℕ) → Said → Type 0
 TellsUnasked words said =
-    ((fault : WordFault) × line.IsWordFault words fault × TellsWords fault said)
-    ⊎ ((circuit partition : List ℕ) × (capacity : ℕ) × line.IsCommand words (cmd.Check circuit partition capacity) × (said ≡ no_check))
+    ((fault : WordFault) × command_line.IsWordFault words fault × TellsWords fault said)
+    ⊎ ((circuit partition : List ℕ) × (capacity : ℕ) × command_line.IsCommand words (cmd.Check circuit partition capacity) × (said ≡ no_check))
 
 -- the texts of the words
 abbrev pub texts : {Y : Type 0} → List (String Y) → List (List ℕ)

@@ -10,7 +10,7 @@ ghost use Rattle.gg_flat.specs.Ports.{in_ports};
 ghost use Rattle.gg_trace.specs.FaultText.{fault_words};
 ghost use Rattle.gg_trace.specs.Trace.{IsFirstFault};
 ghost use Rattle.gg_trace.specs.declared.faults.TraceFault.{TraceFault};
-ghost use Rattle.gg_words.specs.Meaning as line;
+ghost use Rattle.gg_words.specs.Meaning as command_line;
 ghost use Rattle.golden.specs.Lines.{Said, TellsUnread, trace_fault};
 ghost use Rattle.golden.specs.Run.{IsPlainPartition};
 ghost use Rattle.golden.specs.Order.{StopsAt, DueAt, IsDueAccepted, IsJudgement};
@@ -35,7 +35,7 @@ fn do_command<S: Shelf, K: Sink>(
     shelf: &mut S,
     out: &mut K,
 ) -> Result<(), Ending>
-    ensures ended { (words : List (List ℕ)) → line.IsCommand words cmd.now → CallEnded (S.files shelf.old)
+    ensures ended { (words : List (List ℕ)) → command_line.IsCommand words cmd.now → CallEnded (S.files shelf.old)
         (Rose (S.faults shelf.old) (S.faults shelf.new)) (Rose (S.cuts shelf.old) (S.cuts shelf.new)) (Rose (K.faults out.old) (K.faults out.new))
         (K.written out.old) (K.written out.new) words result }
     ensures shelf { ShelfWentOn (S.files shelf.old) (S.files shelf.new) (S.faults shelf.old) (S.faults shelf.new) (S.cuts shelf.old) (S.cuts shelf.new) }

@@ -1,5 +1,5 @@
 use Rattle.std.proofs.Common.{subst, inr}
-use Rattle.gg_words.specs.Meaning as line
+use Rattle.gg_words.specs.Meaning as command_line
 use Rattle.gg_words.specs.declared.command.Cmd.{Cmd}
 use Rattle.golden.specs.Outcome.{Asked}
 use Rattle.golden.specs.Words.{Run}
@@ -15,13 +15,13 @@ returns-in-Run-clause-ended g c = λ words asks.
       ended.1,
       Asked (Run c.as_str.result.now c.as_str-in-Run.result.now c.as_str-in-Run-2.result.now c.in-Run.capacity c.in-Run.workers c.in-Run.mono)
           (asks-same words _ _ _ _ _ _ c.in-Run.capacity c.in-Run.workers c.in-Run.mono c.as_str.ensures c.as_str-in-Run.ensures c.as_str-in-Run-2.ensures
-          (subst (λ (k : Cmd). line.IsCommand words k) c.in-Run.is asks))
+          (subst (λ (k : Cmd). command_line.IsCommand words k) c.in-Run.is asks))
           ended.2,
     )
 
 pub returns-in-Check-clause-ended : goal.returns-in-Check-clause-ended
 returns-in-Check-clause-ended g c = λ words asks.
-    let check = subst (λ (k : Cmd). line.IsCommand words k) c.in-Check.is asks in
+    let check = subst (λ (k : Cmd). command_line.IsCommand words k) c.in-Check.is asks in
     unasked-ends _ _ _ _ (Unit {0}) _ words c.end_at_check.result
     (IfRefused-map
     (λ said is. (
