@@ -2,3 +2,5 @@ pub mod Value
 pub mod Shape
 pub mod ResultType
 pub mod Meaning
+pub mod Spelling
+pub mod BadText

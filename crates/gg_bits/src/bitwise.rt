@@ -4,7 +4,7 @@ ghost use Rattle.gg_bits.specs.Value.{pattern_of};
 ghost use Rattle.gg_bits.specs.Shape.{shape, Fits};
 ghost use Rattle.gg_bits.specs.Meaning.{extended};
 
-use crate::choice::extend;
+use crate::patterns::extend;
 use crate::types::{Ty, Val};
 
 /// The bits that both have, after extension to the wider width.

@@ -1,23 +1,12 @@
-//! Multiplexers (FIRRTL Specification, "Multiplexers"), and the extension of a value to a greater width.
+//! Multiplexers (FIRRTL Specification, "Multiplexers").
 ghost use Rattle.std.specs.Prelude.{◌≡◌, ◌^◌, ◌<◌, ◌≤◌, IfOk, OnOk};
 ghost use Rattle.gg_bits.specs.Shape.{uint, shape, shape_of, Fits};
 ghost use Rattle.gg_bits.specs.ResultType.{shape_mux, type_mux};
-ghost use Rattle.gg_bits.specs.Meaning.{extended, value_mux};
+ghost use Rattle.gg_bits.specs.Meaning.{value_mux};
 
 use crate::judge::judged;
-use crate::patterns::{fit, wide};
+use crate::patterns::extend;
 use crate::types::{Bad, Kind, Ty, Val};
-
-/// The value of the same number in `width` bits: zeros are put above a `UInt`, the sign above an `SInt`.
-pub fn extend(v: Val, ty: Ty, width: u32) -> Val
-    requires typed { Fits (shape ty) v.0 }
-    requires longer { ty.width ≤ width }
-    requires bounded { width ≤ 128 }
-    ensures value { result.0 ≡ extended (shape ty) width v.0 }
-    ensures typed { result.0 < 2 ^ width }
-{
-    Val(fit(wide(ty, v), width))
-}
 
 /// The type of `mux(c, a, b)`, where `c` is one unsigned bit and `a` and `b` are of one kind.
 ///

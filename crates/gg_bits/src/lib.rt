@@ -3,7 +3,8 @@
 //! A value is a bit pattern of at most 128 bits. It stands for a whole number, signed where its type is `SInt`
 //! (FIRRTL Specification, "Ground Types"). The crate promises, for each primitive operation of the specification,
 //! that the pattern it computes is the pattern of the operation's meaning over the whole numbers, and that the type
-//! it answers is the specification's, or the first thing that is wrong. No call of an operation takes memory.
+//! it answers is the specification's, or the first thing that is wrong. No call of an operation takes memory. How each
+//! operation is written stands here too, both ways.
 #![tactic(auto)]
 
 mod arithmetic;
@@ -18,16 +19,18 @@ mod ops;
 mod parametric;
 mod patterns;
 mod shifts;
+mod spelling;
 #[cfg(test)]
 mod tests;
 mod types;
 mod unary;
 
 pub use binary::{apply2, result2};
-pub use choice::{extend, mux, result_mux};
-pub use lists::{Ids, Names};
+pub use choice::{mux, result_mux};
+pub use lists::{Ids, Items, Names};
 pub use name::Name;
 pub use ops::{Op1, Op2, OpN};
 pub use parametric::{apply_const, result_const};
+pub use patterns::extend;
 pub use types::{Bad, Kind, Ty, Val};
 pub use unary::{apply1, result1};

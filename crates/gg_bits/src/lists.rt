@@ -1,138 +1,82 @@
-//! `Names` and `Ids`: lists that contracts see as lists.
-ghost use Rattle.std.specs.Prelude.{◌≡◌, nat_eq};
-ghost use Rattle.std.specs.Cmp.{partial_equiv_from_equiv};
-ghost use Rattle.std.specs.Cmp.Lexicographic.{pointwise, lists_equiv, nat_list_eq_equiv};
+//! `Items`: a list that contracts see as a list.
+ghost use Rattle.std.specs.Prelude.{◌≡◌};
+ghost use Rattle.std.specs.List.{AllZip};
+ghost use Rattle.std.specs.Cmp.Lexicographic.{pointwise, lists_per, lists_equiv};
 
 use crate::name::Name;
 use std::alloc::AllocError;
 use std::marker::Model;
 
+/// A list. A contract sees it as the list of its items.
+///
+/// It is made of a `Vec` and gives it back without taking memory.
+#[derive(Debug, Drop)]
+pub struct Items<T> {
+    items: Vec<T>,
+}
+
 /// A list of names. A contract sees it as the list of their bytes.
-///
-/// It is made of a `Vec` and gives it back without taking memory.
-#[derive(Debug, Drop)]
-pub struct Names {
-    items: Vec<Name>,
+pub type Names = Items<Name>;
+
+/// A list of numbers that name things, as signals, ports or channels.
+pub type Ids = Items<u32>;
+
+impl<T> Model for Items<T> {
+    ghost use Rattle.std.specs.Prelude.{List};
+    ghost use Rattle.std.specs.Coded.{coded_list};
+
+    ghost Value = { List T };
+
+    ghost coded = { coded_list T.code };
+
+    ghost view = { λ list. list.items.items };
 }
 
-impl Model for Names {
-    ghost use Rattle.std.specs.Prelude.{ℕ, List};
-
-    ghost Value = { List (List ℕ) };
-
-    ghost view = { λ names. names.items.items };
-}
-
-impl Names {
-    /// The names, in order.
-    pub fn as_slice(&self) -> &[Name]
+impl<T> Items<T> {
+    /// The items, in order.
+    pub fn as_slice(&self) -> &[T]
         ensures { result.now ≡ self.now }
     {
         self.items.as_slice()
     }
 
     /// Gives the `Vec` back.
-    pub fn into_vec(self) -> Vec<Name>
+    pub fn into_vec(self) -> Vec<T>
         ensures { result.items ≡ self }
     {
-        let Names { items } = self;
+        let Items { items } = self;
         items
     }
 }
 
-impl Clone for Names {
-    ghost is_clone = { λ names copy. copy ≡ names };
+impl<T: Clone> Clone for Items<T> {
+    ghost is_clone = { AllZip T.is_clone };
 
-    fn clone(&self) -> Result<Names, AllocError> {
-        Ok(Names {
+    fn clone(&self) -> Result<Items<T>, AllocError> {
+        Ok(Items {
             items: self.items.clone()?,
         })
     }
 }
 
-impl PartialEq for Names {
-    ghost eq = { pointwise (pointwise nat_eq) };
+impl<T: PartialEq> PartialEq for Items<T> {
+    ghost eq = { pointwise T.eq };
 
-    ghost laws = { partial_equiv_from_equiv (lists_equiv nat_list_eq_equiv) };
+    ghost laws = { lists_per T.laws };
 
-    fn eq(&self, other: &Names) -> bool {
+    fn eq(&self, other: &Items<T>) -> bool {
         self.items == other.items
     }
 }
 
-impl Eq for Names {
-    ghost laws = { lists_equiv nat_list_eq_equiv };
+impl<T: Eq> Eq for Items<T> {
+    ghost laws = { lists_equiv T.Eq.laws };
 }
 
-impl From<Vec<Name>> for Names {
-    ghost from_gives = { λ items names. names ≡ items.items };
+impl<T> From<Vec<T>> for Items<T> {
+    ghost from_gives = { λ items list. list ≡ items.items };
 
-    fn from(items: Vec<Name>) -> Names {
-        Names { items }
-    }
-}
-
-/// A list of numbers that name things, as signals, ports or channels. A contract sees it as the list.
-///
-/// It is made of a `Vec` and gives it back without taking memory.
-#[derive(Debug, Drop)]
-pub struct Ids {
-    items: Vec<u32>,
-}
-
-impl Model for Ids {
-    ghost use Rattle.std.specs.Prelude.{ℕ, List};
-
-    ghost Value = { List ℕ };
-
-    ghost view = { λ ids. ids.items.items };
-}
-
-impl Ids {
-    /// The numbers, in order.
-    pub fn as_slice(&self) -> &[u32]
-        ensures { result.now ≡ self.now }
-    {
-        self.items.as_slice()
-    }
-
-    /// Gives the `Vec` back.
-    pub fn into_vec(self) -> Vec<u32>
-        ensures { result.items ≡ self }
-    {
-        let Ids { items } = self;
-        items
-    }
-}
-
-impl Clone for Ids {
-    ghost is_clone = { λ ids copy. copy ≡ ids };
-
-    fn clone(&self) -> Result<Ids, AllocError> {
-        Ok(Ids {
-            items: self.items.clone()?,
-        })
-    }
-}
-
-impl PartialEq for Ids {
-    ghost eq = { pointwise nat_eq };
-
-    ghost laws = { partial_equiv_from_equiv nat_list_eq_equiv };
-
-    fn eq(&self, other: &Ids) -> bool {
-        self.items == other.items
-    }
-}
-
-impl Eq for Ids {
-    ghost laws = { nat_list_eq_equiv };
-}
-
-impl From<Vec<u32>> for Ids {
-    ghost from_gives = { λ items ids. ids ≡ items.items };
-
-    fn from(items: Vec<u32>) -> Ids {
-        Ids { items }
+    fn from(items: Vec<T>) -> Items<T> {
+        Items { items }
     }
 }

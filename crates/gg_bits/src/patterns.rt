@@ -2,7 +2,7 @@
 ghost use Rattle.std.specs.Prelude.{◌≡◌, ℤ, ◌-◌, ◌%◌, ◌^◌, ◌<◌, ◌≤◌};
 ghost use Rattle.gg_bits.specs.Value.{number_of, pattern_of};
 ghost use Rattle.gg_bits.specs.Shape.{shape, number, Fits};
-ghost use Rattle.gg_bits.specs.Meaning.{truth};
+ghost use Rattle.gg_bits.specs.Meaning.{truth, extended};
 
 use crate::types::{Kind, Ty, Val};
 
@@ -49,6 +49,17 @@ fn sign_extended(x: u128, width: u32) -> u128
     } else {
         x.wrapping_sub(1 << width)
     }
+}
+
+/// The value of the same number in `width` bits: zeros are put above a `UInt`, the sign above an `SInt`.
+pub fn extend(v: Val, ty: Ty, width: u32) -> Val
+    requires typed { Fits (shape ty) v.0 }
+    requires longer { ty.width ≤ width }
+    requires bounded { width ≤ 128 }
+    ensures value { result.0 ≡ extended (shape ty) width v.0 }
+    ensures typed { result.0 < 2 ^ width }
+{
+    Val(fit(wide(ty, v), width))
 }
 
 /// The number that a value of an `SInt` type stands for.

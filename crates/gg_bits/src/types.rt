@@ -1,6 +1,9 @@
 //! Ground types, values, and what can be wrong with an operation's operands.
 ghost use Rattle.std.specs.Prelude.{◌≡◌, ◌≤◌};
 
+use std::error::Error;
+use std::fmt;
+
 /// The kind of a ground type (FIRRTL Specification, "Ground Types"): whether its values stand for natural numbers or
 /// for signed ones, in two's complement.
 #[derive(Clone, Copy, Debug, PartialEq, Eq, Hash)]
@@ -37,6 +40,23 @@ pub enum Bad {
     /// A parameter is out of its range.
     Param,
 }
+
+impl fmt::Display for Bad {
+    ghost use Rattle.std.specs.Prelude.{Some};
+    ghost use Rattle.gg_bits.specs.BadText.{bad_text};
+
+    ghost output = { λ bad. Some (bad_text bad) };
+
+    fn fmt<W: fmt::Write>(&self, f: &mut fmt::Formatter<W>) -> fmt::Result {
+        match self {
+            Bad::Kind => f.write_str("an operand is of a kind that the operation does not take"),
+            Bad::Width(width) => write!(f, "the result would have {width} bits"),
+            Bad::Param => f.write_str("a parameter is out of range"),
+        }
+    }
+}
+
+impl Error for Bad {}
 
 impl Ty {
     /// The widest type has 128 bits.

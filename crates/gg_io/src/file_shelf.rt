@@ -58,14 +58,13 @@ fn read_part<F: Read>(file: &mut F, room: u64, bytes: &mut Vec<u8>) -> Result<us
 
 /// Reads the file to its end, and at most one byte past the limit.
 fn read_within<F: Read>(alloc: Global, file: &mut F, limit: u64) -> Result<Vec<u8>, LoadFail>
-    requires { limit < 2 ^ 64 - 1 }
     ensures within { IfOk result (λ bytes. length bytes.items ≤ limit) }
     ensures whole { IfOk result (λ bytes. IfSome (F.remaining file.old) (λ all. bytes.items ≡ all)) }
     ensures over { IfErr result (IsFaultOrOver (F.remaining file.old) limit) }
 {
     let mut bytes = Vec::new(alloc);
     'parts: loop {
-        let room = limit + 1 - bytes.len() as u64;
+        let room = (limit - bytes.len() as u64).saturating_add(1);
         if read_part(file, room, &mut bytes)? == 0 {
             return Ok(bytes);
         }
@@ -85,7 +84,6 @@ fn load_from<R: Files>(
     name: &str,
     limit: u64,
 ) -> Result<Vec<u8>, LoadFail>
-    requires { limit < 2 ^ 64 - 1 }
     ensures within { IfOk result (λ bytes. length bytes.items ≤ limit) }
     ensures over { IfErr result (IsFaultOrOver None limit) }
 {
@@ -104,7 +102,6 @@ impl<R: Files + Drop> Shelf for FileShelf<R> {
 
     /// Its faults rise at each `Failed`, and its cut loads at each `TooLong`.
     fn load(&mut self, alloc: Global, name: &str, limit: u64) -> Result<Vec<u8>, LoadFail>
-        requires { limit < 2 ^ 64 - 1 }
         ensures within { IfOk result (λ file. length file.items ≤ limit) }
         ensures caused { IfErr result (HasLoadCause Untold limit
             self.old.faults self.new.faults self.old.cuts self.new.cuts) }

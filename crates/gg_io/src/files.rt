@@ -46,7 +46,6 @@ pub trait Shelf {
     /// The bytes of the file `name`, at most `limit` of them. A missing file is a fault. Whatever the answer, the
     /// shelf's files stay as they are, and only its counts may have risen.
     fn load(&mut self, alloc: Global, name: &str, limit: u64) -> Result<Vec<u8>, LoadFail>
-        requires { limit < 2 ^ 64 - 1 }
         ensures within { IfOk result (λ file. length file.items ≤ limit) }
         ensures whole { IfOk result (λ file. CanHold (files self.old name.now) file.items) }
         ensures caused { IfErr result (HasLoadCause (files self.old name.now) limit

@@ -42,7 +42,6 @@ impl MemShelf {
 
 /// A copy of the bytes, where they are within the limit; else the count of cut loads rises.
 fn copy_within(alloc: Global, bytes: &[u8], limit: u64, cuts: &mut u64) -> Result<Vec<u8>, LoadFail>
-    requires { limit < 2 ^ 64 - 1 }
     ensures within { IfOk result (λ file. length file.items ≤ limit) }
     ensures whole { IfOk result (λ file. file.items ≡ bytes.now) }
     ensures caused { IfErr result (HasLoadCause (Holds bytes.now) limit (2 ^ 64 - 1) 0 cuts.old cuts.new) }
@@ -65,7 +64,6 @@ impl Shelf for MemShelf {
 
     /// Fails exactly where the load's number is listed or there is no such file.
     fn load(&mut self, alloc: Global, name: &str, limit: u64) -> Result<Vec<u8>, LoadFail>
-        requires { limit < 2 ^ 64 - 1 }
         ensures within { IfOk result (λ file. length file.items ≤ limit) }
         ensures whole { IfOk result (λ file. CanHold (told_of (bytes_under self.old.files name.now)) file.items) }
         ensures caused { IfErr result (HasLoadCause (told_of (bytes_under self.old.files name.now)) limit
@@ -121,7 +119,6 @@ impl Shelf for SureShelf {
     ghost cuts = { λ s. s.cuts };
 
     fn load(&mut self, alloc: Global, name: &str, limit: u64) -> Result<Vec<u8>, LoadFail>
-        requires { limit < 2 ^ 64 - 1 }
         ensures within { IfOk result (λ file. length file.items ≤ limit) }
         ensures whole { IfOk result (λ file. CanHold (told_or_empty (bytes_under self.old.files name.now)) file.items) }
         ensures caused { IfErr result (HasLoadCause (told_or_empty (bytes_under self.old.files name.now)) limit

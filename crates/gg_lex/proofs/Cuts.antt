@@ -10,10 +10,10 @@ use Rattle.std.proofs.lemmas.List.Sums.{prefix_len_passes, prefix_len-le-length}
 use Rattle.std.proofs.lemmas.List.Elements.{All-cons, All-append, All-weaker, All-same}
 use Rattle.std.proofs.lemmas.Str.{IsUtf8-drop, IsCharBoundary-start, IsCharBoundary-after_ascii}
 use Rattle.gg_lex.specs.Bytes.{is_blank, starts_word, is_word_byte, is_tail_byte}
-use Rattle.gg_lex.specs.Shapes.{IsToken, IsFirst, IsWord, IsNumber, IsText, IsDigits, spelling}
+use Rattle.gg_lex.specs.Tokens.{IsToken, IsFirst, IsWord, IsNumber, IsText, IsDigits, spelling}
 use Rattle.gg_lex.specs.Lines.{after_blanks}
-use Rattle.gg_lex.specs.declared.token.Shape.{Shape}
-use Rattle.gg_lex.specs.declared.token.Shape.TheVariants as shape
+use Rattle.gg_lex.specs.declared.token.TokenKind.{TokenKind}
+use Rattle.gg_lex.specs.declared.token.TokenKind.TheVariants as kinds
 use Rattle.gg_lex.specs.declared.token.Symbol.{Symbol}
 use Rattle.gg_lex.specs.declared.token.Symbol.TheVariants.{Connect}
 use Rattle.gg_lex.proofs.Leads.{no_empty}
@@ -65,14 +65,14 @@ symbol_ends_in_ascii : (s : Symbol) → LastIsAscii (spelling s)
 symbol_ends_in_ascii Connect = omega arith
 symbol_ends_in_ascii _ = omega arith
 
-token_ends_in_ascii : (kind : Shape) (bs : List ℕ) → 0 < length bs → IsToken kind bs → LastIsAscii bs
-token_ends_in_ascii shape.Word bs nonempty word = last_of_all bs nonempty (word_is_ascii bs word)
-token_ends_in_ascii shape.Number bs nonempty number = last_of_all bs nonempty (number_is_ascii bs number)
-token_ends_in_ascii shape.Text bs nonempty (quoted, spelt, is_quoted) = subst LastIsAscii (sym spelt) (text_ends_in_ascii quoted)
-token_ends_in_ascii (shape.Symbol s) bs nonempty spelt = subst LastIsAscii (sym spelt) (symbol_ends_in_ascii s)
+token_ends_in_ascii : (kind : TokenKind) (bs : List ℕ) → 0 < length bs → IsToken kind bs → LastIsAscii bs
+token_ends_in_ascii kinds.Word bs nonempty word = last_of_all bs nonempty (word_is_ascii bs word)
+token_ends_in_ascii kinds.Number bs nonempty number = last_of_all bs nonempty (number_is_ascii bs number)
+token_ends_in_ascii kinds.Text bs nonempty (quoted, spelt, is_quoted) = subst LastIsAscii (sym spelt) (text_ends_in_ascii quoted)
+token_ends_in_ascii (kinds.Symbol s) bs nonempty spelt = subst LastIsAscii (sym spelt) (symbol_ends_in_ascii s)
 
 -- a first token has bytes
-pub first_nonempty : (kind : Shape) (bs : List ℕ) (n : ℕ) → IsToken kind (take n bs) → 0 < n
+pub first_nonempty : (kind : TokenKind) (bs : List ℕ) (n : ℕ) → IsToken kind (take n bs) → 0 < n
 first_nonempty kind bs zero token = absurd (no_empty kind token)
 first_nonempty kind bs (suc n) token = omega arith
 
@@ -82,7 +82,7 @@ cut_behind bs n utf8 some within ascii =
     let counted : n - 1 + 1 ≡ n = omega arith in
     subst (λ (k : ℕ). IsCharBoundary bs k) counted (IsCharBoundary-after_ascii bs (n - 1) utf8 (omega arith) ascii)
 
-cut_behind_token : (kind : Shape) (bs : List ℕ) (n : ℕ) → IsUtf8 bs → IsFirst kind bs n → IsCharBoundary bs n
+cut_behind_token : (kind : TokenKind) (bs : List ℕ) (n : ℕ) → IsUtf8 bs → IsFirst kind bs n → IsCharBoundary bs n
 cut_behind_token kind bs n utf8 first =
     let some = first_nonempty kind bs n first.token in
     let size : length (take n bs) ≡ n = length-take-le n bs first.within in
@@ -109,12 +109,12 @@ pub cut_blanks : (bs bytes : List ℕ) (n : ℕ) → IsUtf8 bs → bytes ≡ bs 
 cut_blanks bs bytes n utf8 same n_is =
     subst (λ (k : ℕ). IsCharBoundary bs k) (sym (n_is ∙ ap (prefix_len is_blank) same)) (cut_behind_blanks bs utf8)
 
-pub cut_token : (kind : Shape) (bs bytes : List ℕ) (n : ℕ) → IsUtf8 bytes → bytes ≡ bs → IsFirst kind bytes n → IsCharBoundary bs n
+pub cut_token : (kind : TokenKind) (bs bytes : List ℕ) (n : ℕ) → IsUtf8 bytes → bytes ≡ bs → IsFirst kind bytes n → IsCharBoundary bs n
 cut_token kind bs bytes n utf8 same first =
     subst (λ (l : List ℕ). IsCharBoundary l n) same (cut_behind_token kind bytes n utf8 first)
 
 -- what stands behind a token is text
-pub after_token-utf8 : (kind : Shape) (bs after : List ℕ) (n : ℕ) → IsUtf8 bs → IsFirst kind (after_blanks bs) n → after ≡ drop n (after_blanks bs) → IsUtf8 after
+pub after_token-utf8 : (kind : TokenKind) (bs after : List ℕ) (n : ℕ) → IsUtf8 bs → IsFirst kind (after_blanks bs) n → after ≡ drop n (after_blanks bs) → IsUtf8 after
 after_token-utf8 kind bs after n utf8 first after_is =
     let start : IsUtf8 (after_blanks bs) = IsUtf8-drop bs (prefix_len is_blank bs) utf8 (cut_behind_blanks bs utf8) in
     subst IsUtf8 (sym after_is) (IsUtf8-drop (after_blanks bs) n start (cut_behind_token kind (after_blanks bs) n start first))

@@ -8,3 +8,4 @@ pub mod Cuts
 pub mod Readings
 pub mod WorkedLines
 pub mod WorkedRows
+pub mod EveryLine

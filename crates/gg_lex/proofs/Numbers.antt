@@ -4,7 +4,7 @@ use Rattle.std.specs.List.{prefix_len, AllPass}
 use Rattle.std.specs.Char.{is_ascii_digit}
 use Rattle.std.proofs.lemmas.Bool.{ne_eqb, MatchBool-at_false}
 use Rattle.std.proofs.lemmas.List.Sums.{prefix_len-le-length}
-use Rattle.gg_lex.specs.Shapes.{IsDigits, IsNumber}
+use Rattle.gg_lex.specs.Tokens.{IsDigits, IsNumber}
 use Rattle.gg_lex.specs.Fronts.{IsLongest, HasNoFront, FindsFront}
 use Rattle.gg_lex.proofs.Runs.{length-le-prefix_len, AllPass-take-prefix_len}
 

@@ -5,7 +5,7 @@ use Rattle.std.proofs.Math.Seq.{take-add}
 use Rattle.std.proofs.lemmas.Bool.{ne_eqb, MatchBool-at_false, cases_order}
 use Rattle.std.proofs.lemmas.List.{drop_more, take_more, take_at, get_or_at}
 use Rattle.std.proofs.lemmas.Option.{slice_get-get_or, slice_get_within, get_or_from_slice_get}
-use Rattle.gg_lex.specs.Shapes.{IsQuoted, IsText}
+use Rattle.gg_lex.specs.Tokens.{IsQuoted, IsText}
 use Rattle.gg_lex.specs.Fronts.{IsLongest, HasNoFront, EndsQuoted, FindsQuote}
 
 -- what follows from either fact

@@ -5,18 +5,18 @@ use Rattle.std.specs.List.{prefix_len}
 use Rattle.std.proofs.lemmas.Bool.{both_ways}
 use Rattle.std.proofs.lemmas.List.{take_all}
 use Rattle.gg_lex.specs.Bytes.{is_blank, starts_word, begins_number}
-use Rattle.gg_lex.specs.Shapes.{IsToken, IsFirst, BeginsNoToken, spelling, token_of}
+use Rattle.gg_lex.specs.Tokens.{IsToken, IsFirst, BeginsNoToken, spelling, token_of}
 use Rattle.gg_lex.specs.Lines.{after_blanks, IsComment, IsEnd, Begins, Lexes}
-use Rattle.gg_lex.specs.Pieces.{EndsOrFails}
+use Rattle.gg_lex.specs.NextToken.{EndsOrFails}
 use Rattle.gg_lex.specs.declared.token.Tok.{Tok}
-use Rattle.gg_lex.specs.declared.token.Shape.{Shape}
-use Rattle.gg_lex.specs.declared.token.Shape.TheVariants as shape
+use Rattle.gg_lex.specs.declared.token.TokenKind.{TokenKind}
+use Rattle.gg_lex.specs.declared.token.TokenKind.TheVariants as kinds
 use Rattle.gg_lex.specs.declared.token.Symbol.{Symbol}
 use Rattle.gg_lex.specs.declared.token.Symbol.TheVariants.{Connect, Arrow, PartialConnect, Colon, Comma, Dot, OpenParen, CloseParen, Less, Greater, Equals, OpenBracket, CloseBracket, OpenBrace, CloseBrace, OpenAnnotations}
 use Rattle.gg_lex.proofs.Leads.{Leads, leads, only_word, only_number, only_text, no_empty}
 
 -- the symbol with these first two bytes
-symbol_from : ℕ → ℕ → Symbol
+pub symbol_from : ℕ → ℕ → Symbol
 symbol_from a b =
     cond (eqb a 60) (cond (eqb b 61) Connect (cond (eqb b 45) PartialConnect Less))
     (cond (eqb a 61) (cond (eqb b 62) Arrow Equals)
@@ -24,7 +24,7 @@ symbol_from a b =
     (cond (eqb a 40) OpenParen (cond (eqb a 41) CloseParen (cond (eqb a 62) Greater
     (cond (eqb a 91) OpenBracket (cond (eqb a 93) CloseBracket (cond (eqb a 123) OpenBrace (cond (eqb a 125) CloseBrace OpenAnnotations)))))))))))
 
-symbol_back : (s : Symbol) → symbol_from (get_or (spelling s) 0 0) (get_or (spelling s) 1 0) ≡ s
+pub symbol_back : (s : Symbol) → symbol_from (get_or (spelling s) 0 0) (get_or (spelling s) 1 0) ≡ s
 unfolding symbol_from
 symbol_back Connect = refl
 symbol_back _ = refl
@@ -33,30 +33,30 @@ same_symbol : (s u : Symbol) → spelling s ≡ spelling u → s ≡ u
 same_symbol s u same =
     sym (symbol_back s) ∙ ap (λ (l : List ℕ). symbol_from (get_or l 0 0) (get_or l 1 0)) same ∙ symbol_back u
 
--- bytes are a token of one shape at most
-same_shape-cons : (kind other : Shape) (b : ℕ) (bs : List ℕ) → IsToken kind (b ∷ bs) → IsToken other (b ∷ bs) → kind ≡ other
-same_shape-cons shape.Word other b bs token again = sym (only_word b (leads shape.Word b bs token) other (leads other b bs again))
-same_shape-cons shape.Number other b bs token again = sym (only_number b (leads shape.Number b bs token) other (leads other b bs again))
-same_shape-cons shape.Text other b bs token again = sym (only_text b (leads shape.Text b bs token) other (leads other b bs again))
-same_shape-cons (shape.Symbol s) shape.Word b bs token again = only_word b (leads shape.Word b bs again) (shape.Symbol s) (leads (shape.Symbol s) b bs token)
-same_shape-cons (shape.Symbol s) shape.Number b bs token again = only_number b (leads shape.Number b bs again) (shape.Symbol s) (leads (shape.Symbol s) b bs token)
-same_shape-cons (shape.Symbol s) shape.Text b bs token again = only_text b (leads shape.Text b bs again) (shape.Symbol s) (leads (shape.Symbol s) b bs token)
-same_shape-cons (shape.Symbol s) (shape.Symbol u) b bs token again = ap (λ (x : Symbol). shape.Symbol x) (same_symbol s u (sym token ∙ again))
+-- bytes are a token of one kind at most
+same_kind-cons : (kind other : TokenKind) (b : ℕ) (bs : List ℕ) → IsToken kind (b ∷ bs) → IsToken other (b ∷ bs) → kind ≡ other
+same_kind-cons kinds.Word other b bs token again = sym (only_word b (leads kinds.Word b bs token) other (leads other b bs again))
+same_kind-cons kinds.Number other b bs token again = sym (only_number b (leads kinds.Number b bs token) other (leads other b bs again))
+same_kind-cons kinds.Text other b bs token again = sym (only_text b (leads kinds.Text b bs token) other (leads other b bs again))
+same_kind-cons (kinds.Symbol s) kinds.Word b bs token again = only_word b (leads kinds.Word b bs again) (kinds.Symbol s) (leads (kinds.Symbol s) b bs token)
+same_kind-cons (kinds.Symbol s) kinds.Number b bs token again = only_number b (leads kinds.Number b bs again) (kinds.Symbol s) (leads (kinds.Symbol s) b bs token)
+same_kind-cons (kinds.Symbol s) kinds.Text b bs token again = only_text b (leads kinds.Text b bs again) (kinds.Symbol s) (leads (kinds.Symbol s) b bs token)
+same_kind-cons (kinds.Symbol s) (kinds.Symbol u) b bs token again = ap (λ (x : Symbol). kinds.Symbol x) (same_symbol s u (sym token ∙ again))
 
-same_shape : (kind other : Shape) (bs : List ℕ) → IsToken kind bs → IsToken other bs → kind ≡ other
-same_shape kind other [] token again = absurd (no_empty kind token)
-same_shape kind other (b ∷ bs) token again = same_shape-cons kind other b bs token again
+same_kind : (kind other : TokenKind) (bs : List ℕ) → IsToken kind bs → IsToken other bs → kind ≡ other
+same_kind kind other [] token again = absurd (no_empty kind token)
+same_kind kind other (b ∷ bs) token again = same_kind-cons kind other b bs token again
 
-same_size : (kind other : Shape) (bs : List ℕ) (n m : ℕ) → IsFirst kind bs n → IsFirst other bs m → n ≡ m
+same_size : (kind other : TokenKind) (bs : List ℕ) (n m : ℕ) → IsFirst kind bs n → IsFirst other bs m → n ≡ m
 same_size kind other bs n m first again =
     omega (arith, first.longest other m again.within again.token, again.longest kind n first.within first.token)
 
 -- no token begins at `;` or `@`
-no_lead : (b : ℕ) → (b ≡ 59) ⊎ (b ≡ 64) → (kind : Shape) → Leads kind b → ⊥
-no_lead b which shape.Word lead = both_ways (starts_word b) (⊎_elim (λ e. ap starts_word e) (λ e. ap starts_word e) which) lead
-no_lead b which shape.Number lead = both_ways (begins_number b) (⊎_elim (λ e. ap begins_number e) (λ e. ap begins_number e) which) lead
-no_lead b which shape.Text lead = ⊎_elim (λ e. omega (arith, e, lead)) (λ e. omega (arith, e, lead)) which
-no_lead b which (shape.Symbol s) lead = no_symbol s (⊎_elim (λ e. inl (lead ∙ e)) (λ e. inr (lead ∙ e)) which)
+no_lead : (b : ℕ) → (b ≡ 59) ⊎ (b ≡ 64) → (kind : TokenKind) → Leads kind b → ⊥
+no_lead b which kinds.Word lead = both_ways (starts_word b) (⊎_elim (λ e. ap starts_word e) (λ e. ap starts_word e) which) lead
+no_lead b which kinds.Number lead = both_ways (begins_number b) (⊎_elim (λ e. ap begins_number e) (λ e. ap begins_number e) which) lead
+no_lead b which kinds.Text lead = ⊎_elim (λ e. omega (arith, e, lead)) (λ e. omega (arith, e, lead)) which
+no_lead b which (kinds.Symbol s) lead = no_symbol s (⊎_elim (λ e. inl (lead ∙ e)) (λ e. inr (lead ∙ e)) which)
   where
     no_symbol : (s : Symbol) → (get_or (spelling s) 0 0 ≡ 59) ⊎ (get_or (spelling s) 0 0 ≡ 64) → ⊥
     no_symbol Connect e = ⊎_elim (λ x. omega (arith, x)) (λ x. omega (arith, x)) e
@@ -91,8 +91,8 @@ Begins-same (t ∷ ts) [] line r s (kind, n, first, t_is, begins) stop again sto
 Begins-same (t ∷ ts) (u ∷ us) line r s (kind, n, first, t_is, begins) stop (other, m, second, u_is, again) stop_again =
     let size : m ≡ n = same_size other kind (after_blanks line) m n second first in
     let token : IsToken other (take n (after_blanks line)) = subst (λ (k : ℕ). IsToken other (take k (after_blanks line))) size second.token in
-    let shapes : kind ≡ other = same_shape kind other (take n (after_blanks line)) first.token token in
-    let heads : t ≡ u = t_is ∙ ap (λ (k : Shape). token_of k (take n (after_blanks line))) shapes ∙ ap (λ (k : ℕ). token_of other (take k (after_blanks line))) (sym size) ∙ sym u_is in
+    let kinds_same : kind ≡ other = same_kind kind other (take n (after_blanks line)) first.token token in
+    let heads : t ≡ u = t_is ∙ ap (λ (k : TokenKind). token_of k (take n (after_blanks line))) kinds_same ∙ ap (λ (k : ℕ). token_of other (take k (after_blanks line))) (sym size) ∙ sym u_is in
     let tails = Begins-same ts us (drop n (after_blanks line)) r s begins stop (subst (λ (k : ℕ). Begins us (drop k (after_blanks line)) s) size again) stop_again in
     (cc (heads, tails.0), tails.1)
 
@@ -111,13 +111,13 @@ Lexes-same line ts us (Some place) (Some other) read again =
     (same.0, ap (λ (p : ℕ). Some p) places)
 
 -- a step over one token
-pub Begins-step : (ts : List Tok) (t : Tok) (line mid rest : List ℕ) (kind : Shape) (n : ℕ) → Begins ts line mid → IsFirst kind (after_blanks mid) n → t ≡ token_of kind (take n (after_blanks mid)) → rest ≡ drop n (after_blanks mid) → Begins (ts ++ t ∷ []) line rest
+pub Begins-step : (ts : List Tok) (t : Tok) (line mid rest : List ℕ) (kind : TokenKind) (n : ℕ) → Begins ts line mid → IsFirst kind (after_blanks mid) n → t ≡ token_of kind (take n (after_blanks mid)) → rest ≡ drop n (after_blanks mid) → Begins (ts ++ t ∷ []) line rest
 Begins-step [] t line mid rest kind n before first t_is rest_is =
     subst (λ (l : List ℕ). Begins (t ∷ []) l rest) before (kind, n, first, t_is, rest_is)
 Begins-step (u ∷ us) t line mid rest kind n (other, m, second, u_is, before) first t_is rest_is =
     (other, m, second, u_is, Begins-step us t (drop m (after_blanks line)) mid rest kind n before first t_is rest_is)
 
-after_blanks-le : (bs : List ℕ) → length (after_blanks bs) ≤ length bs
+pub after_blanks-le : (bs : List ℕ) → length (after_blanks bs) ≤ length bs
 after_blanks-le bs = omega (arith, length-drop (prefix_len is_blank bs) bs)
 
 -- the rest is no longer than the line

@@ -8,13 +8,13 @@ use Rattle.std.proofs.lemmas.Bool.{false≢true, both_ways, or_right}
 use Rattle.gg_lex.specs.Bytes.{quote, minus, starts_word, begins_number, is_word_byte, is_tail_byte}
 use Rattle.gg_lex.specs.Fronts.{LeadsSymbol, IsFrontOfTwo}
 use Rattle.gg_lex.specs.Lines.{after_blanks, IsComment, AreTokens}
-use Rattle.gg_lex.specs.Shapes.{IsFirst, spelling}
-use Rattle.gg_lex.specs.declared.token.Shape.TheVariants as shape
+use Rattle.gg_lex.specs.Tokens.{IsFirst, spelling}
+use Rattle.gg_lex.specs.declared.token.TokenKind.TheVariants as kinds
 use Rattle.gg_lex.specs.declared.token.Symbol.{Symbol}
 use Rattle.gg_lex.specs.declared.token.Symbol.TheVariants.{Connect, Arrow, PartialConnect, OpenAnnotations, Colon, Less, Greater, Equals}
 use Rattle.gg_lex.specs.declared.token.Tok.{Tok}
 use Rattle.gg_lex.specs.declared.token.Tok.TheVariants as tok
-use Rattle.gg_lex.proofs.Leads.{first_of_shape, first_of_two, first_of_one, only_word, only_number}
+use Rattle.gg_lex.proofs.Leads.{first_of_kind, first_of_two, first_of_one, only_word, only_number}
 use Rattle.gg_lex.proofs.Numbers.{longest_digits, unsigned_front}
 use Rattle.gg_lex.proofs.Runs.{prefix_len-pass}
 use Rattle.gg_lex.proofs.Words.{longest_word}
@@ -29,10 +29,10 @@ tail_size bs = prefix_len is_tail_byte (drop (body_size bs) (drop 1 bs))
 abbrev word_size : List ℕ → ℕ
 word_size bs = 1 + body_size bs + tail_size bs
 
-first_word : (bs : List ℕ) → starts_word (get_or bs 0 0) ≡ true → IsFirst shape.Word bs (word_size bs)
+first_word : (bs : List ℕ) → starts_word (get_or bs 0 0) ≡ true → IsFirst kinds.Word bs (word_size bs)
 first_word [] starts = absurd (false≢true starts)
 first_word (b ∷ bs) starts =
-    first_of_shape shape.Word (b ∷ bs) (word_size (b ∷ bs)) (omega arith) (only_word b starts) (longest_word (b ∷ bs) (body_size (b ∷ bs)) (tail_size (b ∷ bs)) (omega arith) starts refl refl)
+    first_of_kind kinds.Word (b ∷ bs) (word_size (b ∷ bs)) (omega arith) (only_word b starts) (longest_word (b ∷ bs) (body_size (b ∷ bs)) (tail_size (b ∷ bs)) (omega arith) starts refl refl)
 
 -- a word behind the blanks
 pub word : {w : List ℕ} {ts : List Tok} {line : List ℕ} → starts_word (get_or (after_blanks line) 0 0) ≡ true → w ≡ take (word_size (after_blanks line)) (after_blanks line)
@@ -40,7 +40,7 @@ pub word : {w : List ℕ} {ts : List Tok} {line : List ℕ} → starts_word (get
 word {w} {ts} {line} starts is more =
     record {
       rest = more.rest;
-      before = (shape.Word, word_size (after_blanks line), first_word (after_blanks line) starts, ap (λ (x : List ℕ). tok.Word x) is, more.before);
+      before = (kinds.Word, word_size (after_blanks line), first_word (after_blanks line) starts, ap (λ (x : List ℕ). tok.Word x) is, more.before);
       end = more.end;
     }
 
@@ -79,7 +79,7 @@ one {s} {ts} {line} tests is more =
     let bs : List ℕ = after_blanks line in
     record {
       rest = more.rest;
-      before = (shape.Symbol s, 1, first_of_one bs (leads_symbol bs false tests) s (no_two bs (ap (λ (l : List Bool). get_or l 4 false) tests)) is, refl, more.before);
+      before = (kinds.Symbol s, 1, first_of_one bs (leads_symbol bs false tests) s (no_two bs (ap (λ (l : List Bool). get_or l 4 false) tests)) is, refl, more.before);
       end = more.end;
     }
 
@@ -90,17 +90,17 @@ two {s} {ts} {line} tests long is more =
     let bs : List ℕ = after_blanks line in
     record {
       rest = more.rest;
-      before = (shape.Symbol s, 2, first_of_two bs (leads_symbol bs true tests) s (long, is), refl, more.before);
+      before = (kinds.Symbol s, 2, first_of_two bs (leads_symbol bs true tests) s (long, is), refl, more.before);
       end = more.end;
     }
 
-first_number : (bs : List ℕ) → is_ascii_digit (get_or bs 0 0) ≡ true → IsFirst shape.Number bs (prefix_len is_ascii_digit bs)
+first_number : (bs : List ℕ) → is_ascii_digit (get_or bs 0 0) ≡ true → IsFirst kinds.Number bs (prefix_len is_ascii_digit bs)
 first_number [] digit = absurd (false≢true digit)
 first_number (b ∷ bs) digit =
     let counted = prefix_len-pass is_ascii_digit b bs digit in
     let plain : b ≢ minus = λ e. both_ways (is_ascii_digit b) (ap is_ascii_digit e) digit in
     let some : prefix_len is_ascii_digit (b ∷ bs) ≢ 0 = λ e. omega (arith, e, counted) in
-    first_of_shape shape.Number (b ∷ bs) (prefix_len is_ascii_digit (b ∷ bs)) (omega arith) (only_number b (or_right (eqb b 45) (is_ascii_digit b) digit))
+    first_of_kind kinds.Number (b ∷ bs) (prefix_len is_ascii_digit (b ∷ bs)) (omega arith) (only_number b (or_right (eqb b 45) (is_ascii_digit b) digit))
     (unsigned_front (b ∷ bs) (Some (prefix_len is_ascii_digit (b ∷ bs))) (omega arith) plain (longest_digits (b ∷ bs) (prefix_len is_ascii_digit (b ∷ bs)) refl some))
 
 -- a number without a sign behind the blanks
@@ -109,7 +109,7 @@ pub number : {w : List ℕ} {ts : List Tok} {line : List ℕ} → is_ascii_digit
 number {w} {ts} {line} digit is more =
     record {
       rest = more.rest;
-      before = (shape.Number, prefix_len is_ascii_digit (after_blanks line), first_number (after_blanks line) digit, ap (λ (x : List ℕ). tok.Number x) is, more.before);
+      before = (kinds.Number, prefix_len is_ascii_digit (after_blanks line), first_number (after_blanks line) digit, ap (λ (x : List ℕ). tok.Number x) is, more.before);
       end = more.end;
     }
 

@@ -3,8 +3,8 @@
 use Rattle.std.proofs.Common.{◌≡◌, ℕ, zero, suc, ◌+◌, ◌<◌, ◌≤◌, true, false, [], ◌∷◌, map, unwrap_or, codes, refl, ap, arith, lit≤}
 use Rattle.gg_lex.specs.Bytes.{starts_word, is_word_byte, is_tail_byte}
 use Rattle.gg_lex.specs.Lines.{after_blanks, ClosesBehind, IsInfo}
-use Rattle.gg_lex.specs.Shapes.{IsQuoted, IsNumber, token_of}
-use Rattle.gg_lex.specs.declared.token.Shape.TheVariants as shape
+use Rattle.gg_lex.specs.Tokens.{IsQuoted, IsNumber, token_of}
+use Rattle.gg_lex.specs.declared.token.TokenKind.TheVariants as kinds
 use Rattle.gg_lex.specs.declared.token.Tok.TheVariants as tok
 
 -- letters of either case, `_`, `$`, a digit and `-`: which begin a word, stand in it, stand in its tail
@@ -22,10 +22,10 @@ blanks : after_blanks (32 ∷ 9 ∷ 32 ∷ 13 ∷ 32 ∷ []) ≡ 13 ∷ 32 ∷ [
 blanks = refl
 
 -- a text keeps what stands between its quotes, its backslash too; a number keeps its sign and its zeros
-text_kept : token_of shape.Text (34 ∷ 97 ∷ 92 ∷ 34 ∷ 34 ∷ []) ≡ tok.Text (97 ∷ 92 ∷ 34 ∷ [])
+text_kept : token_of kinds.Text (34 ∷ 97 ∷ 92 ∷ 34 ∷ 34 ∷ []) ≡ tok.Text (97 ∷ 92 ∷ 34 ∷ [])
 text_kept = refl
 
-number_kept : token_of shape.Number (codes "-007") ≡ tok.Number (codes "-007")
+number_kept : token_of kinds.Number (codes "-007") ≡ tok.Number (codes "-007")
 number_kept = refl
 
 -- a quote may stand behind a backslash, and nowhere else; a backslash takes something with it

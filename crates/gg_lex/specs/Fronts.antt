@@ -1,7 +1,7 @@
 -- The longest front of some bytes that has a property, as being a word.
 use Rattle.std.specs.Prelude.{◌≡◌, ◌≢◌, ◌<◌, ℕ, IsFalse, slice_index, ◌≤◌, List, length, take, slice_get, Option, Some, None}
 use Rattle.gg_lex.specs.Bytes.{quote, starts_word, begins_number}
-use Rattle.gg_lex.specs.Shapes.{IsFirst, BeginsNoToken, IsQuoted, spelling}
+use Rattle.gg_lex.specs.Tokens.{IsFirst, BeginsNoToken, IsQuoted, spelling}
 use Rattle.gg_lex.specs.declared.token.Front.{Front}
 use Rattle.gg_lex.specs.declared.token.Symbol.{Symbol}
 
@@ -20,10 +20,10 @@ abbrev pub FindsFront : (List ℕ → Type 0) → List ℕ → Option ℕ → Ty
 FindsFront Has bs None = HasNoFront Has bs
 FindsFront Has bs (Some n) = IsLongest Has bs n
 
--- the first token has this shape and length; there is none
+-- the first token has this kind and length; there is none
 abbrev pub FindsToken : List ℕ → Option Front → Type 0
 FindsToken bs None = BeginsNoToken bs
-FindsToken bs (Some front) = IsFirst front.shape bs front.length
+FindsToken bs (Some front) = IsFirst front.kind bs front.length
 
 -- at this place stands a quote behind bytes that are quoted
 abbrev pub EndsQuoted : List ℕ → ℕ → Type 0

@@ -1,6 +1,7 @@
 pub mod Bytes
-pub mod Shapes
+pub mod Tokens
 pub mod Fronts
 pub mod Lines
 pub mod Ends
-pub mod Pieces
+pub mod NextToken
+pub mod FaultText

@@ -3,8 +3,8 @@
 use Rattle.std.specs.Prelude.{◌≡◌, ◌≢◌, ℕ, zero, suc, ◌+◌, ◌<◌, ◌≤◌, List, [], ◌∷◌, length, drop, take, Option, Some, None, slice_get}
 use Rattle.std.specs.List.{prefix_len}
 use Rattle.gg_lex.specs.Bytes.{semicolon, at_sign, open_bracket, backslash, close_bracket, is_blank}
-use Rattle.gg_lex.specs.Shapes.{IsFirst, BeginsNoToken, token_of}
-use Rattle.gg_lex.specs.declared.token.Shape.{Shape}
+use Rattle.gg_lex.specs.Tokens.{IsFirst, BeginsNoToken, token_of}
+use Rattle.gg_lex.specs.declared.token.TokenKind.{TokenKind}
 use Rattle.gg_lex.specs.declared.token.Tok.{Tok}
 use Rattle.gg_lex.specs.declared.token.LexFault.{LexFault}
 use Rattle.gg_lex.specs.declared.token.LexFault.TheVariants.{At, NoMemory}
@@ -32,7 +32,7 @@ abbrev pub IsComment : List ℕ → Type 0
 IsComment [] = Unit {0}
 IsComment (b ∷ bs) = b ≡ semicolon
 
--- so many pieces of file information, and then a comment or nothing; blanks may stand before each
+-- so many file information parts, and then a comment or nothing; blanks may stand before each
 abbrev pub IsEndWith : ℕ → List ℕ → Type 0
 IsEndWith zero bs = IsComment (after_blanks bs)
 IsEndWith (suc infos) bs = (n : ℕ) × IsInfo (after_blanks bs) n × IsEndWith infos (drop n (after_blanks bs))
@@ -46,7 +46,7 @@ IsEnd bs = (infos : ℕ) × IsEndWith infos bs
 abbrev pub Begins : List Tok → List ℕ → List ℕ → Type 0
 Begins [] bs rest = rest ≡ bs
 Begins (t ∷ ts) bs rest =
-    (kind : Shape) × (n : ℕ) × IsFirst kind (after_blanks bs) n × (t ≡ token_of kind (take n (after_blanks bs))) × Begins ts (drop n (after_blanks bs)) rest
+    (kind : TokenKind) × (n : ℕ) × IsFirst kind (after_blanks bs) n × (t ≡ token_of kind (take n (after_blanks bs))) × Begins ts (drop n (after_blanks bs)) rest
 
 -- these are the tokens of the line
 pub record AreTokens (ts : List Tok) (line : List ℕ) : Type 0 where

@@ -1,13 +1,13 @@
-//! The first token of some bytes: its shape and length.
+//! The first token of some bytes: its kind and length.
 ghost use Rattle.std.specs.Prelude.{◌≡◌, ◌<◌, length, slice_index, IfSome, IfNone, IsTrue};
 ghost use Rattle.gg_lex.specs.Bytes.{starts_word, begins_number};
-ghost use Rattle.gg_lex.specs.Shapes.{IsFirst};
+ghost use Rattle.gg_lex.specs.Tokens.{IsFirst};
 ghost use Rattle.gg_lex.specs.Fronts.{FindsToken, LeadsSymbol, IsFrontOfTwo};
 
 use crate::bytes::{begins_number, starts_word};
 use crate::longest::{number_len, text_len, word_len};
 use crate::symbols::{symbol_of_one, symbol_of_two};
-use crate::token::{Front, Shape, Symbol};
+use crate::token::{Front, Symbol, TokenKind};
 
 /// The first token, if some front of the bytes is a token.
 pub(crate) fn first_token(bytes: &[u8]) -> Option<Front>
@@ -32,10 +32,10 @@ pub(crate) fn first_token(bytes: &[u8]) -> Option<Front>
 fn first_word(bytes: &[u8]) -> Front
     requires nonempty { 0 < length bytes.now }
     requires begins { IsTrue (starts_word (slice_index bytes.now 0)) }
-    ensures { IsFirst result.shape bytes.now result.length }
+    ensures { IsFirst result.kind bytes.now result.length }
 {
     Front {
-        shape: Shape::Word,
+        kind: TokenKind::Word,
         length: word_len(bytes),
     }
 }
@@ -48,7 +48,7 @@ fn first_number(bytes: &[u8]) -> Option<Front>
 {
     match number_len(bytes) {
         Some(length) => Some(Front {
-            shape: Shape::Number,
+            kind: TokenKind::Number,
             length,
         }),
         None => None,
@@ -63,7 +63,7 @@ fn first_text(bytes: &[u8]) -> Option<Front>
 {
     match text_len(bytes) {
         Some(length) => Some(Front {
-            shape: Shape::Text,
+            kind: TokenKind::Text,
             length,
         }),
         None => None,
@@ -77,13 +77,13 @@ fn first_symbol(bytes: &[u8]) -> Option<Front>
 {
     if let Some(symbol) = leading_symbol_of_two(bytes) {
         return Some(Front {
-            shape: Shape::Symbol(symbol),
+            kind: TokenKind::Symbol(symbol),
             length: 2,
         });
     }
     match symbol_of_one(bytes[0]) {
         Some(symbol) => Some(Front {
-            shape: Shape::Symbol(symbol),
+            kind: TokenKind::Symbol(symbol),
             length: 1,
         }),
         None => None,

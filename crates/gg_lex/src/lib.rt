@@ -1,7 +1,8 @@
 //! The tokens of a line of FIRRTL text.
 //!
 //! `tokens` answers exactly the tokens of a line, the longest first, or the place of the first byte that begins no
-//! token. `lex` answers the tokens before that place too, which a reader looks at to name the line's fault.
+//! token. `lex` answers the tokens before that place too, which a reader looks at to name the line's fault. Each line
+//! has tokens or fails at some place (`every_line`), and in one way (`one_reading`).
 #![tactic(auto)]
 
 mod bytes;
@@ -14,5 +15,5 @@ mod symbols;
 mod tests;
 mod token;
 
-pub use line::{lex, one_reading, tokens};
-pub use token::{LexFault, Lexed, Shape, Symbol, Tok};
+pub use line::{every_line, lex, one_reading, tokens};
+pub use token::{LexFault, LexedLine, Symbol, Tok, TokenKind};

@@ -1,13 +1,13 @@
 //! The tokens of a line.
 ghost use Rattle.std.specs.Prelude.{◌≡◌, ℕ, ◌-◌, ◌≤◌, List, take, drop, Option, length, IfOk, IfErr, IfSome, MatchOption, MatchResult};
-ghost use Rattle.gg_lex.specs.Shapes.{IsToken, IsText, token_of, BeginsNoToken};
+ghost use Rattle.gg_lex.specs.Tokens.{IsToken, IsText, token_of, BeginsNoToken};
 ghost use Rattle.gg_lex.specs.Lines.{Lexes, AreTokens, FailsAt, HasCause, IsFaultAt, after_blanks};
-ghost use Rattle.gg_lex.specs.Pieces.{IsPieceOf, EndsOrFails};
+ghost use Rattle.gg_lex.specs.NextToken.{IsNextToken, EndsOrFails};
 
 use crate::bytes::{Class, run_len};
 use crate::ends::is_end;
 use crate::fronts::first_token;
-use crate::token::{LexFault, Lexed, Piece, Shape, Tok};
+use crate::token::{LexFault, LexedLine, NextToken, Tok, TokenKind};
 use gg_bits::Name;
 use std::alloc::{AllocError, Global};
 
@@ -28,7 +28,7 @@ pub fn tokens(alloc: Global, line: &str) -> Result<Vec<Tok>, LexFault>
 {
     match lex(alloc, line) {
         Ok(lexed) => {
-            let Lexed { tokens, bad } = lexed;
+            let LexedLine { tokens, bad } = lexed;
             match bad {
                 None => Ok(tokens),
                 Some(place) => Err(LexFault::At(place)),
@@ -44,19 +44,19 @@ pub fn tokens(alloc: Global, line: &str) -> Result<Vec<Tok>, LexFault>
 /// # Errors
 ///
 /// `AllocError` where memory is refused.
-pub fn lex(alloc: Global, line: &str) -> Result<Lexed, AllocError>
+pub fn lex(alloc: Global, line: &str) -> Result<LexedLine, AllocError>
     ensures answer { IfOk result (λ lexed. Lexes line.now lexed.tokens.items lexed.bad) }
     ensures only { IfOk result (λ lexed. (ts : List Tok) (bad : Option ℕ) → Lexes line.now ts bad → (lexed.tokens.items ≡ ts) × (lexed.bad ≡ bad)) }
 {
     let mut tokens = Vec::new(alloc);
     let mut rest = line;
-    while let Some(piece) = next_piece(rest) {
-        let token = make_token(alloc, piece.shape, piece.text)?;
+    while let Some(next) = next_token(rest) {
+        let token = make_token(alloc, next.kind, next.text)?;
         tokens.push(token)?;
-        rest = piece.after;
+        rest = next.after;
     }
     let bad = bad_place(line, rest);
-    Ok(Lexed { tokens, bad })
+    Ok(LexedLine { tokens, bad })
 }
 
 /// A line is read in one way at most: it has one list of tokens, or fails at one place.
@@ -64,9 +64,14 @@ pub fn one_reading()
     ensures { (line : List ℕ) (ts us : List Tok) (bad other : Option ℕ) → Lexes line ts bad → Lexes line us other → (ts ≡ us) × (bad ≡ other) }
 {}
 
+/// Each line has tokens, or fails at some place, whatever its bytes are.
+pub fn every_line()
+    ensures { (line : List ℕ) → (ts : List Tok) × (bad : Option ℕ) × Lexes line ts bad }
+{}
+
 /// The first token behind the blanks, if there is one.
-fn next_piece<'a>(rest: &'a str) -> Option<Piece<'a>>
-    ensures { MatchOption result (BeginsNoToken (after_blanks rest.now)) (IsPieceOf rest.now) }
+fn next_token<'a>(rest: &'a str) -> Option<NextToken<'a>>
+    ensures { MatchOption result (BeginsNoToken (after_blanks rest.now)) (IsNextToken rest.now) }
 {
     let blanks = run_len(rest.as_bytes(), Class::Blank);
     let (_, start) = rest.split_at(blanks);
@@ -74,8 +79,8 @@ fn next_piece<'a>(rest: &'a str) -> Option<Piece<'a>>
         None => None,
         Some(front) => {
             let (text, after) = start.split_at(front.length);
-            Some(Piece {
-                shape: front.shape,
+            Some(NextToken {
+                kind: front.kind,
                 text,
                 after,
             })
@@ -83,16 +88,16 @@ fn next_piece<'a>(rest: &'a str) -> Option<Piece<'a>>
     }
 }
 
-/// The token that a text of this shape is.
-fn make_token(alloc: Global, shape: Shape, text: &str) -> Result<Tok, AllocError>
-    requires { IsToken shape text.now }
-    ensures { IfOk result (λ token. token ≡ token_of shape text.now) }
+/// The token that a text of this kind is.
+fn make_token(alloc: Global, kind: TokenKind, text: &str) -> Result<Tok, AllocError>
+    requires { IsToken kind text.now }
+    ensures { IfOk result (λ token. token ≡ token_of kind text.now) }
 {
-    match shape {
-        Shape::Word => Ok(Tok::Word(name(alloc, text)?)),
-        Shape::Number => Ok(Tok::Number(name(alloc, text)?)),
-        Shape::Text => Ok(Tok::Text(name(alloc, between_quotes(text))?)),
-        Shape::Symbol(symbol) => Ok(Tok::Symbol(symbol)),
+    match kind {
+        TokenKind::Word => Ok(Tok::Word(Name::from_str(alloc, text)?)),
+        TokenKind::Number => Ok(Tok::Number(Name::from_str(alloc, text)?)),
+        TokenKind::Text => Ok(Tok::Text(Name::from_str(alloc, between_quotes(text))?)),
+        TokenKind::Symbol(symbol) => Ok(Tok::Symbol(symbol)),
     }
 }
 
@@ -104,14 +109,6 @@ fn between_quotes(text: &str) -> &str
     let (_, rest) = text.split_at(1);
     let (quoted, _) = rest.split_at(rest.len() - 1);
     quoted
-}
-
-/// A name of its own with this text.
-fn name(alloc: Global, text: &str) -> Result<Name, AllocError>
-    ensures { IfOk result (λ name. name ≡ text.now) }
-{
-    let owned = String::from_str(alloc, text)?;
-    Ok(Name::from(owned))
 }
 
 /// The place of the byte behind the blanks, unless the line may end where `rest` is left of it.

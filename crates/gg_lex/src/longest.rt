@@ -1,7 +1,7 @@
 //! The longest word, number, text or symbol at the front of some bytes.
 ghost use Rattle.std.specs.Prelude.{◌≡◌, ◌<◌, length, slice_index, IsTrue, IfSome, IfNone, ◌≤◌, ◌+◌};
 ghost use Rattle.gg_lex.specs.Bytes.{starts_word};
-ghost use Rattle.gg_lex.specs.Shapes.{IsWord, IsDigits, IsNumber, IsText};
+ghost use Rattle.gg_lex.specs.Tokens.{IsWord, IsDigits, IsNumber, IsText};
 ghost use Rattle.gg_lex.specs.Fronts.{IsLongest, FindsFront, FindsQuote};
 
 use crate::bytes::{Class, run_len};

@@ -1,6 +1,6 @@
 //! Symbols: how each is written, and the longest at the front of some bytes.
 ghost use Rattle.std.specs.Prelude.{◌≡◌, ◌∷◌, [], IfSome, IfNone};
-ghost use Rattle.gg_lex.specs.Shapes.{spelling};
+ghost use Rattle.gg_lex.specs.Tokens.{spelling};
 
 use crate::token::Symbol;
 

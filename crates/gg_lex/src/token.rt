@@ -1,5 +1,7 @@
-//! Tokens, their shapes and symbols (FIRRTL Specification, "Notes on Syntax").
+//! Tokens, their kinds and symbols (FIRRTL Specification, "Notes on Syntax").
 use gg_bits::Name;
+use std::error::Error;
+use std::fmt;
 
 /// A token of a line (FIRRTL Specification, "Notes on Syntax" and the terminals of "Grammar"). Words, numbers and texts
 /// keep their spelling.
@@ -54,7 +56,7 @@ pub enum Symbol {
 
 /// Which kind of token some bytes are.
 #[derive(Clone, Copy, Debug, PartialEq, Eq)]
-pub enum Shape {
+pub enum TokenKind {
     /// The bytes are a `Tok::Word`.
     Word,
     /// The bytes are a `Tok::Number`, its sign included.
@@ -68,22 +70,22 @@ pub enum Shape {
 /// A token at the front of some bytes.
 #[derive(Clone, Copy, Debug)]
 pub(crate) struct Front {
-    pub(crate) shape: Shape,
+    pub(crate) kind: TokenKind,
     /// How many bytes it has.
     pub(crate) length: usize,
 }
 
 /// A token's bytes in a line, and what stands behind them.
 #[derive(Clone, Copy, Debug)]
-pub(crate) struct Piece<'a> {
-    pub(crate) shape: Shape,
+pub(crate) struct NextToken<'a> {
+    pub(crate) kind: TokenKind,
     pub(crate) text: &'a str,
     pub(crate) after: &'a str,
 }
 
 /// The tokens of a line, and the first byte that begins none, if there is one: the tokens are those before it.
 #[derive(Debug, Drop)]
-pub struct Lexed {
+pub struct LexedLine {
     /// The tokens before that byte, or all of the line's, in its order.
     pub tokens: Vec<Tok>,
     /// The place of that byte, counted from 0 in the line.
@@ -98,3 +100,19 @@ pub enum LexFault {
     /// Memory ran out. The line says nothing of this.
     NoMemory,
 }
+
+impl fmt::Display for LexFault {
+    ghost use Rattle.std.specs.Prelude.{Some};
+    ghost use Rattle.gg_lex.specs.FaultText.{fault_text};
+
+    ghost output = { λ fault. Some (fault_text fault) };
+
+    fn fmt<W: fmt::Write>(&self, f: &mut fmt::Formatter<W>) -> fmt::Result {
+        match self {
+            LexFault::At(place) => write!(f, "no token begins at byte {place}"),
+            LexFault::NoMemory => f.write_str("out of memory"),
+        }
+    }
+}
+
+impl Error for LexFault {}

@@ -22,7 +22,8 @@ use Rattle.gg_ast.specs.declared.module.GroundType.TheVariants as plain_type
 use Rattle.gg_ast.specs.Term.{Term, Ref, Lit, One, Two, Fix, Choose}
 use Rattle.gg_read.specs.declared.words.Operation.{Operation}
 use Rattle.gg_read.specs.declared.words.Operation.TheVariants.{Unary, Binary as Binary2, Fixed, Mux}
-use Rattle.gg_read.specs.Words.{kind_text, one_text, two_text, fix_text, operation_of}
+use Rattle.gg_bits.specs.Spelling.{text1, text2, text_const}
+use Rattle.gg_read.specs.Words.{kind_text, operation_of}
 use Rattle.gg_read.specs.Forms.{IsNatural, SpellsReference, SpellsType, SpellsLiteral, SpellsParameters, SpellsExpr, are_digits, signed, number_token, is_digit_of}
 use Rattle.gg_read.specs.Reading.{◌>>=◌, symbol_at, name_at, natural_at, third_at, second_at, reference_at, width_at, kind_at, type_at, checked_digits, signed_digits, digits_at, literal_of, literal_at, one_parameter_at, parameters_at, is_second, unary_at, binary_at, fixed_at, mux_at, operands_at, call_at, form_at, expr_at}
 use Rattle.gg_read.proofs.Leaves.{goes_on, not_chosen, name_at-here, natural_at-here, is_true}
@@ -226,16 +227,16 @@ expr-read (Ref r) ts rest (suc n) h ends size =
 expr-read (Lit l) ts rest (suc n) h ends size = as_literal (expr_at n) l ts rest h
 expr-read (One o a) ts rest (suc n) h ends size =
     let e = ap length h.1 in
-    rw h.1 (as_call (expr_at n) (one_text o) (Unary o) h.0 (One o a, rest) (operation_of-here (Unary o))
+    rw h.1 (as_call (expr_at n) (text1 o) (Unary o) h.0 (One o a, rest) (operation_of-here (Unary o))
     (unary-read (expr_at n) o a h.0 rest (expr-read a h.0 (Symbol CloseParen ∷ rest) n h.2 (ends_close rest) (omega arith))))
 expr-read (Two o a b) ts rest (suc n) h ends size =
     let e = ap length h.2 in
     let f = expr-shorter a h.0 (Symbol Comma ∷ h.1) h.3 in
-    rw h.2 (as_call (expr_at n) (two_text o) (Binary2 o) h.0 (Two o a b, rest) (operation_of-here (Binary2 o))
+    rw h.2 (as_call (expr_at n) (text2 o) (Binary2 o) h.0 (Two o a b, rest) (operation_of-here (Binary2 o))
     (binary-read (expr_at n) o a b h.0 h.1 rest (expr-read a h.0 (Symbol Comma ∷ h.1) n h.3 (ends_comma h.1) (omega arith)) (expr-read b h.1 (Symbol CloseParen ∷ rest) n h.4 (ends_close rest) (omega arith))))
 expr-read (Fix o a p q) ts rest (suc n) h ends size =
     let e = ap length h.2 in
-    rw h.2 (as_call (expr_at n) (fix_text o) (Fixed o) h.0 (Fix o a p q, rest) (operation_of-here (Fixed o))
+    rw h.2 (as_call (expr_at n) (text_const o) (Fixed o) h.0 (Fix o a p q, rest) (operation_of-here (Fixed o))
     (fixed-read (expr_at n) o a p q h.0 h.1 rest (expr-read a h.0 h.1 n h.3 (parameters-end o p q h.1 rest h.4) (omega arith)) h.4))
 expr-read (Choose c a b) ts rest (suc n) h ends size =
     let e = ap length h.3 in

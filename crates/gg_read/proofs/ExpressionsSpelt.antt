@@ -21,7 +21,8 @@ use Rattle.gg_ast.specs.Term.{Term, Ref, Lit, One, Two, Fix, Choose}
 use Rattle.gg_read.specs.declared.words.Operation.{Operation}
 use Rattle.gg_read.specs.declared.words.Operation.TheVariants.{Unary, Binary as Binary2, Fixed, Mux}
 use Rattle.gg_read.specs.declared.digits.Digits.{Digits}
-use Rattle.gg_read.specs.Words.{kind_text, one_text, two_text, fix_text, operation_of}
+use Rattle.gg_bits.specs.Spelling.{text1, text2, text_const}
+use Rattle.gg_read.specs.Words.{kind_text, operation_of}
 use Rattle.gg_read.specs.Forms.{IsName, IsNatural, SpellsReference, SpellsType, SpellsLiteral, SpellsParameters, SpellsExpr, are_digits, signed, number_token}
 use Rattle.gg_read.specs.Reading.{◌>>=◌, symbol_at, word_at, name_at, natural_at, third_at, second_at, reference_at, width_at, kind_at, ground_type, type_at, checked_digits, signed_digits, radix_of, text_digits, digits_at, literal_of, literal_at, operation_at, one_parameter_at, two_parameters_at, parameters_at, is_second, unary_at, binary_at, fixed_at, mux_at, operands_at, call_at, expr_at}
 use Rattle.gg_read.proofs.Leaves.{bound, chosen, not_chosen, some_same, symbol_at-spells, word_at-spells, name_at-spells, natural_at-spells}
@@ -282,27 +283,27 @@ module _ (sub : List Tok → Option (Term × List Tok)) (sound : IsSound sub) wh
   operand-comma : (t : List Tok) (a : Term × List Tok) (u : List Tok) → sub t ≡ Some a → symbol_at Comma a.1 ≡ Some u → SpellsExpr a.0 t (Symbol Comma ∷ u)
   operand-comma t a u e f = subst (λ l. SpellsExpr a.0 t l) (symbol_at-spells Comma a.1 u f) (sound t a.1 a.0 e)
 
-  unary-spells : (o : Op1) (t rest : List Tok) (e : Term) → unary_at sub o t ≡ Some (e, rest) → SpellsExpr e (Word (one_text o) ∷ (Symbol OpenParen ∷ t)) rest
+  unary-spells : (o : Op1) (t rest : List Tok) (e : Term) → unary_at sub o t ≡ Some (e, rest) → SpellsExpr e (Word (text1 o) ∷ (Symbol OpenParen ∷ t)) rest
   unary-spells o t rest e h =
       let a = bound (sub t) (λ a. symbol_at CloseParen a.1 >>= λ t. Some (One o a.0, t)) (e, rest) h in
       let u = bound (symbol_at CloseParen a.0.1) (λ t. Some (One o a.0.0, t)) (e, rest) a.2 in
-      subst (λ (p : Term × List Tok). SpellsExpr p.0 (Word (one_text o) ∷ (Symbol OpenParen ∷ t)) p.1) (some_same (One o a.0.0, u.0) (e, rest) u.2)
+      subst (λ (p : Term × List Tok). SpellsExpr p.0 (Word (text1 o) ∷ (Symbol OpenParen ∷ t)) p.1) (some_same (One o a.0.0, u.0) (e, rest) u.2)
       (t, refl, operand-close t a.0 u.0 a.1 u.1)
 
-  binary-spells : (o : Op2) (t rest : List Tok) (e : Term) → binary_at sub o t ≡ Some (e, rest) → SpellsExpr e (Word (two_text o) ∷ (Symbol OpenParen ∷ t)) rest
+  binary-spells : (o : Op2) (t rest : List Tok) (e : Term) → binary_at sub o t ≡ Some (e, rest) → SpellsExpr e (Word (text2 o) ∷ (Symbol OpenParen ∷ t)) rest
   binary-spells o t rest e h =
       let a = bound (sub t) (λ a. symbol_at Comma a.1 >>= λ t. sub t >>= λ b. symbol_at CloseParen b.1 >>= λ u. Some (Two o a.0 b.0, u)) (e, rest) h in
       let u = bound (symbol_at Comma a.0.1) (λ t. sub t >>= λ b. symbol_at CloseParen b.1 >>= λ u. Some (Two o a.0.0 b.0, u)) (e, rest) a.2 in
       let b = bound (sub u.0) (λ b. symbol_at CloseParen b.1 >>= λ u. Some (Two o a.0.0 b.0, u)) (e, rest) u.2 in
       let v = bound (symbol_at CloseParen b.0.1) (λ u. Some (Two o a.0.0 b.0.0, u)) (e, rest) b.2 in
-      subst (λ (p : Term × List Tok). SpellsExpr p.0 (Word (two_text o) ∷ (Symbol OpenParen ∷ t)) p.1) (some_same (Two o a.0.0 b.0.0, v.0) (e, rest) v.2)
+      subst (λ (p : Term × List Tok). SpellsExpr p.0 (Word (text2 o) ∷ (Symbol OpenParen ∷ t)) p.1) (some_same (Two o a.0.0 b.0.0, v.0) (e, rest) v.2)
       (t, u.0, refl, operand-comma t a.0 u.0 a.1 u.1, operand-close u.0 b.0 v.0 b.1 v.1)
 
-  fixed-spells : (o : OpN) (t rest : List Tok) (e : Term) → fixed_at sub o t ≡ Some (e, rest) → SpellsExpr e (Word (fix_text o) ∷ (Symbol OpenParen ∷ t)) rest
+  fixed-spells : (o : OpN) (t rest : List Tok) (e : Term) → fixed_at sub o t ≡ Some (e, rest) → SpellsExpr e (Word (text_const o) ∷ (Symbol OpenParen ∷ t)) rest
   fixed-spells o t rest e h =
       let a = bound (sub t) (λ a. parameters_at o a.1 >>= λ p. Some (Fix o a.0 p.0.0 p.0.1, p.1)) (e, rest) h in
       let p = bound (parameters_at o a.0.1) (λ p. Some (Fix o a.0.0 p.0.0 p.0.1, p.1)) (e, rest) a.2 in
-      subst (λ (p : Term × List Tok). SpellsExpr p.0 (Word (fix_text o) ∷ (Symbol OpenParen ∷ t)) p.1) (some_same (Fix o a.0.0 p.0.0.0 p.0.0.1, p.0.1) (e, rest) p.2)
+      subst (λ (p : Term × List Tok). SpellsExpr p.0 (Word (text_const o) ∷ (Symbol OpenParen ∷ t)) p.1) (some_same (Fix o a.0.0 p.0.0.0 p.0.0.1, p.0.1) (e, rest) p.2)
       (t, a.0.1, refl, sound t a.0.1 a.0.0 a.1, parameters-spells o a.0.1 p.0.1 p.0.0.0 p.0.0.1 p.1)
 
   mux-spells : (t rest : List Tok) (e : Term) → mux_at sub t ≡ Some (e, rest) → SpellsExpr e (Word (codes "mux") ∷ (Symbol OpenParen ∷ t)) rest

@@ -12,7 +12,8 @@ use Rattle.gg_read.specs.declared.words.Operation.{Operation}
 use Rattle.gg_read.specs.declared.words.Operation.TheVariants.{Unary, Binary, Fixed, Mux}
 use Rattle.gg_read.specs.declared.words.Keyword.{Keyword}
 use Rattle.gg_read.specs.declared.words.Keyword.TheVariants as keyword
-use Rattle.gg_read.specs.Words.{direction_text, report_text, one_text, two_text, fix_text, find_word, unary_words, arithmetic_words, logic_words, fixed_words, operation_of, head_words, tail_words, keyword_of}
+use Rattle.gg_bits.specs.Spelling.{text1, text2, text_const, written_as, all1, all2, all_const, named1, named2, named_const}
+use Rattle.gg_read.specs.Words.{direction_text, report_text, find_word, operation_of, head_words, tail_words, keyword_of}
 use Rattle.gg_read.proofs.Leaves.{equal_bytes, some_same}
 
 -- each entry of the table has the word that its value is spelt by
@@ -39,15 +40,21 @@ mapped f (Some y) x h = (y, refl, some_same (f y) x h)
 
 -- the word of an operation
 abbrev pub operation_text : Operation → List ℕ
-operation_text (Unary o) = one_text o
-operation_text (Binary o) = two_text o
-operation_text (Fixed o) = fix_text o
+operation_text (Unary o) = text1 o
+operation_text (Binary o) = text2 o
+operation_text (Fixed o) = text_const o
 operation_text Mux = codes "mux"
 
-from_table : {A : Type 0} (wrap : A → Operation) (text : A → List ℕ) (word : List ℕ) (table : List (List ℕ × A)) (o : Operation) → ((a : A) → text a ≡ operation_text (wrap a)) → IsSpelt text table → option_map wrap (find_word word table) ≡ Some o → word ≡ operation_text o
-from_table wrap text word table o same spelt h =
-    let m = mapped wrap (find_word word table) o h in
-    find_word-spells text word table m.0 spelt m.1 ∙ same m.0 ∙ ap operation_text m.2
+-- the operation that is found is written so
+written : {A : Type 0} (text : A → List ℕ) (word : List ℕ) (ops : List A) (x : A) → written_as text word ops ≡ Some x → word ≡ text x
+written text word [] x h = absurd (cc)
+written text word (op ∷ ops) x h =
+    by_test text word (text op, op) (written_as text word ops) x (bytes_eq word (text op)) refl refl (written text word ops x) h
+
+from_all : {A : Type 0} (wrap : A → Operation) (text : A → List ℕ) (word : List ℕ) (ops : List A) (o : Operation) → ((a : A) → text a ≡ operation_text (wrap a)) → option_map wrap (written_as text word ops) ≡ Some o → word ≡ operation_text o
+from_all wrap text word ops o same h =
+    let m = mapped wrap (written_as text word ops) o h in
+    written text word ops m.0 m.1 ∙ same m.0 ∙ ap operation_text m.2
 
 is_mux : (word : List ℕ) (o : Operation) (b : Bool) → bytes_eq word (codes "mux") ≡ b → (if b then Some Mux else None) ≡ Some o → word ≡ operation_text o
 is_mux word o true e h = equal_bytes word (codes "mux") e ∙ ap operation_text (some_same Mux o h)
@@ -55,16 +62,13 @@ is_mux word o false e h = absurd (cc)
 
 pub operation_of-spells : (word : List ℕ) (o : Operation) → operation_of word ≡ Some o → word ≡ operation_text o
 operation_of-spells word o h =
-    elim (first_or (option_map Unary (find_word word unary_words)) _ o h) [
-      | inl a ↦ from_table Unary one_text word unary_words o (λ x. refl) (refl, (refl, (refl, (refl, (refl, (refl, (refl, (refl, tt)))))))) a
-      | inr b ↦ elim (first_or (option_map Binary (find_word word arithmetic_words)) _ o b) [
-        | inl a ↦ from_table Binary two_text word arithmetic_words o (λ x. refl) (refl, (refl, (refl, (refl, (refl, (refl, (refl, (refl, (refl, tt))))))))) a
-        | inr c ↦ elim (first_or (option_map Binary (find_word word logic_words)) _ o c) [
-          | inl a ↦ from_table Binary two_text word logic_words o (λ x. refl) (refl, (refl, (refl, (refl, (refl, (refl, (refl, (refl, (refl, tt))))))))) a
-          | inr d ↦ elim (first_or (option_map Fixed (find_word word fixed_words)) _ o d) [
-            | inl a ↦ from_table Fixed fix_text word fixed_words o (λ x. refl) (refl, (refl, (refl, (refl, (refl, (refl, tt)))))) a
-            | inr e ↦ is_mux word o (bytes_eq word (codes "mux")) refl e
-          ]
+    elim (first_or (option_map Unary (named1 word)) _ o h) [
+      | inl a ↦ from_all Unary text1 word all1 o (λ x. refl) a
+      | inr b ↦ elim (first_or (option_map Binary (named2 word)) _ o b) [
+        | inl a ↦ from_all Binary text2 word all2 o (λ x. refl) a
+        | inr c ↦ elim (first_or (option_map Fixed (named_const word)) _ o c) [
+          | inl a ↦ from_all Fixed text_const word all_const o (λ x. refl) a
+          | inr e ↦ is_mux word o (bytes_eq word (codes "mux")) refl e
         ]
       ]
     ]

@@ -18,7 +18,8 @@ use Rattle.gg_ast.specs.declared.module.GroundType.{GroundType}
 use Rattle.gg_ast.specs.declared.module.GroundType.TheVariants as plain_type
 use Rattle.gg_ast.specs.Row.{Row, GivenArgument, GivenTerm, GivenText, VersionRow, CircuitRow, ModuleRow, PortRow, WireRow, NodeRow, RegisterRow, RegisterResetRow, RegisterOpenRow, ResetRow, InstanceRow, MemoryRow, FieldRow, ConnectRow, InvalidRow, SkipRow, StopRow, ReportRow}
 use Rattle.gg_ast.specs.Term.{Term, Ref, Lit, One, Two, Fix, Choose}
-use Rattle.gg_read.specs.Words.{kind_text, direction_text, report_text, one_text, two_text, fix_text}
+use Rattle.gg_bits.specs.Spelling.{text1, text2, text_const}
+use Rattle.gg_read.specs.Words.{kind_text, direction_text, report_text}
 
 -- a name is a word without `-`
 abbrev pub is_name : List ℕ → Bool
@@ -96,11 +97,11 @@ abbrev pub SpellsExpr : Term → List Tok → List Tok → Type 0
 SpellsExpr (Ref r) ts rest = SpellsReference r ts rest
 SpellsExpr (Lit l) ts rest = SpellsLiteral l ts rest
 SpellsExpr (One o a) ts rest =
-    (t : List Tok) × (ts ≡ Word (one_text o) ∷ (Symbol OpenParen ∷ t)) × SpellsExpr a t (Symbol CloseParen ∷ rest)
+    (t : List Tok) × (ts ≡ Word (text1 o) ∷ (Symbol OpenParen ∷ t)) × SpellsExpr a t (Symbol CloseParen ∷ rest)
 SpellsExpr (Two o a b) ts rest =
-    (t : List Tok) × (u : List Tok) × (ts ≡ Word (two_text o) ∷ (Symbol OpenParen ∷ t)) × SpellsExpr a t (Symbol Comma ∷ u) × SpellsExpr b u (Symbol CloseParen ∷ rest)
+    (t : List Tok) × (u : List Tok) × (ts ≡ Word (text2 o) ∷ (Symbol OpenParen ∷ t)) × SpellsExpr a t (Symbol Comma ∷ u) × SpellsExpr b u (Symbol CloseParen ∷ rest)
 SpellsExpr (Fix o a n m) ts rest =
-    (t : List Tok) × (u : List Tok) × (ts ≡ Word (fix_text o) ∷ (Symbol OpenParen ∷ t)) × SpellsExpr a t u × SpellsParameters o n m u rest
+    (t : List Tok) × (u : List Tok) × (ts ≡ Word (text_const o) ∷ (Symbol OpenParen ∷ t)) × SpellsExpr a t u × SpellsParameters o n m u rest
 SpellsExpr (Choose c a b) ts rest =
     (t : List Tok) × (u : List Tok) × (v : List Tok) × (ts ≡ Word (codes "mux") ∷ (Symbol OpenParen ∷ t))
     × SpellsExpr c t (Symbol Comma ∷ u) × SpellsExpr a u (Symbol Comma ∷ v) × SpellsExpr b v (Symbol CloseParen ∷ rest)

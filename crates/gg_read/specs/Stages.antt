@@ -1,6 +1,6 @@
 -- What the stages of the reader stand for: the place of the next line, and the rows of the lines before it.
 use Rattle.std.specs.Prelude.{◌≡◌, ℕ, ◌+◌, ◌<◌, List, [], ◌∷◌, ◌++◌, length, Option, None, Some, Result, Ok, Err, Bool, true, false, MatchOption}
-use Rattle.gg_lex.specs.declared.token.Lexed.{Lexed}
+use Rattle.gg_lex.specs.declared.token.LexedLine.{LexedLine}
 use Rattle.gg_lex.specs.declared.token.Tok.{Tok}
 use Rattle.gg_lex.specs.Lines.{Lexes}
 use Rattle.gg_ast.specs.declared.statement.Reset.{Reset}
@@ -22,7 +22,7 @@ use Rattle.gg_read.specs.LineRows.{row_of}
 use Rattle.gg_read.specs.Text.{IsBlank, IsForm, IsNoForm, IsTooDeep, Place, AtStart, AfterVersion, AfterCircuit, InPorts, InStatements, AwaitsReset, LineTokens, AreLineTokens, AreRows, IsEndPlace, without_version, after_version, after_circuit, after_module, after_statement, after_open, after_reset}
 
 -- what a line holds that was lexed
-abbrev pub line_of : Lexed → LineTokens
+abbrev pub line_of : LexedLine → LineTokens
 line_of lexed = record { tokens = lexed.tokens.items; bad = lexed.bad }
 
 -- the place of the next line

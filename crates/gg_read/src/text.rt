@@ -13,7 +13,7 @@ use crate::row::{LineRow, row};
 use crate::stage::{Stage, advance, finish};
 use gg_ast::Circuit;
 use gg_bits::Name;
-use gg_lex::{Lexed, Tok, lex};
+use gg_lex::{LexedLine, Tok, lex};
 use std::alloc::Global;
 
 /// Why no circuit was read.
@@ -102,14 +102,14 @@ fn missed(alloc: Global, number: u64, tokens: &[Tok], miss: Miss) -> ReadFault
 }
 
 /// Whether a line holds nothing.
-fn is_blank(lexed: &Lexed) -> bool
+fn is_blank(lexed: &LexedLine) -> bool
     ensures { TellsBlank (line_of lexed.now) result }
 {
     lexed.tokens.is_empty() && lexed.bad.is_none()
 }
 
 /// The stage behind a line that is a row of its place.
-fn placed(alloc: Global, stage: Stage, number: u64, lexed: &Lexed) -> Result<Stage, Miss>
+fn placed(alloc: Global, stage: Stage, number: u64, lexed: &LexedLine) -> Result<Stage, Miss>
     requires stage { IsStage stage number }
     ensures { IsPlaced stage number (line_of lexed.now) result }
 {
@@ -118,7 +118,7 @@ fn placed(alloc: Global, stage: Stage, number: u64, lexed: &Lexed) -> Result<Sta
 }
 
 /// The row of a line, whatever its place: the whole line spells it, and nowhere are too many brackets open.
-fn whole_row(alloc: Global, lexed: &Lexed) -> Result<LineRow, Miss>
+fn whole_row(alloc: Global, lexed: &LexedLine) -> Result<LineRow, Miss>
     ensures { IsRowOf (line_of lexed.now) result }
 {
     if lexed.bad.is_some() {

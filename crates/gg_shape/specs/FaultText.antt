@@ -3,12 +3,7 @@
 -- Operations", "Statements").
 use Rattle.std.specs.Prelude.{ℕ, List, ◌∷◌, ◌++◌, codes, decimal}
 use Rattle.std.specs.List.{flat_map}
-use Rattle.gg_bits.specs.declared.ops.Op1.{Op1}
-use Rattle.gg_bits.specs.declared.ops.Op1.TheVariants as one
-use Rattle.gg_bits.specs.declared.ops.Op2.{Op2}
-use Rattle.gg_bits.specs.declared.ops.Op2.TheVariants as two
-use Rattle.gg_bits.specs.declared.ops.OpN.{OpN}
-use Rattle.gg_bits.specs.declared.ops.OpN.TheVariants as fix
+use Rattle.gg_bits.specs.Spelling.{text1, text2, text_const}
 use Rattle.gg_ast.specs.declared.statement.Report.TheVariants as report
 use Rattle.gg_shape.specs.declared.fault.Fault.{Fault}
 use Rattle.gg_shape.specs.declared.fault.Fault.TheVariants.{MissingTop, RepeatedName, UnknownName, SecondConnection, Unconnected, ConnectedSource, ModuleRing, MemoryField, WrongKind, WrongWidth, WrongParameter, LiteralTooLarge, TooWide, WrongClock, OverLimit, Loop}
@@ -21,52 +16,11 @@ use Rattle.gg_shape.specs.declared.fault.Word.TheVariants as words
 
 -- ---- words
 
--- the operations on one value
-abbrev pub unary_name : Op1 → List ℕ
-unary_name one.AsUInt = codes "asUInt"
-unary_name one.AsSInt = codes "asSInt"
-unary_name one.Cvt = codes "cvt"
-unary_name one.Neg = codes "neg"
-unary_name one.Not = codes "not"
-unary_name one.Andr = codes "andr"
-unary_name one.Orr = codes "orr"
-unary_name one.Xorr = codes "xorr"
-
--- the operations on two values
-abbrev pub binary_name : Op2 → List ℕ
-binary_name two.Add = codes "add"
-binary_name two.Sub = codes "sub"
-binary_name two.Mul = codes "mul"
-binary_name two.Div = codes "div"
-binary_name two.Rem = codes "rem"
-binary_name two.Lt = codes "lt"
-binary_name two.Leq = codes "leq"
-binary_name two.Gt = codes "gt"
-binary_name two.Geq = codes "geq"
-binary_name two.Eq = codes "eq"
-binary_name two.Neq = codes "neq"
-binary_name two.Dshl = codes "dshl"
-binary_name two.Dshr = codes "dshr"
-binary_name two.And = codes "and"
-binary_name two.Or = codes "or"
-binary_name two.Xor = codes "xor"
-binary_name two.Cat = codes "cat"
-binary_name two.Validif = codes "validif"
-
--- the operations on one value with parameters
-abbrev pub fixed_name : OpN → List ℕ
-fixed_name fix.Pad = codes "pad"
-fixed_name fix.Shl = codes "shl"
-fixed_name fix.Shr = codes "shr"
-fixed_name fix.Bits = codes "bits"
-fixed_name fix.Head = codes "head"
-fixed_name fix.Tail = codes "tail"
-
 -- an operation by its name, a connection as `connect`, any other statement by its first word
 abbrev pub word_name : Word → List ℕ
-word_name (words.Unary o) = unary_name o
-word_name (words.Binary o) = binary_name o
-word_name (words.Fixed o) = fixed_name o
+word_name (words.Unary o) = text1 o
+word_name (words.Binary o) = text2 o
+word_name (words.Fixed o) = text_const o
 word_name words.Mux = codes "mux"
 word_name words.Connect = codes "connect"
 word_name words.Register = codes "reg"

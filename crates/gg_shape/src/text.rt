@@ -1,10 +1,9 @@
 //! How faults are printed.
 ghost use Rattle.std.specs.Prelude.{◌≡◌};
-ghost use Rattle.gg_shape.specs.FaultText.{unary_name, binary_name, fixed_name, word_name, key_name, limit_name};
+ghost use Rattle.gg_shape.specs.FaultText.{word_name, key_name, limit_name};
 
 use crate::fault::{Fault, Limit, MemoryKey, Word};
 use gg_ast::Report;
-use gg_bits::{Op1, Op2, OpN};
 use std::fmt;
 
 /// The fault's code, and what it carries, as the program prints it behind `golden: circuit: `.
@@ -81,9 +80,9 @@ fn word_text(word: Word) -> &'static str
     ensures { result.now ≡ word_name word }
 {
     match word {
-        Word::Unary(operation) => unary_text(operation),
-        Word::Binary(operation) => binary_text(operation),
-        Word::Fixed(operation) => fixed_text(operation),
+        Word::Unary(operation) => operation.text(),
+        Word::Binary(operation) => operation.text(),
+        Word::Fixed(operation) => operation.text(),
         Word::Mux => "mux",
         Word::Connect => "connect",
         Word::Register => "reg",
@@ -93,61 +92,5 @@ fn word_text(word: Word) -> &'static str
         Word::Report(Report::Assert) => "assert",
         Word::Report(Report::Assume) => "assume",
         Word::Report(Report::Cover) => "cover",
-    }
-}
-
-// The name of an operation on one value.
-fn unary_text(operation: Op1) -> &'static str
-    ensures { result.now ≡ unary_name operation }
-{
-    match operation {
-        Op1::AsUInt => "asUInt",
-        Op1::AsSInt => "asSInt",
-        Op1::Cvt => "cvt",
-        Op1::Neg => "neg",
-        Op1::Not => "not",
-        Op1::Andr => "andr",
-        Op1::Orr => "orr",
-        Op1::Xorr => "xorr",
-    }
-}
-
-// The name of an operation on two values.
-fn binary_text(operation: Op2) -> &'static str
-    ensures { result.now ≡ binary_name operation }
-{
-    match operation {
-        Op2::Add => "add",
-        Op2::Sub => "sub",
-        Op2::Mul => "mul",
-        Op2::Div => "div",
-        Op2::Rem => "rem",
-        Op2::Lt => "lt",
-        Op2::Leq => "leq",
-        Op2::Gt => "gt",
-        Op2::Geq => "geq",
-        Op2::Eq => "eq",
-        Op2::Neq => "neq",
-        Op2::Dshl => "dshl",
-        Op2::Dshr => "dshr",
-        Op2::And => "and",
-        Op2::Or => "or",
-        Op2::Xor => "xor",
-        Op2::Cat => "cat",
-        Op2::Validif => "validif",
-    }
-}
-
-// The name of an operation with parameters.
-fn fixed_text(operation: OpN) -> &'static str
-    ensures { result.now ≡ fixed_name operation }
-{
-    match operation {
-        OpN::Pad => "pad",
-        OpN::Shl => "shl",
-        OpN::Shr => "shr",
-        OpN::Bits => "bits",
-        OpN::Head => "head",
-        OpN::Tail => "tail",
     }
 }

@@ -7,8 +7,8 @@ use Rattle.std.specs.Char.{is_ascii_digit}
 use Rattle.gg_lex.specs.Bytes.{quote, minus, backslash, starts_word, is_word_byte, is_tail_byte}
 use Rattle.gg_lex.specs.declared.token.Symbol.{Symbol}
 use Rattle.gg_lex.specs.declared.token.Symbol.TheVariants.{Connect, Arrow, PartialConnect, Colon, Comma, Dot, OpenParen, CloseParen, Less, Greater, Equals, OpenBracket, CloseBracket, OpenBrace, CloseBrace, OpenAnnotations}
-use Rattle.gg_lex.specs.declared.token.Shape.{Shape}
-use Rattle.gg_lex.specs.declared.token.Shape.TheVariants as shape
+use Rattle.gg_lex.specs.declared.token.TokenKind.{TokenKind}
+use Rattle.gg_lex.specs.declared.token.TokenKind.TheVariants as kinds
 use Rattle.gg_lex.specs.declared.token.Tok.{Tok}
 use Rattle.gg_lex.specs.declared.token.Tok.TheVariants as tok
 
@@ -56,26 +56,26 @@ IsQuoted (b ∷ c ∷ bs) = MatchBool (b == backslash) (IsQuoted bs) ((b ≢ quo
 abbrev pub IsText : List ℕ → Type 0
 IsText bs = (quoted : List ℕ) × (bs ≡ quote ∷ (quoted ++ quote ∷ [])) × IsQuoted quoted
 
--- the bytes are a token of this shape
-abbrev pub IsToken : Shape → List ℕ → Type 0
-IsToken shape.Word bs = IsWord bs
-IsToken shape.Number bs = IsNumber bs
-IsToken shape.Text bs = IsText bs
-IsToken (shape.Symbol symbol) bs = bs ≡ spelling symbol
+-- the bytes are a token of this kind
+abbrev pub IsToken : TokenKind → List ℕ → Type 0
+IsToken kinds.Word bs = IsWord bs
+IsToken kinds.Number bs = IsNumber bs
+IsToken kinds.Text bs = IsText bs
+IsToken (kinds.Symbol symbol) bs = bs ≡ spelling symbol
 
--- the token that bytes of this shape are: a text is kept without its quotes, its backslashes as they stand
-abbrev pub token_of : Shape → List ℕ → Tok
-token_of shape.Word bs = tok.Word bs
-token_of shape.Number bs = tok.Number bs
-token_of shape.Text bs = tok.Text (take (length bs - 2) (drop 1 bs))
-token_of (shape.Symbol symbol) bs = tok.Symbol symbol
+-- the token that bytes of this kind are: a text is kept without its quotes, its backslashes as they stand
+abbrev pub token_of : TokenKind → List ℕ → Tok
+token_of kinds.Word bs = tok.Word bs
+token_of kinds.Number bs = tok.Number bs
+token_of kinds.Text bs = tok.Text (take (length bs - 2) (drop 1 bs))
+token_of (kinds.Symbol symbol) bs = tok.Symbol symbol
 
--- the first n bytes are a token of this shape, and no front of the bytes that is a token of any shape is longer
-pub record IsFirst (kind : Shape) (bs : List ℕ) (n : ℕ) : Type 0 where
+-- the first n bytes are a token of this kind, and no front of the bytes that is a token of any kind is longer
+pub record IsFirst (kind : TokenKind) (bs : List ℕ) (n : ℕ) : Type 0 where
   pub within : n ≤ length bs
   pub token : IsToken kind (take n bs)
-  pub longest : (other : Shape) (m : ℕ) → m ≤ length bs → IsToken other (take m bs) → m ≤ n
+  pub longest : (other : TokenKind) (m : ℕ) → m ≤ length bs → IsToken other (take m bs) → m ≤ n
 
 -- no front of the bytes is a token
 abbrev pub BeginsNoToken : List ℕ → Type 0
-BeginsNoToken bs = (kind : Shape) (n : ℕ) → n ≤ length bs → IsToken kind (take n bs) → ⊥
+BeginsNoToken bs = (kind : TokenKind) (n : ℕ) → n ≤ length bs → IsToken kind (take n bs) → ⊥

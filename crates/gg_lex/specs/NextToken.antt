@@ -1,15 +1,15 @@
 -- What one step over a line gives: the first token, and what is left behind it.
 use Rattle.std.specs.Prelude.{◌≡◌, ℕ, ◌+◌, List, take, drop, length, Option, Some, None}
-use Rattle.gg_lex.specs.Shapes.{IsFirst}
+use Rattle.gg_lex.specs.Tokens.{IsFirst}
 use Rattle.gg_lex.specs.Lines.{after_blanks, IsEnd}
-use Rattle.gg_lex.specs.declared.token.Piece.{Piece}
+use Rattle.gg_lex.specs.declared.token.NextToken.{NextToken}
 
--- the piece is the first token behind the blanks
-pub record IsPieceOf (bs : List ℕ) (piece : Piece) : Type 0 where
+-- the next is the first token behind the blanks
+pub record IsNextToken (bs : List ℕ) (next : NextToken) : Type 0 where
   pub size : ℕ
-  pub first : IsFirst piece.shape (after_blanks bs) size
-  pub text : piece.text.now ≡ take size (after_blanks bs)
-  pub after : piece.after.now ≡ drop size (after_blanks bs)
+  pub first : IsFirst next.kind (after_blanks bs) size
+  pub text : next.text.now ≡ take size (after_blanks bs)
+  pub after : next.after.now ≡ drop size (after_blanks bs)
 
 -- the line may end where this is left; else its byte behind the blanks is at this place
 abbrev pub EndsOrFails : List ℕ → List ℕ → Option ℕ → Type 0

@@ -1,0 +1,76 @@
+-- How each operation is written, and which operation a word names.
+-- Source: FIRRTL Specification, "Primitive Operations". `validif` is written as an expression of its own there.
+use Rattle.std.specs.Prelude.{ℕ, List, [], ◌∷◌, Option, None, Some, codes, if◌then◌else◌}
+use Rattle.std.specs.Str.{bytes_eq}
+use Rattle.gg_bits.specs.declared.ops.Op1.{Op1}
+use Rattle.gg_bits.specs.declared.ops.Op1.TheVariants.{AsUInt, AsSInt, Cvt, Neg, Not, Andr, Orr, Xorr}
+use Rattle.gg_bits.specs.declared.ops.Op2.{Op2}
+use Rattle.gg_bits.specs.declared.ops.Op2.TheVariants.{Add, Sub, Mul, Div, Rem, Lt, Leq, Gt, Geq, Eq, Neq, Dshl, Dshr, And, Or, Xor, Cat, Validif}
+use Rattle.gg_bits.specs.declared.ops.OpN.{OpN}
+use Rattle.gg_bits.specs.declared.ops.OpN.TheVariants.{Pad, Shl, Shr, Bits, Head, Tail}
+
+-- the operations on one value
+abbrev pub text1 : Op1 → List ℕ
+text1 AsUInt = codes "asUInt"
+text1 AsSInt = codes "asSInt"
+text1 Cvt = codes "cvt"
+text1 Neg = codes "neg"
+text1 Not = codes "not"
+text1 Andr = codes "andr"
+text1 Orr = codes "orr"
+text1 Xorr = codes "xorr"
+
+-- the operations on two values
+abbrev pub text2 : Op2 → List ℕ
+text2 Add = codes "add"
+text2 Sub = codes "sub"
+text2 Mul = codes "mul"
+text2 Div = codes "div"
+text2 Rem = codes "rem"
+text2 Lt = codes "lt"
+text2 Leq = codes "leq"
+text2 Gt = codes "gt"
+text2 Geq = codes "geq"
+text2 Eq = codes "eq"
+text2 Neq = codes "neq"
+text2 Dshl = codes "dshl"
+text2 Dshr = codes "dshr"
+text2 And = codes "and"
+text2 Or = codes "or"
+text2 Xor = codes "xor"
+text2 Cat = codes "cat"
+text2 Validif = codes "validif"
+
+-- the operations with parameters
+abbrev pub text_const : OpN → List ℕ
+text_const Pad = codes "pad"
+text_const Shl = codes "shl"
+text_const Shr = codes "shr"
+text_const Bits = codes "bits"
+text_const Head = codes "head"
+text_const Tail = codes "tail"
+
+-- the first of these that is written so
+abbrev pub written_as : {A : Type 0} → (A → List ℕ) → List ℕ → List A → Option A
+written_as text word [] = None
+written_as text word (op ∷ ops) = if bytes_eq word (text op) then Some op else written_as text word ops
+
+-- all operations on one value, on two, and with parameters
+abbrev pub all1 : List Op1
+all1 = AsUInt ∷ (AsSInt ∷ (Cvt ∷ (Neg ∷ (Not ∷ (Andr ∷ (Orr ∷ (Xorr ∷ [])))))))
+
+abbrev pub all2 : List Op2
+all2 = Add ∷ (Sub ∷ (Mul ∷ (Div ∷ (Rem ∷ (Lt ∷ (Leq ∷ (Gt ∷ (Geq ∷ (Eq ∷ (Neq ∷ (Dshl ∷ (Dshr ∷ (And ∷ (Or ∷ (Xor ∷ (Cat ∷ (Validif ∷ [])))))))))))))))))
+
+abbrev pub all_const : List OpN
+all_const = Pad ∷ (Shl ∷ (Shr ∷ (Bits ∷ (Head ∷ (Tail ∷ [])))))
+
+-- the operation on one value that a word names; on two; with parameters
+abbrev pub named1 : List ℕ → Option Op1
+named1 word = written_as text1 word all1
+
+abbrev pub named2 : List ℕ → Option Op2
+named2 word = written_as text2 word all2
+
+abbrev pub named_const : List ℕ → Option OpN
+named_const word = written_as text_const word all_const
