@@ -1,8 +1,7 @@
 //! The reader of partition files.
-ghost use Rattle.std.specs.Prelude.{◌≡◌, ℕ, List, Some, None, IfOk, IfErr, is_some, true, codes};
-ghost use Rattle.serde_json.specs.Find.{as_object};
+ghost use Rattle.std.specs.Prelude.{◌≡◌, Some, None, IfOk, IfErr, codes};
 ghost use Rattle.serde_json.specs.View.{view};
-ghost use Rattle.gg_partfile.specs.Partition.{texts, groups, numbers, under, unknown, Asks, IsPartition};
+ghost use Rattle.gg_partfile.specs.Partition.{texts, groups, numbers, under, Asks, IsPartition};
 ghost use Rattle.gg_partfile.specs.Fault.{IfKey, wrong_key, IsRefused};
 
 use crate::fault::PartFault;
