@@ -8,7 +8,6 @@
 mod fault;
 mod keys;
 mod laws;
-mod lists;
 mod reader;
 mod request;
 mod shapes;
@@ -17,6 +16,5 @@ mod tests;
 
 pub use fault::PartFault;
 pub use laws::{capacities_in_order, least_unknown, one_answer};
-pub use lists::{Capacities, Groups};
 pub use reader::read_partition;
-pub use request::Request;
+pub use request::{Capacities, Groups, Request};

@@ -1,16 +1,14 @@
 //! The reader of partition files.
-ghost use Rattle.std.specs.Prelude.{◌≡◌, ℕ, List, Some, None, IfOk, IfErr, is_some, true, codes};
-ghost use Rattle.serde_json.specs.Find.{as_object};
+ghost use Rattle.std.specs.Prelude.{◌≡◌, Some, None, IfOk, IfErr, codes};
 ghost use Rattle.serde_json.specs.View.{view};
-ghost use Rattle.gg_partfile.specs.Partition.{texts, groups, numbers, under, unknown, Asks, IsPartition};
+ghost use Rattle.gg_partfile.specs.Partition.{texts, groups, numbers, under, Asks, IsPartition};
 ghost use Rattle.gg_partfile.specs.Fault.{IfKey, wrong_key, IsRefused};
 
 use crate::fault::PartFault;
 use crate::keys::first_unknown;
-use crate::lists::{Capacities, Groups};
-use crate::request::Request;
-use crate::shapes::{groups_of, name_of, numbers_of, texts_of};
-use gg_bits::Names;
+use crate::request::{Capacities, Groups, Request};
+use crate::shapes::{groups_of, numbers_of, texts_of};
+use gg_bits::{Name, Names};
 use serde_json::Value;
 use std::alloc::Global;
 
@@ -34,7 +32,7 @@ pub fn read_partition(alloc: Global, bytes: &[u8]) -> Result<Request, PartFault>
 fn fault_of(alloc: Global, key: &str) -> PartFault
     ensures { IfKey (λ told. told ≡ key.now) result }
 {
-    match name_of(alloc, key) {
+    match Name::from_str(alloc, key) {
         Ok(name) => PartFault::WrongKey(name),
         Err(_) => PartFault::NoMemory,
     }

@@ -4,17 +4,10 @@ ghost use Rattle.serde_json.specs.Find.{as_str};
 ghost use Rattle.serde_json.specs.View.{view, items_view, members_view};
 ghost use Rattle.gg_partfile.specs.Partition.{each, texts, groups, numbers, pairs};
 
-use crate::lists::{Capacities, Groups};
+use crate::request::{Capacities, Groups};
 use gg_bits::{Name, Names};
 use serde_json::{Map, Value};
 use std::alloc::{AllocError, Global};
-
-// A name of a text.
-pub(crate) fn name_of(alloc: Global, text: &str) -> Result<Name, AllocError>
-    ensures { IfOk result (λ name. name ≡ text.now) }
-{
-    Ok(Name::from(String::from_str(alloc, text)?))
-}
 
 // A list of texts.
 pub(crate) fn texts_of(alloc: Global, value: &Value) -> Result<Option<Names>, AllocError>
@@ -33,7 +26,7 @@ fn text_list(alloc: Global, items: &[Value]) -> Result<Option<Names>, AllocError
     let mut names = Vec::new(alloc);
     for item in items {
         match item.as_str() {
-            Some(text) => names.push(name_of(alloc, text)?)?,
+            Some(text) => names.push(Name::from_str(alloc, text)?)?,
             None => return Ok(None),
         }
     }
@@ -81,7 +74,7 @@ fn pairs_of(alloc: Global, members: &Map<String, Value>) -> Result<Option<Capaci
     let mut pairs = Vec::new(alloc);
     for (key, value) in members {
         match value.as_u64() {
-            Some(number) => pairs.push((name_of(alloc, key.as_str())?, number))?,
+            Some(number) => pairs.push((Name::from_str(alloc, key.as_str())?, number))?,
             None => return Ok(None),
         }
     }

@@ -9,7 +9,7 @@ pub loop-key-preserved : goal.loop-key-preserved
 loop-key-preserved c =
     let splits : c.loop-key.key-iterator ≡ (c.in-Some.key.now, c.in-Some.value.now) ∷ c.next.new.self = c.in-Some.ensures.steps in
     let number : whole (view c.in-Some.value.now) ≡ Some c.in-Some-as_u64.number = sym c.as_u64.ensures ∙ c.in-Some-as_u64.is in
-    let name : c.in_ok-name_of-in-Some-as_u64.field-0 ≡ string_bytes c.in-Some.key.now = c.in_ok-name_of-in-Some-as_u64.ensures ∙ c.as_str.ensures.value in
+    let name : c.in_ok-from_str-in-Some-as_u64.field-0 ≡ string_bytes c.in-Some.key.now = c.in_ok-from_str-in-Some-as_u64.ensures ∙ c.as_str.ensures.value in
     record {
       next = tt;
       finite = tt;

@@ -11,6 +11,6 @@ returns-in-None c =
 
 pub loop-item-preserved : goal.loop-item-preserved
 loop-item-preserved c =
-    let some : as_str (view c.item-item.result) ≡ Some c.in_ok-name_of-in-Some.field-0 = sym c.in-Some.ensures ∙ ap Some (sym c.in_ok-name_of-in-Some.ensures) in
+    let some : as_str (view c.item-item.result) ≡ Some c.in_ok-from_str-in-Some.field-0 = sym c.in-Some.ensures ∙ ap Some (sym c.in_ok-from_str-in-Some.ensures) in
     subst (ReadsItems as_str (map view c.args.items.now) (c.loop-item.item-index + 1)) (sym c.in_ok-push-in-Some.ensures.items)
-    (values-more as_str c.args.items.now c.loop-item.item-index c.item-item.result c.in_ok-name_of-in-Some.field-0 c.loop-item.names.items c.loop-item-test.true c.item-item.is some c.loop-item.invariant)
+    (values-more as_str c.args.items.now c.loop-item.item-index c.item-item.result c.in_ok-from_str-in-Some.field-0 c.loop-item.names.items c.loop-item-test.true c.item-item.is some c.loop-item.invariant)
