@@ -143,7 +143,7 @@ fn read_words(alloc: Global, words: &[String]) -> Result<Cmd, WordFault>
 ///
 /// The commands are `run CIRCUIT PARTITION TRACE [--capacity K] [--workers W] [--mono]` and
 /// `check CIRCUIT PARTITION [--capacity K]`, as `clap` reads them: options stand anywhere behind the command's name, at
-/// most once each, a value as the next word or behind `=`, and behind `--` each word is a file. So a file whose name
+/// most once each, a value behind `=` or as the next word, and behind `--` each word is a file. So a file whose name
 /// begins with `-` needs `--` before it. K is 1 to 4,096, and 2 where it is left out; W is 0 to 64, and 0 where it is
 /// left out. A number is one or more decimal digits, and zeros may lead.
 ///

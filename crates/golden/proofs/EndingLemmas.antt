@@ -11,7 +11,7 @@ use Rattle.golden.specs.Order.{File, Order, Load, CanBe, IsRefused, IsWritten}
 use Rattle.golden.specs.Outcome.{Ends, Unasked, WantsMemoryFirst, Answered, Reports}
 use Rattle.golden.specs.Run.{trace_file_of, trace_file_for}
 use Rattle.golden.specs.Endings.{IfRefused, Prints, EndedOn, CallEnded, said_by}
-use Rattle.golden.specs.Words.{IsCommand, TellsUnasked}
+use Rattle.golden.specs.Words.{AskForCommand, TellsUnasked}
 use Rattle.golden.proofs.OrderLemmas.{stops-more}
 use Rattle.golden.proofs.WritingLemmas.{append_known-nil}
 
@@ -24,7 +24,7 @@ module _ (files : List ℕ → Told) (lost cut unwritten : Type 0) (T : Type 0) 
   refused-ends file next NoMemory refused = ([], sym (append_known-nil before), Ends.WantsMemory (inl refl) (refl, refl))
 
   -- the words were no command that is there, or weren't read for want of memory, and nothing was written
-  pub unasked-ends : (words : List (List ℕ)) (ending : Ending) → IfRefused (λ said. (¬ IsCommand words) × TellsUnasked words said) ending
+  pub unasked-ends : (words : List (List ℕ)) (ending : Ending) → IfRefused (λ said. (¬ AskForCommand words) × TellsUnasked words said) ending
       → CallEnded files lost cut unwritten {T = T} before before words (Err ending)
   unasked-ends words (Refused said) refused = ([], sym (append_known-nil before), Unasked refused.0 said refused.1 (refl, refl) refl)
   unasked-ends words Unwritten refused = absurd refused

@@ -20,7 +20,7 @@ use Rattle.gg_words.specs.declared.command.WordFault.TheVariants as word
 use Rattle.golden.specs.Lines.{Said, TellsUnread, trace_fault}
 use Rattle.golden.specs.Order.{Order, StopsAt, IsWritten, DueAt, IsDueAccepted, IsExact, IsJudgement}
 use Rattle.golden.specs.Outcome.{Ends, Refused, Done, Unwritten, WantsMemory, Outcome, Asked, Unasked, WantsMemoryFirst, Answered, Reports}
-use Rattle.golden.specs.Words.{Command, Run, Asks, IsCommand, TellsUnasked, TellsWords, circuit_of, order_of, partition_of, trace_of}
+use Rattle.golden.specs.Words.{Command, Run, Asks, AskForCommand, TellsUnasked, TellsWords, circuit_of, order_of, partition_of, trace_of}
 use Rattle.golden.specs.Run.{IsPlainPartition}
 use Rattle.golden.proofs.FrontLemmas.{means-plain}
 use Rattle.golden.proofs.OrderLemmas.{Why, Lost, Cut, Judged, why-stops, stops-due, written-due, stops-accepted}
@@ -35,7 +35,7 @@ asks-once : OneMeaning → (words : List (List ℕ)) (command other : Command) �
 asks-once once words (Run a b c k w m) (Run x y z l v n) asks others = let e = once words (Ok (cmd.Run a b c k w m)) (Ok (cmd.Run x y z l v n)) asks others in cc
 
 -- words that ask for `check` ask for no command that is there
-pub check-unasked : OneMeaning → (words : List (List ℕ)) (circuit partition : List ℕ) (capacity : ℕ) → command_line.IsCommand words (cmd.Check circuit partition capacity) → IsCommand words → ⊥
+pub check-unasked : OneMeaning → (words : List (List ℕ)) (circuit partition : List ℕ) (capacity : ℕ) → command_line.IsCommand words (cmd.Check circuit partition capacity) → AskForCommand words → ⊥
 check-unasked once words circuit partition capacity check (Run a b c k w m, asks) =
     let e = once words (Ok (cmd.Check circuit partition capacity)) (Ok (cmd.Run a b c k w m)) check asks in cc
 
@@ -103,7 +103,7 @@ module _ (files : List ℕ → Told) (lost cut unwritten : Type 0) where
     IsLost : (is : status ≡ 3) (rose : lost) (none : text ≡ []) → Cause words status text line
     IsCut : (is : status ≡ 8) (rose : cut) (command : Command) (said : Said) (asks : Asks words command) (stops : StopsAt files ⊥ cut (order_of command) said) (at : said.status ≡ 8) (none : text ≡ []) → Cause words status text line
     IsJudged : (judged : IsJudgement status) (command : Command) (said : Said) (asks : Asks words command) (stops : StopsAt files ⊥ ⊥ (order_of command) said) (is : status ≡ said.status) (tells : line ≡ said.line) (none : text ≡ []) → Cause words status text line
-    IsNoCommand : (is : status ≡ 2) (unasked : ¬ IsCommand words) (said : Said) (told : TellsUnasked words said) (tells : line ≡ said.line) (none : text ≡ []) → Cause words status text line
+    IsNoCommand : (is : status ≡ 2) (unasked : ¬ AskForCommand words) (said : Said) (told : TellsUnasked words said) (tells : line ≡ said.line) (none : text ≡ []) → Cause words status text line
     IsDone : (is : status ≡ 0) → Cause words status text line
     IsUnwritten : (is : status ≡ 4) (failed : unwritten) → Cause words status text line
     IsWanting : (is : status ≡ 5) → Cause words status text line
@@ -166,7 +166,7 @@ module _ (files : List ℕ → Told) (lost cut unwritten : Type 0) where
     judged-1-7 (IsUnwritten is failed) j = absurd (unjudged-4 (subst IsJudgement is j))
     judged-1-7 (IsWanting is) j = absurd (unjudged-5 (subst IsJudgement is j))
 
-    no_command-2 : Cause words status text line → status ≡ 2 → (¬ IsCommand words) × ((said : Said) × TellsUnasked words said × (line ≡ said.line))
+    no_command-2 : Cause words status text line → status ≡ 2 → (¬ AskForCommand words) × ((said : Said) × TellsUnasked words said × (line ≡ said.line))
     no_command-2 (IsLost is rose none) e = absurd (omega arith)
     no_command-2 (IsCut is rose command said asks stops at none) e = absurd (omega arith)
     no_command-2 (IsJudged judged command said asks stops is tells none) e = absurd (unjudged-2 (subst IsJudgement e judged))
@@ -184,7 +184,7 @@ module _ (files : List ℕ → Told) (lost cut unwritten : Type 0) where
     none-written (IsUnwritten is failed) a b c = absurd (b is)
     none-written (IsWanting is) a b c = absurd (c is)
 
-    unasked-2 : Outcome words files lost cut unwritten status text line → ¬ IsCommand words → (status ≡ 2) ⊎ (status ≡ 5)
+    unasked-2 : Outcome words files lost cut unwritten status text line → ¬ AskForCommand words → (status ≡ 2) ⊎ (status ≡ 5)
     unasked-2 (Asked command asks ends) unasked = absurd (unasked (command, asks))
     unasked-2 (Unasked none said tells says nothing) unasked = inl (says.0 ∙ unasked-status words said tells)
     unasked-2 (WantsMemoryFirst says nothing) unasked = inr says.0
@@ -246,7 +246,7 @@ module _ {words : List (List ℕ)} {files : List ℕ → Told} {lost cut unwritt
         let why = judged-1-7 files lost cut unwritten words status a.text a.line caused judged in
         (why.0, why.1, (why.2.0, why.2.1, why.2.2, reported-as why.2.0.line why.2.3))
 
-    pub answered-no_command : status ≡ 2 → (¬ IsCommand words) × ((said : Said) × TellsUnasked words said × Reports err err' trouble said.line)
+    pub answered-no_command : status ≡ 2 → (¬ AskForCommand words) × ((said : Said) × TellsUnasked words said × Reports err err' trouble said.line)
     answered-no_command is =
         let why = no_command-2 files lost cut unwritten words status a.text a.line caused is in
         (why.0, (why.1.0, why.1.1, reported-as why.1.0.line why.1.2))
@@ -255,7 +255,7 @@ module _ {words : List (List ℕ)} {files : List ℕ → Told} {lost cut unwritt
     answered-nothing_written x y z =
         a.written ∙ ap (append_known out) (none-written files lost cut unwritten words status a.text a.line caused x y z) ∙ append_known-nil out
 
-    pub answered-unasked : ¬ IsCommand words → (status ≡ 2) ⊎ (status ≡ 5)
+    pub answered-unasked : ¬ AskForCommand words → (status ≡ 2) ⊎ (status ≡ 5)
     answered-unasked = unasked-2 files lost cut unwritten words status a.text a.line a.outcome
 
     said-reported : (due : Said) → ((status ≡ due.status) × (a.line ≡ due.line)) ⊎ (status ≡ 5) → ((status ≡ due.status) × Reports err err' trouble due.line) ⊎ (status ≡ 5)

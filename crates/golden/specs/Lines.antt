@@ -19,15 +19,15 @@ words_said text = record { status = 2; line = line_of (codes "golden: words" ++ 
 
 -- the words are none of the commands
 abbrev pub no_command : Said
-no_command = words_said (codes ": the commands are run CIRCUIT PARTITION TRACE [--capacity K] [--workers W] [--mono] and check CIRCUIT PARTITION [--capacity K]")
+no_command = words_said (codes ": the command is run CIRCUIT PARTITION TRACE [--capacity K] [--workers W] [--mono]")
 
 -- this value of an option is no number in its range
 abbrev pub bad_number : List ℕ → Said
-bad_number value = words_said (codes ": " ++ value ++ codes " is no number in its range; --capacity takes 1 to 4096, --workers 0 to 64")
+bad_number value = words_said (codes ": '" ++ value ++ codes "' is not a number in its range: --capacity takes 1 to 4096, --workers 0 to 64")
 
 -- the words ask for `check`
 abbrev pub no_check : Said
-no_check = words_said (codes ": check is not there yet, run is")
+no_check = words_said (codes ": check is not there yet; the command is run CIRCUIT PARTITION TRACE [--capacity K] [--workers W] [--mono]")
 
 -- the file of this name isn't plain
 abbrev pub not_plain : List ℕ → Said

@@ -5,7 +5,7 @@ use Rattle.gg_io.specs.Count.{Rose}
 use Rattle.gg_io.specs.Told.{Told}
 use Rattle.golden.specs.Lines.{Said, cannot_write, out_of_memory}
 use Rattle.golden.specs.Order.{Order, StopsAt, IsWritten}
-use Rattle.golden.specs.Words.{Command, Asks, IsCommand, TellsUnasked, order_of}
+use Rattle.golden.specs.Words.{Command, Asks, AskForCommand, TellsUnasked, order_of}
 
 -- a front part of a text, from nothing to all of it
 abbrev pub IsFront : (part whole : List ℕ) → Type 0
@@ -43,7 +43,7 @@ pub data Ends (files : List ℕ → Told) (lost cut unwritten : Type 0) (order :
 pub data Outcome (words : List (List ℕ)) (files : List ℕ → Told) (lost cut unwritten : Type 0) (status : ℕ) (text line : List ℕ) : Type 0 where
   Asked : (command : Command) (asks : Asks words command) (ends : Ends files lost cut unwritten (order_of command) status text line) → Outcome words files lost cut unwritten status text line
   -- the words are no command that is there, and nothing is written
-  Unasked : (unasked : ¬ IsCommand words) (said : Said) (tells : TellsUnasked words said) (says : Says status line said) (none : text ≡ []) → Outcome words files lost cut unwritten status text line
+  Unasked : (unasked : ¬ AskForCommand words) (said : Said) (tells : TellsUnasked words said) (says : Says status line said) (none : text ≡ []) → Outcome words files lost cut unwritten status text line
   -- memory ran out while the words were read, and nothing is written
   WantsMemoryFirst : (says : Says status line out_of_memory) (none : text ≡ []) → Outcome words files lost cut unwritten status text line
 

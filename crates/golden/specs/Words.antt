@@ -1,5 +1,5 @@
 -- What the words of a call ask for. Which words are which command is defined in gg_words, by `clap`'s own definitions.
-use Rattle.std.specs.Prelude.{◌≡◌, ◌⊎◌, ℕ, Bool, List, String, map, string_bytes}
+use Rattle.std.specs.Prelude.{◌≡◌, ◌⊎◌, ℕ, Bool, List}
 use Rattle.gg_words.specs.Meaning as command_line
 use Rattle.gg_words.specs.declared.command.Cmd.{Cmd}
 use Rattle.gg_words.specs.declared.command.Cmd.TheVariants as cmd
@@ -23,8 +23,8 @@ abbrev pub Asks : List (List ℕ) → Command → Type 0
 Asks words command = command_line.IsCommand words (cmd_of command)
 
 -- the words are a command that is there
-abbrev pub IsCommand : List (List ℕ) → Type 0
-IsCommand words = (command : Command) × Asks words command
+abbrev pub AskForCommand : List (List ℕ) → Type 0
+AskForCommand words = (command : Command) × Asks words command
 
 -- this is said of words with this fault; want of memory is no fault of words
 abbrev pub TellsWords : WordFault → Said → Type 0
@@ -37,10 +37,6 @@ abbrev pub TellsUnasked : List (List ℕ) → Said → Type 0
 TellsUnasked words said =
     ((fault : WordFault) × command_line.IsWordFault words fault × TellsWords fault said)
     ⊎ ((circuit partition : List ℕ) × (capacity : ℕ) × command_line.IsCommand words (cmd.Check circuit partition capacity) × (said ≡ no_check))
-
--- the texts of the words
-abbrev pub texts : {Y : Type 0} → List (String Y) → List (List ℕ)
-texts words = map string_bytes words
 
 -- the order of refusals of a command: neither its numbers nor the network have a part in it yet
 abbrev pub order_of : Command → Order

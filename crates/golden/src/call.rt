@@ -17,7 +17,8 @@ ghost use Rattle.golden.specs.Order.{StopsAt, DueAt, IsDueAccepted, IsJudgement}
 ghost use Rattle.golden.specs.Outcome.{Answered, Reports, HasTrouble};
 ghost use Rattle.golden.specs.Endings.{CallEnded, said_by};
 ghost use Rattle.golden.specs.WentOn.{ShelfWentOn, SinkWentOn};
-ghost use Rattle.golden.specs.Words.{Command, Run, Asks, IsCommand, TellsUnasked, circuit_of, order_of, partition_of, texts, trace_of};
+ghost use Rattle.gg_words.specs.Meaning.{texts};
+ghost use Rattle.golden.specs.Words.{Command, Run, Asks, AskForCommand, TellsUnasked, circuit_of, order_of, partition_of, trace_of};
 
 use crate::endings::Ending;
 use crate::laws::refusals_are_exact;
@@ -149,7 +150,7 @@ pub fn golden<S: Shelf, K: Sink, E: Sink, G: Gate>(
     ensures judged { IsJudgement result → (command : Command) × Asks (texts words.now) command
         × ((said : Said) × StopsAt (S.files shelf.old) ⊥ ⊥ (order_of command) said × (result ≡ said.status)
         × Reports (E.written err.old) (E.written err.new) (HasTrouble (E.faults err.old) (E.faults err.new) (E.refused err.old) (E.refused err.new)) said.line) }
-    ensures no_command { result ≡ 2 → (¬ IsCommand (texts words.now)) × ((said : Said) × TellsUnasked (texts words.now) said
+    ensures no_command { result ≡ 2 → (¬ AskForCommand (texts words.now)) × ((said : Said) × TellsUnasked (texts words.now) said
         × Reports (E.written err.old) (E.written err.new) (HasTrouble (E.faults err.old) (E.faults err.new) (E.refused err.old) (E.refused err.new)) said.line) }
     ensures lost { result ≡ 3 → Rose (S.faults shelf.old) (S.faults shelf.new) }
     ensures unwritten { result ≡ 4 → Rose (K.faults out.old) (K.faults out.new) }
@@ -158,7 +159,7 @@ pub fn golden<S: Shelf, K: Sink, E: Sink, G: Gate>(
     ensures nothing_written { result ≢ 0 → result ≢ 4 → result ≢ 5 → K.written out.new ≡ K.written out.old }
 
     // Words that are no command are refused as such.
-    ensures unasked { ¬ IsCommand (texts words.now) → (result ≡ 2) ⊎ (result ≡ 5) }
+    ensures unasked { ¬ AskForCommand (texts words.now) → (result ≡ 2) ⊎ (result ≡ 5) }
 
     // Where no load fails, what is due by the files that are told is said.
     ensures due { (Rose (S.faults shelf.old) (S.faults shelf.new) → ⊥) → (command : Command) (due : Said)

@@ -133,7 +133,11 @@ pub(crate) fn end_cannot_load(alloc: Global, name: &str) -> Ending
 }
 
 /// A text with a number behind it.
-pub(crate) fn numbered(alloc: Global, before: &str, number: u64) -> Result<String, AllocError>
+pub(crate) fn text_with_number(
+    alloc: Global,
+    before: &str,
+    number: u64,
+) -> Result<String, AllocError>
     ensures { IfOk result (λ text. string_bytes text ≡ before.now ++ decimal number) }
 {
     let mut buffer = Buffer::new();
@@ -146,7 +150,7 @@ pub(crate) fn numbered(alloc: Global, before: &str, number: u64) -> Result<Strin
 fn over_text(alloc: Global, limit: u64) -> Result<String, AllocError>
     ensures { IfOk result (λ text. string_bytes text ≡ codes " is over " ++ decimal limit ++ codes " bytes") }
 {
-    let mut text = numbered(alloc, " is over ", limit)?;
+    let mut text = text_with_number(alloc, " is over ", limit)?;
     text.push_str(" bytes")?;
     Ok(text)
 }

@@ -1,5 +1,5 @@
 //! The program golden as one call: [`golden`] does what the words of a call ask for, with files from a shelf, the
-//! text on one sink and at most one line on another, and answers the status. Which words are which command gg_words
+//! text on one sink and at most one refusal's line on another, and answers the status. Which words are which command gg_words
 //! says. The one command that is there is `run`: the circuit's own run on the trace, printed; `check` is refused by name.
 //!
 //! What its clauses promise, for every shelf and every sink:
@@ -11,7 +11,7 @@
 //!   runs on the trace has this text and no other.
 //! - Causes (`judged`, `no_command`, `lost`, `unwritten`, `over`): each status but 0 and 5 has its reason; a load or a
 //!   put that failed is counted where it failed. `nothing_written`: a refusal leaves `out` as it was.
-//! - What is due is said (`unasked`, `due`, `unread`): words that are no command give their status, and where no load
+//! - What is due is said (`unasked`, `due`, `unread`, `traced`): words that are no command give their status, and where no load
 //!   fails a file that is told and is to be refused gives just its status and line.
 //! - `complete`: where no load and no put fails, files that are told, within their limits and accepted give status 0.
 //! - The shelf's files stay, and no count falls.

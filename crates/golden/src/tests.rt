@@ -179,7 +179,7 @@ static ASKED: [&str; 12] = [
 ];
 
 const COMMANDS: &str =
-    "golden: words: the commands are run CIRCUIT PARTITION TRACE [--capacity K] [--workers W] [--mono] and check CIRCUIT PARTITION [--capacity K]\n";
+    "golden: words: the command is run CIRCUIT PARTITION TRACE [--capacity K] [--workers W] [--mono]\n";
 
 // Words that are no command that is there, and the line of their refusal.
 static UNASKED: [(&str, &str); 14] = [
@@ -194,23 +194,23 @@ static UNASKED: [(&str, &str); 14] = [
     ("golden --help", COMMANDS),
     (
         "golden run k1.fir p.json k1.trace --capacity 0",
-        "golden: words: 0 is no number in its range; --capacity takes 1 to 4096, --workers 0 to 64\n",
+        "golden: words: '0' is not a number in its range: --capacity takes 1 to 4096, --workers 0 to 64\n",
     ),
     (
         "golden run k1.fir p.json k1.trace --capacity 4097",
-        "golden: words: 4097 is no number in its range; --capacity takes 1 to 4096, --workers 0 to 64\n",
+        "golden: words: '4097' is not a number in its range: --capacity takes 1 to 4096, --workers 0 to 64\n",
     ),
     (
         "golden run k1.fir p.json k1.trace --workers 65",
-        "golden: words: 65 is no number in its range; --capacity takes 1 to 4096, --workers 0 to 64\n",
+        "golden: words: '65' is not a number in its range: --capacity takes 1 to 4096, --workers 0 to 64\n",
     ),
     (
         "golden check k1.fir p.json --capacity +7",
-        "golden: words: +7 is no number in its range; --capacity takes 1 to 4096, --workers 0 to 64\n",
+        "golden: words: '+7' is not a number in its range: --capacity takes 1 to 4096, --workers 0 to 64\n",
     ),
     (
         "golden check k1.fir p.json",
-        "golden: words: check is not there yet, run is\n",
+        "golden: words: check is not there yet; the command is run CIRCUIT PARTITION TRACE [--capacity K] [--workers W] [--mono]\n",
     ),
 ];
 

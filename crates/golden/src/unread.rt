@@ -3,7 +3,7 @@ ghost use Rattle.std.specs.Prelude.{IfOk, string_bytes};
 ghost use Rattle.golden.specs.Lines.{IsUnreadText, TellsUnread};
 ghost use Rattle.golden.specs.Endings.{IfRefused};
 
-use crate::endings::{Ending, end_with, make_refusal, numbered};
+use crate::endings::{Ending, end_with, make_refusal, text_with_number};
 use gg_read::ReadFault;
 use std::alloc::{AllocError, Global};
 
@@ -13,14 +13,14 @@ fn unread_text(alloc: Global, fault: &ReadFault) -> Result<String, AllocError>
 {
     match fault {
         ReadFault::NotText => String::from_str(alloc, "not text"),
-        ReadFault::Syntax { line } => numbered(alloc, "syntax line ", *line),
+        ReadFault::Syntax { line } => text_with_number(alloc, "syntax line ", *line),
         ReadFault::Outside { line, word } => {
-            let mut text = numbered(alloc, "outside line ", *line)?;
+            let mut text = text_with_number(alloc, "outside line ", *line)?;
             text.push_str(" ")?;
             text.push_str(word.as_str())?;
             Ok(text)
         }
-        ReadFault::TooDeep { line } => numbered(alloc, "too deep line ", *line),
+        ReadFault::TooDeep { line } => text_with_number(alloc, "too deep line ", *line),
         ReadFault::NoMemory => Err(AllocError),
     }
 }

@@ -17,7 +17,7 @@ fn end_at_no_command(alloc: Global) -> Ending
         alloc,
         2,
         "golden: words",
-        ": the commands are run CIRCUIT PARTITION TRACE [--capacity K] [--workers W] [--mono] and check CIRCUIT PARTITION [--capacity K]",
+        ": the command is run CIRCUIT PARTITION TRACE [--capacity K] [--workers W] [--mono]",
         "",
     ))
 }
@@ -29,9 +29,9 @@ fn end_at_number(alloc: Global, value: &str) -> Ending
     end_with(make_refusal(
         alloc,
         2,
-        "golden: words: ",
+        "golden: words: '",
         value,
-        " is no number in its range; --capacity takes 1 to 4096, --workers 0 to 64",
+        "' is not a number in its range: --capacity takes 1 to 4096, --workers 0 to 64",
     ))
 }
 
@@ -43,7 +43,7 @@ pub(crate) fn end_at_check(alloc: Global) -> Ending
         alloc,
         2,
         "golden: words",
-        ": check is not there yet, run is",
+        ": check is not there yet; the command is run CIRCUIT PARTITION TRACE [--capacity K] [--workers W] [--mono]",
         "",
     ))
 }

@@ -1,5 +1,5 @@
 use Rattle.gg_io.specs.Count.{Rose}
-use Rattle.golden.specs.Words.{texts}
+use Rattle.gg_words.specs.Meaning.{texts}
 use Rattle.golden.proofs.EndingLemmas.{status-answered}
 use Rattle.golden.proofs.call.answer.Goals as goal
 

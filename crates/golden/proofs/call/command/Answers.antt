@@ -1,5 +1,6 @@
 use Rattle.std.proofs.Common.{inl}
-use Rattle.golden.specs.Words.{cmd_of, texts}
+use Rattle.gg_words.specs.Meaning.{texts}
+use Rattle.golden.specs.Words.{cmd_of}
 use Rattle.golden.proofs.EndingLemmas.{unasked-ends}
 use Rattle.golden.proofs.OutcomeLemmas.{word-fault}
 use Rattle.golden.proofs.ReadingLemmas.{IfRefused-map}
