@@ -26,7 +26,7 @@ no_comment (b ∷ bs) at_sign comment =
     let e : b ≡ 64 = cc in
     omega (arith, e, comment)
 
--- behind one next of file information the line may end as before
+-- behind one file information the line may end as before
 pub IsEnd-after_info : (bs : List ℕ) (n : ℕ) → IsInfo (after_blanks bs) n → IsEnd bs ↔ IsEnd (drop n (after_blanks bs))
 IsEnd-after_info bs n info = (λ end. go end.0 end.1, λ end. (suc end.0, (n, info, end.1)))
   where
@@ -65,7 +65,7 @@ no_bracket_past bs at past none k from closes =
     let inside = slice_get_within bs (k + 1) 93 closes.0 in
     none k from (omega (arith, inside)) closes
 
--- a turn of the loop over the file information parts, and its end
+-- a turn of the loop over the file information, and its end
 pub IsEnd-turn : (all rest start next : List ℕ) (n : ℕ) → IsEnd all ↔ IsEnd rest → start ≡ after_blanks rest → FindsInfo start (Some n) → next ≡ drop n start → IsEnd all ↔ IsEnd next
 IsEnd-turn all rest start next n so_far start_is info next_is =
     let here : IsInfo (after_blanks rest) n = subst (λ (l : List ℕ). IsInfo l n) start_is info.2 in

@@ -1,4 +1,4 @@
--- What the search for a next of file information answers.
+-- What the search for file information answers.
 use Rattle.std.specs.Prelude.{ℕ, ◌<◌, ◌≤◌, List, length, Option, Some, None}
 use Rattle.gg_lex.specs.Lines.{ClosesBehind, IsInfo}
 

@@ -32,7 +32,7 @@ abbrev pub IsComment : List ℕ → Type 0
 IsComment [] = Unit {0}
 IsComment (b ∷ bs) = b ≡ semicolon
 
--- so many file information parts, and then a comment or nothing; blanks may stand before each
+-- file information so many times, and then a comment or nothing; blanks may stand before each
 abbrev pub IsEndWith : ℕ → List ℕ → Type 0
 IsEndWith zero bs = IsComment (after_blanks bs)
 IsEndWith (suc infos) bs = (n : ℕ) × IsInfo (after_blanks bs) n × IsEndWith infos (drop n (after_blanks bs))

@@ -4,7 +4,7 @@ use Rattle.gg_lex.specs.Tokens.{IsFirst}
 use Rattle.gg_lex.specs.Lines.{after_blanks, IsEnd}
 use Rattle.gg_lex.specs.declared.token.NextToken.{NextToken}
 
--- the next is the first token behind the blanks
+-- `next` is the first token behind the blanks
 pub record IsNextToken (bs : List ℕ) (next : NextToken) : Type 0 where
   pub size : ℕ
   pub first : IsFirst next.kind (after_blanks bs) size
