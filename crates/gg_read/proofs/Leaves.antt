@@ -143,3 +143,7 @@ text_at-spells (Symbol a ∷ ts) x t h = absurd (cc)
 text_at-spells (Text v ∷ ts) x t h =
     let e = some_same (v, ts) (x, t) h in
     ap (λ (q : List ℕ × List Tok). Text q.0 ∷ q.1) e
+
+-- the rest of a reader, where nothing is left
+pub ended : {A : Type 0} (rest : List Tok) (x y : A) → (end_at rest >>= λ u. Some x) ≡ Some y → (rest ≡ []) × (x ≡ y)
+ended rest x y h = let e = bound (end_at rest) (λ u. Some x) y h in (end_at-spells rest e.0 e.1, some_same x y e.2)

@@ -4,6 +4,7 @@ pub mod DigitRuns
 pub mod Expressions
 pub mod ExpressionsSpelt
 pub mod FaultLines
+pub mod FieldLaws
 pub mod Leaves
 pub mod LineSteps
 pub mod NamesSpelt

@@ -11,13 +11,15 @@ use Rattle.gg_ast.specs.declared.expression.Reference.TheVariants as reference
 use Rattle.gg_ast.specs.declared.module.GroundType.{GroundType}
 use Rattle.gg_ast.specs.declared.statement.Argument.{Argument}
 use Rattle.gg_ast.specs.declared.statement.Argument.TheVariants as given
+use Rattle.gg_ast.specs.declared.statement.MemoryField.{MemoryField}
+use Rattle.gg_ast.specs.declared.statement.MemoryField.TheVariants as field
 use Rattle.gg_ast.specs.declared.statement.StmtKind.{StmtKind}
 use Rattle.gg_ast.specs.declared.statement.StmtKind.TheVariants as statement
-use Rattle.gg_ast.specs.Names.{IsName, AreNamesOfReference, AreNamesOfTerm, AreNamesOfArgument, AreNamesOfKind}
+use Rattle.gg_ast.specs.Names.{IsName, AreNamesOfReference, AreNamesOfTerm, AreNamesOfArgument, AreNamesOfMemoryField, AreNamesOfKind}
 use Rattle.gg_ast.specs.Term.{Term, NamedTerm, ConstantTerm, UnaryTerm, BinaryTerm, FixedTerm, MuxTerm}
 use Rattle.gg_read.specs.declared.row.LineRow.{LineRow}
 use Rattle.gg_read.specs.declared.row.LineRow.TheVariants as line
-use Rattle.gg_read.specs.Forms.{SpellsReference, SpellsExpr, SpellsReset, SpellsLabel, SpellsArgument, SpellsArguments, SpellsRegister}
+use Rattle.gg_read.specs.Forms.{SpellsReference, SpellsExpr, SpellsReset, SpellsLabel, SpellsArgument, SpellsArguments, SpellsRegister, SpellsMoreNames, SpellsNames, SpellsField}
 use Rattle.gg_read.specs.LineRows.{statement_row, row_of, AreNamesOfLine}
 use Rattle.gg_read.specs.Stages.{IsWholeRow}
 use Rattle.gg_read.specs.Text.{LineTokens}
@@ -57,6 +59,23 @@ arguments-named (a ∷ (b ∷ more)) ts rest (t, h, k) =
 register-named : (name : List ℕ) (ty : GroundType) (clock : Term) (ts rest : List Tok) → SpellsRegister name ty clock ts rest → IsName name × AreNamesOfTerm clock
 register-named name ty clock ts rest (t, u, named, is, h, k) = (named, expr-named clock u rest k)
 
+more-named : (names : List (List ℕ)) (ts : List Tok) → SpellsMoreNames names ts → All IsName names
+more-named [] ts h = All-nil IsName
+more-named (n ∷ more) ts (t, named, is, h) = All-cons IsName n more named (more-named more t h)
+
+names-named : (names : List (List ℕ)) (ts : List Tok) → SpellsNames names ts → All IsName names
+names-named [] ts h = absurd h
+names-named (n ∷ more) ts h = more-named (n ∷ more) ts h
+
+field-named : (f : MemoryField) (ts : List Tok) → SpellsField f ts → AreNamesOfMemoryField f
+field-named (field.DataType ty) ts h = tt
+field-named (field.Depth n) ts h = tt
+field-named (field.ReadLatency n) ts h = tt
+field-named (field.WriteLatency n) ts h = tt
+field-named (field.Readers names) ts (t, is, h) = names-named names t h
+field-named (field.Writers names) ts (t, is, h) = names-named names t h
+field-named (field.ReadUnderWrite word) ts h = tt
+
 kind-named : (kind : StmtKind) (at : LineTokens) → MatchOption (statement_row kind) ⊥ (IsWholeRow at) → AreNamesOfKind kind
 kind-named (statement.Wire name ty) at h = h.spelt.1
 kind-named (statement.Node name value) at h = (h.spelt.1, expr-named value h.spelt.0 [] h.spelt.3)
@@ -91,3 +110,5 @@ line-named (line.RegisterReset name ty clock condition init) at h =
     (r.0, r.1, s.0, s.1)
 line-named (line.RegisterOpen name ty clock) at h = register-named name ty clock at.tokens _ h.spelt
 line-named (line.Reset condition init) at h = reset-named condition init at.tokens [] h.spelt
+line-named (line.Memory name) at h = h.spelt.0
+line-named (line.Field f) at h = field-named f at.tokens h.spelt

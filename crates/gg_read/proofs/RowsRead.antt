@@ -18,7 +18,8 @@ use Rattle.gg_read.specs.declared.words.Keyword.TheVariants as keyword
 use Rattle.gg_read.specs.Words.{direction_text}
 use Rattle.gg_ast.specs.Names.{IsName}
 use Rattle.gg_read.specs.Forms.{IsNatural, SpellsReference, SpellsType, SpellsExpr, SpellsReset, SpellsLabel, SpellsArgument, SpellsArguments, SpellsRegister, SpellsRow}
-use Rattle.gg_read.specs.Reading.{◌>>=◌, choose, symbol_at, word_at, name_at, natural_at, end_at, type_at, reference_at, one_parameter_at, text_at, expression_at, last_expression_at, version_at, header_at, declared_at, last_declared_at, node_at, reset_at, clocked_at, instance_at, label_at, stop_at, argument_at, arguments_at, report_at, body_at, keyword_at, driven_at, connection_at, is_invalid, is_connection, row_at}
+use Rattle.gg_read.specs.Reading.{◌>>=◌, choose, symbol_at, word_at, name_at, natural_at, end_at, type_at, reference_at, one_parameter_at, text_at, expression_at, last_expression_at, version_at, header_at, declared_at, last_declared_at, node_at, reset_at, clocked_at, instance_at, label_at, stop_at, argument_at, arguments_at, report_at, field_at, body_at, keyword_at, driven_at, connection_at, is_invalid, is_connection, row_at}
+use Rattle.gg_read.proofs.FieldLaws.{word_of, field-read}
 use Rattle.gg_read.proofs.Leaves.{goes_on, not_chosen, name_at-here, natural_at-here}
 use Rattle.gg_read.proofs.WordLaws.{keyword_text, keyword_of-here}
 use Rattle.gg_read.proofs.Expressions.{Ends, ends_end, ends_comma, ends_close, expr-read, expr-shorter, type-read, reference-read, one_parameter-read}
@@ -204,8 +205,11 @@ row-read (RegisterOpenRow name ty clock) ts h = register-read name ty clock ts _
 row-read (ResetRow condition init) ts h = reset_row-read condition init ts h
 row-read (InstanceRow name m) ts h =
     rw h.2 (keyword-read keyword.Instance (Word name ∷ (Word (codes "of") ∷ (Word m ∷ []))) (InstanceRow name m) (named (codes "inst") name (Word (codes "of") ∷ (Word m ∷ [])) refl) (instance-read name m h.0 h.1))
-row-read (MemoryRow name) ts h = absurd h
-row-read (FieldRow field) ts h = absurd h
+row-read (MemoryRow name) ts h =
+    rw h.1 (keyword-read keyword.Memory (Word name ∷ (Symbol Colon ∷ [])) (MemoryRow name) (named (codes "mem") name (Symbol Colon ∷ []) refl) (goes_on (header_at (Word name ∷ (Symbol Colon ∷ []))) (λ n. Some (MemoryRow n)) name (header-read name h.0)))
+row-read (FieldRow f) ts h =
+    let read = field-read f ts h in
+    rw read.1 (keyword-read (keyword.Field (word_of f)) (Symbol Arrow ∷ read.0) (FieldRow f) refl (goes_on (field_at (word_of f) read.0) (λ x. Some (FieldRow x)) f read.2))
 row-read (ConnectRow sink source) ts h = connect-read sink source ts h.0 h.1 h.2
 row-read (InvalidRow sink) ts h = driven-by sink ts (Word (codes "is") ∷ (Word (codes "invalid") ∷ [])) (InvalidRow sink) (is_undriven sink ts h) refl h refl
 row-read SkipRow ts h = rw h (keyword-read keyword.Skip [] SkipRow refl refl)

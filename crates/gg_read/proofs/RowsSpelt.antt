@@ -6,27 +6,26 @@ use Rattle.gg_lex.specs.declared.token.Tok.TheVariants.{Word, Number, Text, Symb
 use Rattle.gg_lex.specs.declared.token.Symbol.TheVariants.{Connect, Arrow, Colon, Comma, Dot, OpenParen, CloseParen, Equals}
 use Rattle.gg_ast.specs.declared.expression.Reference.{Reference}
 use Rattle.gg_ast.specs.declared.module.GroundType.{GroundType}
+use Rattle.gg_ast.specs.declared.statement.MemoryField.{MemoryField}
 use Rattle.gg_ast.specs.declared.statement.Report.{Report}
-use Rattle.gg_ast.specs.Row.{Row, VersionRow, CircuitRow, ModuleRow, PortRow, WireRow, NodeRow, RegisterRow, RegisterResetRow, RegisterOpenRow, ResetRow, InstanceRow, ConnectRow, InvalidRow, SkipRow, StopRow, ReportRow}
+use Rattle.gg_ast.specs.Row.{Row, VersionRow, CircuitRow, ModuleRow, PortRow, WireRow, NodeRow, RegisterRow, RegisterResetRow, RegisterOpenRow, ResetRow, InstanceRow, MemoryRow, FieldRow, ConnectRow, InvalidRow, SkipRow, StopRow, ReportRow}
 use Rattle.gg_ast.specs.Term.{Term}
 use Rattle.gg_ast.specs.declared.statement.Argument.{Argument}
 use Rattle.gg_ast.specs.declared.statement.Argument.TheVariants as given
+use Rattle.gg_read.specs.declared.words.FieldWord.{FieldWord}
 use Rattle.gg_read.specs.declared.words.Keyword.{Keyword}
 use Rattle.gg_read.specs.declared.words.Keyword.TheVariants as keyword
-use Rattle.gg_read.specs.Words.{direction_text, report_text, keyword_of}
+use Rattle.gg_read.specs.Words.{direction_text, report_text, field_text, keyword_of}
 use Rattle.gg_ast.specs.Names.{IsName}
 use Rattle.gg_read.specs.Forms.{SpellsReference, SpellsType, SpellsExpr, SpellsReset, SpellsLabel, SpellsArgument, SpellsArguments, SpellsRegister, SpellsRow}
-use Rattle.gg_read.specs.Reading.{◌>>=◌, choose, symbol_at, word_at, name_at, natural_at, end_at, type_at, reference_at, one_parameter_at, text_at, expression_at, last_expression_at, version_at, header_at, declared_at, last_declared_at, node_at, reset_at, reset_row_at, inline_reset_at, with_at, clocked_at, register_at, instance_at, label_at, stop_at, argument_at, arguments_at, report_at, body_at, keyword_at, invalid_at, driven_at, connection_at, is_connection, row_at}
-use Rattle.gg_read.proofs.Leaves.{bound, chosen, not_chosen, some_same, symbol_at-spells, word_at-spells, name_at-spells, natural_at-spells, end_at-spells, text_at-spells}
+use Rattle.gg_read.specs.Reading.{◌>>=◌, choose, symbol_at, word_at, name_at, natural_at, end_at, type_at, reference_at, one_parameter_at, text_at, expression_at, last_expression_at, version_at, header_at, declared_at, last_declared_at, node_at, reset_at, reset_row_at, inline_reset_at, with_at, clocked_at, register_at, instance_at, label_at, stop_at, argument_at, arguments_at, report_at, field_at, field_row_at, body_at, keyword_at, invalid_at, driven_at, connection_at, is_connection, row_at}
+use Rattle.gg_read.proofs.Leaves.{bound, ended, chosen, not_chosen, some_same, symbol_at-spells, word_at-spells, name_at-spells, natural_at-spells, end_at-spells, text_at-spells}
+use Rattle.gg_read.proofs.FieldLaws.{field-spells}
 use Rattle.gg_read.proofs.WordLaws.{keyword_text, keyword_of-spells}
 use Rattle.gg_read.proofs.ExpressionsSpelt.{reference-spells, type-spells, one_parameter-spells, expr-spells}
 
 expression-spells : (ts rest : List Tok) (e : Term) → expression_at ts ≡ Some (e, rest) → SpellsExpr e ts rest
 expression-spells ts rest e h = expr-spells (length ts) ts rest e h
-
--- the rest of a reader, where nothing is left
-ended : {A : Type 0} (rest : List Tok) (x y : A) → (end_at rest >>= λ u. Some x) ≡ Some y → (rest ≡ []) × (x ≡ y)
-ended rest x y h = let e = bound (end_at rest) (λ u. Some x) y h in (end_at-spells rest e.0 e.1, some_same x y e.2)
 
 last-spells : (ts : List Tok) (e : Term) → last_expression_at ts ≡ Some e → SpellsExpr e ts []
 last-spells ts e h =
@@ -279,6 +278,13 @@ report-spells word ts row h =
     subst (λ r. SpellsRow r (Word (report_text word) ∷ ts)) (some_same (ReportRow word a.0.0 l.0) row l.2)
     (o.0, a.0.1, ap (λ x. Word (report_text word) ∷ x) (symbol_at-spells OpenParen ts o.0 o.1), subst (λ x. SpellsArguments x o.0 a.0.1) (sym m.whole) m.spelt, label-spells a.0.1 l.0 l.1)
 
+field_row-spells : (word : FieldWord) (ts : List Tok) (row : Row) → field_row_at word ts ≡ Some row → SpellsRow row (Word (field_text word) ∷ ts)
+field_row-spells word ts row h =
+    let a = bound (symbol_at Arrow ts) (λ t. field_at word t >>= λ f. Some (FieldRow f)) row h in
+    let f = bound (field_at word a.0) (λ f. Some (FieldRow f)) row a.2 in
+    subst (λ r. SpellsRow r (Word (field_text word) ∷ ts)) (some_same (FieldRow f.0) row f.2)
+    (field-spells word a.0 (Word (field_text word) ∷ ts) f.0 (ap (λ l. Word (field_text word) ∷ l) (symbol_at-spells Arrow ts a.0 a.1)) f.1)
+
 body-spells : (k : Keyword) (ts : List Tok) (row : Row) → body_at k ts ≡ Some row → SpellsRow row (Word (keyword_text k) ∷ ts)
 body-spells keyword.Version ts row h = version-spells ts row h
 body-spells keyword.Circuit ts row h =
@@ -301,6 +307,11 @@ body-spells keyword.Node ts row h = node-spells ts row h
 body-spells keyword.Register ts row h = register-spells ts row h
 body-spells keyword.Reset ts row h = reset_row-spells ts row h
 body-spells keyword.Instance ts row h = instance-spells ts row h
+body-spells keyword.Memory ts row h =
+    let n = bound (header_at ts) (λ name. Some (MemoryRow name)) row h in
+    let x = header-spells ts n.0 n.1 in
+    subst (λ r. SpellsRow r (Word (codes "mem") ∷ ts)) (some_same (MemoryRow n.0) row n.2) (x.0, ap (λ l. Word (codes "mem") ∷ l) x.1)
+body-spells (keyword.Field word) ts row h = field_row-spells word ts row h
 body-spells keyword.Skip ts row h =
     let stop = ended ts SkipRow row h in
     subst (λ r. SpellsRow r (Word (codes "skip") ∷ ts)) stop.1 (ap (λ l. Word (codes "skip") ∷ l) stop.0)

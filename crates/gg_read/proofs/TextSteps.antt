@@ -13,7 +13,7 @@ use Rattle.gg_read.specs.declared.cursor.Miss.{Miss}
 use Rattle.gg_read.specs.declared.cursor.Miss.TheVariants.{NoForm, NoMemory}
 use Rattle.gg_read.specs.declared.row.LineRow.{LineRow}
 use Rattle.gg_read.specs.declared.stage.Stage.{Stage}
-use Rattle.gg_read.specs.declared.stage.Stage.TheVariants.{Start, Version, Header, Ports, Statements, Open}
+use Rattle.gg_read.specs.declared.stage.Stage.TheVariants.{Start, Version, Header, Ports, Statements, Fields, Open}
 use Rattle.gg_read.specs.declared.text.ReadFault.{ReadFault}
 use Rattle.gg_read.specs.declared.text.ReadFault.TheVariants as because
 use Rattle.gg_read.specs.Causes.{IsFaultOf}
@@ -64,6 +64,7 @@ later Version n stays = tt
 later (Header circuit) n stays = tt
 later (Ports circuit) n stays = stays
 later (Statements circuit) n stays = stays
+later (Fields circuit) n stays = stays
 later (Open circuit register) n stays = (stays.0, omega (arith, stays.1), stays.2)
 
 -- a line that holds nothing

@@ -8,12 +8,13 @@ use Rattle.gg_bits.specs.declared.ops.Op2.TheVariants as two
 use Rattle.gg_bits.specs.declared.ops.OpN.TheVariants as fix
 use Rattle.gg_ast.specs.declared.module.Direction.TheVariants as direction
 use Rattle.gg_ast.specs.declared.statement.Report.TheVariants as report
+use Rattle.gg_read.specs.declared.words.FieldWord.TheVariants as field
 use Rattle.gg_read.specs.declared.words.Operation.{Operation}
 use Rattle.gg_read.specs.declared.words.Operation.TheVariants.{Unary, Binary, Fixed, Mux}
 use Rattle.gg_read.specs.declared.words.Keyword.{Keyword}
 use Rattle.gg_read.specs.declared.words.Keyword.TheVariants as keyword
 use Rattle.gg_bits.specs.Spelling.{text1, text2, text_const, written_as, all1, all2, all_const, named1, named2, named_const}
-use Rattle.gg_read.specs.Words.{direction_text, report_text, find_word, operation_of, head_words, tail_words, keyword_of}
+use Rattle.gg_read.specs.Words.{direction_text, report_text, field_text, find_word, operation_of, head_words, tail_words, field_words, keyword_of}
 use Rattle.gg_read.proofs.Leaves.{equal_bytes, some_same}
 
 -- each entry of the table has the word that its value is spelt by
@@ -119,15 +120,20 @@ keyword_text keyword.Node = codes "node"
 keyword_text keyword.Register = codes "reg"
 keyword_text keyword.Reset = codes "reset"
 keyword_text keyword.Instance = codes "inst"
+keyword_text keyword.Memory = codes "mem"
+keyword_text (keyword.Field word) = field_text word
 keyword_text keyword.Skip = codes "skip"
 keyword_text keyword.Stop = codes "stop"
 keyword_text (keyword.Report word) = report_text word
 
 pub keyword_of-spells : (word : List ℕ) (k : Keyword) → keyword_of word ≡ Some k → word ≡ keyword_text k
 keyword_of-spells word k h =
-    elim (first_or (find_word word head_words) _ k h) [
-      | inl a ↦ find_word-spells keyword_text word head_words k (refl, (refl, (refl, (refl, (refl, (refl, (refl, (refl, tt)))))))) a
-      | inr b ↦ find_word-spells keyword_text word tail_words k (refl, (refl, (refl, (refl, (refl, (refl, (refl, (refl, tt)))))))) b
+    elim (first_or (option_or (find_word word head_words) (find_word word tail_words)) _ k h) [
+      | inl known ↦ elim (first_or (find_word word head_words) _ k known) [
+        | inl a ↦ find_word-spells keyword_text word head_words k (refl, (refl, (refl, (refl, (refl, (refl, (refl, (refl, tt)))))))) a
+        | inr b ↦ find_word-spells keyword_text word tail_words k (refl, (refl, (refl, (refl, (refl, (refl, (refl, (refl, (refl, tt))))))))) b
+      ]
+      | inr c ↦ find_word-spells keyword_text word field_words k (refl, (refl, (refl, (refl, (refl, (refl, (refl, tt))))))) c
     ]
 
 pub keyword_of-here : (k : Keyword) → keyword_of (keyword_text k) ≡ Some k
@@ -141,6 +147,14 @@ keyword_of-here keyword.Node = refl
 keyword_of-here keyword.Register = refl
 keyword_of-here keyword.Reset = refl
 keyword_of-here keyword.Instance = refl
+keyword_of-here keyword.Memory = refl
+keyword_of-here (keyword.Field field.DataType) = refl
+keyword_of-here (keyword.Field field.Depth) = refl
+keyword_of-here (keyword.Field field.ReadLatency) = refl
+keyword_of-here (keyword.Field field.WriteLatency) = refl
+keyword_of-here (keyword.Field field.Reader) = refl
+keyword_of-here (keyword.Field field.Writer) = refl
+keyword_of-here (keyword.Field field.ReadUnderWrite) = refl
 keyword_of-here keyword.Skip = refl
 keyword_of-here keyword.Stop = refl
 keyword_of-here (keyword.Report report.Printf) = refl

@@ -21,8 +21,10 @@ use Rattle.gg_ast.specs.Row.{Row, VersionRow, CircuitRow, ModuleRow, PortRow, Wi
 use Rattle.gg_ast.specs.Term.{Term, NamedTerm, ConstantTerm, UnaryTerm, BinaryTerm, FixedTerm, MuxTerm}
 use Rattle.gg_ast.specs.declared.statement.Argument.{Argument}
 use Rattle.gg_ast.specs.declared.statement.Argument.TheVariants as given
+use Rattle.gg_ast.specs.declared.statement.MemoryField.{MemoryField}
+use Rattle.gg_ast.specs.declared.statement.MemoryField.TheVariants as field
 use Rattle.gg_bits.specs.Spelling.{text1, text2, text_const}
-use Rattle.gg_read.specs.Words.{kind_text, direction_text, report_text}
+use Rattle.gg_read.specs.Words.{kind_text, direction_text, report_text, read_under_write_text}
 
 -- the digits of a radix, of either case
 abbrev pub is_digit_of : Radix → ℕ → Bool
@@ -129,6 +131,28 @@ abbrev pub SpellsRegister : List ℕ → GroundType → Term → List Tok → Li
 SpellsRegister name ty clock ts rest =
     (t : List Tok) × (u : List Tok) × IsName name × (ts ≡ Word (codes "reg") ∷ (Word name ∷ (Symbol Colon ∷ t))) × SpellsType ty t (Symbol Comma ∷ u) × SpellsExpr clock u rest
 
+-- names up to the end
+abbrev pub SpellsMoreNames : List (List ℕ) → List Tok → Type 0
+SpellsMoreNames [] ts = ts ≡ []
+SpellsMoreNames (n ∷ more) ts = (t : List Tok) × IsName n × (ts ≡ Word n ∷ t) × SpellsMoreNames more t
+
+-- one name or more, up to the end
+abbrev pub SpellsNames : List (List ℕ) → List Tok → Type 0
+SpellsNames [] ts = ⊥
+SpellsNames (n ∷ more) ts = SpellsMoreNames (n ∷ more) ts
+
+-- a field of a memory: its word, `=>`, and what it says (FIRRTL Specification, "Memories")
+abbrev pub SpellsField : MemoryField → List Tok → Type 0
+SpellsField (field.DataType ty) ts = (t : List Tok) × (ts ≡ Word (codes "data-type") ∷ (Symbol Arrow ∷ t)) × SpellsType ty t []
+SpellsField (field.Depth n) ts = (digits : List ℕ) × IsNatural digits n × (ts ≡ Word (codes "depth") ∷ (Symbol Arrow ∷ (Number digits ∷ [])))
+SpellsField (field.ReadLatency n) ts =
+    (digits : List ℕ) × IsNatural digits n × (ts ≡ Word (codes "read-latency") ∷ (Symbol Arrow ∷ (Number digits ∷ [])))
+SpellsField (field.WriteLatency n) ts =
+    (digits : List ℕ) × IsNatural digits n × (ts ≡ Word (codes "write-latency") ∷ (Symbol Arrow ∷ (Number digits ∷ [])))
+SpellsField (field.Readers names) ts = (t : List Tok) × (ts ≡ Word (codes "reader") ∷ (Symbol Arrow ∷ t)) × SpellsNames names t
+SpellsField (field.Writers names) ts = (t : List Tok) × (ts ≡ Word (codes "writer") ∷ (Symbol Arrow ∷ t)) × SpellsNames names t
+SpellsField (field.ReadUnderWrite word) ts = ts ≡ Word (codes "read-under-write") ∷ (Symbol Arrow ∷ (Word (read_under_write_text word) ∷ []))
+
 -- the tokens of a line spell the row
 abbrev pub SpellsRow : Row → List Tok → Type 0
 SpellsRow (VersionRow a b c) ts =
@@ -150,9 +174,8 @@ SpellsRow (RegisterOpenRow name ty clock) ts = SpellsRegister name ty clock ts (
 SpellsRow (ResetRow condition init) ts = SpellsReset condition init ts []
 SpellsRow (InstanceRow name m) ts =
     IsName name × IsName m × (ts ≡ Word (codes "inst") ∷ (Word name ∷ (Word (codes "of") ∷ (Word m ∷ []))))
--- a memory and its fields are no form: nothing spells them
-SpellsRow (MemoryRow name) ts = ⊥
-SpellsRow (FieldRow field) ts = ⊥
+SpellsRow (MemoryRow name) ts = IsName name × (ts ≡ Word (codes "mem") ∷ (Word name ∷ (Symbol Colon ∷ [])))
+SpellsRow (FieldRow f) ts = SpellsField f ts
 SpellsRow (ConnectRow sink source) ts =
     (t : List Tok) × SpellsReference sink ts (Symbol Connect ∷ t) × SpellsExpr source t []
 SpellsRow (InvalidRow sink) ts = SpellsReference sink ts (Word (codes "is") ∷ (Word (codes "invalid") ∷ []))

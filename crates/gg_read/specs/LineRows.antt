@@ -2,15 +2,15 @@
 use Rattle.std.specs.Prelude.{◌≡◌, Option, None, Some, Result, Ok, Err, MatchOption}
 use Rattle.gg_ast.specs.declared.statement.StmtKind.{StmtKind}
 use Rattle.gg_ast.specs.declared.statement.StmtKind.TheVariants as statement
-use Rattle.gg_ast.specs.Names.{IsName, AreNamesOfTerm, AreNamesOfKind}
-use Rattle.gg_ast.specs.Row.{Row, VersionRow, CircuitRow, ModuleRow, PortRow, WireRow, NodeRow, RegisterRow, RegisterResetRow, RegisterOpenRow, ResetRow, InstanceRow, ConnectRow, InvalidRow, SkipRow, StopRow, ReportRow}
+use Rattle.gg_ast.specs.Names.{IsName, AreNamesOfTerm, AreNamesOfMemoryField, AreNamesOfKind}
+use Rattle.gg_ast.specs.Row.{Row, VersionRow, CircuitRow, ModuleRow, PortRow, WireRow, NodeRow, RegisterRow, RegisterResetRow, RegisterOpenRow, ResetRow, InstanceRow, MemoryRow, FieldRow, ConnectRow, InvalidRow, SkipRow, StopRow, ReportRow}
 use Rattle.gg_read.specs.declared.row.LineRow.{LineRow}
 use Rattle.gg_read.specs.declared.row.LineRow.TheVariants as line
 use Rattle.gg_read.specs.declared.cursor.Miss.{Miss}
 use Rattle.gg_read.specs.Reading.{Misses}
 
 -- The row of a statement that stands on one line. A register with a reset has none: its text is one line or two, which
--- `LineRow` tells apart by variants of their own. A memory has none: it is no form.
+-- `LineRow` tells apart by variants of their own. A memory has none: its lines are rows of variants of their own too.
 abbrev pub statement_row : StmtKind → Option Row
 statement_row (statement.Wire name ty) = Some (WireRow name ty)
 statement_row (statement.Node name value) = Some (NodeRow name value)
@@ -34,6 +34,8 @@ row_of (line.Statement kind) = statement_row kind
 row_of (line.RegisterReset name ty clock condition init) = Some (RegisterResetRow name ty clock condition init)
 row_of (line.RegisterOpen name ty clock) = Some (RegisterOpenRow name ty clock)
 row_of (line.Reset condition init) = Some (ResetRow condition init)
+row_of (line.Memory name) = Some (MemoryRow name)
+row_of (line.Field f) = Some (FieldRow f)
 
 -- the names of what a line holds are names
 abbrev pub AreNamesOfLine : LineRow → Type 0
@@ -45,6 +47,8 @@ AreNamesOfLine (line.Statement kind) = AreNamesOfKind kind
 AreNamesOfLine (line.RegisterReset name ty clock condition init) = IsName name × AreNamesOfTerm clock × AreNamesOfTerm condition × AreNamesOfTerm init
 AreNamesOfLine (line.RegisterOpen name ty clock) = IsName name × AreNamesOfTerm clock
 AreNamesOfLine (line.Reset condition init) = AreNamesOfTerm condition × AreNamesOfTerm init
+AreNamesOfLine (line.Memory name) = IsName name
+AreNamesOfLine (line.Field f) = AreNamesOfMemoryField f
 
 -- a reader of a line found this: what it gives holds a row, and that is the row
 abbrev pub FindsRow : Result LineRow Miss → Option Row → Type 0

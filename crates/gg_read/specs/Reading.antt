@@ -22,14 +22,20 @@ use Rattle.gg_ast.specs.declared.expression.Reference.TheVariants as reference
 use Rattle.gg_ast.specs.Term.{Term, NamedTerm, ConstantTerm, UnaryTerm, BinaryTerm, FixedTerm, MuxTerm}
 use Rattle.gg_ast.specs.declared.statement.Argument.{Argument}
 use Rattle.gg_ast.specs.declared.statement.Argument.TheVariants as given
+use Rattle.gg_ast.specs.declared.statement.MemoryField.{MemoryField}
+use Rattle.gg_ast.specs.declared.statement.MemoryField.TheVariants as field
+use Rattle.gg_ast.specs.declared.statement.ReadUnderWrite.{ReadUnderWrite}
+use Rattle.gg_ast.specs.declared.statement.ReadUnderWrite.TheVariants as under_write
 use Rattle.gg_read.specs.declared.cursor.Miss.{Miss}
 use Rattle.gg_read.specs.declared.cursor.Miss.TheVariants.{NoForm, NoMemory}
 use Rattle.gg_read.specs.declared.words.Operation.{Operation}
 use Rattle.gg_read.specs.declared.words.Operation.TheVariants.{Unary, Binary as Binary2, Fixed, Mux}
+use Rattle.gg_read.specs.declared.words.FieldWord.{FieldWord}
+use Rattle.gg_read.specs.declared.words.FieldWord.TheVariants as field_word
 use Rattle.gg_read.specs.declared.words.Keyword.{Keyword}
 use Rattle.gg_read.specs.declared.words.Keyword.TheVariants as keyword
 use Rattle.gg_ast.specs.declared.statement.Report.{Report}
-use Rattle.gg_ast.specs.Row.{Row, VersionRow, CircuitRow, ModuleRow, PortRow, WireRow, NodeRow, RegisterRow, RegisterResetRow, RegisterOpenRow, ResetRow, InstanceRow, ConnectRow, InvalidRow, SkipRow, StopRow, ReportRow}
+use Rattle.gg_ast.specs.Row.{Row, VersionRow, CircuitRow, ModuleRow, PortRow, WireRow, NodeRow, RegisterRow, RegisterResetRow, RegisterOpenRow, ResetRow, InstanceRow, MemoryRow, FieldRow, ConnectRow, InvalidRow, SkipRow, StopRow, ReportRow}
 use Rattle.gg_read.specs.declared.digits.Digits.{Digits}
 use Rattle.gg_ast.specs.Names.{is_name}
 use Rattle.gg_read.specs.Forms.{is_natural, are_digits}
@@ -311,6 +317,51 @@ TakesArgument (Err miss) before ts after left = (n : ℕ) → Misses miss (argum
 abbrev pub report_at : Report → List Tok → Option Row
 report_at word ts = symbol_at OpenParen ts >>= λ t. arguments_at (length t) [] t >>= λ a. label_at a.1 >>= λ l. Some (ReportRow word a.0 l)
 
+-- names behind those read so far, up to the end
+abbrev pub more_names_at : List (List ℕ) → List Tok → Option (List (List ℕ))
+more_names_at before [] = Some before
+more_names_at before (Word w ∷ ts) = if is_name w then more_names_at (before ++ w ∷ []) ts else None
+more_names_at before (Number w ∷ ts) = None
+more_names_at before (Text w ∷ ts) = None
+more_names_at before (Symbol mark ∷ ts) = None
+
+-- one name or more, up to the end
+abbrev pub names_at : List Tok → Option (List (List ℕ))
+names_at [] = None
+names_at (t ∷ ts) = more_names_at [] (t ∷ ts)
+
+-- what one token comes to: a name, so that more may follow, or none
+abbrev pub TakesName : Result (Unit {0}) Miss → List (List ℕ) → Tok → List (List ℕ) → Type 0
+TakesName (Ok value) before t after = (ts : List Tok) → more_names_at before (t ∷ ts) ≡ more_names_at after ts
+TakesName (Err miss) before t after = (ts : List Tok) → Misses miss (more_names_at before (t ∷ ts))
+
+abbrev pub last_type_at : List Tok → Option GroundType
+last_type_at ts = type_at ts >>= λ ty. end_at ty.1 >>= λ u. Some ty.0
+
+abbrev pub last_natural_at : List Tok → Option ℕ
+last_natural_at ts = natural_at ts >>= λ n. end_at n.1 >>= λ u. Some n.0
+
+abbrev pub read_under_write_at : List Tok → Option (ReadUnderWrite × List Tok)
+read_under_write_at ts =
+    choose (word_at (codes "old") ts) (λ t. Some (under_write.Old, t))
+    (choose (word_at (codes "new") ts) (λ t. Some (under_write.New, t)) (word_at (codes "undefined") ts >>= λ t. Some (under_write.Undefined, t)))
+
+abbrev pub last_read_under_write_at : List Tok → Option ReadUnderWrite
+last_read_under_write_at ts = read_under_write_at ts >>= λ w. end_at w.1 >>= λ u. Some w.0
+
+-- what a memory's field says, behind its word and `=>`
+abbrev pub field_at : FieldWord → List Tok → Option MemoryField
+field_at field_word.DataType ts = last_type_at ts >>= λ ty. Some (field.DataType ty)
+field_at field_word.Depth ts = last_natural_at ts >>= λ n. Some (field.Depth n)
+field_at field_word.ReadLatency ts = last_natural_at ts >>= λ n. Some (field.ReadLatency n)
+field_at field_word.WriteLatency ts = last_natural_at ts >>= λ n. Some (field.WriteLatency n)
+field_at field_word.Reader ts = names_at ts >>= λ names. Some (field.Readers names)
+field_at field_word.Writer ts = names_at ts >>= λ names. Some (field.Writers names)
+field_at field_word.ReadUnderWrite ts = last_read_under_write_at ts >>= λ w. Some (field.ReadUnderWrite w)
+
+abbrev pub field_row_at : FieldWord → List Tok → Option Row
+field_row_at word ts = symbol_at Arrow ts >>= λ t. field_at word t >>= λ f. Some (FieldRow f)
+
 -- the row whose first word is this keyword, by the tokens behind it
 abbrev pub body_at : Keyword → List Tok → Option Row
 body_at keyword.Version ts = version_at ts
@@ -322,6 +373,8 @@ body_at keyword.Node ts = node_at ts
 body_at keyword.Register ts = register_at ts
 body_at keyword.Reset ts = reset_row_at ts
 body_at keyword.Instance ts = instance_at ts
+body_at keyword.Memory ts = header_at ts >>= λ name. Some (MemoryRow name)
+body_at (keyword.Field word) ts = field_row_at word ts
 body_at keyword.Skip ts = end_at ts >>= λ u. Some SkipRow
 body_at keyword.Stop ts = stop_at ts
 body_at (keyword.Report word) ts = report_at word ts

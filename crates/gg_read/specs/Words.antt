@@ -8,10 +8,14 @@ use Rattle.gg_bits.specs.declared.types.Kind.{Kind}
 use Rattle.gg_bits.specs.declared.types.Kind.TheVariants as kind
 use Rattle.gg_ast.specs.declared.module.Direction.{Direction}
 use Rattle.gg_ast.specs.declared.module.Direction.TheVariants as direction
+use Rattle.gg_ast.specs.declared.statement.ReadUnderWrite.{ReadUnderWrite}
+use Rattle.gg_ast.specs.declared.statement.ReadUnderWrite.TheVariants as under_write
 use Rattle.gg_ast.specs.declared.statement.Report.{Report}
 use Rattle.gg_ast.specs.declared.statement.Report.TheVariants as report
 use Rattle.gg_read.specs.declared.words.Operation.{Operation}
 use Rattle.gg_read.specs.declared.words.Operation.TheVariants.{Unary, Binary, Fixed, Mux}
+use Rattle.gg_read.specs.declared.words.FieldWord.{FieldWord}
+use Rattle.gg_read.specs.declared.words.FieldWord.TheVariants as field
 use Rattle.gg_read.specs.declared.words.Keyword.{Keyword}
 use Rattle.gg_read.specs.declared.words.Keyword.TheVariants as keyword
 
@@ -28,6 +32,21 @@ report_text report.Printf = codes "printf"
 report_text report.Assert = codes "assert"
 report_text report.Assume = codes "assume"
 report_text report.Cover = codes "cover"
+
+abbrev pub read_under_write_text : ReadUnderWrite → List ℕ
+read_under_write_text under_write.Old = codes "old"
+read_under_write_text under_write.New = codes "new"
+read_under_write_text under_write.Undefined = codes "undefined"
+
+-- the word with which a memory's field begins
+abbrev pub field_text : FieldWord → List ℕ
+field_text field.DataType = codes "data-type"
+field_text field.Depth = codes "depth"
+field_text field.ReadLatency = codes "read-latency"
+field_text field.WriteLatency = codes "write-latency"
+field_text field.Reader = codes "reader"
+field_text field.Writer = codes "writer"
+field_text field.ReadUnderWrite = codes "read-under-write"
 
 -- what the first entry with this word holds
 abbrev pub find_word : {A : Type 0} → List ℕ → List (List ℕ × A) → Option A
@@ -49,8 +68,15 @@ head_words =
 
 abbrev pub tail_words : List (List ℕ × Keyword)
 tail_words =
-    (codes "reset", keyword.Reset) ∷ ((codes "inst", keyword.Instance) ∷ ((codes "skip", keyword.Skip) ∷ ((codes "stop", keyword.Stop)
-    ∷ ((codes "printf", keyword.Report report.Printf) ∷ ((codes "assert", keyword.Report report.Assert) ∷ ((codes "assume", keyword.Report report.Assume) ∷ ((codes "cover", keyword.Report report.Cover) ∷ [])))))))
+    (codes "reset", keyword.Reset) ∷ ((codes "inst", keyword.Instance) ∷ ((codes "mem", keyword.Memory) ∷ ((codes "skip", keyword.Skip) ∷ ((codes "stop", keyword.Stop)
+    ∷ ((codes "printf", keyword.Report report.Printf) ∷ ((codes "assert", keyword.Report report.Assert) ∷ ((codes "assume", keyword.Report report.Assume) ∷ ((codes "cover", keyword.Report report.Cover) ∷ []))))))))
+
+-- those of a memory's fields
+abbrev pub field_words : List (List ℕ × Keyword)
+field_words =
+    (codes "data-type", keyword.Field field.DataType) ∷ ((codes "depth", keyword.Field field.Depth) ∷ ((codes "read-latency", keyword.Field field.ReadLatency)
+    ∷ ((codes "write-latency", keyword.Field field.WriteLatency) ∷ ((codes "reader", keyword.Field field.Reader) ∷ ((codes "writer", keyword.Field field.Writer)
+    ∷ ((codes "read-under-write", keyword.Field field.ReadUnderWrite) ∷ []))))))
 
 abbrev pub keyword_of : List ℕ → Option Keyword
-keyword_of word = option_or (find_word word head_words) (find_word word tail_words)
+keyword_of word = option_or (option_or (find_word word head_words) (find_word word tail_words)) (find_word word field_words)

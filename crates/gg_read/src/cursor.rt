@@ -1,11 +1,11 @@
 //! A cursor over the tokens of a line.
-ghost use Rattle.std.specs.Prelude.{◌≡◌, MatchBool, is_some, length};
-ghost use Rattle.gg_read.specs.Reading.{Reads, Passes, symbol_at, word_at, name_at, natural_at, digits_at, operation_at, is_second, end_at, text_at, keyword_at, is_invalid, is_connection};
+ghost use Rattle.std.specs.Prelude.{◌≡◌, [], ◌∷◌, ◌++◌, MatchBool, MatchResult, is_some, length};
+ghost use Rattle.gg_read.specs.Reading.{Reads, Passes, Finds, TakesName, more_names_at, names_at, symbol_at, word_at, name_at, natural_at, digits_at, operation_at, is_second, end_at, text_at, keyword_at, is_invalid, is_connection};
 
 use crate::digits::{Digits, natural_value, signed_digits, text_digits};
 use crate::words::{Keyword, Operation, find_keyword, find_operation};
 use gg_ast::{Radix, is_name};
-use gg_bits::Name;
+use gg_bits::{Name, Names};
 use gg_lex::{Symbol, Tok};
 use std::alloc::{AllocError, Global};
 use std::marker::Model;
@@ -110,6 +110,16 @@ impl<'a> Cursor<'a> {
                 Ok(found.clone()?)
             }
             _ => Err(Miss::NoForm),
+        }
+    }
+
+    /// One name or more, up to the end.
+    pub(crate) fn names(&self, alloc: Global) -> Result<Names, Miss>
+        ensures { Finds (λ names. names) result (names_at self.now) }
+    {
+        match self.rest {
+            [] => Err(Miss::NoForm),
+            _ => all_names(alloc, self.rest),
         }
     }
 
@@ -254,5 +264,36 @@ impl<'a> Cursor<'a> {
             [] => Ok(()),
             _ => Err(Miss::NoForm),
         }
+    }
+}
+
+/// The tokens, each of which has to be a name.
+fn all_names(alloc: Global, tokens: &[Tok]) -> Result<Names, Miss>
+    ensures { Finds (λ names. names) result (more_names_at [] tokens.now) }
+{
+    let mut names = Vec::new(alloc);
+    for token in tokens {
+        add_name(&mut names, token)?;
+    }
+    Ok(Names::from(names))
+}
+
+/// Adds the name that a token is behind the others.
+fn add_name(names: &mut Vec<Name>, token: &Tok) -> Result<(), Miss>
+    ensures { TakesName result names.old.items token.now names.new.items }
+{
+    match token {
+        Tok::Word(word) if is_name(word.as_str()) => push_name(names, word.clone()?),
+        _ => Err(Miss::NoForm),
+    }
+}
+
+/// Adds a name behind the others.
+fn push_name(names: &mut Vec<Name>, name: Name) -> Result<(), Miss>
+    ensures { MatchResult result (λ _. names.new.items ≡ names.old.items ++ name ∷ []) (λ miss. miss ≡ Miss.NoMemory) }
+{
+    match names.push(name) {
+        Ok(()) => Ok(()),
+        Err(error) => Err(Miss::from(AllocError::from(error))),
     }
 }

@@ -11,6 +11,7 @@ mod cursor;
 mod digits;
 mod expression;
 mod fault;
+mod field;
 mod forms;
 mod laws;
 mod row;

@@ -2,13 +2,16 @@
 ghost use Rattle.std.specs.Prelude.{◌≡◌, ℕ, List, [], ◌∷◌, ◌++◌, length, map, MatchResult};
 ghost use Rattle.gg_ast.specs.Row.{RegisterResetRow};
 ghost use Rattle.gg_ast.specs.Term.{Term};
-ghost use Rattle.gg_read.specs.Reading.{Reads, Finds, expression_at, last_expression_at, version_at, header_at, declared_at, last_declared_at, node_at, reset_at, reset_row_at, inline_reset_at, with_at, clocked_at, register_at, instance_at, label_at, stop_at, argument_at, arguments_at, TakesArgument, report_at, body_at, invalid_at, driven_at, connection_at, row_at};
+ghost use Rattle.gg_read.specs.Reading.{Reads, Finds, expression_at, last_expression_at, version_at, header_at, declared_at, last_declared_at, node_at, reset_at, reset_row_at, inline_reset_at, with_at, clocked_at, register_at, instance_at, field_row_at, label_at, stop_at, argument_at, arguments_at, TakesArgument, report_at, body_at, invalid_at, driven_at, connection_at, row_at};
 ghost use Rattle.gg_read.specs.LineRows.{FindsRow};
 
 use crate::cursor::{Cursor, Miss};
 use crate::expression::{expr, ground_type, one_parameter, reference};
-use crate::words::Keyword;
-use gg_ast::{Argument, Arguments, Direction, Expr, GroundType, Reference, Report, StmtKind};
+use crate::field::field;
+use crate::words::{FieldWord, Keyword};
+use gg_ast::{
+    Argument, Arguments, Direction, Expr, GroundType, MemoryField, Reference, Report, StmtKind,
+};
 use gg_bits::Name;
 use gg_lex::{Symbol, Tok};
 use std::alloc::Global;
@@ -20,7 +23,7 @@ pub(crate) enum LineRow {
     Circuit(Name),
     Module(Name),
     Port(Direction, Name, GroundType),
-    /// A statement of one line, but for a register with a reset.
+    /// A statement of one line, but for a register with a reset and a memory.
     Statement(StmtKind),
     /// A register with its reset, the condition and the initial value, on the same line.
     RegisterReset(Name, GroundType, Expr, Expr, Expr),
@@ -28,6 +31,10 @@ pub(crate) enum LineRow {
     RegisterOpen(Name, GroundType, Expr),
     /// That next line: the condition and the initial value.
     Reset(Expr, Expr),
+    /// The first line of a memory.
+    Memory(Name),
+    /// A field of a memory.
+    Field(MemoryField),
 }
 
 /// The row that the tokens of a line spell.
@@ -56,6 +63,8 @@ fn body(alloc: Global, cursor: &mut Cursor, keyword: Keyword) -> Result<LineRow,
         Keyword::Register => register(alloc, cursor),
         Keyword::Reset => reset_row(alloc, cursor),
         Keyword::Instance => instance(cursor),
+        Keyword::Memory => Ok(LineRow::Memory(header(cursor)?)),
+        Keyword::Field(word) => field_row(alloc, cursor, word),
         Keyword::Skip => skip(cursor),
         Keyword::Stop => stop(alloc, cursor),
         Keyword::Report(word) => report(alloc, cursor, word),
@@ -260,6 +269,14 @@ fn instance(cursor: &mut Cursor) -> Result<LineRow, Miss>
     let module = cursor.name()?;
     cursor.end()?;
     Ok(LineRow::Statement(StmtKind::Instance { name, module }))
+}
+
+/// A field of a memory, behind its word.
+fn field_row(alloc: Global, cursor: &mut Cursor, word: FieldWord) -> Result<LineRow, Miss>
+    ensures { FindsRow result (field_row_at word cursor.old) }
+{
+    cursor.symbol(Symbol::Arrow)?;
+    Ok(LineRow::Field(field(alloc, cursor, word)?))
 }
 
 /// `skip`, behind its keyword.

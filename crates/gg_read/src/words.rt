@@ -1,6 +1,6 @@
 //! The words of the grammar: operations, and the words with which lines begin.
 ghost use Rattle.std.specs.Prelude.{◌≡◌};
-ghost use Rattle.gg_read.specs.Words.{find_word, operation_of, head_words, tail_words, keyword_of};
+ghost use Rattle.gg_read.specs.Words.{find_word, operation_of, head_words, tail_words, field_words, keyword_of};
 
 use gg_ast::{Direction, Report};
 use gg_bits::{Op1, Op2, OpN};
@@ -18,6 +18,18 @@ pub(crate) enum Operation {
     Mux,
 }
 
+/// The word with which a field of a memory begins.
+#[derive(Clone, Copy, Debug)]
+pub(crate) enum FieldWord {
+    DataType,
+    Depth,
+    ReadLatency,
+    WriteLatency,
+    Reader,
+    Writer,
+    ReadUnderWrite,
+}
+
 /// The form of a line that its first word tells.
 #[derive(Clone, Copy, Debug)]
 pub(crate) enum Keyword {
@@ -30,6 +42,8 @@ pub(crate) enum Keyword {
     Register,
     Reset,
     Instance,
+    Memory,
+    Field(FieldWord),
     Skip,
     Stop,
     Report(Report),
@@ -79,6 +93,7 @@ fn tail_keyword(word: &str) -> Option<Keyword>
     match word {
         "reset" => Some(Keyword::Reset),
         "inst" => Some(Keyword::Instance),
+        "mem" => Some(Keyword::Memory),
         "skip" => Some(Keyword::Skip),
         "stop" => Some(Keyword::Stop),
         "printf" => Some(Keyword::Report(Report::Printf)),
@@ -89,9 +104,27 @@ fn tail_keyword(word: &str) -> Option<Keyword>
     }
 }
 
+/// The form of a line whose first word is one of these.
+fn field_keyword(word: &str) -> Option<Keyword>
+    ensures { result ≡ find_word word.now field_words }
+{
+    match word {
+        "data-type" => Some(Keyword::Field(FieldWord::DataType)),
+        "depth" => Some(Keyword::Field(FieldWord::Depth)),
+        "read-latency" => Some(Keyword::Field(FieldWord::ReadLatency)),
+        "write-latency" => Some(Keyword::Field(FieldWord::WriteLatency)),
+        "reader" => Some(Keyword::Field(FieldWord::Reader)),
+        "writer" => Some(Keyword::Field(FieldWord::Writer)),
+        "read-under-write" => Some(Keyword::Field(FieldWord::ReadUnderWrite)),
+        _ => None,
+    }
+}
+
 /// The form of a line that its first word tells, where the line is no connection.
 pub(crate) fn find_keyword(word: &str) -> Option<Keyword>
     ensures { result ≡ keyword_of word.now }
 {
-    head_keyword(word).or(tail_keyword(word))
+    head_keyword(word)
+        .or(tail_keyword(word))
+        .or(field_keyword(word))
 }
