@@ -15,5 +15,7 @@ pub mod TextSteps
 pub mod TokenCounts
 pub mod WordLaws
 pub mod WordNames
+mod WorkedFaults
+mod WorkedFields
 mod WorkedRows
 mod WorkedText

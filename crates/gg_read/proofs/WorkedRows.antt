@@ -377,6 +377,14 @@ past_the_greatest row h = none refl h
 no_digit_of_two : (row : Row) → IsRow row (Word (codes "node") ∷ Word (codes "n") ∷ Symbol Equals ∷ Word (codes "UInt") ∷ Symbol Less ∷ Number (codes "4") ∷ Symbol Greater ∷ Symbol OpenParen ∷ Text (codes "b2") ∷ Symbol CloseParen ∷ []) → ⊥
 no_digit_of_two row h = none refl h
 
+-- node n = UInt<4>("o8")
+no_digit_of_eight : (row : Row) → IsRow row (Word (codes "node") ∷ Word (codes "n") ∷ Symbol Equals ∷ Word (codes "UInt") ∷ Symbol Less ∷ Number (codes "4") ∷ Symbol Greater ∷ Symbol OpenParen ∷ Text (codes "o8") ∷ Symbol CloseParen ∷ []) → ⊥
+no_digit_of_eight row h = none refl h
+
+-- node n = UInt<4>("hg")
+no_digit_of_sixteen : (row : Row) → IsRow row (Word (codes "node") ∷ Word (codes "n") ∷ Symbol Equals ∷ Word (codes "UInt") ∷ Symbol Less ∷ Number (codes "4") ∷ Symbol Greater ∷ Symbol OpenParen ∷ Text (codes "hg") ∷ Symbol CloseParen ∷ []) → ⊥
+no_digit_of_sixteen row h = none refl h
+
 -- node n = UInt<4>("h-")
 no_digits : (row : Row) → IsRow row (Word (codes "node") ∷ Word (codes "n") ∷ Symbol Equals ∷ Word (codes "UInt") ∷ Symbol Less ∷ Number (codes "4") ∷ Symbol Greater ∷ Symbol OpenParen ∷ Text (codes "h-") ∷ Symbol CloseParen ∷ []) → ⊥
 no_digits row h = none refl h
