@@ -8,10 +8,10 @@ use Rattle.gg_lex.proofs.Readings.{Lexes-same}
 use Rattle.gg_ast.specs.Row.{Row, Numbered, numbered}
 use Rattle.gg_ast.specs.Tree.{CircuitTree}
 use Rattle.gg_ast.proofs.TreeOf.{one_tree-law}
-use Rattle.gg_read.specs.Reading.{row_at}
-use Rattle.gg_read.specs.Forms.{SpellsRow}
+use Rattle.gg_row.specs.Reading.{row_at}
+use Rattle.gg_row.specs.Forms.{SpellsRow}
 use Rattle.gg_read.specs.Text.{LinePlace, AtStart, LineTokens, AreLineTokens, AreRows, IsBlank, IsForm, IsNoForm, IsEndPlace, IsFaultLine, Spells, place_after, without_version}
-use Rattle.gg_read.proofs.RowLaws.{spelt-row_at, row_at-nothing}
+use Rattle.gg_row.proofs.RowLaws.{spelt-row_at, row_at-nothing}
 
 some_same : {A : Type 0} (x y : A) → Some x ≡ Some y → x ≡ y
 some_same x y e = ap (λ o. unwrap_or o x) e

@@ -1,8 +1,13 @@
--- Fault lines worked by hand: each word and symbol of what is left out, and lines with many brackets.
+-- Fault lines worked by hand: each word and symbol of what is left out, and lines with many brackets; and how
+-- faults are printed.
 use Rattle.std.proofs.Common.{◌≡◌, ℕ, zero, suc, ◌≤◌, List, [], ◌∷◌, take, None, Some, codes, refl, arith}
+use Rattle.std.specs.Fmt.{digits}
 use Rattle.gg_lex.specs.declared.token.Tok.{Tok}
 use Rattle.gg_lex.specs.declared.token.Tok.TheVariants.{Word, Number, Text, Symbol}
 use Rattle.gg_lex.specs.declared.token.Symbol.TheVariants.{PartialConnect, CloseBracket, CloseBrace, Connect, OpenParen, CloseParen, OpenBracket, OpenBrace, OpenAnnotations}
+use Rattle.gg_read.specs.FaultText.{fault_text}
+use Rattle.gg_read.specs.declared.text.ReadFault.{ReadFault}
+use Rattle.gg_read.specs.declared.text.ReadFault.TheVariants.{NotText, Syntax, Outside, TooDeep}
 use Rattle.gg_read.specs.Text.{opened, closed, IsTooDeep, first_outside}
 
 -- each of the tokens, behind the word `node` and the name `Whens`, is the line's first that is left out, in these letters
@@ -74,3 +79,22 @@ closed_before (suc k, h) = omega (arith, h, some_of_them k 257)
 
 closed_before_more : IsTooDeep (Symbol CloseParen ∷ opens 258)
 closed_before_more = let all = all_of_them 258 in (259, omega (arith, all.0, all.1))
+
+-- how faults are printed
+record Says (fault : ReadFault) (text : List ℕ) : Type 0 where
+  pub same : fault_text fault ≡ text
+
+no_text : Says NotText (codes "not text")
+no_text = record { same = refl }
+
+syntax_said : Says (Syntax 12) (codes "syntax line 12")
+unfolding digits
+syntax_said = record { same = refl }
+
+outside_said : Says (Outside 10 (codes "when")) (codes "outside line 10 when")
+unfolding digits
+outside_said = record { same = refl }
+
+deep_said : Says (TooDeep 200001) (codes "too deep line 200001")
+unfolding digits
+deep_said = record { same = refl }

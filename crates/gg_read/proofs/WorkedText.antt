@@ -17,9 +17,9 @@ use Rattle.gg_ast.specs.declared.module.GroundType.TheVariants.{UInt}
 use Rattle.gg_ast.specs.declared.statement.StmtKind.TheVariants.{Invalid}
 use Rattle.gg_ast.specs.Row.{Row, numbered, CircuitRow, ModuleRow, PortRow, InvalidRow}
 use Rattle.gg_ast.specs.Tree.{CircuitTree}
-use Rattle.gg_read.specs.Reading.{row_at}
+use Rattle.gg_row.specs.Reading.{row_at}
 use Rattle.gg_read.specs.Text.{LineTokens, LinePlace, AfterCircuit, InPorts, InStatements, place_after, opened, IsTooDeep, IsForm, Spells}
-use Rattle.gg_read.proofs.RowLaws.{row_at-spelt}
+use Rattle.gg_row.proofs.RowLaws.{row_at-spelt}
 
 -- lines, each with its line feed
 abbrev text_of : List (List ℕ) → List ℕ
