@@ -7,7 +7,7 @@ use Rattle.std.specs.Str.Lines.{lines}
 use Rattle.gg_lex.specs.declared.token.Tok.{Tok}
 use Rattle.gg_lex.specs.Lines.{Lexes}
 use Rattle.gg_lex.proofs.EveryLine.{every_line}
-use Rattle.gg_ast.specs.Row.{Row, Numbered}
+use Rattle.gg_ast.specs.Row.{Row}
 use Rattle.gg_ast.specs.Tree.{CircuitTree}
 use Rattle.gg_row.specs.Reading.{row_at}
 use Rattle.gg_row.proofs.RowLaws.{row_at-spelt, spelt-row_at}
@@ -17,7 +17,7 @@ use Rattle.gg_read.specs.Stages.{stage_place, HasRead}
 use Rattle.gg_read.specs.Text.{LinePlace, LineTokens, IsBlank, IsForm, IsNoForm, IsTooDeep, IsFaultLine, Spells, opened, closed, place_after}
 use Rattle.gg_read.proofs.FaultLines.{same_row}
 use Rattle.gg_read.proofs.LineSteps.{HasRead-row, HasRead-blank, HasRead-fault, HasRead-incomplete, HasRead-whole}
-use Rattle.gg_read.proofs.NextStages.{GoesOn, goes_later, NextStage, next-stage}
+use Rattle.gg_read.proofs.NextStages.{GoesOn, goes_later, next-stage}
 use Rattle.gg_read.proofs.TokenCounts.{opened-cons, closed-cons}
 
 -- ---- one line

@@ -10,7 +10,7 @@ use Rattle.gg_ast.specs.declared.statement.MemoryField.{MemoryField}
 use Rattle.gg_ast.specs.declared.statement.MemoryField.TheVariants as field
 use Rattle.gg_ast.specs.declared.statement.ReadUnderWrite.{ReadUnderWrite}
 use Rattle.gg_ast.specs.declared.statement.ReadUnderWrite.TheVariants as under_write
-use Rattle.gg_ast.specs.Names.{IsName, is_name}
+use Rattle.gg_ast.specs.Names.{is_name}
 use Rattle.gg_row.specs.declared.words.FieldWord.{FieldWord}
 use Rattle.gg_row.specs.declared.words.FieldWord.TheVariants as field_word
 use Rattle.gg_row.specs.Words.{read_under_write_text, field_text}

@@ -6,7 +6,6 @@ use Rattle.gg_lex.specs.declared.token.Tok.TheVariants.{Word, Number, Text, Symb
 use Rattle.gg_lex.specs.declared.token.Symbol.TheVariants.{Connect, Arrow, Colon, Comma, Dot, OpenParen, CloseParen, Equals}
 use Rattle.gg_ast.specs.declared.expression.Reference.{Reference}
 use Rattle.gg_ast.specs.declared.module.GroundType.{GroundType}
-use Rattle.gg_ast.specs.declared.statement.MemoryField.{MemoryField}
 use Rattle.gg_ast.specs.declared.statement.Report.{Report}
 use Rattle.gg_ast.specs.Row.{Row, VersionRow, CircuitRow, ModuleRow, PortRow, WireRow, NodeRow, RegisterRow, RegisterResetRow, RegisterOpenRow, ResetRow, InstanceRow, MemoryRow, FieldRow, ConnectRow, InvalidRow, SkipRow, StopRow, ReportRow}
 use Rattle.gg_ast.specs.Term.{Term}

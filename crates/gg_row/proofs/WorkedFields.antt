@@ -1,12 +1,11 @@
 -- Memories worked by hand from the grammar (FIRRTL Specification, "Memories"): which row the tokens of a memory's line
 -- and of each field spell, and near misses.
-use Rattle.std.proofs.Common.{◌≡◌, ℕ, List, [], ◌∷◌, None, Some, codes, refl, sym, ◌∙◌}
+use Rattle.std.proofs.Common.{◌≡◌, ℕ, List, [], ◌∷◌, None, Some, codes, refl}
 use Rattle.gg_lex.specs.declared.token.Tok.{Tok}
 use Rattle.gg_lex.specs.declared.token.Tok.TheVariants.{Word, Number, Symbol}
 use Rattle.gg_lex.specs.declared.token.Symbol.TheVariants.{Connect, Arrow, Colon, Comma, Dot, Less, Greater, Equals}
 use Rattle.gg_ast.specs.declared.expression.Reference.TheVariants as reference
 use Rattle.gg_ast.specs.declared.module.GroundType.TheVariants as plain_type
-use Rattle.gg_ast.specs.declared.statement.MemoryField.{MemoryField}
 use Rattle.gg_ast.specs.declared.statement.MemoryField.TheVariants as field
 use Rattle.gg_ast.specs.declared.statement.ReadUnderWrite.TheVariants.{Old, New, Undefined}
 use Rattle.gg_ast.specs.Row.{Row, MemoryRow, FieldRow, ConnectRow}
