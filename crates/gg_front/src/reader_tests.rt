@@ -10,7 +10,7 @@ use std::test::Fail;
 
 /// How many of the counter's lines are taken, the line that another text replaces, counted from 1 (0: none), that text,
 /// and what is read.
-static COUNTERS: [(usize, usize, &str, &str); 26] = [
+static COUNTERS: [(usize, usize, &str, &str); 32] = [
     (
         11,
         0,
@@ -34,7 +34,33 @@ static COUNTERS: [(usize, usize, &str, &str); 26] = [
     (11, 9, "n-a is invalid", "syntax line 9"),
     (11, 9, "stop(clock, reset, 4294967296)", "syntax line 9"),
     (11, 9, "printf()", "syntax line 9"),
-    (11, 9, "mem m :", "syntax line 9"),
+    (11, 9, "depth => 16", "syntax line 9"),
+    (11, 9, "mem m :\nskip\ndepth => 16", "syntax line 11"),
+    (11, 9, "mem m :\nreset => (c, c)", "syntax line 10"),
+    (
+        11,
+        9,
+        "mem m :\nreadwriter => r",
+        "outside line 10 readwriter",
+    ),
+    (
+        11,
+        9,
+        "mem m :",
+        "Counter 1 / Counter 2 3 4 5 7 reg 9 mem 10 <= 11 <=",
+    ),
+    (
+        11,
+        9,
+        "mem m :\ndata-type => UInt<8>\ndepth => 16\nread-latency => 0\nwrite-latency => 1\nreader => r s\nwriter => w\nread-under-write => new\ndepth => 4",
+        "Counter 1 / Counter 2 3 4 5 7 reg 9 mem 18 <= 19 <=",
+    ),
+    (
+        9,
+        9,
+        "mem m :\n\n; none\ndepth => 4",
+        "Counter 1 / Counter 2 3 4 5 7 reg 9 mem",
+    ),
     (11, 9, "skip @[x] when", "syntax line 9"),
     (11, 9, "when #", "outside line 9 when"),
     (11, 9, "# when", "syntax line 9"),

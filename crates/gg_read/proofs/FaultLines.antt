@@ -8,10 +8,10 @@ use Rattle.gg_lex.proofs.Readings.{Lexes-same}
 use Rattle.gg_ast.specs.Row.{Row, Numbered, numbered}
 use Rattle.gg_ast.specs.Tree.{CircuitTree}
 use Rattle.gg_ast.proofs.TreeOf.{one_tree-law}
-use Rattle.gg_read.specs.Reading.{row_at}
-use Rattle.gg_read.specs.Forms.{SpellsRow}
-use Rattle.gg_read.specs.Text.{Place, AtStart, LineTokens, AreLineTokens, AreRows, IsBlank, IsForm, IsNoForm, IsEndPlace, IsFaultLine, Spells, place_after, without_version}
-use Rattle.gg_read.proofs.RowLaws.{spelt-row_at, row_at-nothing}
+use Rattle.gg_row.specs.Reading.{row_at}
+use Rattle.gg_row.specs.Forms.{SpellsRow}
+use Rattle.gg_read.specs.Text.{LinePlace, AtStart, LineTokens, AreLineTokens, AreRows, IsBlank, IsForm, IsNoForm, IsEndPlace, IsFaultLine, Spells, place_after, without_version}
+use Rattle.gg_row.proofs.RowLaws.{spelt-row_at, row_at-nothing}
 
 some_same : {A : Type 0} (x y : A) → Some x ≡ Some y → x ≡ y
 some_same x y e = ap (λ o. unwrap_or o x) e
@@ -28,13 +28,13 @@ blank_no_row line row blank spelt =
     cc
 
 -- a place and a row have one next place at most
-same_next : (place : Place) (line : LineTokens) (r s : Row) (p q : Place) → IsForm place line r p → IsForm place line s q → p ≡ q
+same_next : (place : LinePlace) (line : LineTokens) (r s : Row) (p q : LinePlace) → IsForm place line r p → IsForm place line s q → p ≡ q
 same_next place line r s p q form again =
     let row : r ≡ s = same_row line.tokens r s form.spelt again.spelt in
     some_same p q (sym form.there ∙ ap (λ (x : Row). place_after place x) row ∙ again.there)
 
 -- lines are read as rows in one way at most
-AreRows-same : (place : Place) (n : ℕ) (held : List LineTokens) (rows others : List Numbered) (last final : Place) → AreRows place n held rows last → AreRows place n held others final → (rows ≡ others) × (last ≡ final)
+AreRows-same : (place : LinePlace) (n : ℕ) (held : List LineTokens) (rows others : List Numbered) (last final : LinePlace) → AreRows place n held rows last → AreRows place n held others final → (rows ≡ others) × (last ≡ final)
 AreRows-same place n [] rows others last final read again = (read.0 ∙ sym again.0, read.1 ∙ sym again.1)
 AreRows-same place n (l ∷ ls) rows others last final (inl (blank, more)) (inl (again, rest)) = AreRows-same place (n + 1) ls rows others last final more rest
 AreRows-same place n (l ∷ ls) rows others last final (inl (blank, more)) (inr (s, q, ss, form, same, rest)) = absurd (blank_no_row l s blank form.spelt)
@@ -42,7 +42,7 @@ AreRows-same place n (l ∷ ls) rows others last final (inr (r, p, rs, form, sam
 AreRows-same place n (l ∷ ls) rows others last final (inr (r, p, rs, form, same, more)) (inr (s, q, ss, second, equal, rest)) =
     let row : r ≡ s = same_row l.tokens r s form.spelt second.spelt in
     let next : p ≡ q = same_next place l r s p q form second in
-    let tails = AreRows-same q (n + 1) ls rs ss last final (subst (λ (x : Place). AreRows x (n + 1) ls rs last) next more) rest in
+    let tails = AreRows-same q (n + 1) ls rs ss last final (subst (λ (x : LinePlace). AreRows x (n + 1) ls rs last) next more) rest in
     (same ∙ ap (λ (x : Row). numbered n x ∷ rs) row ∙ ap (λ (x : List Numbered). numbered n s ∷ x) tails.0 ∙ sym equal, tails.1)
 
 line_tokens : List Tok → Option ℕ → LineTokens
@@ -65,7 +65,7 @@ AreLineTokens-same (l ∷ ls) (t ∷ ts) (u ∷ us) tokens again =
     ap (λ (x : LineTokens). x ∷ ts) (same_line l t u tokens.0 again.0) ∙ ap (λ (x : List LineTokens). u ∷ x) (AreLineTokens-same ls ts us tokens.1 again.1)
 
 -- a line at fault is not among lines that are rows
-among_rows : (place : Place) (n : ℕ) (ls : List (List ℕ)) (before held : List LineTokens) (rows others : List Numbered) (mid last : Place) (l : List ℕ) (line : LineTokens) → AreLineTokens (take (length before) ls) before → AreLineTokens (take (length held) ls) held → length before < length held → AreRows place n before rows mid → AreRows place n held others last → slice_get ls (length before) ≡ Some l → Lexes l line.tokens line.bad → IsNoForm mid line → ⊥
+among_rows : (place : LinePlace) (n : ℕ) (ls : List (List ℕ)) (before held : List LineTokens) (rows others : List Numbered) (mid last : LinePlace) (l : List ℕ) (line : LineTokens) → AreLineTokens (take (length before) ls) before → AreLineTokens (take (length held) ls) held → length before < length held → AreRows place n before rows mid → AreRows place n held others last → slice_get ls (length before) ≡ Some l → Lexes l line.tokens line.bad → IsNoForm mid line → ⊥
 among_rows place n ls before [] rows others mid last l line tokens again less read other there lexed none = omega (arith, less)
 among_rows place n [] before (h ∷ hs) rows others mid last l line tokens again less read other there lexed none = absurd again
 among_rows place n (k ∷ ks) [] (h ∷ hs) rows others mid last l line tokens again less read (inl (blank, more)) there lexed none =
@@ -75,7 +75,7 @@ among_rows place n (k ∷ ks) [] (h ∷ hs) rows others mid last l line tokens a
 among_rows place n (k ∷ ks) [] (h ∷ hs) rows others mid last l line tokens again less read (inr (r, p, rs, form, same_rows, more)) there lexed none =
     let same : k ≡ l = some_same k l there in
     let equal : h ≡ line = same_line k h line again.0 (subst (λ (x : List ℕ). Lexes x line.tokens line.bad) (sym same) lexed) in
-    none.1 r p (subst (λ (x : LineTokens). IsForm mid x r p) equal (subst (λ (x : Place). IsForm x h r p) (sym read.1) form))
+    none.1 r p (subst (λ (x : LineTokens). IsForm mid x r p) equal (subst (λ (x : LinePlace). IsForm x h r p) (sym read.1) form))
 among_rows place n (k ∷ ks) (b ∷ bs) (h ∷ hs) rows others mid last l line tokens again less (inl (blank, more)) (inl (blank_too, rest)) there lexed none =
     among_rows place (n + 1) ks bs hs rows others mid last l line tokens.1 again.1 (omega (arith, less)) more rest there lexed none
 among_rows place n (k ∷ ks) (b ∷ bs) (h ∷ hs) rows others mid last l line tokens again less (inl (blank, more)) (inr (s, q, ss, form, same, rest)) there lexed none =
@@ -87,7 +87,7 @@ among_rows place n (k ∷ ks) (b ∷ bs) (h ∷ hs) rows others mid last l line 
 among_rows place n (k ∷ ks) (b ∷ bs) (h ∷ hs) rows others mid last l line tokens again less (inr (r, p, rs, form, same, more)) (inr (s, q, ss, second, same_too, rest)) there lexed none =
     let equal : b ≡ h = same_line k b h tokens.0 again.0 in
     let next : p ≡ q = same_next place h r s p q (subst (λ (x : LineTokens). IsForm place x r p) equal form) second in
-    among_rows q (n + 1) ks bs hs rs ss mid last l line tokens.1 again.1 (omega (arith, less)) (subst (λ (x : Place). AreRows x (n + 1) bs rs mid) next more) rest there lexed none
+    among_rows q (n + 1) ks bs hs rs ss mid last l line tokens.1 again.1 (omega (arith, less)) (subst (λ (x : LinePlace). AreRows x (n + 1) bs rs mid) next more) rest there lexed none
 
 -- as many lines as are read are there
 within : (ls : List (List ℕ)) (held : List LineTokens) → AreLineTokens (take (length held) ls) held → length held ≤ length ls
@@ -158,7 +158,7 @@ no_circuit-law text n line circuit a spells = by_fault a.fault
         let size : length a.before ≡ length spells.held = sym end ∙ whole.0 in
         let same : a.before ≡ spells.held = AreLineTokens-same (take (length spells.held) (lines text)) a.before spells.held (subst (λ (i : ℕ). AreLineTokens (take i (lines text)) a.before) size a.tokens) whole.1 in
         let rows = AreRows-same AtStart 1 spells.held a.rows spells.rows a.place spells.last (subst (λ (h : List LineTokens). AreRows AtStart 1 h a.rows a.place) same a.read) spells.read in
-        incomplete (subst (λ (p : Place). IsEndPlace p) (sym rows.1) spells.whole)
+        incomplete (subst (λ (p : LinePlace). IsEndPlace p) (sym rows.1) spells.whole)
 
 -- a text spells one circuit at most
 pub one_circuit-law : (text : List ℕ) (c d : CircuitTree) → Spells text c → Spells text d → c ≡ d

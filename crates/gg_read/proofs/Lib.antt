@@ -1,18 +1,10 @@
 pub mod Builds
-pub mod Depth
-pub mod DigitRuns
-pub mod Expressions
-pub mod ExpressionsSpelt
+pub mod EveryText
 pub mod FaultLines
-pub mod Leaves
 pub mod LineSteps
-pub mod NamesSpelt
-pub mod RowLaws
-pub mod RowsRead
-pub mod RowsSpelt
+pub mod NextStages
 pub mod TextSteps
 pub mod TokenCounts
-pub mod WordLaws
-pub mod WordNames
-mod WorkedRows
+mod WorkedFaults
+mod WorkedPlaces
 mod WorkedText

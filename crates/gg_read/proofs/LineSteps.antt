@@ -9,21 +9,21 @@ use Rattle.gg_lex.specs.Lines.{Lexes}
 use Rattle.gg_ast.specs.Row.{Row, Numbered, numbered}
 use Rattle.gg_ast.specs.Tree.{CircuitTree}
 use Rattle.gg_read.specs.declared.stage.Stage.{Stage}
-use Rattle.gg_read.specs.Text.{Place, AtStart, LineTokens, AreLineTokens, AreRows, IsBlank, IsForm, IsNoForm, IsEndPlace, IsFaultLine, Spells}
+use Rattle.gg_read.specs.Text.{LinePlace, AtStart, LineTokens, AreLineTokens, AreRows, IsBlank, IsForm, IsNoForm, IsEndPlace, IsFaultLine, Spells}
 use Rattle.gg_read.specs.Stages.{stage_place, IsBuilt, Holds, HasRead}
 
 -- rows, and the row of one more line
-pub AreRows-row : (place : Place) (n : ℕ) (before : List LineTokens) (rows : List Numbered) (mid : Place) (line : LineTokens) (row : Row) (next : Place) (m : ℕ) → AreRows place n before rows mid → IsForm mid line row next → m ≡ n + length before → AreRows place n (before ++ line ∷ []) (rows ++ numbered m row ∷ []) next
+pub AreRows-row : (place : LinePlace) (n : ℕ) (before : List LineTokens) (rows : List Numbered) (mid : LinePlace) (line : LineTokens) (row : Row) (next : LinePlace) (m : ℕ) → AreRows place n before rows mid → IsForm mid line row next → m ≡ n + length before → AreRows place n (before ++ line ∷ []) (rows ++ numbered m row ∷ []) next
 AreRows-row place n [] rows mid line row next m read form number =
     let e : m ≡ n = omega (arith, number) in
-    inr (row, next, [], subst (λ (p : Place). IsForm p line row next) read.1 form, ap (λ (r : List Numbered). r ++ numbered m row ∷ []) read.0 ∙ ap (λ (k : ℕ). numbered k row ∷ []) e, (refl, refl))
+    inr (row, next, [], subst (λ (p : LinePlace). IsForm p line row next) read.1 form, ap (λ (r : List Numbered). r ++ numbered m row ∷ []) read.0 ∙ ap (λ (k : ℕ). numbered k row ∷ []) e, (refl, refl))
 AreRows-row place n (l ∷ ls) rows mid line row next m (inl (blank, more)) form number =
     inl (blank, AreRows-row place (n + 1) ls rows mid line row next m more form (omega (arith, number)))
 AreRows-row place n (l ∷ ls) rows mid line row next m (inr (r, p, others, first, same, more)) form number =
     inr (r, p, others ++ numbered m row ∷ [], first, ap (λ (q : List Numbered). q ++ numbered m row ∷ []) same, AreRows-row p (n + 1) ls others mid line row next m more form (omega (arith, number)))
 
 -- rows, and a line that holds nothing
-pub AreRows-blank : (place : Place) (n : ℕ) (before : List LineTokens) (rows : List Numbered) (mid : Place) (line : LineTokens) → AreRows place n before rows mid → IsBlank line → AreRows place n (before ++ line ∷ []) rows mid
+pub AreRows-blank : (place : LinePlace) (n : ℕ) (before : List LineTokens) (rows : List Numbered) (mid : LinePlace) (line : LineTokens) → AreRows place n before rows mid → IsBlank line → AreRows place n (before ++ line ∷ []) rows mid
 AreRows-blank place n [] rows mid line read blank = inl (blank, read)
 AreRows-blank place n (l ∷ ls) rows mid line (inl (first, more)) blank = inl (first, AreRows-blank place (n + 1) ls rows mid line more blank)
 AreRows-blank place n (l ∷ ls) rows mid line (inr (r, p, others, first, same, more)) blank =

@@ -9,19 +9,18 @@ use Rattle.std.proofs.Math.Seq.{take-length}
 use Rattle.gg_lex.specs.Lines.{Lexes}
 use Rattle.gg_ast.specs.Row.{Row, numbered}
 use Rattle.gg_ast.specs.Tree.{CircuitTree}
-use Rattle.gg_read.specs.declared.cursor.Miss.{Miss}
-use Rattle.gg_read.specs.declared.cursor.Miss.TheVariants.{NoForm, NoMemory}
-use Rattle.gg_read.specs.declared.row.LineRow.{LineRow}
+use Rattle.gg_row.specs.declared.cursor.Miss.{Miss}
+use Rattle.gg_row.specs.declared.cursor.Miss.TheVariants.{NoForm, NoMemory}
+use Rattle.gg_row.specs.declared.row.LineRow.{LineRow}
 use Rattle.gg_read.specs.declared.stage.Stage.{Stage}
-use Rattle.gg_read.specs.declared.stage.Stage.TheVariants.{Start, Version, Header, Ports, Statements, Open}
+use Rattle.gg_read.specs.declared.stage.Stage.TheVariants.{Start, Version, Header, Ports, Statements, Fields, Open}
 use Rattle.gg_read.specs.declared.text.ReadFault.{ReadFault}
 use Rattle.gg_read.specs.declared.text.ReadFault.TheVariants as because
 use Rattle.gg_read.specs.Causes.{IsFaultOf}
-use Rattle.gg_read.specs.LineRows.{row_of, FindsRow}
-use Rattle.gg_read.specs.Reading.{row_at}
+use Rattle.gg_row.specs.LineRows.{row_of, TellsRow}
+use Rattle.gg_row.specs.Forms.{SpellsRow}
 use Rattle.gg_read.specs.Stages.{stage_place, IsStage, Advances, Ends, HasRead, IsWholeRow, IsRowOf, IsRowStep, IsPlaced, IsMissed, IsFaulty, IsStep}
 use Rattle.gg_read.specs.Text.{LineTokens, IsTooDeep, IsBlank, IsFaultLine, Spells, HasReadFault, place_after}
-use Rattle.gg_read.proofs.RowLaws.{row_at-spelt, spelt-row_at}
 use Rattle.gg_read.proofs.LineSteps.{HasRead-row, HasRead-blank, HasRead-fault, HasRead-incomplete, HasRead-whole}
 use Rattle.gg_read.proofs.FaultLines.{same_row, one_circuit-law, one_fault_line-law, no_circuit-law}
 
@@ -30,13 +29,13 @@ none_there (Some x) e = absurd (cc)
 none_there None e = refl
 
 -- what the reader of rows found
-row_held : (line : LineTokens) (held : Option Row) → line.bad ≡ None → (IsTooDeep line.tokens → ⊥) → MatchOption held ⊥ (λ row. row_at line.tokens ≡ Some row) → MatchOption held ⊥ (IsWholeRow line)
+row_held : (line : LineTokens) (held : Option Row) → line.bad ≡ None → (IsTooDeep line.tokens → ⊥) → MatchOption held ⊥ (λ row. SpellsRow row line.tokens) → MatchOption held ⊥ (IsWholeRow line)
 row_held line None whole shallow found = found
-row_held line (Some row) whole shallow found = record { whole = whole; shallow = shallow; spelt = row_at-spelt line.tokens row found }
+row_held line (Some row) whole shallow found = record { whole = whole; shallow = shallow; spelt = found }
 
-pub row_found : (line : LineTokens) (result : Result LineRow Miss) → line.bad ≡ None → (IsTooDeep line.tokens → ⊥) → FindsRow result (row_at line.tokens) → IsRowOf line result
+pub row_found : (line : LineTokens) (result : Result LineRow Miss) → line.bad ≡ None → (IsTooDeep line.tokens → ⊥) → TellsRow line.tokens result → IsRowOf line result
 row_found line (Ok held) whole shallow found = row_held line (row_of held) whole shallow found
-row_found line (Err NoForm) whole shallow found = λ r h. let there = spelt-row_at line.tokens r h.spelt in cc
+row_found line (Err NoForm) whole shallow found = λ r h. found r h.spelt
 row_found line (Err NoMemory) whole shallow found = tt
 
 -- a row, and its place
@@ -64,6 +63,7 @@ later Version n stays = tt
 later (Header circuit) n stays = tt
 later (Ports circuit) n stays = stays
 later (Statements circuit) n stays = stays
+later (Fields circuit) n stays = stays
 later (Open circuit register) n stays = (stays.0, omega (arith, stays.1), stays.2)
 
 -- a line that holds nothing

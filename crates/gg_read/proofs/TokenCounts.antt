@@ -7,14 +7,14 @@ use Rattle.gg_lex.specs.declared.token.Tok.TheVariants.{Word, Number, Text, Symb
 use Rattle.gg_lex.specs.declared.token.Symbol.TheVariants as mark
 use Rattle.gg_read.specs.Text.{opened, closed, first_outside, outside_text}
 
-opened-cons : (t : Tok) (ts : List Tok) → opened (t ∷ ts) ≡ opened (t ∷ []) + opened ts
+pub opened-cons : (t : Tok) (ts : List Tok) → opened (t ∷ ts) ≡ opened (t ∷ []) + opened ts
 opened-cons (Word w) ts = omega arith
 opened-cons (Number w) ts = omega arith
 opened-cons (Text w) ts = omega arith
 opened-cons (Symbol mark.OpenParen) ts = omega arith
 opened-cons (Symbol _) ts = omega arith
 
-closed-cons : (t : Tok) (ts : List Tok) → closed (t ∷ ts) ≡ closed (t ∷ []) + closed ts
+pub closed-cons : (t : Tok) (ts : List Tok) → closed (t ∷ ts) ≡ closed (t ∷ []) + closed ts
 closed-cons (Word w) ts = omega arith
 closed-cons (Number w) ts = omega arith
 closed-cons (Text w) ts = omega arith

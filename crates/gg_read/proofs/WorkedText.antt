@@ -17,9 +17,9 @@ use Rattle.gg_ast.specs.declared.module.GroundType.TheVariants.{UInt}
 use Rattle.gg_ast.specs.declared.statement.StmtKind.TheVariants.{Invalid}
 use Rattle.gg_ast.specs.Row.{Row, numbered, CircuitRow, ModuleRow, PortRow, InvalidRow}
 use Rattle.gg_ast.specs.Tree.{CircuitTree}
-use Rattle.gg_read.specs.Reading.{row_at}
-use Rattle.gg_read.specs.Text.{LineTokens, Place, AfterCircuit, InPorts, InStatements, place_after, opened, IsTooDeep, IsForm, Spells}
-use Rattle.gg_read.proofs.RowLaws.{row_at-spelt}
+use Rattle.gg_row.specs.Reading.{row_at}
+use Rattle.gg_read.specs.Text.{LineTokens, LinePlace, AfterCircuit, InPorts, InStatements, place_after, opened, IsTooDeep, IsForm, Spells}
+use Rattle.gg_row.proofs.RowLaws.{row_at-spelt}
 
 -- lines, each with its line feed
 abbrev text_of : List (List ℕ) → List ℕ
@@ -71,7 +71,7 @@ shallow ts short (k, deep) =
     let parts : length (take k ts) + length (drop k ts) ≡ length ts = sym (length-append (take k ts) (drop k ts)) ∙ ap length (take-append-drop k ts) in
     omega (arith, deep, short, parts, opened-length (take k ts))
 
-form : {place next : Place} {row : Row} {ts : List Tok} → length ts ≤ 256 → row_at ts ≡ Some row → place_after place row ≡ Some next → IsForm place (holding ts) row next
+form : {place next : LinePlace} {row : Row} {ts : List Tok} → length ts ≤ 256 → row_at ts ≡ Some row → place_after place row ≡ Some next → IsForm place (holding ts) row next
 form {place} {next} {row} {ts} short found there = record { whole = refl; shallow = shallow ts short; spelt = row_at-spelt ts row found; there = there }
 
 text_spells : Spells text circuit

@@ -7,31 +7,32 @@ use Rattle.gg_ast.specs.declared.statement.Reset.{Reset}
 use Rattle.gg_ast.specs.Names.{IsName, AreNamesOfTerm}
 use Rattle.gg_ast.specs.Row.{Row, Numbered, numbered, RegisterOpenRow, ResetRow}
 use Rattle.gg_ast.specs.Rows.{rows_of}
-use Rattle.gg_ast.specs.Tree.{CircuitTree, IsOpenToPorts}
-use Rattle.gg_read.specs.declared.cursor.Miss.{Miss}
-use Rattle.gg_read.specs.declared.cursor.Miss.TheVariants.{NoForm, NoMemory}
-use Rattle.gg_read.specs.declared.row.LineRow.{LineRow}
+use Rattle.gg_ast.specs.Tree.{CircuitTree, IsOpenToPorts, IsOpenToFields}
+use Rattle.gg_row.specs.declared.cursor.Miss.{Miss}
+use Rattle.gg_row.specs.declared.cursor.Miss.TheVariants.{NoForm, NoMemory}
+use Rattle.gg_row.specs.declared.row.LineRow.{LineRow}
 use Rattle.gg_read.specs.declared.stage.OpenRegister.{OpenRegister}
 use Rattle.gg_read.specs.declared.stage.Stage.{Stage}
-use Rattle.gg_read.specs.declared.stage.Stage.TheVariants.{Start, Version, Header, Ports, Statements, Open}
+use Rattle.gg_read.specs.declared.stage.Stage.TheVariants.{Start, Version, Header, Ports, Statements, Fields, Open}
 use Rattle.gg_read.specs.declared.text.ReadFault.{ReadFault}
 use Rattle.gg_read.specs.declared.text.ReadFault.TheVariants as because
 use Rattle.gg_read.specs.Causes.{IsFaultOf}
-use Rattle.gg_read.specs.Forms.{SpellsRow}
-use Rattle.gg_read.specs.LineRows.{row_of}
-use Rattle.gg_read.specs.Text.{IsBlank, IsForm, IsNoForm, IsTooDeep, Place, AtStart, AfterVersion, AfterCircuit, InPorts, InStatements, AwaitsReset, LineTokens, AreLineTokens, AreRows, IsEndPlace, without_version, after_version, after_circuit, after_module, after_statement, after_open, after_reset}
+use Rattle.gg_row.specs.Forms.{SpellsRow}
+use Rattle.gg_row.specs.LineRows.{row_of}
+use Rattle.gg_read.specs.Text.{IsBlank, IsForm, IsNoForm, IsTooDeep, LinePlace, AtStart, AfterVersion, AfterCircuit, InPorts, InStatements, InFields, AwaitsReset, LineTokens, AreLineTokens, AreRows, IsEndPlace, without_version, after_version, after_circuit, after_module, after_port, after_statement, after_open, after_memory, after_field, after_reset}
 
 -- what a line holds that was lexed
 abbrev pub line_of : LexedLine → LineTokens
 line_of lexed = record { tokens = lexed.tokens.items; bad = lexed.bad }
 
 -- the place of the next line
-abbrev pub stage_place : Stage → Place
+abbrev pub stage_place : Stage → LinePlace
 stage_place Start = AtStart
 stage_place Version = AfterVersion
 stage_place (Header circuit) = AfterCircuit
 stage_place (Ports circuit) = InPorts
 stage_place (Statements circuit) = InStatements
+stage_place (Fields circuit) = InFields
 stage_place (Open circuit register) = AwaitsReset
 
 -- the row of a register that awaits its reset
@@ -49,30 +50,32 @@ IsBuilt Version rows = without_version rows ≡ []
 IsBuilt (Header circuit) rows = without_version rows ≡ rows_of circuit
 IsBuilt (Ports circuit) rows = without_version rows ≡ rows_of circuit
 IsBuilt (Statements circuit) rows = without_version rows ≡ rows_of circuit
+IsBuilt (Fields circuit) rows = without_version rows ≡ rows_of circuit
 IsBuilt (Open circuit register) rows = without_version rows ≡ rows_of circuit ++ open_row register ∷ []
 
 -- the names of a register that awaits its reset are names
 abbrev pub AreNamesOfRegister : OpenRegister → Type 0
 AreNamesOfRegister register = IsName register.name × AreNamesOfTerm register.clock
 
--- what holds of a stage before the line of this number: there is a module where one is begun, and a register that
--- awaits its reset stands before the line
+-- what holds of a stage before the line of this number: there is a module where one is begun, its last statement is the
+-- memory to which fields may come, and a register that awaits its reset stands before the line
 abbrev pub IsStage : Stage → ℕ → Type 0
 IsStage Start n = Unit {0}
 IsStage Version n = Unit {0}
 IsStage (Header circuit) n = Unit {0}
 IsStage (Ports circuit) n = (0 < length circuit.modules) × IsOpenToPorts circuit.modules
 IsStage (Statements circuit) n = 0 < length circuit.modules
+IsStage (Fields circuit) n = (0 < length circuit.modules) × IsOpenToFields circuit.modules
 IsStage (Open circuit register) n = (0 < length circuit.modules) × (register.line < n) × AreNamesOfRegister register
 
 -- the stage behind these rows, the last of which stands on line n
-pub record IsAfter (stage : Stage) (to : Option Place) (n : ℕ) (rows : List Numbered) (next : Stage) : Type 0 where
+pub record IsAfter (stage : Stage) (to : Option LinePlace) (n : ℕ) (rows : List Numbered) (next : Stage) : Type 0 where
   pub there : to ≡ Some (stage_place next)
   pub stays : IsStage next (n + 1)
   pub built : (before : List Numbered) → IsBuilt stage before → IsBuilt next (before ++ rows)
 
 -- a step over rows, or none where they are no form of the stage's place
-abbrev pub Advances : Stage → Option Place → ℕ → List Numbered → Result Stage Miss → Type 0
+abbrev pub Advances : Stage → Option LinePlace → ℕ → List Numbered → Result Stage Miss → Type 0
 Advances stage to n rows (Ok next) = IsAfter stage to n rows next
 Advances stage to n rows (Err NoForm) = to ≡ None
 Advances stage to n rows (Err NoMemory) = Unit {0}
@@ -100,9 +103,22 @@ IsWhole stage (Err NoMemory) = ⊥
 -- the circuit of a stage behind which a statement may stand
 abbrev pub IsBody : Stage → Result CircuitTree Miss → Type 0
 IsBody stage (Ok circuit) =
-    (after_statement (stage_place stage) ≡ Some InStatements) × (after_open (stage_place stage) ≡ Some AwaitsReset) × (0 < length circuit.modules) × Holds stage circuit
-IsBody stage (Err NoForm) = (after_statement (stage_place stage) ≡ None) × (after_open (stage_place stage) ≡ None)
+    (after_statement (stage_place stage) ≡ Some InStatements) × (after_open (stage_place stage) ≡ Some AwaitsReset) × (after_memory (stage_place stage) ≡ Some InFields) × (0 < length circuit.modules)
+    × Holds stage circuit
+IsBody stage (Err NoForm) = (after_statement (stage_place stage) ≡ None) × (after_open (stage_place stage) ≡ None) × (after_memory (stage_place stage) ≡ None)
 IsBody stage (Err NoMemory) = ⊥
+
+-- the circuit of a stage behind which a port may stand
+abbrev pub IsPortsOf : Stage → Result CircuitTree Miss → Type 0
+IsPortsOf stage (Ok circuit) = stage ≡ Ports circuit
+IsPortsOf stage (Err NoForm) = after_port (stage_place stage) ≡ None
+IsPortsOf stage (Err NoMemory) = ⊥
+
+-- the circuit of a stage behind which a field may stand
+abbrev pub IsMemoryOf : Stage → Result CircuitTree Miss → Type 0
+IsMemoryOf stage (Ok circuit) = stage ≡ Fields circuit
+IsMemoryOf stage (Err NoForm) = after_field (stage_place stage) ≡ None
+IsMemoryOf stage (Err NoMemory) = ⊥
 
 -- the circuit of a stage that awaits a reset, and its register
 abbrev pub IsOpened : Stage → Result (CircuitTree × OpenRegister) Miss → Type 0
@@ -148,7 +164,7 @@ pub record IsRowStep (stage : Stage) (n : ℕ) (line : LineTokens) (next : Stage
 
 abbrev pub IsPlaced : Stage → ℕ → LineTokens → Result Stage Miss → Type 0
 IsPlaced stage n line (Ok next) = IsRowStep stage n line next
-IsPlaced stage n line (Err NoForm) = (row : Row) (next : Place) → IsForm (stage_place stage) line row next → ⊥
+IsPlaced stage n line (Err NoForm) = (row : Row) (next : LinePlace) → IsForm (stage_place stage) line row next → ⊥
 IsPlaced stage n line (Err NoMemory) = Unit {0}
 
 -- the answer for a line that is no row of its place

@@ -13,7 +13,7 @@ use Rattle.gg_ast.specs.Rows.{rows_of}
 use Rattle.gg_ast.specs.Tree.{CircuitTree}
 use Rattle.gg_read.specs.declared.text.ReadFault.{ReadFault}
 use Rattle.gg_read.specs.declared.text.ReadFault.TheVariants.{NotText, Syntax, Outside, TooDeep, NoMemory}
-use Rattle.gg_read.specs.Forms.{SpellsRow}
+use Rattle.gg_row.specs.Forms.{SpellsRow}
 
 -- what a line holds: its tokens, up to the first byte that begins none, if there is one
 pub record LineTokens : Type 0 where
@@ -28,81 +28,109 @@ AreLineTokens (l ∷ ls) [] = ⊥
 AreLineTokens (l ∷ ls) (t ∷ ts) = Lexes l t.tokens t.bad × AreLineTokens ls ts
 
 -- the place of a line: what the lines before it were
-pub data Place : Type 0 where
+pub data LinePlace : Type 0 where
   -- the beginning of the text
-  AtStart : Place
+  AtStart : LinePlace
   -- behind the version line
-  AfterVersion : Place
+  AfterVersion : LinePlace
   -- behind the circuit's line
-  AfterCircuit : Place
+  AfterCircuit : LinePlace
   -- behind a module's line or a port
-  InPorts : Place
-  -- behind a statement
-  InStatements : Place
+  InPorts : LinePlace
+  -- behind a statement that is no memory
+  InStatements : LinePlace
+  -- behind a memory's line or a field of it
+  InFields : LinePlace
   -- behind the first line of a register whose reset stands on the next
-  AwaitsReset : Place
+  AwaitsReset : LinePlace
 
 -- the place behind a statement's line
-abbrev pub after_statement : Place → Option Place
+abbrev pub after_statement : LinePlace → Option LinePlace
 after_statement InPorts = Some InStatements
 after_statement InStatements = Some InStatements
 after_statement AtStart = None
 after_statement AfterVersion = None
 after_statement AfterCircuit = None
 after_statement AwaitsReset = None
+after_statement InFields = Some InStatements
 
 -- the place behind the first line of a register of two lines
-abbrev pub after_open : Place → Option Place
+abbrev pub after_open : LinePlace → Option LinePlace
 after_open InPorts = Some AwaitsReset
 after_open InStatements = Some AwaitsReset
 after_open AtStart = None
 after_open AfterVersion = None
 after_open AfterCircuit = None
 after_open AwaitsReset = None
+after_open InFields = Some AwaitsReset
 
--- a module's line may stand behind the circuit's line, a module's, a port or a statement
-abbrev pub after_module : Place → Option Place
+-- a module's line may stand behind the circuit's line, a module's, a port, a statement or a memory's field
+abbrev pub after_module : LinePlace → Option LinePlace
 after_module AfterCircuit = Some InPorts
 after_module InPorts = Some InPorts
 after_module InStatements = Some InPorts
 after_module AtStart = None
 after_module AfterVersion = None
 after_module AwaitsReset = None
+after_module InFields = Some InPorts
 
-abbrev pub after_version : Place → Option Place
+abbrev pub after_version : LinePlace → Option LinePlace
 after_version AtStart = Some AfterVersion
 after_version AfterVersion = None
 after_version AfterCircuit = None
 after_version InPorts = None
 after_version InStatements = None
 after_version AwaitsReset = None
+after_version InFields = None
 
-abbrev pub after_circuit : Place → Option Place
+abbrev pub after_circuit : LinePlace → Option LinePlace
 after_circuit AtStart = Some AfterCircuit
 after_circuit AfterVersion = Some AfterCircuit
 after_circuit AfterCircuit = None
 after_circuit InPorts = None
 after_circuit InStatements = None
 after_circuit AwaitsReset = None
+after_circuit InFields = None
 
-abbrev pub after_port : Place → Option Place
+abbrev pub after_port : LinePlace → Option LinePlace
 after_port InPorts = Some InPorts
 after_port AtStart = None
 after_port AfterVersion = None
 after_port AfterCircuit = None
 after_port InStatements = None
 after_port AwaitsReset = None
+after_port InFields = None
 
-abbrev pub after_reset : Place → Option Place
+abbrev pub after_reset : LinePlace → Option LinePlace
 after_reset AwaitsReset = Some InStatements
 after_reset AtStart = None
 after_reset AfterVersion = None
 after_reset AfterCircuit = None
 after_reset InPorts = None
 after_reset InStatements = None
+after_reset InFields = None
+
+-- a memory's line may stand where a statement may, and its fields behind it or behind another field
+abbrev pub after_memory : LinePlace → Option LinePlace
+after_memory InPorts = Some InFields
+after_memory InStatements = Some InFields
+after_memory InFields = Some InFields
+after_memory AtStart = None
+after_memory AfterVersion = None
+after_memory AfterCircuit = None
+after_memory AwaitsReset = None
+
+abbrev pub after_field : LinePlace → Option LinePlace
+after_field InFields = Some InFields
+after_field AtStart = None
+after_field AfterVersion = None
+after_field AfterCircuit = None
+after_field InPorts = None
+after_field InStatements = None
+after_field AwaitsReset = None
 
 -- the place behind a row, where the row is one of the forms of its place
-abbrev pub place_after : Place → Row → Option Place
+abbrev pub place_after : LinePlace → Row → Option LinePlace
 place_after place (VersionRow a b c) = after_version place
 place_after place (CircuitRow name) = after_circuit place
 place_after place (ModuleRow name) = after_module place
@@ -114,8 +142,8 @@ place_after place (RegisterResetRow name ty clock condition init) = after_statem
 place_after place (RegisterOpenRow name ty clock) = after_open place
 place_after place (ResetRow condition init) = after_reset place
 place_after place (InstanceRow name m) = after_statement place
-place_after place (MemoryRow name) = None
-place_after place (FieldRow field) = None
+place_after place (MemoryRow name) = after_memory place
+place_after place (FieldRow field) = after_field place
 place_after place (ConnectRow sink source) = after_statement place
 place_after place (InvalidRow sink) = after_statement place
 place_after place SkipRow = after_statement place
@@ -123,12 +151,13 @@ place_after place (StopRow clock condition code label) = after_statement place
 place_after place (ReportRow word arguments label) = after_statement place
 
 -- a text may end behind the circuit's line and behind whole modules
-abbrev pub IsEndPlace : Place → Type 0
+abbrev pub IsEndPlace : LinePlace → Type 0
 IsEndPlace AtStart = ⊥
 IsEndPlace AfterVersion = ⊥
 IsEndPlace AfterCircuit = Unit {0}
 IsEndPlace InPorts = Unit {0}
 IsEndPlace InStatements = Unit {0}
+IsEndPlace InFields = Unit {0}
 IsEndPlace AwaitsReset = ⊥
 
 -- how many of the tokens open a bracket, and how many close one
@@ -153,18 +182,18 @@ IsBlank line = (line.tokens ≡ []) × (line.bad ≡ None)
 
 -- A line is this row, and one of the forms of its place; the next line's place is `next`. A line that is too deep is
 -- none, even where its tokens spell a row: the first such line is a fault line.
-pub record IsForm (place : Place) (line : LineTokens) (row : Row) (next : Place) : Type 0 where
+pub record IsForm (place : LinePlace) (line : LineTokens) (row : Row) (next : LinePlace) : Type 0 where
   pub whole : line.bad ≡ None
   pub shallow : IsTooDeep line.tokens → ⊥
   pub spelt : SpellsRow row line.tokens
   pub there : place_after place row ≡ Some next
 
 -- the lines, the first of which has this number, are these rows; the place moves from one to the other
-abbrev pub AreRows : Place → ℕ → List LineTokens → List Numbered → Place → Type 0
+abbrev pub AreRows : LinePlace → ℕ → List LineTokens → List Numbered → LinePlace → Type 0
 AreRows place n [] rows last = (rows ≡ []) × (last ≡ place)
 AreRows place n (line ∷ more) rows last =
     (IsBlank line × AreRows place (n + 1) more rows last)
-    ⊎ ((row : Row) × (next : Place) × (others : List Numbered) × IsForm place line row next × (rows ≡ numbered n row ∷ others) × AreRows next (n + 1) more others last)
+    ⊎ ((row : Row) × (next : LinePlace) × (others : List Numbered) × IsForm place line row next × (rows ≡ numbered n row ∷ others) × AreRows next (n + 1) more others last)
 
 abbrev pub is_version : Row → Bool
 is_version (VersionRow a b c) = true
@@ -180,15 +209,15 @@ pub record Spells (text : List ℕ) (circuit : CircuitTree) : Type 0 where
   pub utf8 : IsUtf8 text
   pub held : List LineTokens
   pub tokens : AreLineTokens (lines text) held
-  pub last : Place
+  pub last : LinePlace
   pub rows : List Numbered
   pub read : AreRows AtStart 1 held rows last
   pub whole : IsEndPlace last
   pub circuit_rows : without_version rows ≡ rows_of circuit
 
 -- a line is none of the forms of its place
-abbrev pub IsNoForm : Place → LineTokens → Type 0
-IsNoForm place line = (IsBlank line → ⊥) × ((row : Row) (next : Place) → IsForm place line row next → ⊥)
+abbrev pub IsNoForm : LinePlace → LineTokens → Type 0
+IsNoForm place line = (IsBlank line → ⊥) × ((row : Row) (next : LinePlace) → IsForm place line row next → ⊥)
 
 -- the fault line of a text: the first that is none of the forms of its place; else, where the text is incomplete, the
 -- one behind the last, which holds nothing
@@ -196,7 +225,7 @@ pub record IsFaultLine (text : List ℕ) (n : ℕ) (line : LineTokens) : Type 0 
   pub before : List LineTokens
   pub tokens : AreLineTokens (take (length before) (lines text)) before
   pub rows : List Numbered
-  pub place : Place
+  pub place : LinePlace
   pub read : AreRows AtStart 1 before rows place
   pub number : n ≡ length before + 1
   pub fault : ((l : List ℕ) × (slice_get (lines text) (length before) ≡ Some l) × Lexes l line.tokens line.bad × IsNoForm place line)

@@ -1,8 +1,6 @@
 //! What follows from the definitions alone.
-ghost use Rattle.std.specs.Prelude.{◌≡◌, ◌↔◌, ◌==◌, ℕ, List, false};
-ghost use Rattle.std.specs.List.{list_any};
-ghost use Rattle.gg_lex.specs.Tokens.{IsWord};
-ghost use Rattle.gg_ast.specs.Names.{IsName};
+ghost use Rattle.std.specs.Prelude.{◌≡◌, ◌⊎◌, ℕ, List};
+ghost use Rattle.std.specs.Str.{IsUtf8};
 ghost use Rattle.gg_ast.specs.Tree.{CircuitTree};
 ghost use Rattle.gg_read.specs.Text.{LineTokens, IsFaultLine, Spells};
 
@@ -21,7 +19,7 @@ pub fn no_circuit()
     ensures { (text : List ℕ) (n : ℕ) (line : LineTokens) (circuit : CircuitTree) → IsFaultLine text n line → Spells text circuit → ⊥ }
 {}
 
-/// A name is a word of a line without a dash.
-pub fn name_is_a_word()
-    ensures { (text : List ℕ) → IsName text ↔ (IsWord text × (list_any (λ b. b == 45) text ≡ false)) }
+/// Each text that is UTF-8 spells a circuit or has a fault line.
+pub fn every_text()
+    ensures { (text : List ℕ) → IsUtf8 text → ((circuit : CircuitTree) × Spells text circuit) ⊎ ((n : ℕ) × (line : LineTokens) × IsFaultLine text n line) }
 {}

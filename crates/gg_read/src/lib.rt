@@ -2,22 +2,15 @@
 //!
 //! `read_circuit` answers exactly the circuit that a text spells, or exactly why it spells none: the bytes are not
 //! UTF-8, or a line is at fault, with its number and the first of three causes that holds there. A text spells at most
-//! one circuit (`one_circuit`) and has at most one fault line (`one_fault_line`), never both (`no_circuit`); the tokens
-//! of a line spell at most one row (`one_row`), and names are words without a dash (`name_is_a_word`). Only want of
-//! memory has no cause in the text.
+//! one circuit (`one_circuit`) and has at most one fault line (`one_fault_line`), never both (`no_circuit`). Only want of
+//! memory has no cause in the text. What a line by itself spells is told by gg_row.
 #![tactic(auto)]
 
-mod cursor;
-mod digits;
-mod expression;
 mod fault;
-mod forms;
 mod laws;
-mod row;
+mod printed;
 mod stage;
 mod text;
-mod words;
 
-pub use forms::one_row;
-pub use laws::{name_is_a_word, no_circuit, one_circuit, one_fault_line};
+pub use laws::{every_text, no_circuit, one_circuit, one_fault_line};
 pub use text::{ReadFault, read_circuit};

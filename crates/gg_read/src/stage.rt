@@ -1,18 +1,17 @@
 //! The circuit that is built, row by row, and the place that the rows have reached.
 ghost use Rattle.std.specs.Prelude.{◌≡◌, ℕ, ◌∷◌, [], ◌<◌, length, IfSome};
-ghost use Rattle.gg_ast.specs.Names.{IsName, IsPortNamed, AreNamesOfTerm, AreNamesOfReset, AreNamesOfStatement};
-ghost use Rattle.gg_ast.specs.Row.{numbered, VersionRow, CircuitRow, ModuleRow, RegisterResetRow};
-ghost use Rattle.gg_ast.specs.Rows.{port_row, statement_rows};
-ghost use Rattle.gg_ast.specs.Tree.{IsOpenToPorts};
-ghost use Rattle.gg_read.specs.LineRows.{row_of, AreNamesOfLine};
-ghost use Rattle.gg_read.specs.Text.{InPorts, InStatements, place_after, after_version, after_circuit, after_module, after_port, after_statement, after_open, after_reset};
-ghost use Rattle.gg_read.specs.Stages.{stage_place, AreNamesOfRegister, IsStage, Advances, TellsStart, TellsBare, IsWhole, IsBody, IsOpened, open_row, reset_row, Ends};
+ghost use Rattle.gg_ast.specs.Names.{IsName, IsPortNamed, AreNamesOfTerm, AreNamesOfField, AreNamesOfReset, AreNamesOfStatement};
+ghost use Rattle.gg_ast.specs.Row.{numbered, VersionRow, CircuitRow, ModuleRow, MemoryRow, RegisterResetRow};
+ghost use Rattle.gg_ast.specs.Rows.{port_row, field_row, statement_rows};
+ghost use Rattle.gg_ast.specs.Tree.{IsMemory, IsOpenToPorts, IsOpenToFields};
+ghost use Rattle.gg_row.specs.LineRows.{row_of, AreNamesOfLine};
+ghost use Rattle.gg_read.specs.Text.{InPorts, InStatements, InFields, place_after, after_version, after_circuit, after_module, after_port, after_statement, after_open, after_memory, after_field, after_reset};
+ghost use Rattle.gg_read.specs.Stages.{stage_place, AreNamesOfRegister, IsStage, Advances, TellsStart, TellsBare, IsWhole, IsBody, IsPortsOf, IsMemoryOf, IsOpened, open_row, reset_row, Ends};
 
-use crate::cursor::Miss;
-use crate::row::LineRow;
 use crate::text::ReadFault;
-use gg_ast::{Circuit, Expr, GroundType, Port, Reset, Stmt, StmtKind};
+use gg_ast::{Circuit, Expr, Field, Fields, GroundType, Port, Reset, Stmt, StmtKind};
 use gg_bits::Name;
+use gg_row::{LineRow, Miss};
 use std::alloc::Global;
 
 /// A register whose reset stands on the next line.
@@ -36,8 +35,10 @@ pub(crate) enum Stage {
     Header(Circuit),
     /// Behind a module's line or a port.
     Ports(Circuit),
-    /// Behind a statement.
+    /// Behind a statement that is no memory.
     Statements(Circuit),
+    /// Behind a memory's line or a field of it.
+    Fields(Circuit),
     /// Behind the first line of a register whose reset stands on the next.
     Open(Circuit, OpenRegister),
 }
@@ -85,6 +86,8 @@ pub(crate) fn advance(alloc: Global, stage: Stage, line: u64, row: LineRow) -> R
                 init,
             },
         ),
+        LineRow::Memory(name) => memory(alloc, stage, line, name),
+        LineRow::Field(kind) => field(stage, Field { line, kind }),
     }
 }
 
@@ -139,6 +142,7 @@ fn is_start(stage: &Stage) -> bool
         | Stage::Header(_)
         | Stage::Ports(_)
         | Stage::Statements(_)
+        | Stage::Fields(_)
         | Stage::Open(_, _) => false,
     }
 }
@@ -165,7 +169,11 @@ fn is_bare(stage: &Stage) -> bool
     match stage {
         Stage::Start => true,
         Stage::Version => true,
-        Stage::Header(_) | Stage::Ports(_) | Stage::Statements(_) | Stage::Open(_, _) => false,
+        Stage::Header(_)
+        | Stage::Ports(_)
+        | Stage::Statements(_)
+        | Stage::Fields(_)
+        | Stage::Open(_, _) => false,
     }
 }
 
@@ -187,6 +195,7 @@ fn whole(stage: Stage) -> Result<Circuit, Miss>
         Stage::Header(circuit) => Ok(circuit),
         Stage::Ports(circuit) => Ok(circuit),
         Stage::Statements(circuit) => Ok(circuit),
+        Stage::Fields(circuit) => Ok(circuit),
         Stage::Start | Stage::Version | Stage::Open(_, _) => Err(Miss::NoForm),
     }
 }
@@ -197,12 +206,26 @@ fn port(stage: Stage, port: Port) -> Result<Stage, Miss>
     requires stage { (line : ℕ) × IsStage stage line }
     ensures { Advances stage (after_port (stage_place stage)) port.line (port_row port ∷ []) result }
 {
+    match ports_of(stage) {
+        Ok(circuit) => add_port(circuit, port),
+        Err(miss) => {
+            drop(port);
+            Err(miss)
+        }
+    }
+}
+
+/// The circuit, to whose last module a port may be added.
+fn ports_of(stage: Stage) -> Result<Circuit, Miss>
+    ensures { IsPortsOf stage result }
+{
     match stage {
-        Stage::Ports(circuit) => add_port(circuit, port),
+        Stage::Ports(circuit) => Ok(circuit),
         Stage::Start
         | Stage::Version
         | Stage::Header(_)
         | Stage::Statements(_)
+        | Stage::Fields(_)
         | Stage::Open(_, _) => Err(Miss::NoForm),
     }
 }
@@ -227,6 +250,7 @@ fn body(stage: Stage) -> Result<Circuit, Miss>
     match stage {
         Stage::Ports(circuit) => Ok(circuit),
         Stage::Statements(circuit) => Ok(circuit),
+        Stage::Fields(circuit) => Ok(circuit),
         Stage::Start | Stage::Version | Stage::Header(_) | Stage::Open(_, _) => Err(Miss::NoForm),
     }
 }
@@ -255,6 +279,72 @@ fn add_statement(circuit: Circuit, statement: Stmt) -> Result<Stage, Miss>
     let mut circuit = circuit;
     circuit.push_statement(statement)?;
     Ok(Stage::Statements(circuit))
+}
+
+/// The first line of a memory, which stands where a statement may.
+fn memory(alloc: Global, stage: Stage, line: u64, name: Name) -> Result<Stage, Miss>
+    requires named { IsName name }
+    requires stage { (at : ℕ) × IsStage stage at }
+    ensures { Advances stage (after_memory (stage_place stage)) line (numbered line (MemoryRow name) ∷ []) result }
+{
+    let circuit = body(stage)?;
+    let fields = Fields::new(alloc);
+    let kind = StmtKind::Memory { name, fields };
+    add_memory(circuit, Stmt { line, kind })
+}
+
+/// A memory without fields behind the other statements of the last module.
+fn add_memory(circuit: Circuit, statement: Stmt) -> Result<Stage, Miss>
+    requires named { AreNamesOfStatement statement }
+    requires memory { IsMemory statement.kind }
+    requires some { 0 < length circuit.modules }
+    ensures { Advances (Stage.Statements circuit) (Some InFields) statement.line (statement_rows statement) result }
+{
+    let mut circuit = circuit;
+    circuit.push_statement(statement)?;
+    Ok(Stage::Fields(circuit))
+}
+
+/// A field, which stands behind its memory's line or another field.
+fn field(stage: Stage, field: Field) -> Result<Stage, Miss>
+    requires named { AreNamesOfField field }
+    requires stage { (line : ℕ) × IsStage stage line }
+    ensures { Advances stage (after_field (stage_place stage)) field.line (field_row field ∷ []) result }
+{
+    match memory_of(stage) {
+        Ok(circuit) => add_field(circuit, field),
+        Err(miss) => {
+            drop(field);
+            Err(miss)
+        }
+    }
+}
+
+/// The circuit, to whose last memory a field may be added.
+fn memory_of(stage: Stage) -> Result<Circuit, Miss>
+    ensures { IsMemoryOf stage result }
+{
+    match stage {
+        Stage::Fields(circuit) => Ok(circuit),
+        Stage::Start
+        | Stage::Version
+        | Stage::Header(_)
+        | Stage::Ports(_)
+        | Stage::Statements(_)
+        | Stage::Open(_, _) => Err(Miss::NoForm),
+    }
+}
+
+/// A field behind the others of the last memory.
+fn add_field(circuit: Circuit, field: Field) -> Result<Stage, Miss>
+    requires some { 0 < length circuit.modules }
+    requires open { IsOpenToFields circuit.modules }
+    requires named { AreNamesOfField field }
+    ensures { Advances (Stage.Fields circuit) (Some InFields) field.line (field_row field ∷ []) result }
+{
+    let mut circuit = circuit;
+    circuit.push_field(field)?;
+    Ok(Stage::Fields(circuit))
 }
 
 /// The first line of a register whose reset stands on the next.
@@ -288,8 +378,12 @@ fn opened(stage: Stage) -> Result<(Circuit, OpenRegister), Miss>
 {
     match stage {
         Stage::Open(circuit, register) => Ok((circuit, register)),
-        Stage::Start | Stage::Version | Stage::Header(_) | Stage::Ports(_) | Stage::Statements(_) =>
-            Err(Miss::NoForm),
+        Stage::Start
+        | Stage::Version
+        | Stage::Header(_)
+        | Stage::Ports(_)
+        | Stage::Statements(_)
+        | Stage::Fields(_) => Err(Miss::NoForm),
     }
 }
 
@@ -326,6 +420,7 @@ pub(crate) fn finish(stage: Stage, line: u64) -> Result<Circuit, ReadFault>
         Stage::Header(circuit) => Ok(circuit),
         Stage::Ports(circuit) => Ok(circuit),
         Stage::Statements(circuit) => Ok(circuit),
+        Stage::Fields(circuit) => Ok(circuit),
         Stage::Start | Stage::Version | Stage::Open(_, _) => Err(ReadFault::Syntax { line }),
     }
 }

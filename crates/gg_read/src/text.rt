@@ -3,16 +3,16 @@ ghost use Rattle.std.specs.Prelude.{◌≡◌, ℕ, ◌+◌, ◌<◌, ◌≤◌,
 ghost use Rattle.std.specs.Str.{IsUtf8};
 ghost use Rattle.gg_ast.specs.Tree.{CircuitTree};
 ghost use Rattle.gg_read.specs.Causes.{IsFaultOf};
+ghost use Rattle.gg_row.specs.LineRows.{AreNamesOfLine};
 ghost use Rattle.gg_read.specs.Stages.{line_of, IsStage, IsRowOf, IsPlaced, IsStep, IsMissed, TellsBlank};
 ghost use Rattle.gg_read.specs.Text.{LineTokens, IsFaultLine, Spells, HasReadFault};
 
-use crate::cursor::Miss;
 use crate::fault::{is_too_deep, line_fault};
-use crate::row::{LineRow, row};
 use crate::stage::{Stage, advance, finish};
 use gg_ast::Circuit;
 use gg_bits::Name;
 use gg_lex::{LexedLine, Tok, lex};
+use gg_row::{LineRow, Miss, read_row};
 use std::alloc::Global;
 
 /// Why no circuit was read.
@@ -118,7 +118,8 @@ fn placed(alloc: Global, stage: Stage, number: u64, lexed: &LexedLine) -> Result
 
 /// The row of a line, whatever its place: the whole line spells it, and nowhere are too many brackets open.
 fn whole_row(alloc: Global, lexed: &LexedLine) -> Result<LineRow, Miss>
-    ensures { IsRowOf (line_of lexed.now) result }
+    ensures row { IsRowOf (line_of lexed.now) result }
+    ensures named { IfOk result AreNamesOfLine }
 {
     if lexed.bad.is_some() {
         return Err(Miss::NoForm);
@@ -126,5 +127,5 @@ fn whole_row(alloc: Global, lexed: &LexedLine) -> Result<LineRow, Miss>
     if is_too_deep(lexed.tokens.as_slice()) {
         return Err(Miss::NoForm);
     }
-    row(alloc, lexed.tokens.as_slice())
+    read_row(alloc, lexed.tokens.as_slice())
 }

@@ -1,7 +1,0 @@
-use Rattle.std.proofs.Common.{sym, ◌∙◌}
-use Rattle.gg_read.proofs.Leaves.{some_same}
-use Rattle.gg_read.proofs.RowLaws.{spelt-row_at}
-use Rattle.gg_read.proofs.forms.one_row.Goals as goal
-
-pub returns : goal.returns
-returns c = λ row other ts h i. some_same row other (sym (spelt-row_at ts row h) ∙ spelt-row_at ts other i)

@@ -1,0 +1,12 @@
+-- A fault of reading in words, as the program prints it. The word is the first of the line's that is left out of the
+-- language.
+use Rattle.std.specs.Prelude.{ℕ, List, ◌++◌, codes, decimal}
+use Rattle.gg_read.specs.declared.text.ReadFault.{ReadFault}
+use Rattle.gg_read.specs.declared.text.ReadFault.TheVariants.{NotText, Syntax, Outside, TooDeep, NoMemory}
+
+abbrev pub fault_text : ReadFault → List ℕ
+fault_text NotText = codes "not text"
+fault_text (Syntax line) = codes "syntax line " ++ decimal line
+fault_text (Outside line word) = codes "outside line " ++ decimal line ++ codes " " ++ word
+fault_text (TooDeep line) = codes "too deep line " ++ decimal line
+fault_text NoMemory = codes "out of memory"
