@@ -33,7 +33,8 @@ mod tree;
 
 pub use bank::Bank;
 pub use laws::{
-    all_served, no_loop, run_once, runs_along, runs_on, settled_once, settles_along, states_typed,
+    all_served, no_loop, one_served, run_once, runs_along, runs_on, runs_split, settled_once,
+    settles_along, states_typed, values_agree,
 };
 pub use line::{Line, Node, Op};
 pub use memory::{Latency, Memory, Reader, Readers, UnderWrite, Writer, Writers, address_width};
