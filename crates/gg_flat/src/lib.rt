@@ -43,7 +43,7 @@ pub use piece::{Driver, Piece, Register, Reset, Signal};
 pub use ports::{Port, Ports};
 pub use state::State;
 pub use streams::Streams;
-pub use tree::{Instance, Tree};
+pub use tree::{Instance, InstancePort, MemoryInstance, Tree};
 
 #[cfg(test)]
 mod tests;
