@@ -21,3 +21,4 @@ pub mod WorkedForms
 pub mod FlawedCircuits
 pub mod WorkedMemories
 pub mod FlawedMemories
+pub mod WorkedTree

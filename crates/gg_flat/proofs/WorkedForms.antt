@@ -48,7 +48,7 @@ differ a b unequal e = apart a b unequal (ap (λ l. value_at l 0) e)
 
 module _ {X : Type 0} where
   -- one, two and four that differ
-  single : (x : X) → AllPairs (λ a b. a ≢ b) (x ∷ [])
+  pub single : (x : X) → AllPairs (λ a b. a ≢ b) (x ∷ [])
   single x i j d lt within = absurd (omega arith)
 
   pub pair : (x y : X) → x ≢ y → AllPairs (λ a b. a ≢ b) (x ∷ y ∷ [])
