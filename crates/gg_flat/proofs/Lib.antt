@@ -22,3 +22,4 @@ pub mod FlawedCircuits
 pub mod WorkedMemories
 pub mod FlawedMemories
 pub mod WorkedTree
+pub mod WorkedRuns
