@@ -1,7 +1,7 @@
 -- What memories hold after a cycle is of their counts and types.
-use Rattle.std.proofs.Common.{◌≡◌, ℕ, zero, suc, ◌<◌, List, [], ◌∷◌, length, map, replicate, get_or, refl, sym, ◌∙◌, ap, subst, arith, Bool, true, false}
-use Rattle.std.specs.Prelude.{if◌then◌else◌, All}
-use Rattle.std.proofs.lemmas.List.{length-map, length-replicate}
+use Rattle.std.proofs.Common.{◌≡◌, ℕ, zero, suc, ◌<◌, List, [], ◌∷◌, length, map, replicate, get_or, set, refl, sym, ◌∙◌, ap, subst, arith, Bool, true, false}
+use Rattle.std.specs.Prelude.{if◌then◌else◌, ◌==◌, ◌&&◌, All}
+use Rattle.std.proofs.lemmas.List.{length-map, length-replicate, length-set}
 use Rattle.std.proofs.lemmas.Nat.{pow_pos}
 use Rattle.gg_bits.specs.Shape.{Shape, shape, Fits}
 use Rattle.gg_flat.specs.declared.memory.UnderWrite.{UnderWrite}
@@ -14,6 +14,7 @@ use Rattle.gg_flat.specs.declared.memory.Memory.{Memory}
 use Rattle.gg_flat.specs.Line.{value_at, AreTyped, HasType, HasValue}
 use Rattle.gg_flat.specs.Circuit.{FlatCircuit, signal_shapes}
 use Rattle.gg_flat.specs.Memory.{Bank, found_word, hits, next_word, next_words, next_reads, next_bank, next_banks, opening_bank, read_count, words_read, bank_at, AreWords, IsBank, AreBanks, LooksAmong, WritesAmong}
+use Rattle.gg_flat.specs.Served.{Access, ByReader, ByWriter, Brings, written, after_access}
 use Rattle.gg_flat.specs.WellFormed.{IsWriter, IsMemory, IsWellFormed}
 use Rattle.gg_flat.proofs.TypedLemmas.{read_word-fits}
 use Rattle.gg_flat.proofs.WordLemmas.{length-next_words, next_words-here}
@@ -150,3 +151,31 @@ AreBanks-opening memories =
       count = length-map memories (λ (memory : Memory). opening_bank memory);
       each = λ m any lt. subst (IsBank (get_or memories m any)) (sym (opening-at memories m any lt)) (IsBank-opening (get_or memories m any));
     }
+
+-- ---- one access
+
+set-fits : (word : Shape) (values : List ℕ) (i value : ℕ) → ((k : ℕ) → Fits word (value_at values k)) → Fits word value → (k : ℕ) → Fits word (value_at (set values i value) k)
+set-fits word [] zero value fits new k = fits k
+set-fits word [] (suc i) value fits new k = fits k
+set-fits word (x ∷ values) zero value fits new zero = new
+set-fits word (x ∷ values) zero value fits new (suc k) = fits (suc k)
+set-fits word (x ∷ values) (suc i) value fits new zero = fits 0
+set-fits word (x ∷ values) (suc i) value fits new (suc k) = set-fits word values i value (λ n. fits (suc n)) new k
+
+set-words : (word : Shape) (n : ℕ) (values : List ℕ) (i value : ℕ) → AreWords word n values → Fits word value → AreWords word n (set values i value)
+set-words word n values i value is new = record { count = length-set values i value ∙ is.count; fits = set-fits word values i value is.fits new }
+
+written-words : (signals : List ℕ) (word : Shape) (n : ℕ) (words : List ℕ) (writer : Writer) → AreWords word n words → HasValue signals writer.word word → AreWords word n (written signals words writer)
+written-words signals word n words writer is has = by ((value_at signals writer.en == 1) && (value_at signals writer.mask == 1))
+  where
+    by : (b : Bool) → AreWords word n (if b then set words (value_at signals writer.addr) (value_at signals writer.word) else words)
+    by true = set-words word n words (value_at signals writer.addr) (value_at signals writer.word) is has.1
+    by false = is
+
+pub IsBank-access : (signals : List ℕ) (memory : Memory) (bank : Bank) (access : Access) → IsBank memory bank → Brings signals (shape memory.word) access → IsBank memory (after_access signals bank access)
+IsBank-access signals memory bank (ByReader r reader) is has =
+    record {
+      words = is.words;
+      reads = set-words (shape memory.word) (read_count memory.latency memory.readers) bank.reads r (found_word signals bank.words reader) is.reads (read_word-fits (shape memory.word) bank.words (value_at signals reader.addr) (value_at signals reader.en) is.words.fits);
+    }
+IsBank-access signals memory bank (ByWriter w writer) is has = record { words = written-words signals (shape memory.word) memory.depth bank.words writer is.words has; reads = is.reads }

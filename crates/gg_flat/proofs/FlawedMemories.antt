@@ -2,18 +2,20 @@
 use Rattle.std.proofs.Common.{◌≡◌, ℕ, List, [], ◌∷◌, refl, ap, inl, arith, lit<, lit≤}
 use Rattle.std.specs.Prelude.{slice_index_or}
 use Rattle.gg_bits.specs.Shape.{Shape, shape}
-use Rattle.gg_flat.specs.declared.memory.Latency.TheVariants.{Zero}
+use Rattle.gg_flat.specs.declared.line.Op.TheVariants.{Literal}
+use Rattle.gg_flat.specs.declared.memory.UnderWrite.TheVariants.{Old}
+use Rattle.gg_flat.specs.declared.memory.Latency.TheVariants.{Zero, One as Late}
 use Rattle.gg_flat.specs.declared.memory.Reader.{Reader}
 use Rattle.gg_flat.specs.declared.memory.Writer.{Writer}
 use Rattle.gg_flat.specs.declared.memory.Memory.{Memory}
 use Rattle.gg_flat.specs.declared.piece.Driver.{Driver}
-use Rattle.gg_flat.specs.declared.piece.Driver.TheVariants.{MemoryWord, ReadRegister}
+use Rattle.gg_flat.specs.declared.piece.Driver.TheVariants.{MemoryWord, ReadRegister, Computed}
 use Rattle.gg_flat.specs.Line.{HasType}
 use Rattle.gg_flat.specs.Circuit.{FlatCircuit, signal_shapes, driver_at}
 use Rattle.gg_flat.specs.Reads.{IsLoop}
 use Rattle.gg_flat.specs.WellFormed.{MayDrive, IsReader, IsWriter, IsMemory, IsWellFormed}
-use Rattle.gg_flat.proofs.WorkedForms.{only, four, apart, differ, pair, quad}
-use Rattle.gg_flat.proofs.WorkedCircuits.{eight}
+use Rattle.gg_flat.proofs.WorkedForms.{only, both, four, apart, differ, pair, quad}
+use Rattle.gg_flat.proofs.WorkedCircuits.{eight, node, value}
 use Rattle.gg_flat.proofs.WorkedMemories.{two, copy, high, signal}
 
 -- A circuit with one memory. Signal 0 is the data of its reader, 1 its address and 2 its enable, 3 a mask of two bits.
@@ -70,6 +72,30 @@ sound-formed =
       reads = only _ (only _ refl);
     }
 
+-- two writers may share their signals
+abbrev shared : FlatCircuit
+shared = lone (MemoryWord 0 0 1 2) (memory 3 (reader ∷ []) (writer ∷ writer ∷ []))
+
+shared-formed : IsWellFormed shared
+shared-formed =
+    record {
+      named = refl;
+      distinct = sound-formed.distinct;
+      drivers = sound-formed.drivers;
+      ins = sound-formed.ins;
+      outs = sound-formed.outs;
+      registers = sound-formed.registers;
+      memories = λ k d lt. only (λ i. IsMemory (HasType (signal_shapes shared)) (slice_index_or shared.memories i d)) (record {
+        some = lit< tt;
+        readers = (sound-formed.memories 0 (memory 3 [] []) (lit< tt)).readers;
+        writers = λ k d lt. both (λ i. IsWriter (HasType (signal_shapes shared)) (shape eight) 3 (slice_index_or (writer ∷ writer ∷ []) i d)) shared-writer shared-writer k lt;
+      }) k lt;
+      reads = sound-formed.reads;
+    }
+  where
+    shared-writer : IsWriter (HasType (signal_shapes shared)) (shape eight) 3 writer
+    shared-writer = (sound-formed.memories 0 (memory 3 [] []) (lit< tt)).writers 0 writer (lit< tt)
+
 -- ---- a loop through a read of latency 0
 
 -- a memory whose reader's address is its data
@@ -89,6 +115,20 @@ circle-late loop = loop.1.0.names
 other_driver : ¬ IsWellFormed (lone (MemoryWord 0 1 1 2) (memory 3 (reader ∷ []) []))
 other_driver formed = absurd (omega (arith, (formed.drivers 0 (lit< tt)).0))
 
+-- the data of a reader has a line
+line_driver : ¬ IsWellFormed (lone (Computed (node eight (Literal (value 0)) ∷ [])) (memory 3 (reader ∷ []) []))
+line_driver formed = unlike (formed.reads 0 (lit< tt) 0 (lit< tt))
+  where
+    unlike : Computed (node eight (Literal (value 0)) ∷ []) ≡ MemoryWord 0 0 1 2 → ⊥
+    unlike is = cc
+
+-- the data of a late reader has a read of latency 0
+word_driver : ¬ IsWellFormed (lone (MemoryWord 0 0 1 2) (record (memory 3 (reader ∷ []) []) { latency = Late Old }))
+word_driver formed = unlike (formed.reads 0 (lit< tt) 0 (lit< tt))
+  where
+    unlike : MemoryWord 0 0 1 2 ≡ ReadRegister 0 0 → ⊥
+    unlike is = cc
+
 -- the data of a reader of latency 0 has a read register
 late_driver : ¬ IsWellFormed (lone (ReadRegister 0 0) (memory 3 (reader ∷ []) []))
 late_driver formed = unlike (formed.reads 0 (lit< tt) 0 (lit< tt))
@@ -107,6 +147,17 @@ other_address formed = unlike (formed.reads 0 (lit< tt) 0 (lit< tt))
     unlike : MemoryWord 0 0 3 2 ≡ MemoryWord 0 0 1 2 → ⊥
     unlike is = absurd (omega (arith, ap address is))
 
+-- a read names another enable than its reader
+other_enable : ¬ IsWellFormed (lone (MemoryWord 0 0 1 3) (memory 3 (reader ∷ []) []))
+other_enable formed = unlike (formed.reads 0 (lit< tt) 0 (lit< tt))
+  where
+    enable : Driver → ℕ
+    enable (MemoryWord m r addr en) = en
+    enable other = 0
+
+    unlike : MemoryWord 0 0 1 3 ≡ MemoryWord 0 0 1 2 → ⊥
+    unlike is = absurd (omega (arith, ap enable is))
+
 -- one signal is the data of two readers
 doubled_port : ¬ IsWellFormed (lone (MemoryWord 0 0 1 2) (memory 3 (reader ∷ reader ∷ []) []))
 doubled_port formed = unlike (formed.reads 0 (lit< tt) 1 (lit< tt))
@@ -121,6 +172,14 @@ doubled_port formed = unlike (formed.reads 0 (lit< tt) 1 (lit< tt))
 -- five words want an address of three bits
 narrow_address : ¬ IsWellFormed (lone (MemoryWord 0 0 1 2) (memory 5 (reader ∷ []) []))
 narrow_address formed = absurd (omega (arith, ap (λ (s : Shape). s.width) ((formed.memories 0 (memory 5 [] []) (lit< tt)).readers 0 reader (lit< tt)).address.1))
+
+-- two words want an address of one bit
+wide_address : ¬ IsWellFormed (lone (MemoryWord 0 0 1 2) (memory 2 (reader ∷ []) []))
+wide_address formed = absurd (omega (arith, ap (λ (s : Shape). s.width) ((formed.memories 0 (memory 2 [] []) (lit< tt)).readers 0 reader (lit< tt)).address.1))
+
+-- an enable of a writer of two bits
+wide_enable : ¬ IsWellFormed (lone (MemoryWord 0 0 1 2) (memory 3 (reader ∷ []) (record writer { en = 3 } ∷ [])))
+wide_enable formed = absurd (omega (arith, ap (λ (s : Shape). s.width) ((formed.memories 0 (memory 3 [] []) (lit< tt)).writers 0 writer (lit< tt)).enable.1))
 
 -- an enable that is no signal
 no_enable : ¬ IsWellFormed (lone (MemoryWord 0 0 1 4) (memory 3 (record reader { en = 4 } ∷ []) []))

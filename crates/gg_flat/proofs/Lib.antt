@@ -21,3 +21,5 @@ pub mod WorkedForms
 pub mod FlawedCircuits
 pub mod WorkedMemories
 pub mod FlawedMemories
+pub mod WorkedTree
+pub mod WorkedRuns

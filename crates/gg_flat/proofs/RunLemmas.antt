@@ -1,6 +1,6 @@
 -- A run, row by row.
-use Rattle.std.proofs.Common.{◌≡◌, ℕ, zero, suc, ◌<◌, ◌≤◌, ◌+◌, ◌-◌, inl, inr, List, [], ◌∷◌, ◌++◌, length, refl, sym, ◌∙◌, ap, subst, arith, below_more, add-one}
-use Rattle.std.proofs.lemmas.List.{get_or_append_left, get_or-append_right, length-append}
+use Rattle.std.proofs.Common.{◌≡◌, ℕ, zero, suc, ◌<◌, ◌≤◌, ◌+◌, ◌-◌, inl, inr, List, [], ◌∷◌, ◌++◌, length, take, drop, refl, sym, ◌∙◌, ap, subst, arith, below_more, add-one}
+use Rattle.std.proofs.lemmas.List.{get_or_append_left, get_or-append_right, length-append, length-take-le, take-append-drop}
 use Rattle.std.proofs.lemmas.Bool.{cases_lt}
 use Rattle.std.proofs.Math.Seq.{get_or-append_seam}
 use Rattle.gg_flat.specs.Circuit.{FlatCircuit}
@@ -90,3 +90,32 @@ module _ (circuit : FlatCircuit) (start : Start) where
           (subst (At (n + k) (inputs_at columns (later start.cycle (n + k)))) (sym (row_at-after rows others n k run.count))
           (subst (λ u. At (n + k) (inputs_at columns u) (row_at others k)) (later-later start.cycle n k)
           (subst (λ state. Settled circuit state (inputs_at columns (later (later start.cycle n) k)) (row_at others k)) (state_at-after rows others n k run.count (omega (arith, lt, is, on.count))) (on.settled k (omega (arith, lt, is))))))
+
+  -- the first rows of a run, and the rest
+  early-run : (columns : List (List ℕ)) (n more : ℕ) (front back : List (List ℕ)) → length front ≡ n → IsRunFrom circuit start columns (n + more) (front ++ back) → IsRunFrom circuit start columns n front
+  early-run columns n more front back count run =
+      record {
+        count = count;
+        settled = λ t lt.
+            subst (Settled circuit (state_at circuit start front t) (inputs_at columns (later start.cycle t))) (get_or_append_left front back [] t (omega (arith, lt, count)))
+            (subst (λ state. Settled circuit state (inputs_at columns (later start.cycle t)) (row_at (front ++ back) t)) (state_at-append circuit start front back t (omega (arith, lt, count))) (run.settled t (omega arith)));
+      }
+
+  late-run : (columns : List (List ℕ)) (n more : ℕ) (front back : List (List ℕ)) → length front ≡ n → IsRunFrom circuit start columns (n + more) (front ++ back) → IsRunFrom circuit (after_rows circuit start front n) columns more back
+  late-run columns n more front back count run =
+      let length_back : length back ≡ more = omega (arith, length-append front back, run.count, count) in
+      record {
+        count = length_back;
+        settled = λ k lt.
+            subst (λ state. Settled circuit state (inputs_at columns (later (later start.cycle n) k)) (row_at back k)) (sym (state_at-after front back n k count (omega (arith, lt, length_back))))
+            (subst (λ u. Settled circuit (state_at circuit start (front ++ back) (n + k)) (inputs_at columns u) (row_at back k)) (sym (later-later start.cycle n k))
+            (subst (Settled circuit (state_at circuit start (front ++ back) (n + k)) (inputs_at columns (later start.cycle (n + k)))) (row_at-after front back n k count) (run.settled (n + k) (omega arith))));
+      }
+
+  pub IsRunFrom-first : (columns : List (List ℕ)) (n more : ℕ) (rows : List (List ℕ)) → IsRunFrom circuit start columns (n + more) rows → IsRunFrom circuit start columns n (take n rows)
+  IsRunFrom-first columns n more rows run =
+      early-run columns n more (take n rows) (drop n rows) (length-take-le n rows (omega (arith, run.count))) (subst (IsRunFrom circuit start columns (n + more)) (sym (take-append-drop n rows)) run)
+
+  pub IsRunFrom-rest : (columns : List (List ℕ)) (n more : ℕ) (rows : List (List ℕ)) → IsRunFrom circuit start columns (n + more) rows → IsRunFrom circuit (after_rows circuit start (take n rows) n) columns more (drop n rows)
+  IsRunFrom-rest columns n more rows run =
+      late-run columns n more (take n rows) (drop n rows) (length-take-le n rows (omega (arith, run.count))) (subst (IsRunFrom circuit start columns (n + more)) (sym (take-append-drop n rows)) run)

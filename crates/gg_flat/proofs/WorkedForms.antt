@@ -35,7 +35,7 @@ pub four : (P : ℕ → Type 0) → P 0 → P 1 → P 2 → P 3 → (k : ℕ) �
 four P first second third fourth zero lt = first
 four P first second third fourth (suc k) lt = three (λ i. P (suc i)) second third fourth k (omega arith)
 
-five : (P : ℕ → Type 0) → P 0 → P 1 → P 2 → P 3 → P 4 → (k : ℕ) → k < 5 → P k
+pub five : (P : ℕ → Type 0) → P 0 → P 1 → P 2 → P 3 → P 4 → (k : ℕ) → k < 5 → P k
 five P first second third fourth fifth zero lt = first
 five P first second third fourth fifth (suc k) lt = four (λ i. P (suc i)) second third fourth fifth k (omega arith)
 
@@ -48,7 +48,7 @@ differ a b unequal e = apart a b unequal (ap (λ l. value_at l 0) e)
 
 module _ {X : Type 0} where
   -- one, two and four that differ
-  single : (x : X) → AllPairs (λ a b. a ≢ b) (x ∷ [])
+  pub single : (x : X) → AllPairs (λ a b. a ≢ b) (x ∷ [])
   single x i j d lt within = absurd (omega arith)
 
   pub pair : (x y : X) → x ≢ y → AllPairs (λ a b. a ≢ b) (x ∷ y ∷ [])
@@ -63,7 +63,7 @@ module _ {X : Type 0} where
 -- ---- what nodes name
 
 -- whether an operation is a reference to a signal, and to which
-abbrev is_reference : Op → Bool
+abbrev pub is_reference : Op → Bool
 is_reference (Ref s) = true
 is_reference (Literal value) = false
 is_reference (One op i) = false
@@ -71,7 +71,7 @@ is_reference (Two op i j) = false
 is_reference (Fix op i n m) = false
 is_reference (Mux c i j) = false
 
-abbrev referred : Op → ℕ
+abbrev pub referred : Op → ℕ
 referred (Ref s) = s
 referred (Literal value) = 0
 referred (One op i) = 0
@@ -80,7 +80,7 @@ referred (Fix op i n m) = 0
 referred (Mux c i j) = 0
 
 -- an operation that is no reference to a signal
-other : {A : Type 0} (op : Op) (s : ℕ) → is_reference op ≡ false → op ≡ Ref s → A
+pub other : {A : Type 0} (op : Op) (s : ℕ) → is_reference op ≡ false → op ≡ Ref s → A
 other op s none is = absurd (true≢false (sym (ap is_reference is) ∙ none))
 
 -- a reference is to one signal

@@ -6,14 +6,17 @@ use Rattle.gg_bits.specs.declared.ops.OpN.TheVariants.{Bits}
 use Rattle.gg_flat.specs.declared.line.Op.TheVariants.{Ref, Literal, One, Fix}
 use Rattle.gg_flat.specs.declared.memory.UnderWrite.{UnderWrite}
 use Rattle.gg_flat.specs.declared.memory.UnderWrite.TheVariants.{Old, New, Undefined}
+use Rattle.gg_flat.specs.declared.memory.Latency.{Latency}
 use Rattle.gg_flat.specs.declared.memory.Latency.TheVariants.{Zero, One as Late}
+use Rattle.gg_flat.specs.declared.memory.Reader.{Reader}
+use Rattle.gg_flat.specs.declared.memory.Writer.{Writer}
 use Rattle.gg_flat.specs.declared.memory.Memory.{Memory}
 use Rattle.gg_flat.specs.declared.piece.Driver.{Driver}
 use Rattle.gg_flat.specs.declared.piece.Driver.TheVariants.{Input, MemoryWord, ReadRegister, Computed}
 use Rattle.gg_flat.specs.declared.piece.Signal.{Signal}
 use Rattle.gg_flat.specs.Circuit.{FlatCircuit}
 use Rattle.gg_flat.specs.Memory.{Bank, address_width}
-use Rattle.gg_flat.specs.Served.{after_accesses}
+use Rattle.gg_flat.specs.Served.{ByReader, ByWriter, due_list, after_accesses}
 use Rattle.gg_flat.specs.Run.{Start, column}
 use Rattle.gg_flat.specs.Along.{rows_along, rows_from}
 use Rattle.gg_flat.proofs.WorkedCircuits.{uint_type, one, eight, node, value}
@@ -168,3 +171,52 @@ served-new = refl
 
 served-both : after_accesses given (alone New) holding 2 ≡ record { words = 7 ∷ 5 ∷ []; reads = 5 ∷ [] }
 served-both = refl
+
+-- ---- the due list of two readers and two writers
+
+abbrev r : Reader
+r = record { addr = 0; en = 1; word = 2 }
+
+abbrev s : Reader
+s = record { addr = 3; en = 4; word = 5 }
+
+abbrev w : Writer
+w = record { addr = 6; en = 7; word = 8; mask = 9 }
+
+abbrev x : Writer
+x = record { addr = 10; en = 11; word = 12; mask = 13 }
+
+abbrev four_ports : Latency → Memory
+four_ports latency = record { word = eight; depth = 2; latency = latency; readers = r ∷ s ∷ []; writers = w ∷ x ∷ [] }
+
+-- a reader of latency 0 has no access of its own
+due-zero : due_list (four_ports Zero) ≡ ByWriter 0 w ∷ ByWriter 1 x ∷ []
+due-zero = refl
+
+due-old : due_list (four_ports (Late Old)) ≡ ByReader 0 r ∷ ByReader 1 s ∷ ByWriter 0 w ∷ ByWriter 1 x ∷ []
+due-old = refl
+
+due-undefined : due_list (four_ports (Late Undefined)) ≡ ByReader 0 r ∷ ByReader 1 s ∷ ByWriter 0 w ∷ ByWriter 1 x ∷ []
+due-undefined = refl
+
+due-new : due_list (four_ports (Late New)) ≡ ByWriter 0 w ∷ ByWriter 1 x ∷ ByReader 0 r ∷ ByReader 1 s ∷ []
+due-new = refl
+
+-- all are at address 1; `w` writes 5, and `x` 6
+abbrev four_given : List ℕ
+four_given = 1 ∷ 1 ∷ 0 ∷ 1 ∷ 1 ∷ 0 ∷ 1 ∷ 1 ∷ 5 ∷ 1 ∷ 1 ∷ 1 ∷ 6 ∷ 1 ∷ []
+
+abbrev four_holding : Bank
+four_holding = record { words = 7 ∷ 8 ∷ []; reads = 9 ∷ 9 ∷ [] }
+
+-- between the writers the readers have the old word, and the word is that of `w`
+between-old : after_accesses four_given (four_ports (Late Old)) four_holding 3 ≡ record { words = 7 ∷ 5 ∷ []; reads = 8 ∷ 8 ∷ [] }
+between-old = refl
+
+-- where they read new words they have not read yet
+between-new : after_accesses four_given (four_ports (Late New)) four_holding 1 ≡ record { words = 7 ∷ 5 ∷ []; reads = 9 ∷ 9 ∷ [] }
+between-new = refl
+
+-- at the end the word is that of `x`, and both have read it
+ended-new : after_accesses four_given (four_ports (Late New)) four_holding 4 ≡ record { words = 7 ∷ 6 ∷ []; reads = 6 ∷ 6 ∷ [] }
+ended-new = refl

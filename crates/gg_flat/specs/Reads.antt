@@ -1,10 +1,12 @@
 -- Combinational dependency, and combinational loops.
 -- Source: FIRRTL Specification, "Combinational Loops", and "Memories" for reads of latency 0.
-use Rattle.std.specs.Prelude.{◌≡◌, ◌≢◌, ◌⊎◌, ℕ, ◌<◌, List, [], ◌∷◌, length, map, Contains, AllPairs}
+use Rattle.std.specs.Prelude.{◌≡◌, ◌≢◌, ◌⊎◌, ℕ, ◌<◌, List, [], ◌∷◌, Option, Some, None, length, map, Contains, AllPairs}
 use Rattle.gg_flat.specs.declared.line.Node.{Node}
 use Rattle.gg_flat.specs.declared.line.Op.TheVariants.{Ref}
 use Rattle.gg_flat.specs.declared.piece.Driver.{Driver}
 use Rattle.gg_flat.specs.declared.piece.Driver.TheVariants.{Input, Held, MemoryWord, ReadRegister, Computed}
+use Rattle.gg_flat.specs.declared.piece.Register.{Register}
+use Rattle.gg_flat.specs.declared.piece.Reset.{Reset}
 use Rattle.gg_flat.specs.Circuit.{FlatCircuit, driver_at}
 
 -- a line names a signal: one of its nodes is a reference to it
@@ -19,6 +21,20 @@ NamesSignal (Held register) s = ⊥
 NamesSignal (MemoryWord memory reader addr en) s = (addr ≡ s) ⊎ (en ≡ s)
 NamesSignal (ReadRegister memory reader) s = ⊥
 NamesSignal (Computed line) s = Names line s
+
+-- a reset names a signal: in its condition or in its init
+abbrev pub ResetNames : Option Reset → ℕ → Type 0
+ResetNames None s = ⊥
+ResetNames (Some reset) s = Names reset.condition s ⊎ Names reset.init s
+
+-- a connection names a signal
+abbrev pub NextNames : Option (List Node) → ℕ → Type 0
+NextNames None s = ⊥
+NextNames (Some line) s = Names line s
+
+-- a register names a signal: in its reset or in its connection
+abbrev pub RegisterNames : Register → ℕ → Type 0
+RegisterNames register s = ResetNames register.reset s ⊎ NextNames register.next s
 
 -- signal a reads signal b
 pub record Reads (circuit : FlatCircuit) (a b : ℕ) : Type 0 where

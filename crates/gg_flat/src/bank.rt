@@ -1,8 +1,10 @@
 //! `Bank`: what a memory holds between two cycles.
-ghost use Rattle.std.specs.Prelude.{◌≡◌, length, map, All, IfOk};
+ghost use Rattle.std.specs.Prelude.{◌≡◌, ℕ, ◌<◌, length, map, All, IfOk};
+ghost use Rattle.gg_bits.specs.Shape.{shape};
+ghost use Rattle.gg_flat.specs.declared.memory.Memory as memories;
 ghost use Rattle.gg_flat.specs.Line.{HasValue};
 ghost use Rattle.gg_flat.specs.Memory.{opening_bank, next_bank, next_words, found_word, read_word, read_count, IsBank, LooksAmong, WritesAmong};
-ghost use Rattle.gg_flat.specs.Served.{written};
+ghost use Rattle.gg_flat.specs.Served.{ByReader, ByWriter, after_access, written};
 ghost use Rattle.gg_flat.specs.WellFormed.{IsMemory};
 
 use crate::memory::{Latency, Memory, Reader, UnderWrite, Writer};
@@ -51,6 +53,13 @@ impl Bank {
         Ok(Bank { words, reads })
     }
 
+    /// What a memory holds that has these words and read registers. Takes no memory.
+    pub fn of(words: Vec<u128>, reads: Vec<u128>) -> Bank
+        ensures { result ≡ record { words = words.items; reads = reads.items } }
+    {
+        Bank { words, reads }
+    }
+
     /// The words, in the order of their addresses.
     pub fn words(&self) -> &[u128]
         ensures { result.now ≡ self.now.words }
@@ -94,6 +103,30 @@ impl Bank {
                 write_words(&mut self.words, writers, signals);
             }
         }
+    }
+
+    /// Goes to what the memory holds after one access, by the late reader at this place, where the signals have these
+    /// values: its read register takes the word that it finds. The order of the accesses of a cycle is the memory's due
+    /// list (`one_served`, `all_served`).
+    pub fn serve_reader(&mut self, place: usize, reader: &Reader, signals: &[u128])
+        requires fields { LooksAmong (length signals.now) reader.now }
+        requires place { place < length self.old.reads }
+        ensures served { self.new ≡ after_access signals.now self.old (ByReader place reader.now) }
+        ensures typed { (memory : memories.Memory) → IsBank memory self.old → IsBank memory self.new }
+    {
+        let (addr, en) = (signals[reader.addr as usize], signals[reader.en as usize]);
+        let found = self.word(addr, en);
+        self.reads[place] = found;
+    }
+
+    /// Goes to what the memory holds after one access, by a writer, where the signals have these values. The place of the
+    /// writer among the memory's writers makes no difference.
+    pub fn serve_writer(&mut self, writer: &Writer, signals: &[u128])
+        requires { WritesAmong (length signals.now) writer.now }
+        ensures served { (place : ℕ) → self.new ≡ after_access signals.now self.old (ByWriter place writer.now) }
+        ensures typed { (memory : memories.Memory) → IsBank memory self.old → HasValue signals.now writer.now.word (shape memory.word) → IsBank memory self.new }
+    {
+        write_word(&mut self.words, writer, signals);
     }
 }
 

@@ -1,16 +1,20 @@
 //! Laws: facts about the definitions, each on a function with an empty body.
-ghost use Rattle.std.specs.Prelude.{◌≡◌, ℕ, ◌+◌, ◌<◌, ◌≤◌, List, ◌++◌, length};
+ghost use Rattle.std.specs.Prelude.{◌≡◌, ℕ, ◌+◌, ◌<◌, ◌≤◌, List, ◌++◌, length, take, drop, slice_index_or};
+ghost use Rattle.gg_bits.specs.Shape.{Shape, shape};
 ghost use Rattle.gg_flat.specs.Circuit.{FlatCircuit};
-ghost use Rattle.gg_flat.specs.Reads.{IsLoop};
-ghost use Rattle.gg_flat.specs.State.{State, IsState, opening};
-ghost use Rattle.gg_flat.specs.Settled.{Settled, IsInputs};
+ghost use Rattle.gg_flat.specs.Line.{value_at};
+ghost use Rattle.gg_flat.specs.Reads.{IsLoop, NamesSignal, RegisterNames};
+ghost use Rattle.gg_flat.specs.State.{State, IsState, opening, next_register};
+ghost use Rattle.gg_flat.specs.Settled.{Settled, IsInputs, driver_value};
 ghost use Rattle.gg_flat.specs.Run.{Start, later, IsRunFrom, IsRun, IsColumns, state_at, inputs_at, after_rows};
 ghost use Rattle.gg_flat.specs.WellFormed.{IsWellFormed};
 ghost use Rattle.gg_flat.specs.Along.{settled_along, rows_from, rows_along};
 ghost use Rattle.gg_flat.specs.Order.{IsOrder};
 ghost use Rattle.gg_flat.specs.declared.memory.Memory.{Memory};
+ghost use Rattle.gg_flat.specs.declared.piece.Driver.{Driver};
+ghost use Rattle.gg_flat.specs.declared.piece.Register.{Register};
 ghost use Rattle.gg_flat.specs.Memory.{Bank, IsBank, next_bank};
-ghost use Rattle.gg_flat.specs.Served.{due_list, after_accesses};
+ghost use Rattle.gg_flat.specs.Served.{Access, AccessNames, MemoryNames, Brings, due_list, after_access, after_accesses};
 
 /// Where a circuit has an order, a state and a list of inputs have at most one settled row.
 pub fn settled_once()
@@ -55,4 +59,27 @@ pub fn runs_on()
 /// A memory that is served all accesses of its due list, one after another, holds what it holds after the cycle.
 pub fn all_served()
     ensures { (signals : List ℕ) (memory : Memory) (bank : Bank) → IsBank memory bank → after_accesses signals memory bank (length (due_list memory)) ≡ next_bank signals memory bank }
+{}
+
+/// A memory that is served one access more holds what that access leaves; and what an access leaves depends on the signals
+/// alone that its port's fields name, and is of the memory's counts and types.
+pub fn one_served()
+    ensures more { (signals : List ℕ) (memory : Memory) (bank : Bank) (j : ℕ) (any : Access) → j < length (due_list memory) → after_accesses signals memory bank (j + 1) ≡ after_access signals (after_accesses signals memory bank j) (slice_index_or (due_list memory) j any) }
+    ensures agree { (v w : List ℕ) (bank : Bank) (access : Access) → ((s : ℕ) → AccessNames access s → value_at v s ≡ value_at w s) → after_access v bank access ≡ after_access w bank access }
+    ensures typed { (signals : List ℕ) (memory : Memory) (bank : Bank) (access : Access) → IsBank memory bank → Brings signals (shape memory.word) access → IsBank memory (after_access signals bank access) }
+{}
+
+/// A driver's value, and what a register and a memory become, depend on the signals alone that they name: two lists of
+/// values that agree on these give the same.
+pub fn values_agree()
+    ensures drivers { (state : State) (inputs v w : List ℕ) (sink : Shape) (driver : Driver) → ((s : ℕ) → NamesSignal driver s → value_at v s ≡ value_at w s) → driver_value state inputs v sink driver ≡ driver_value state inputs w sink driver }
+    ensures registers { (v w : List ℕ) (register : Register) (own : ℕ) → ((s : ℕ) → RegisterNames register s → value_at v s ≡ value_at w s) → next_register v register own ≡ next_register w register own }
+    ensures memories { (v w : List ℕ) (memory : Memory) (bank : Bank) → ((s : ℕ) → MemoryNames memory s → value_at v s ≡ value_at w s) → next_bank v memory bank ≡ next_bank w memory bank }
+{}
+
+/// A run of n cycles and more is its first n rows, which are a run from the same start, and the rest, which are a run from
+/// where these lead to.
+pub fn runs_split()
+    ensures first { (circuit : FlatCircuit) (start : Start) (columns : List (List ℕ)) (n more : ℕ) (rows : List (List ℕ)) → IsRunFrom circuit start columns (n + more) rows → IsRunFrom circuit start columns n (take n rows) }
+    ensures rest { (circuit : FlatCircuit) (start : Start) (columns : List (List ℕ)) (n more : ℕ) (rows : List (List ℕ)) → IsRunFrom circuit start columns (n + more) rows → IsRunFrom circuit (after_rows circuit start (take n rows) n) columns more (drop n rows) }
 {}

@@ -33,7 +33,8 @@ mod tree;
 
 pub use bank::Bank;
 pub use laws::{
-    all_served, no_loop, run_once, runs_along, runs_on, settled_once, settles_along, states_typed,
+    all_served, no_loop, one_served, run_once, runs_along, runs_on, runs_split, settled_once,
+    settles_along, states_typed, values_agree,
 };
 pub use line::{Line, Node, Op};
 pub use memory::{Latency, Memory, Reader, Readers, UnderWrite, Writer, Writers, address_width};
@@ -42,7 +43,7 @@ pub use piece::{Driver, Piece, Register, Reset, Signal};
 pub use ports::{Port, Ports};
 pub use state::State;
 pub use streams::Streams;
-pub use tree::{Instance, Tree};
+pub use tree::{Instance, InstancePort, MemoryInstance, Tree};
 
 #[cfg(test)]
 mod tests;

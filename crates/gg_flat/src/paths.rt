@@ -1,4 +1,4 @@
-//! `Paths`: the paths of a piece's signals, no two of them equal.
+//! `Paths`: the paths of signals, instances or memories, no two of them equal.
 ghost use Rattle.std.specs.Prelude.{◌≡◌, ◌≢◌, ◌<◌, ◌≤◌, ◌↔◌, ◌^◌, ◌-◌, [], ◌∷◌, ◌++◌, length, OnOk, OnErr, IfSome, IfNone, Some, None, Ok, Err, slice_get, option_copied, AllPairs, Contains};
 ghost use Rattle.gg_flat.specs.declared.paths.AddError.TheVariants.{Doubled, NoMemory};
 
@@ -9,10 +9,11 @@ use std::error::Error;
 use std::fmt;
 use std::marker::Model;
 
-/// Why a signal was not added.
+/// Why a signal, an instance or a memory was not added.
 #[derive(Clone, Copy, Debug, PartialEq, Eq)]
 pub enum AddError {
-    /// There is a signal of that path already.
+    /// There is one of that path already: a signal where a signal was to be added, an instance where an instance was, a
+    /// memory where a memory was.
     Doubled,
     /// Memory ran out.
     NoMemory,
@@ -34,7 +35,8 @@ impl fmt::Display for AddError {
 
 impl Error for AddError {}
 
-/// The paths of signals in the order of the signals, no two of them equal. A contract sees the list of their bytes.
+/// The paths of signals, of instances or of memories, in their order, no two of them equal. A contract sees the list of
+/// their bytes.
 ///
 /// There are fewer than 4,294,967,296 of them, so that a `u32` names each.
 #[derive(Drop)]

@@ -51,6 +51,13 @@ impl State {
         Ok(State { registers, banks })
     }
 
+    /// The state of these registers and memories. Takes no memory.
+    pub fn of(registers: Vec<u128>, banks: Vec<Bank>) -> State
+        ensures { result ≡ record { registers = registers.items; banks = banks.items } }
+    {
+        State { registers, banks }
+    }
+
     /// The registers' values.
     pub fn registers(&self) -> &[u128]
         ensures { result.now ≡ self.now.registers }

@@ -4,9 +4,18 @@ ghost use Rattle.gg_flat.specs.declared.paths.AddError.TheVariants.{Doubled};
 ghost use Rattle.gg_flat.specs.Tree.{no_tree};
 
 use crate::paths::{AddError, Paths};
-use gg_bits::{Ids, Name};
+use gg_bits::{Ids, Items, Name, Names};
 use std::alloc::Global;
 use std::marker::Model;
+
+/// A port of an instance.
+#[derive(Clone, Copy, Debug, PartialEq, Eq)]
+pub struct InstancePort {
+    /// Its signal, by its number.
+    pub signal: u32,
+    /// Whether it is an input of the instance; else it is an output.
+    pub is_input: bool,
+}
 
 /// An instance of a module, or the top. Signals, memories and other instances are named by their numbers.
 #[derive(Debug, Drop)]
@@ -19,18 +28,35 @@ pub struct Instance {
     pub first: u32,
     /// The end of these signals: the number behind the last.
     pub end: u32,
-    /// The signals of its ports, in port order, without clocks.
-    pub ports: Ids,
+    /// Its ports, in port order, without clocks.
+    pub ports: Items<InstancePort>,
     /// Its own memories, in the order of the file.
     pub memories: Ids,
 }
 
-/// The instances of a flat circuit in the order of the tree: the top first, and each followed by all that are below it.
-/// A contract sees it as an `InstanceTree`. No two instances have the same path; the top's path is empty.
+/// A memory in the tree, with what a flat circuit keeps no signal of. Its path stands with the tree.
+#[derive(Debug, Drop)]
+pub struct MemoryInstance {
+    /// The instance that holds it.
+    pub instance: u32,
+    /// Its number in the flat circuit.
+    pub memory: u32,
+    /// The names of its ports: the readers first, then the writers, each in the order of the file.
+    pub ports: Names,
+}
+
+/// The instances of a flat circuit in the order of the tree: the top first, and each followed by all that are below it. A
+/// contract sees it as an `InstanceTree`. No two instances have the same path, and no two memories; the top's path is
+/// empty.
+///
+/// The tree takes what it is given: whoever fills it for a circuit owes that it is the tree of that circuit (`IsTree` in
+/// `specs/Tree`).
 #[derive(Drop)]
 pub struct Tree {
     paths: Paths,
     instances: Vec<Instance>,
+    memory_paths: Paths,
+    memories: Vec<MemoryInstance>,
 }
 
 impl Model for Tree {
@@ -39,9 +65,9 @@ impl Model for Tree {
 
     ghost Value = { InstanceTree };
 
-    ghost view = { λ tree. record { paths = tree.paths; instances = tree.instances.items } };
+    ghost view = { λ tree. record { paths = tree.paths; instances = tree.instances.items; memory_paths = tree.memory_paths; memories = tree.memories.items } };
 
-    ghost invariant = { λ tree. length tree.paths ≡ length tree.instances.items };
+    ghost invariant = { λ tree. (length tree.paths ≡ length tree.instances.items) × (length tree.memory_paths ≡ length tree.memories.items) };
 }
 
 impl Tree {
@@ -52,6 +78,8 @@ impl Tree {
         Tree {
             paths: Paths::new(alloc),
             instances: Vec::new(alloc),
+            memory_paths: Paths::new(alloc),
+            memories: Vec::new(alloc),
         }
     }
 
@@ -60,6 +88,13 @@ impl Tree {
         ensures { result.now ≡ self.now.instances }
     {
         self.instances.as_slice()
+    }
+
+    /// The memories, in the order of the tree.
+    pub fn memories(&self) -> &[MemoryInstance]
+        ensures { result.now ≡ self.now.memories }
+    {
+        self.memories.as_slice()
     }
 
     /// How many instances there are, the top among them, which is how many paths there are: fewer than 4,294,967,296.
@@ -72,6 +107,16 @@ impl Tree {
         self.paths.len()
     }
 
+    /// How many memories there are, which is how many paths of memories there are: fewer than 4,294,967,296.
+    pub fn memory_count(&self) -> usize
+        ensures count { result ≡ length self.now.memories }
+        ensures paths { length self.now.memory_paths ≡ length self.now.memories }
+        ensures few { length self.now.memories < 2 ^ 32 }
+        ensures distinct { AllPairs (λ a b. a ≢ b) self.now.memory_paths }
+    {
+        self.memory_paths.len()
+    }
+
     /// The number of the instance of a path, where there is one.
     pub fn find(&self, path: &Name) -> Option<u32>
         ensures found { IfSome result (λ instance. slice_get self.now.paths instance ≡ Some path.now) }
@@ -80,11 +125,26 @@ impl Tree {
         self.paths.find(path)
     }
 
+    /// The place in `memories` of the memory of a path, where there is one.
+    pub fn find_memory(&self, path: &Name) -> Option<u32>
+        ensures found { IfSome result (λ place. slice_get self.now.memory_paths place ≡ Some path.now) }
+        ensures missing { IfNone result (¬ Contains self.now.memory_paths path.now) }
+    {
+        self.memory_paths.find(path)
+    }
+
     /// The path of an instance.
     pub fn path(&self, instance: u32) -> Option<&Name>
         ensures { option_copied result ≡ slice_get self.now.paths instance }
     {
         self.paths.get(instance)
+    }
+
+    /// The path of the memory at this place in `memories`.
+    pub fn memory_path(&self, place: u32) -> Option<&Name>
+        ensures { option_copied result ≡ slice_get self.now.memory_paths place }
+    {
+        self.memory_paths.get(place)
     }
 
     /// Adds an instance, as the last. There are at most 4,294,967,294 instances before.
@@ -105,6 +165,30 @@ impl Tree {
         match self.paths.add(path) {
             Ok(()) => {
                 self.instances.push_reserved(instance);
+                Ok(())
+            }
+            Err(cause) => Err(cause),
+        }
+    }
+
+    /// Adds a memory, as the last. There are at most 4,294,967,294 memories before.
+    ///
+    /// # Errors
+    ///
+    /// `Doubled`, where a memory has that path; `NoMemory`, where memory is refused. The tree is then unchanged.
+    pub fn add_memory(&mut self, path: Name, memory: MemoryInstance) -> Result<(), AddError>
+        requires { length self.old.memories < 2 ^ 32 - 1 }
+        ensures ok { OnOk result (self.new ≡ record self.old { memory_paths = self.old.memory_paths ++ path ∷ []; memories = self.old.memories ++ memory ∷ [] }) }
+        ensures fresh { OnOk result (¬ Contains self.old.memory_paths path) }
+        ensures doubled { result ≡ Err Doubled → Contains self.old.memory_paths path }
+        ensures err { OnErr result (self.new ≡ self.old) }
+    {
+        if self.memories.reserve(1).is_err() {
+            return Err(AddError::NoMemory);
+        }
+        match self.memory_paths.add(path) {
+            Ok(()) => {
+                self.memories.push_reserved(memory);
                 Ok(())
             }
             Err(cause) => Err(cause),

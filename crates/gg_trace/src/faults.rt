@@ -4,6 +4,7 @@ ghost use Rattle.std.specs.Prelude.{◌≡◌};
 ghost use Rattle.gg_trace.specs.declared.faults.TraceFault.TheVariants.{NoMemory};
 
 use std::alloc::{AllocError, AllocFailed};
+use std::error::Error;
 use std::fmt;
 
 /// What is wrong with an input trace. Rows and fields are counted from 0, and the header is no row.
@@ -60,3 +61,5 @@ impl fmt::Display for TraceFault {
         }
     }
 }
+
+impl Error for TraceFault {}
