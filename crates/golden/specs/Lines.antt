@@ -1,6 +1,7 @@
 -- What a call says where it doesn't write its whole text: its status, and a line on the error sink.
 -- They are this program's own words; the lines are those of docs/FORMATS.md.
 use Rattle.std.specs.Prelude.{◌≡◌, ℕ, List, [], ◌∷◌, ◌++◌, codes, decimal}
+use Rattle.gg_read.specs.FaultText.{fault_text}
 use Rattle.gg_read.specs.declared.text.ReadFault.{ReadFault}
 use Rattle.gg_read.specs.declared.text.ReadFault.TheVariants.{NotText, Syntax, Outside, TooDeep, NoMemory}
 
@@ -37,12 +38,12 @@ not_plain name = record { status = 1; line = line_of (codes "golden: plain " ++ 
 abbrev pub circuit_fault : List ℕ → Said
 circuit_fault text = record { status = 1; line = line_of (codes "golden: circuit: " ++ text) }
 
--- this names a fault of reading; want of memory is no fault of a text
+-- these are the words of a fault of reading; want of memory is no fault of a text
 abbrev pub IsUnreadText : ReadFault → List ℕ → Type 0
-IsUnreadText NotText text = text ≡ codes "not text"
-IsUnreadText (Syntax n) text = text ≡ codes "syntax line " ++ decimal n
-IsUnreadText (Outside n word) text = text ≡ codes "outside line " ++ decimal n ++ codes " " ++ word
-IsUnreadText (TooDeep n) text = text ≡ codes "too deep line " ++ decimal n
+IsUnreadText NotText text = text ≡ fault_text NotText
+IsUnreadText (Syntax n) text = text ≡ fault_text (Syntax n)
+IsUnreadText (Outside n word) text = text ≡ fault_text (Outside n word)
+IsUnreadText (TooDeep n) text = text ≡ fault_text (TooDeep n)
 IsUnreadText NoMemory text = ⊥
 
 -- this is said of a circuit's text with this fault of reading
