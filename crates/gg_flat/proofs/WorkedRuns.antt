@@ -1,6 +1,6 @@
 -- The circuits with memories are well formed, and their lists are orders of them: so their worked rows are the run.
 use Rattle.std.proofs.Common.{◌≡◌, ◌≢◌, ℕ, zero, suc, ◌<◌, inl, inr, List, [], ◌∷◌, length, map, take, get_or, Bool, true, false, eqb, true≢false, refl, sym, ap, ◌*◌, ◌+◌, arith, lit<, lit≤}
-use Rattle.std.specs.Prelude.{⊤, Contains, AllPairs, slice_index_or, if◌then◌else◌}
+use Rattle.std.specs.Prelude.{Contains, AllPairs, slice_index_or, if◌then◌else◌}
 use Rattle.std.proofs.lemmas.List.Kept.{AllPairs-cons}
 use Rattle.gg_bits.specs.Shape.{Fits, shape}
 use Rattle.gg_bits.specs.declared.ops.Op1.TheVariants.{Not}
@@ -25,15 +25,19 @@ use Rattle.gg_flat.proofs.WorkedMemories.{ports, ports_order, ports_inputs, late
 
 -- ---- what holds of each place, and numbers that differ
 
--- it holds of n places from k on
-abbrev Each : (ℕ → Type 0) → ℕ → Type 0
-Each P zero = ⊤
-Each P (suc n) = P 0 × Each (λ k. P (suc k)) n
+-- what holds of each place of a list of six, and of six and more
+six : (P : ℕ → Type 0) → P 0 → P 1 → P 2 → P 3 → P 4 → P 5 → (k : ℕ) → k < 6 → P k
+six P first second third fourth fifth sixth zero lt = first
+six P first second third fourth fifth sixth (suc k) lt = five (λ i. P (suc i)) second third fourth fifth sixth k (omega arith)
 
-each-at : (P : ℕ → Type 0) (n : ℕ) → Each P n → (k : ℕ) → k < n → P k
-each-at P zero all k lt = absurd (omega arith)
-each-at P (suc n) all zero lt = all.0
-each-at P (suc n) all (suc k) lt = each-at (λ i. P (suc i)) n all.1 k (omega arith)
+six_more : (P : ℕ → Type 0) (n : ℕ) → P 0 → P 1 → P 2 → P 3 → P 4 → P 5 → ((k : ℕ) → k < n → P (suc (suc (suc (suc (suc (suc k))))))) → (k : ℕ) → k < suc (suc (suc (suc (suc (suc n))))) → P k
+six_more P n first second third fourth fifth sixth rest zero lt = first
+six_more P n first second third fourth fifth sixth rest (suc zero) lt = second
+six_more P n first second third fourth fifth sixth rest (suc (suc zero)) lt = third
+six_more P n first second third fourth fifth sixth rest (suc (suc (suc zero))) lt = fourth
+six_more P n first second third fourth fifth sixth rest (suc (suc (suc (suc zero)))) lt = fifth
+six_more P n first second third fourth fifth sixth rest (suc (suc (suc (suc (suc zero))))) lt = sixth
+six_more P n first second third fourth fifth sixth rest (suc (suc (suc (suc (suc (suc k)))))) lt = rest k (omega arith)
 
 -- a number is none of these; no two of these are equal
 abbrev is_fresh : ℕ → List ℕ → Bool
@@ -72,61 +76,27 @@ path_code path = value_at path 0 * 256 + value_at path 1
 -- ---- two readers and two writers at one address
 
 ports-drivers : (s : ℕ) → s < 18 → MayDrive ports s (driver_at ports s)
-ports-drivers = each-at (λ s. MayDrive ports s (driver_at ports s)) 18 (
-  (lit< tt, refl),
-  (
-    (lit< tt, refl),
-    (
-      record { line = record { some = lit< tt; typed = only _ (lit< tt, refl) }; kind = refl; width = lit≤ tt },
-      (
-        record { line = record { some = lit< tt; typed = only _ (lit< tt, refl) }; kind = refl; width = lit≤ tt },
-        (
-          record { line = record { some = lit< tt; typed = only _ (lit< tt, refl) }; kind = refl; width = lit≤ tt },
-          (
-            record { line = record { some = lit< tt; typed = only _ (lit< tt) }; kind = refl; width = lit≤ tt },
-            (
-              (lit< tt, refl),
-              (
-                record { line = record { some = lit< tt; typed = only _ (lit< tt, refl) }; kind = refl; width = lit≤ tt },
-                (
-                  record { line = record { some = lit< tt; typed = both _ (lit< tt, refl) (lit< tt, refl) }; kind = refl; width = lit≤ tt },
-                  (
-                    (lit< tt, refl),
-                    (
-                      record { line = record { some = lit< tt; typed = only _ (lit< tt, refl) }; kind = refl; width = lit≤ tt },
-                      (
-                        record { line = record { some = lit< tt; typed = only _ (lit< tt) }; kind = refl; width = lit≤ tt },
-                        (
-                          record { line = record { some = lit< tt; typed = only _ (lit< tt, refl) }; kind = refl; width = lit≤ tt },
-                          (
-                            record { line = record { some = lit< tt; typed = only _ (lit< tt) }; kind = refl; width = lit≤ tt },
-                            (
-                              record { line = record { some = lit< tt; typed = only _ (lit< tt, refl) }; kind = refl; width = lit≤ tt },
-                              (
-                                record { line = record { some = lit< tt; typed = only _ (lit< tt) }; kind = refl; width = lit≤ tt },
-                                (
-                                  record { line = record { some = lit< tt; typed = both _ (lit< tt, refl) (lit< tt, refl) }; kind = refl; width = lit≤ tt },
-                                  (
-                                    record { line = record { some = lit< tt; typed = only _ (lit< tt) }; kind = refl; width = lit≤ tt },
-                                    tt,
-                                  ),
-                                ),
-                              ),
-                            ),
-                          ),
-                        ),
-                      ),
-                    ),
-                  ),
-                ),
-              ),
-            ),
-          ),
-        ),
-      ),
-    ),
-  ),
-)
+ports-drivers = six_more (λ s. MayDrive ports s (driver_at ports s)) 12
+    (lit< tt, refl)
+    (lit< tt, refl)
+    (record { line = record { some = lit< tt; typed = only _ (lit< tt, refl) }; kind = refl; width = lit≤ tt })
+    (record { line = record { some = lit< tt; typed = only _ (lit< tt, refl) }; kind = refl; width = lit≤ tt })
+    (record { line = record { some = lit< tt; typed = only _ (lit< tt, refl) }; kind = refl; width = lit≤ tt })
+    (record { line = record { some = lit< tt; typed = only _ (lit< tt) }; kind = refl; width = lit≤ tt })
+    (six_more _ 6
+    (lit< tt, refl)
+    (record { line = record { some = lit< tt; typed = only _ (lit< tt, refl) }; kind = refl; width = lit≤ tt })
+    (record { line = record { some = lit< tt; typed = both _ (lit< tt, refl) (lit< tt, refl) }; kind = refl; width = lit≤ tt })
+    (lit< tt, refl)
+    (record { line = record { some = lit< tt; typed = only _ (lit< tt, refl) }; kind = refl; width = lit≤ tt })
+    (record { line = record { some = lit< tt; typed = only _ (lit< tt) }; kind = refl; width = lit≤ tt })
+    (six _
+    (record { line = record { some = lit< tt; typed = only _ (lit< tt, refl) }; kind = refl; width = lit≤ tt })
+    (record { line = record { some = lit< tt; typed = only _ (lit< tt) }; kind = refl; width = lit≤ tt })
+    (record { line = record { some = lit< tt; typed = only _ (lit< tt, refl) }; kind = refl; width = lit≤ tt })
+    (record { line = record { some = lit< tt; typed = only _ (lit< tt) }; kind = refl; width = lit≤ tt })
+    (record { line = record { some = lit< tt; typed = both _ (lit< tt, refl) (lit< tt, refl) }; kind = refl; width = lit≤ tt })
+    (record { line = record { some = lit< tt; typed = only _ (lit< tt) }; kind = refl; width = lit≤ tt })))
 
 abbrev ports_memory : Memory
 ports_memory = slice_index_or ports.memories 0 (record { word = eight; depth = 1; latency = Zero; readers = []; writers = [] })
@@ -153,122 +123,74 @@ ports-formed =
     }
 
 ports-after : (i : ℕ) → i < 18 → (s : ℕ) → Reads ports (value_at ports_order i) s → Contains (take i ports_order) s
-ports-after = each-at (λ i. (s : ℕ) → Reads ports (value_at ports_order i) s → Contains (take i ports_order) s) 18 (
-  λ s r. absurd r.names,
-  (
-    λ s r. absurd r.names,
-    (
-      λ s r. only (λ k. slice_index_or (Ref 0 ∷ []) k (Ref s) ≡ Ref s → Contains (take 2 ports_order) s) (λ is. (0, lit< tt, same 0 s is)) r.names.0 r.names.1 r.names.2,
-      (
-        λ s r. only (λ k. slice_index_or (Literal (value 1) ∷ []) k (Ref s) ≡ Ref s → Contains (take 3 ports_order) s) (other (Literal (value 1)) s refl) r.names.0 r.names.1 r.names.2,
-        (
-          λ s r. elim r.names [ inl is ↦ (2, lit< tt, is) | inr is ↦ (3, lit< tt, is) ],
-          (
-            λ s r. only (λ k. slice_index_or (Ref 0 ∷ []) k (Ref s) ≡ Ref s → Contains (take 5 ports_order) s) (λ is. (0, lit< tt, same 0 s is)) r.names.0 r.names.1 r.names.2,
-            (
-              λ s r. both (λ k. slice_index_or (Ref 1 ∷ Fix Bits 0 0 0 ∷ []) k (Ref s) ≡ Ref s → Contains (take 6 ports_order) s) (λ is. (1, lit< tt, same 1 s is)) (other (Fix Bits 0 0 0) s refl) r.names.0 r.names.1 r.names.2,
-              (
-                λ s r. elim r.names [ inl is ↦ (5, lit< tt, is) | inr is ↦ (6, lit< tt, is) ],
-                (
-                  λ s r. only (λ k. slice_index_or (Ref 0 ∷ []) k (Ref s) ≡ Ref s → Contains (take 8 ports_order) s) (λ is. (0, lit< tt, same 0 s is)) r.names.0 r.names.1 r.names.2,
-                  (
-                    λ s r. only (λ k. slice_index_or (Literal (value 1) ∷ []) k (Ref s) ≡ Ref s → Contains (take 9 ports_order) s) (other (Literal (value 1)) s refl) r.names.0 r.names.1 r.names.2,
-                    (
-                      λ s r. only (λ k. slice_index_or (Ref 1 ∷ []) k (Ref s) ≡ Ref s → Contains (take 10 ports_order) s) (λ is. (1, lit< tt, same 1 s is)) r.names.0 r.names.1 r.names.2,
-                      (
-                        λ s r. only (λ k. slice_index_or (Literal (value 1) ∷ []) k (Ref s) ≡ Ref s → Contains (take 11 ports_order) s) (other (Literal (value 1)) s refl) r.names.0 r.names.1 r.names.2,
-                        (
-                          λ s r. only (λ k. slice_index_or (Ref 0 ∷ []) k (Ref s) ≡ Ref s → Contains (take 12 ports_order) s) (λ is. (0, lit< tt, same 0 s is)) r.names.0 r.names.1 r.names.2,
-                          (
-                            λ s r. only (λ k. slice_index_or (Literal (value 1) ∷ []) k (Ref s) ≡ Ref s → Contains (take 13 ports_order) s) (other (Literal (value 1)) s refl) r.names.0 r.names.1 r.names.2,
-                            (
-                              λ s r. both (λ k. slice_index_or (Ref 1 ∷ One Not 0 ∷ []) k (Ref s) ≡ Ref s → Contains (take 14 ports_order) s) (λ is. (1, lit< tt, same 1 s is)) (other (One Not 0) s refl) r.names.0 r.names.1 r.names.2,
-                              (
-                                λ s r. only (λ k. slice_index_or (Literal (value 1) ∷ []) k (Ref s) ≡ Ref s → Contains (take 15 ports_order) s) (other (Literal (value 1)) s refl) r.names.0 r.names.1 r.names.2,
-                                (
-                                  λ s r. only (λ k. slice_index_or (Ref 6 ∷ []) k (Ref s) ≡ Ref s → Contains (take 16 ports_order) s) (λ is. (4, lit< tt, same 6 s is)) r.names.0 r.names.1 r.names.2,
-                                  (
-                                    λ s r. only (λ k. slice_index_or (Ref 9 ∷ []) k (Ref s) ≡ Ref s → Contains (take 17 ports_order) s) (λ is. (7, lit< tt, same 9 s is)) r.names.0 r.names.1 r.names.2,
-                                    tt,
-                                  ),
-                                ),
-                              ),
-                            ),
-                          ),
-                        ),
-                      ),
-                    ),
-                  ),
-                ),
-              ),
-            ),
-          ),
-        ),
-      ),
-    ),
-  ),
-)
+ports-after = six_more (λ i. (s : ℕ) → Reads ports (value_at ports_order i) s → Contains (take i ports_order) s) 12
+    (λ s r. absurd r.names)
+    (λ s r. absurd r.names)
+    (λ s r. only (λ k. slice_index_or (Ref 0 ∷ []) k (Ref s) ≡ Ref s → Contains (take 2 ports_order) s) (λ is. (0, lit< tt, same 0 s is)) r.names.0 r.names.1 r.names.2)
+    (λ s r. only (λ k. slice_index_or (Literal (value 1) ∷ []) k (Ref s) ≡ Ref s → Contains (take 3 ports_order) s) (other (Literal (value 1)) s refl) r.names.0 r.names.1 r.names.2)
+    (λ s r. elim r.names [ inl is ↦ (2, lit< tt, is) | inr is ↦ (3, lit< tt, is) ])
+    (λ s r. only (λ k. slice_index_or (Ref 0 ∷ []) k (Ref s) ≡ Ref s → Contains (take 5 ports_order) s) (λ is. (0, lit< tt, same 0 s is)) r.names.0 r.names.1 r.names.2)
+    (six_more _ 6
+    (λ s r. both (λ k. slice_index_or (Ref 1 ∷ Fix Bits 0 0 0 ∷ []) k (Ref s) ≡ Ref s → Contains (take 6 ports_order) s) (λ is. (1, lit< tt, same 1 s is)) (other (Fix Bits 0 0 0) s refl) r.names.0 r.names.1 r.names.2)
+    (λ s r. elim r.names [ inl is ↦ (5, lit< tt, is) | inr is ↦ (6, lit< tt, is) ])
+    (λ s r. only (λ k. slice_index_or (Ref 0 ∷ []) k (Ref s) ≡ Ref s → Contains (take 8 ports_order) s) (λ is. (0, lit< tt, same 0 s is)) r.names.0 r.names.1 r.names.2)
+    (λ s r. only (λ k. slice_index_or (Literal (value 1) ∷ []) k (Ref s) ≡ Ref s → Contains (take 9 ports_order) s) (other (Literal (value 1)) s refl) r.names.0 r.names.1 r.names.2)
+    (λ s r. only (λ k. slice_index_or (Ref 1 ∷ []) k (Ref s) ≡ Ref s → Contains (take 10 ports_order) s) (λ is. (1, lit< tt, same 1 s is)) r.names.0 r.names.1 r.names.2)
+    (λ s r. only (λ k. slice_index_or (Literal (value 1) ∷ []) k (Ref s) ≡ Ref s → Contains (take 11 ports_order) s) (other (Literal (value 1)) s refl) r.names.0 r.names.1 r.names.2)
+    (six _
+    (λ s r. only (λ k. slice_index_or (Ref 0 ∷ []) k (Ref s) ≡ Ref s → Contains (take 12 ports_order) s) (λ is. (0, lit< tt, same 0 s is)) r.names.0 r.names.1 r.names.2)
+    (λ s r. only (λ k. slice_index_or (Literal (value 1) ∷ []) k (Ref s) ≡ Ref s → Contains (take 13 ports_order) s) (other (Literal (value 1)) s refl) r.names.0 r.names.1 r.names.2)
+    (λ s r. both (λ k. slice_index_or (Ref 1 ∷ One Not 0 ∷ []) k (Ref s) ≡ Ref s → Contains (take 14 ports_order) s) (λ is. (1, lit< tt, same 1 s is)) (other (One Not 0) s refl) r.names.0 r.names.1 r.names.2)
+    (λ s r. only (λ k. slice_index_or (Literal (value 1) ∷ []) k (Ref s) ≡ Ref s → Contains (take 15 ports_order) s) (other (Literal (value 1)) s refl) r.names.0 r.names.1 r.names.2)
+    (λ s r. only (λ k. slice_index_or (Ref 6 ∷ []) k (Ref s) ≡ Ref s → Contains (take 16 ports_order) s) (λ is. (4, lit< tt, same 6 s is)) r.names.0 r.names.1 r.names.2)
+    (λ s r. only (λ k. slice_index_or (Ref 9 ∷ []) k (Ref s) ≡ Ref s → Contains (take 17 ports_order) s) (λ is. (7, lit< tt, same 9 s is)) r.names.0 r.names.1 r.names.2)))
 
 ports-ordered : IsOrder ports ports_order
 ports-ordered =
     record {
-      signals = each-at (λ i. value_at ports_order i < 18) 18 (lit< tt, (lit< tt, (lit< tt, (lit< tt, (lit< tt, (lit< tt, (lit< tt, (lit< tt, (lit< tt, (lit< tt, (lit< tt, (lit< tt, (lit< tt, (lit< tt, (lit< tt, (lit< tt, (lit< tt, (lit< tt, tt))))))))))))))))));
+      signals = six_more (λ i. value_at ports_order i < 18) 12
+          (lit< tt)
+          (lit< tt)
+          (lit< tt)
+          (lit< tt)
+          (lit< tt)
+          (lit< tt)
+          (six_more _ 6
+          (lit< tt)
+          (lit< tt)
+          (lit< tt)
+          (lit< tt)
+          (lit< tt)
+          (lit< tt)
+          (six _
+          (lit< tt)
+          (lit< tt)
+          (lit< tt)
+          (lit< tt)
+          (lit< tt)
+          (lit< tt)));
       once = all-apart (λ s. s) ports_order refl;
-      every = each-at (Contains ports_order) 18 (
-        (0, lit< tt, refl),
-        (
-          (1, lit< tt, refl),
-          (
-            (16, lit< tt, refl),
-            (
-              (17, lit< tt, refl),
-              (
-                (2, lit< tt, refl),
-                (
-                  (3, lit< tt, refl),
-                  (
-                    (4, lit< tt, refl),
-                    (
-                      (5, lit< tt, refl),
-                      (
-                        (6, lit< tt, refl),
-                        (
-                          (7, lit< tt, refl),
-                          (
-                            (8, lit< tt, refl),
-                            (
-                              (9, lit< tt, refl),
-                              (
-                                (10, lit< tt, refl),
-                                (
-                                  (11, lit< tt, refl),
-                                  (
-                                    (12, lit< tt, refl),
-                                    (
-                                      (13, lit< tt, refl),
-                                      (
-                                        (14, lit< tt, refl),
-                                        (
-                                          (15, lit< tt, refl),
-                                          tt,
-                                        ),
-                                      ),
-                                    ),
-                                  ),
-                                ),
-                              ),
-                            ),
-                          ),
-                        ),
-                      ),
-                    ),
-                  ),
-                ),
-              ),
-            ),
-          ),
-        ),
-      );
+      every = six_more (Contains ports_order) 12
+          (0, lit< tt, refl)
+          (1, lit< tt, refl)
+          (16, lit< tt, refl)
+          (17, lit< tt, refl)
+          (2, lit< tt, refl)
+          (3, lit< tt, refl)
+          (six_more _ 6
+          (4, lit< tt, refl)
+          (5, lit< tt, refl)
+          (6, lit< tt, refl)
+          (7, lit< tt, refl)
+          (8, lit< tt, refl)
+          (9, lit< tt, refl)
+          (six _
+          (10, lit< tt, refl)
+          (11, lit< tt, refl)
+          (12, lit< tt, refl)
+          (13, lit< tt, refl)
+          (14, lit< tt, refl)
+          (15, lit< tt, refl)));
       after = λ i s lt. ports-after i lt s;
     }
 
@@ -294,40 +216,19 @@ abbrev new : FlatCircuit
 new = late New
 
 late-drivers : (s : ℕ) → s < 11 → MayDrive new s (driver_at new s)
-late-drivers = each-at (λ s. MayDrive new s (driver_at new s)) 11 (
-  (lit< tt, refl),
-  (
-    (lit< tt, refl),
-    (
-      (lit< tt, refl),
-      (
-        record { line = record { some = lit< tt; typed = only _ (lit< tt, refl) }; kind = refl; width = lit≤ tt },
-        (
-          record { line = record { some = lit< tt; typed = only _ (lit< tt, refl) }; kind = refl; width = lit≤ tt },
-          (
-            record { line = record { some = lit< tt; typed = only _ (lit< tt, refl) }; kind = refl; width = lit≤ tt },
-            (
-              (lit< tt, refl),
-              (
-                record { line = record { some = lit< tt; typed = only _ (lit< tt, refl) }; kind = refl; width = lit≤ tt },
-                (
-                  record { line = record { some = lit< tt; typed = only _ (lit< tt) }; kind = refl; width = lit≤ tt },
-                  (
-                    record { line = record { some = lit< tt; typed = only _ (lit< tt, refl) }; kind = refl; width = lit≤ tt },
-                    (
-                      record { line = record { some = lit< tt; typed = only _ (lit< tt) }; kind = refl; width = lit≤ tt },
-                      tt,
-                    ),
-                  ),
-                ),
-              ),
-            ),
-          ),
-        ),
-      ),
-    ),
-  ),
-)
+late-drivers = six_more (λ s. MayDrive new s (driver_at new s)) 5
+    (lit< tt, refl)
+    (lit< tt, refl)
+    (lit< tt, refl)
+    (record { line = record { some = lit< tt; typed = only _ (lit< tt, refl) }; kind = refl; width = lit≤ tt })
+    (record { line = record { some = lit< tt; typed = only _ (lit< tt, refl) }; kind = refl; width = lit≤ tt })
+    (record { line = record { some = lit< tt; typed = only _ (lit< tt, refl) }; kind = refl; width = lit≤ tt })
+    (five _
+    (lit< tt, refl)
+    (record { line = record { some = lit< tt; typed = only _ (lit< tt, refl) }; kind = refl; width = lit≤ tt })
+    (record { line = record { some = lit< tt; typed = only _ (lit< tt) }; kind = refl; width = lit≤ tt })
+    (record { line = record { some = lit< tt; typed = only _ (lit< tt, refl) }; kind = refl; width = lit≤ tt })
+    (record { line = record { some = lit< tt; typed = only _ (lit< tt) }; kind = refl; width = lit≤ tt }))
 
 abbrev late_memory : Memory
 late_memory = slice_index_or new.memories 0 (record { word = eight; depth = 1; latency = Zero; readers = []; writers = [] })
@@ -354,80 +255,50 @@ late-formed =
     }
 
 late-after : (i : ℕ) → i < 11 → (s : ℕ) → Reads new (value_at late_order i) s → Contains (take i late_order) s
-late-after = each-at (λ i. (s : ℕ) → Reads new (value_at late_order i) s → Contains (take i late_order) s) 11 (
-  λ s r. absurd r.names,
-  (
-    λ s r. absurd r.names,
-    (
-      λ s r. absurd r.names,
-      (
-        λ s r. only (λ k. slice_index_or (Ref 0 ∷ []) k (Ref s) ≡ Ref s → Contains (take 3 late_order) s) (λ is. (0, lit< tt, same 0 s is)) r.names.0 r.names.1 r.names.2,
-        (
-          λ s r. only (λ k. slice_index_or (Ref 1 ∷ []) k (Ref s) ≡ Ref s → Contains (take 4 late_order) s) (λ is. (1, lit< tt, same 1 s is)) r.names.0 r.names.1 r.names.2,
-          (
-            λ s r. absurd r.names,
-            (
-              λ s r. only (λ k. slice_index_or (Ref 0 ∷ []) k (Ref s) ≡ Ref s → Contains (take 6 late_order) s) (λ is. (0, lit< tt, same 0 s is)) r.names.0 r.names.1 r.names.2,
-              (
-                λ s r. only (λ k. slice_index_or (Literal (value 1) ∷ []) k (Ref s) ≡ Ref s → Contains (take 7 late_order) s) (other (Literal (value 1)) s refl) r.names.0 r.names.1 r.names.2,
-                (
-                  λ s r. only (λ k. slice_index_or (Ref 2 ∷ []) k (Ref s) ≡ Ref s → Contains (take 8 late_order) s) (λ is. (2, lit< tt, same 2 s is)) r.names.0 r.names.1 r.names.2,
-                  (
-                    λ s r. only (λ k. slice_index_or (Literal (value 1) ∷ []) k (Ref s) ≡ Ref s → Contains (take 9 late_order) s) (other (Literal (value 1)) s refl) r.names.0 r.names.1 r.names.2,
-                    (
-                      λ s r. only (λ k. slice_index_or (Ref 6 ∷ []) k (Ref s) ≡ Ref s → Contains (take 10 late_order) s) (λ is. (5, lit< tt, same 6 s is)) r.names.0 r.names.1 r.names.2,
-                      tt,
-                    ),
-                  ),
-                ),
-              ),
-            ),
-          ),
-        ),
-      ),
-    ),
-  ),
-)
+late-after = six_more (λ i. (s : ℕ) → Reads new (value_at late_order i) s → Contains (take i late_order) s) 5
+    (λ s r. absurd r.names)
+    (λ s r. absurd r.names)
+    (λ s r. absurd r.names)
+    (λ s r. only (λ k. slice_index_or (Ref 0 ∷ []) k (Ref s) ≡ Ref s → Contains (take 3 late_order) s) (λ is. (0, lit< tt, same 0 s is)) r.names.0 r.names.1 r.names.2)
+    (λ s r. only (λ k. slice_index_or (Ref 1 ∷ []) k (Ref s) ≡ Ref s → Contains (take 4 late_order) s) (λ is. (1, lit< tt, same 1 s is)) r.names.0 r.names.1 r.names.2)
+    (λ s r. absurd r.names)
+    (five _
+    (λ s r. only (λ k. slice_index_or (Ref 0 ∷ []) k (Ref s) ≡ Ref s → Contains (take 6 late_order) s) (λ is. (0, lit< tt, same 0 s is)) r.names.0 r.names.1 r.names.2)
+    (λ s r. only (λ k. slice_index_or (Literal (value 1) ∷ []) k (Ref s) ≡ Ref s → Contains (take 7 late_order) s) (other (Literal (value 1)) s refl) r.names.0 r.names.1 r.names.2)
+    (λ s r. only (λ k. slice_index_or (Ref 2 ∷ []) k (Ref s) ≡ Ref s → Contains (take 8 late_order) s) (λ is. (2, lit< tt, same 2 s is)) r.names.0 r.names.1 r.names.2)
+    (λ s r. only (λ k. slice_index_or (Literal (value 1) ∷ []) k (Ref s) ≡ Ref s → Contains (take 9 late_order) s) (other (Literal (value 1)) s refl) r.names.0 r.names.1 r.names.2)
+    (λ s r. only (λ k. slice_index_or (Ref 6 ∷ []) k (Ref s) ≡ Ref s → Contains (take 10 late_order) s) (λ is. (5, lit< tt, same 6 s is)) r.names.0 r.names.1 r.names.2))
 
 late-ordered : IsOrder new late_order
 late-ordered =
     record {
-      signals = each-at (λ i. value_at late_order i < 11) 11 (lit< tt, (lit< tt, (lit< tt, (lit< tt, (lit< tt, (lit< tt, (lit< tt, (lit< tt, (lit< tt, (lit< tt, (lit< tt, tt)))))))))));
+      signals = six_more (λ i. value_at late_order i < 11) 5
+          (lit< tt)
+          (lit< tt)
+          (lit< tt)
+          (lit< tt)
+          (lit< tt)
+          (lit< tt)
+          (five _
+          (lit< tt)
+          (lit< tt)
+          (lit< tt)
+          (lit< tt)
+          (lit< tt));
       once = all-apart (λ s. s) late_order refl;
-      every = each-at (Contains late_order) 11 (
-        (0, lit< tt, refl),
-        (
-          (1, lit< tt, refl),
-          (
-            (2, lit< tt, refl),
-            (
-              (10, lit< tt, refl),
-              (
-                (3, lit< tt, refl),
-                (
-                  (4, lit< tt, refl),
-                  (
-                    (5, lit< tt, refl),
-                    (
-                      (6, lit< tt, refl),
-                      (
-                        (7, lit< tt, refl),
-                        (
-                          (8, lit< tt, refl),
-                          (
-                            (9, lit< tt, refl),
-                            tt,
-                          ),
-                        ),
-                      ),
-                    ),
-                  ),
-                ),
-              ),
-            ),
-          ),
-        ),
-      );
+      every = six_more (Contains late_order) 5
+          (0, lit< tt, refl)
+          (1, lit< tt, refl)
+          (2, lit< tt, refl)
+          (10, lit< tt, refl)
+          (3, lit< tt, refl)
+          (4, lit< tt, refl)
+          (five _
+          (5, lit< tt, refl)
+          (6, lit< tt, refl)
+          (7, lit< tt, refl)
+          (8, lit< tt, refl)
+          (9, lit< tt, refl));
       after = λ i s lt. late-after i lt s;
     }
 

@@ -1,14 +1,11 @@
 -- A small tree is the tree of its circuit, and those with one flaw each are not.
-use Rattle.std.proofs.Common.{◌≡◌, ◌≢◌, ℕ, zero, suc, ◌<◌, ◌≤◌, List, [], ◌∷◌, ◌++◌, Some, None, false, length, refl, sym, ◌∙◌, ap, subst, inl, arith, lit<, lit≤}
-use Rattle.std.specs.Prelude.{Contains, AllPairs, All, slice_index_or}
+use Rattle.std.proofs.Common.{◌≡◌, ◌≢◌, ℕ, zero, suc, ◌<◌, ◌≤◌, List, [], ◌∷◌, Some, None, false, refl, sym, ap, subst, arith, lit<, lit≤}
+use Rattle.std.specs.Prelude.{Contains, slice_index_or}
 use Rattle.gg_flat.specs.declared.memory.Latency.TheVariants.{Zero}
-use Rattle.gg_flat.specs.declared.memory.Memory.{Memory}
-use Rattle.gg_flat.specs.declared.tree.InstancePort.{InstancePort}
 use Rattle.gg_flat.specs.declared.tree.Instance.{Instance}
-use Rattle.gg_flat.specs.declared.tree.MemoryInstance.{MemoryInstance}
 use Rattle.gg_flat.specs.Line.{value_at}
 use Rattle.gg_flat.specs.Circuit.{FlatCircuit}
-use Rattle.gg_flat.specs.Tree.{InstanceTree, IsTree, IsBelow, IsInstance, IsHeld, IsInnermost, IsJustBelow, IsWithin, Holds, path_at, instance_at, parent_place, joined}
+use Rattle.gg_flat.specs.Tree.{InstanceTree, IsTree, IsBelow, IsInstance, IsHeld, IsInnermost, IsWithin, Holds, path_at, instance_at, parent_place, joined}
 use Rattle.gg_flat.proofs.WorkedForms.{only, both, pair, single, apart}
 use Rattle.gg_flat.proofs.WorkedCircuits.{eight}
 use Rattle.gg_flat.proofs.WorkedMemories.{high}

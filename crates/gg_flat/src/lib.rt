@@ -8,8 +8,14 @@
 //! - `Piece::check` is true exactly where the piece is well formed;
 //! - what `Piece::settle` makes along an order is settled, and nothing else is;
 //! - `State::advance` makes the next state;
-//! - along an order there is just one run from each start (`runs_along`, `run_once`), the opening or another;
-//! - a memory that is served its accesses one after another comes to the same (`all_served`).
+//! - along an order there is just one run from each start (`runs_along`, `run_once`), the opening or another, and a run may
+//!   be cut in two and put together again (`runs_split`, `runs_on`);
+//! - a memory that is served its accesses one after another comes to the same (`one_served`, `all_served`), and
+//!   `Bank::serve_reader` and `Bank::serve_writer` serve one;
+//! - a signal's value, and what a register and a memory become, depend on the signals alone that they name (`values_agree`).
+//!
+//! `Tree` keeps the instances of a flat circuit and the names that it has no signal for. When it is the tree of a circuit
+//! `IsTree` says, and whoever fills it owes that.
 //!
 //! `Piece::check`, `Piece::settle` and `State::advance` take no memory.
 #![tactic(auto)]
