@@ -13,7 +13,7 @@ use Rattle.gg_row.specs.Forms.{SpellsRow}
 use Rattle.gg_read.specs.Text.{LinePlace, AtStart, LineTokens, AreLineTokens, AreRows, IsBlank, IsForm, IsNoForm, IsEndPlace, IsFaultLine, Spells, place_after, without_version}
 use Rattle.gg_row.proofs.RowLaws.{spelt-row_at, row_at-nothing}
 
-some_same : {A : Type 0} (x y : A) → Some x ≡ Some y → x ≡ y
+pub some_same : {A : Type 0} (x y : A) → Some x ≡ Some y → x ≡ y
 some_same x y e = ap (λ o. unwrap_or o x) e
 
 -- the tokens of a line spell one row at most
@@ -55,7 +55,7 @@ same_line l t u lexed again =
     let e : line_tokens t.tokens t.bad ≡ line_tokens u.tokens u.bad = ap (λ (ts : List Tok). line_tokens ts t.bad) same.0 ∙ ap (λ (b : Option ℕ). line_tokens u.tokens b) same.1 in
     e
 
-AreLineTokens-same : (ls : List (List ℕ)) (held others : List LineTokens) → AreLineTokens ls held → AreLineTokens ls others → held ≡ others
+pub AreLineTokens-same : (ls : List (List ℕ)) (held others : List LineTokens) → AreLineTokens ls held → AreLineTokens ls others → held ≡ others
 AreLineTokens-same [] [] [] tokens again = refl
 AreLineTokens-same [] [] (u ∷ us) tokens again = absurd again
 AreLineTokens-same [] (t ∷ ts) others tokens again = absurd tokens

@@ -1,6 +1,7 @@
 pub mod Builds
 pub mod EveryText
 pub mod FaultLines
+pub mod GrammarLaws
 pub mod LineSteps
 pub mod NextStages
 pub mod TextSteps

@@ -2,3 +2,4 @@ pub mod Text
 pub mod Causes
 pub mod Stages
 pub mod FaultText
+pub mod Grammar
