@@ -1,3 +1,5 @@
 pub mod PortLemmas
 pub mod FillLemmas
 pub mod UnitLemmas
+pub mod ThroughLemmas
+pub mod WorkedRows

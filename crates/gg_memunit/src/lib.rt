@@ -11,7 +11,9 @@
 #![tactic(auto)]
 
 mod access;
+mod laws;
 mod ports;
 mod unit;
 
+pub use laws::served_through;
 pub use unit::MemUnit;
