@@ -3,3 +3,4 @@ pub mod FillLemmas
 pub mod UnitLemmas
 pub mod ThroughLemmas
 pub mod WorkedRows
+pub mod WorkedPiece

@@ -1,5 +1,5 @@
 -- A memory that was served through is in its next state.
-use Rattle.std.proofs.Common.{◌≡◌, ℕ, zero, suc, ◌<◌, List, [], ◌∷◌, ◌++◌, Option, Some, length, map, take, refl, sym, ap, subst, ◌∙◌, arith}
+use Rattle.std.proofs.Common.{◌≡◌, ℕ, suc, ◌<◌, List, [], ◌∷◌, ◌++◌, Option, length, map, refl, sym, ap, subst, ◌∙◌, arith}
 use Rattle.std.specs.Prelude.{All, fold, slice_index_or, slice_set, ◌==◌, ◌&&◌, if◌then◌else◌}
 use Rattle.std.proofs.lemmas.List.Sums.{fold-append}
 use Rattle.std.proofs.Math.Seq.{take-length}
@@ -15,11 +15,10 @@ use Rattle.gg_flat.specs.Line.{value_at}
 use Rattle.gg_flat.specs.Circuit.{FlatCircuit}
 use Rattle.gg_flat.specs.State.{State, IsState, next_state, next_registers}
 use Rattle.gg_flat.specs.Settled.{Settled}
-use Rattle.gg_flat.specs.Memory.{Bank, found_word, read_word, next_bank, next_banks, bank_at, IsBank, LooksAmong, WritesAmong}
+use Rattle.gg_flat.specs.Memory.{Bank, found_word, read_word, next_banks, bank_at, IsBank, LooksAmong, WritesAmong}
 use Rattle.gg_flat.specs.Served.{Access, ByReader, ByWriter, by_readers, by_writers, due_of, due_list, written, after_access}
 use Rattle.gg_flat.proofs.ServedLemmas.{all-served}
-use Rattle.gg_node.specs.Machine.{Port, latched_values}
-use Rattle.gg_node.specs.Token.{accessed}
+use Rattle.gg_node.specs.Machine.{latched_values}
 use Rattle.gg_memunit.specs.MemoryUnit.{IsMemoryPiece, port_of, ports_of, accessed_by}
 use Rattle.gg_memunit.proofs.UnitLemmas.{sole, of-sole, in-value}
 

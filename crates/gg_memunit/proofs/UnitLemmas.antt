@@ -1,6 +1,6 @@
 -- The tokens, the accesses and the next state of a memory unit.
 use Rattle.std.proofs.Common.{◌≡◌, ℕ, zero, suc, ◌+◌, ◌-◌, ◌<◌, ◌≤◌, ◌^◌, List, [], ◌∷◌, Option, None, Some, Bool, length, map, refl, sym, ap, subst, ◌∙◌, arith}
-use Rattle.std.specs.Prelude.{All, Contains, slice_get, slice_index_or, slice_set, MatchOption, ⊤}
+use Rattle.std.specs.Prelude.{All, slice_get, slice_index_or, slice_set, MatchOption, ⊤}
 use Rattle.std.proofs.lemmas.List.{get_or-map, length-map}
 use Rattle.gg_flat.specs.declared.memory.Latency.{Latency}
 use Rattle.gg_flat.specs.declared.memory.Latency.TheVariants.{Zero, One}
@@ -8,14 +8,13 @@ use Rattle.gg_flat.specs.declared.memory.UnderWrite.{UnderWrite}
 use Rattle.gg_flat.specs.declared.memory.Reader.{Reader}
 use Rattle.gg_flat.specs.declared.memory.Writer.{Writer}
 use Rattle.gg_flat.specs.declared.memory.Memory.{Memory}
-use Rattle.gg_flat.specs.declared.piece.Driver.{Driver}
 use Rattle.gg_flat.specs.declared.piece.Driver.TheVariants.{Input}
 use Rattle.gg_flat.specs.Line.{shape_at, value_at}
 use Rattle.gg_flat.specs.Circuit.{FlatCircuit, signal_shapes, driver_at, readers_at, latency_at, reader_at}
-use Rattle.gg_flat.specs.State.{State, next_state, next_registers}
+use Rattle.gg_flat.specs.State.{State, next_registers}
 use Rattle.gg_flat.specs.Settled.{Settled, driver_value}
 use Rattle.gg_flat.specs.WellFormed.{AreDriven, reader_driver}
-use Rattle.gg_flat.specs.Memory.{Bank, found_word, read_word, next_words_from, next_reads, next_bank, next_banks, read_count, LooksAmong, WritesAmong}
+use Rattle.gg_flat.specs.Memory.{Bank, found_word, read_word, next_words_from, next_reads, next_banks, read_count, LooksAmong, WritesAmong}
 use Rattle.gg_flat.specs.Served.{written}
 use Rattle.gg_node.specs.Machine.{RunsPiece, Port, Machine, latch_at, latched_value, latched_values, first_empty, empty_or, needs_at, port_number}
 use Rattle.gg_node.specs.Token.{AgreesOn, IsTokenOf, IsNextOf, accessed}

@@ -1,12 +1,10 @@
 -- A memory of two words with one reader and two writers, served by hand.
-use Rattle.std.proofs.Common.{◌≡◌, ◌≢◌, ℕ, zero, suc, ◌<◌, List, [], ◌∷◌, Option, Some, length, map, refl, arith}
+use Rattle.std.proofs.Common.{◌≡◌, ℕ, List, [], ◌∷◌, Option, Some, map, refl}
 use Rattle.gg_flat.specs.declared.memory.UnderWrite.TheVariants.{Old, New, Undefined}
 use Rattle.gg_flat.specs.declared.memory.Latency.{Latency}
 use Rattle.gg_flat.specs.declared.memory.Latency.TheVariants.{Zero, One}
 use Rattle.gg_flat.specs.declared.memory.Reader.{Reader}
 use Rattle.gg_flat.specs.declared.memory.Writer.{Writer}
-use Rattle.gg_flat.specs.State.{State}
-use Rattle.gg_flat.specs.Served.{ByReader, ByWriter}
 use Rattle.gg_node.specs.Machine.{Port}
 use Rattle.gg_memunit.specs.MemoryUnit.{ports_by, needs_by, state_of, accessed_by}
 

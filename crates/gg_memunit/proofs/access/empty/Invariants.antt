@@ -1,4 +1,4 @@
-use Rattle.std.proofs.Common.{length, None, false}
+use Rattle.std.proofs.Common.{length, None}
 use Rattle.gg_memunit.proofs.FillLemmas.{Filled}
 use Rattle.gg_memunit.proofs.access.empty.Given as goal
 

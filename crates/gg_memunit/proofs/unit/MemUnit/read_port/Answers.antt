@@ -1,13 +1,11 @@
-use Rattle.std.proofs.Common.{◌≡◌, ◌<◌, ◌≤◌, ◌-◌, ◌+◌, suc, length, refl, ap, sym, subst, ◌∙◌, arith}
+use Rattle.std.proofs.Common.{◌≡◌, ◌<◌, ◌+◌, length, ap, ◌∙◌, arith}
 use Rattle.std.specs.Prelude.{slice_set}
 use Rattle.gg_flat.specs.declared.memory.Memory.{Memory}
 use Rattle.gg_flat.specs.Memory.{read_count}
-use Rattle.gg_flat.specs.Served.{written}
-use Rattle.gg_node.specs.Machine.{latched_values, due}
+use Rattle.gg_node.specs.Machine.{due}
 use Rattle.gg_node.specs.Step.{with_served}
 use Rattle.gg_memunit.specs.MemoryUnit.{cycle_limit, memory_machine, state_of}
-use Rattle.gg_memunit.proofs.PortLemmas.{writer_at}
-use Rattle.gg_memunit.proofs.UnitLemmas.{of-sole, out-count, served-few, late-reader, writer-below, read-step, write-step, looks-among, writes-among, found-same}
+use Rattle.gg_memunit.proofs.UnitLemmas.{of-sole, out-count, served-few, late-reader, read-step, looks-among, found-same}
 use Rattle.gg_memunit.proofs.unit.MemUnit.read_port.Goals as goal
 
 pub find-found-requires : goal.find-found-requires

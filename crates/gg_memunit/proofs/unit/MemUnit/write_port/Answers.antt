@@ -1,15 +1,11 @@
-use Rattle.std.proofs.Common.{◌≡◌, ◌<◌, ◌≤◌, ◌-◌, ◌+◌, suc, length, refl, ap, sym, subst, ◌∙◌, arith}
-use Rattle.std.specs.Prelude.{slice_set}
-use Rattle.gg_flat.specs.declared.memory.Memory.{Memory}
-use Rattle.gg_flat.specs.Memory.{read_count}
-use Rattle.gg_flat.specs.Served.{written}
+use Rattle.std.proofs.Common.{◌≡◌, ◌≤◌, ◌-◌, ◌+◌, length, ap, ◌∙◌, arith}
 use Rattle.gg_flat.proofs.WordLemmas.{length-written}
 use Rattle.std.proofs.lemmas.List.{with_items_is}
 use Rattle.gg_node.specs.Machine.{latched_values, due}
 use Rattle.gg_node.specs.Step.{with_served}
 use Rattle.gg_memunit.specs.MemoryUnit.{cycle_limit, memory_machine, state_of}
 use Rattle.gg_memunit.proofs.PortLemmas.{writer_at}
-use Rattle.gg_memunit.proofs.UnitLemmas.{of-sole, out-count, served-few, late-reader, writer-below, read-step, write-step, looks-among, writes-among, found-same, written-same}
+use Rattle.gg_memunit.proofs.UnitLemmas.{out-count, served-few, writer-below, write-step, writes-among, written-same}
 use Rattle.gg_memunit.proofs.unit.MemUnit.write_port.Goals as goal
 
 pub bounds-as_slice-port : goal.bounds-as_slice-port
