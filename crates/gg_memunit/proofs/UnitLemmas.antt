@@ -1,0 +1,201 @@
+-- The tokens, the accesses and the next state of a memory unit.
+use Rattle.std.proofs.Common.{◌≡◌, ℕ, zero, suc, ◌+◌, ◌-◌, ◌<◌, ◌≤◌, ◌^◌, List, [], ◌∷◌, Option, None, Some, Bool, length, map, refl, sym, ap, subst, ◌∙◌, arith}
+use Rattle.std.specs.Prelude.{All, slice_get, slice_index_or, slice_set, MatchOption, ⊤}
+use Rattle.std.proofs.lemmas.List.{get_or-map, length-map}
+use Rattle.gg_flat.specs.declared.memory.Latency.{Latency}
+use Rattle.gg_flat.specs.declared.memory.Latency.TheVariants.{Zero, One}
+use Rattle.gg_flat.specs.declared.memory.UnderWrite.{UnderWrite}
+use Rattle.gg_flat.specs.declared.memory.Reader.{Reader}
+use Rattle.gg_flat.specs.declared.memory.Writer.{Writer}
+use Rattle.gg_flat.specs.declared.memory.Memory.{Memory}
+use Rattle.gg_flat.specs.declared.piece.Driver.TheVariants.{Input}
+use Rattle.gg_flat.specs.Line.{shape_at, value_at}
+use Rattle.gg_flat.specs.Circuit.{FlatCircuit, signal_shapes, driver_at, readers_at, latency_at, reader_at}
+use Rattle.gg_flat.specs.State.{State, next_registers}
+use Rattle.gg_flat.specs.Settled.{Settled, driver_value}
+use Rattle.gg_flat.specs.WellFormed.{AreDriven, reader_driver}
+use Rattle.gg_flat.specs.Memory.{Bank, found_word, read_word, next_words_from, next_reads, next_banks, read_count, LooksAmong, WritesAmong}
+use Rattle.gg_flat.specs.Served.{written}
+use Rattle.gg_node.specs.Machine.{RunsPiece, Port, Machine, latch_at, latched_value, latched_values, first_empty, empty_or, needs_at, port_number}
+use Rattle.gg_node.specs.Token.{AgreesOn, IsTokenOf, IsNextOf, accessed}
+use Rattle.gg_node.specs.Step.{with_served}
+use Rattle.gg_memunit.specs.MemoryUnit.{IsMemoryPiece, outs_of, ports_of, ports_by, count_by, needs_by, needs_of, state_of, memory_machine}
+use Rattle.gg_memunit.proofs.PortLemmas.{count_ports, due-below, reader-due, writer-due, writer_at}
+
+-- ---- latches
+
+none-is-no-some : (i : ℕ) → ◌≡◌ {A = Option ℕ} (Some i) None → ⊥
+none-is-no-some i is = subst (λ option. MatchOption option ⊥ (λ n. ⊤)) is tt
+
+there : (latch : Option ℕ) (i : ℕ) (rest : Option ℕ) → empty_or latch i rest ≡ None → (latch ≡ Some (latched_value latch)) × (rest ≡ None)
+there None i rest is = absurd (none-is-no-some i is)
+there (Some v) i rest is = (refl, is)
+
+-- the token at a place
+token-at : (latches : List (Option ℕ)) (i : ℕ) → latched_value (latch_at latches i) ≡ value_at (latched_values latches) i
+token-at [] i = refl
+token-at (l ∷ latches) zero = refl
+token-at (l ∷ latches) (suc i) = token-at latches i
+
+-- ---- the only memory
+
+pub sole : (memories : List Memory) → length memories ≡ 1 → (memory : Memory) × (memories ≡ memory ∷ [])
+sole [] one = absurd (omega arith)
+sole (memory ∷ []) one = (memory, refl)
+sole (memory ∷ other ∷ memories) one = absurd (omega arith)
+
+-- what holds of each memory, of the only one
+pub of-sole : (P : Memory → Type 0) (memories : List Memory) (memory : Memory) → memories ≡ memory ∷ [] → All P memories → P memory
+of-sole P memories memory only all = subst (All P) only all 0 memory (omega arith)
+
+-- ---- the rows of a memory's piece
+
+module _ (piece : FlatCircuit) (memory : Memory) (is : IsMemoryPiece piece) (only : piece.memories ≡ memory ∷ []) where
+  -- an in-signal has its input
+  pub in-value : (state : State) (inputs signals : List ℕ) → Settled piece state inputs signals → (i : ℕ) → i < length piece.ins → value_at signals i ≡ value_at inputs i
+  in-value state inputs signals settled i below =
+      let place = is.first i below in
+      let drives : driver_at piece i ≡ Input i = subst (λ s. driver_at piece s ≡ Input i) place (is.formed.ins i below).1 in
+      let within : i < length piece.signals = subst (λ s. s < length piece.signals) place (is.formed.ins i below).0 in
+      settled.driven i within ∙ ap (driver_value state inputs signals (shape_at (signal_shapes piece) i)) drives
+
+  -- the out-signal at a place is the data of the reader there
+  out-is : (o : ℕ) → o < length memory.readers → value_at piece.outs o ≡ (reader_at memory.readers o).word
+  out-is o below = ap (λ outs. value_at outs o) (is.outs ∙ ap outs_of only) ∙ get_or-map (λ (reader : Reader). reader.word) memory.readers o (record { addr = 0; en = 0; word = 0 }) 0 below
+
+  pub out-count : length piece.outs ≡ length memory.readers
+  out-count = ap length (is.outs ∙ ap outs_of only) ∙ length-map memory.readers (λ (reader : Reader). reader.word)
+
+  -- the data of a reader has its driver
+  out-driven : (o : ℕ) → o < length memory.readers → driver_at piece (reader_at memory.readers o).word ≡ reader_driver memory.latency 0 o (reader_at memory.readers o)
+  out-driven o below =
+      let all : AreDriven (driver_at piece) 0 (latency_at piece 0) (readers_at piece 0) = is.formed.reads 0 (omega (arith, is.one)) in
+      subst (λ latency. AreDriven (driver_at piece) 0 latency memory.readers) (ap (λ (memories : List Memory). slice_index_or (map (λ (memory : Memory). memory.latency) memories) 0 Zero) only)
+      (subst (λ readers. AreDriven (driver_at piece) 0 (latency_at piece 0) readers) (ap (λ (memories : List Memory). slice_index_or (map (λ (memory : Memory). memory.readers) memories) 0 []) only) all) o below
+
+  -- the value of an out-signal
+  out-value : (state : State) (inputs signals : List ℕ) → Settled piece state inputs signals → (o : ℕ) → o < length memory.readers → value_at signals (value_at piece.outs o) ≡ driver_value state inputs signals (shape_at (signal_shapes piece) (reader_at memory.readers o).word) (reader_driver memory.latency 0 o (reader_at memory.readers o))
+  out-value state inputs signals settled o below =
+      let s = (reader_at memory.readers o).word in
+      let within : s < length piece.signals = subst (λ s. s < length piece.signals) (out-is o below) (is.formed.outs o (omega (arith, below, out-count))) in
+      ap (value_at signals) (out-is o below) ∙ settled.driven s within ∙ ap (driver_value state inputs signals (shape_at (signal_shapes piece) s)) (out-driven o below)
+
+  needs-are : (o : ℕ) → o < length memory.readers → needs_at (needs_of piece.memories) o ≡ needs_by memory.latency (reader_at memory.readers o)
+  needs-are o below = ap (λ memories. needs_at (needs_of memories) o) only ∙ get_or-map (needs_by memory.latency) memory.readers o (record { addr = 0; en = 0; word = 0 }) [] below
+
+  -- ---- tokens
+
+  module _ (limit cycle served : ℕ) (words reads : List ℕ) (latches : List (Option ℕ)) (flags : List Bool) (o : ℕ) (below : o < length memory.readers) where
+    unit : Machine
+    unit = memory_machine piece limit cycle (state_of words reads) served latches flags
+
+    pub late-token : (under : UnderWrite) → memory.latency ≡ One under → IsTokenOf (RunsPiece piece) (memory_machine piece limit cycle (state_of words reads) served latches flags) o (value_at reads o)
+    late-token under late inputs signals settled agrees =
+        out-value (state_of words reads) inputs signals settled o below
+        ∙ ap (λ latency. driver_value (state_of words reads) inputs signals (shape_at (signal_shapes piece) (reader_at memory.readers o).word) (reader_driver latency 0 o (reader_at memory.readers o))) late
+
+    pub same-token : memory.latency ≡ Zero → (reader_at memory.readers o).addr < length piece.ins → (reader_at memory.readers o).en < length piece.ins
+        → first_empty latches (needs_at (needs_of piece.memories) o) ≡ None
+        → IsTokenOf (RunsPiece piece) (memory_machine piece limit cycle (state_of words reads) served latches flags) o (found_word (latched_values latches) words (reader_at memory.readers o))
+    same-token zero-late addr-in en-in missing inputs signals settled agrees =
+        let reader = reader_at memory.readers o in
+        let needs : needs_at (needs_of piece.memories) o ≡ reader.addr ∷ reader.en ∷ [] = needs-are o below ∙ ap (λ latency. needs_by latency reader) zero-late in
+        let first = there (latch_at latches reader.addr) reader.addr (first_empty latches (reader.en ∷ [])) (ap (first_empty latches) (sym needs) ∙ missing) in
+        let second = there (latch_at latches reader.en) reader.en None first.1 in
+        let agreed : AgreesOn (reader.addr ∷ reader.en ∷ []) latches inputs = subst (λ ins. AgreesOn ins latches inputs) needs agrees in
+        let addr : value_at signals reader.addr ≡ value_at (latched_values latches) reader.addr =
+        in-value (state_of words reads) inputs signals settled reader.addr addr-in ∙ agreed reader.addr (latched_value (latch_at latches reader.addr)) (0, omega arith, refl) first.0 ∙ token-at latches reader.addr in
+        let en : value_at signals reader.en ≡ value_at (latched_values latches) reader.en =
+        in-value (state_of words reads) inputs signals settled reader.en en-in ∙ agreed reader.en (latched_value (latch_at latches reader.en)) (1, omega arith, refl) second.0 ∙ token-at latches reader.en in
+        out-value (state_of words reads) inputs signals settled o below
+        ∙ ap (λ latency. driver_value (state_of words reads) inputs signals (shape_at (signal_shapes piece) reader.word) (reader_driver latency 0 o reader)) zero-late
+        ∙ ap (λ a. read_word words a (value_at signals reader.en)) addr
+        ∙ ap (read_word words (value_at (latched_values latches) reader.addr)) en
+
+-- ---- a memory whose ports are none that are served
+
+nothing-written : (signals : List ℕ) (a : ℕ) (words : List ℕ) → next_words_from signals [] a words ≡ words
+nothing-written signals a [] = refl
+nothing-written signals a (word ∷ words) = ap (λ rest. word ∷ rest) (nothing-written signals (suc a) words)
+
+no-numbers : (xs : List ℕ) → length xs ≡ 0 → xs ≡ []
+no-numbers [] none = refl
+no-numbers (x ∷ xs) none = absurd (omega arith)
+
+bank-stays : (signals words reads : List ℕ) (latency : Latency) (readers : List Reader) (writers : List Writer) → count_by latency (length readers) (length writers) ≡ 0 → length reads ≡ read_count latency readers
+    → ◌≡◌ {A = Bank} (record { words = words; reads = reads }) (record { words = next_words_from signals writers 0 words; reads = next_reads signals latency readers words (next_words_from signals writers 0 words) })
+bank-stays signals words reads Zero readers [] none held =
+    ap (λ (reads : List ℕ). record { words = words; reads = reads }) (no-numbers reads held) ∙ ap (λ (words : List ℕ). record { words = words; reads = [] }) (sym (nothing-written signals 0 words))
+bank-stays signals words reads Zero readers (writer ∷ writers) none held = absurd (omega arith)
+bank-stays signals words reads (One under) [] [] none held =
+    ap (λ (reads : List ℕ). record { words = words; reads = reads }) (no-numbers reads held) ∙ ap (λ (words : List ℕ). record { words = words; reads = [] }) (sym (nothing-written signals 0 words))
+bank-stays signals words reads (One under) (reader ∷ readers) writers none held = absurd (omega arith)
+bank-stays signals words reads (One under) [] (writer ∷ writers) none held = absurd (omega arith)
+
+pub next-is : (piece : FlatCircuit) (memory : Memory) → IsMemoryPiece piece → piece.memories ≡ memory ∷ [] → (limit cycle served : ℕ) (words reads : List ℕ) (latches : List (Option ℕ)) (flags : List Bool) → length reads ≡ read_count memory.latency memory.readers
+    → IsNextOf (RunsPiece piece) (ports_of piece.memories) (memory_machine piece limit cycle (state_of words reads) served latches flags) (state_of words reads)
+next-is piece memory is only limit cycle served words reads latches flags held = by (ports_of piece.memories) refl
+  where
+    by : (ports : List Port) → ports_of piece.memories ≡ ports → IsNextOf (RunsPiece piece) ports (memory_machine piece limit cycle (state_of words reads) served latches flags) (state_of words reads)
+    by [] none = λ signals settled.
+        let count : count_by memory.latency (length memory.readers) (length memory.writers) ≡ 0 = sym (count_ports memory.latency memory.readers memory.writers) ∙ ap length (sym (ap ports_of only) ∙ none) in
+        ap (λ (bank : Bank). record { registers = []; banks = bank ∷ [] }) (bank-stays signals words reads memory.latency memory.readers memory.writers count held)
+        ∙ ap (λ (memories : List Memory). record { registers = []; banks = next_banks signals memories (record { words = words; reads = reads } ∷ []) }) (sym only)
+        ∙ ap (λ registers. record { registers = next_registers signals registers []; banks = next_banks signals piece.memories (record { words = words; reads = reads } ∷ []) }) (sym is.alone)
+    by (port ∷ ports) some = refl
+
+-- ---- one access
+
+module _ (piece : FlatCircuit) (memory : Memory) (is : IsMemoryPiece piece) (only : piece.memories ≡ memory ∷ []) (served p : ℕ) (due : port_number (slice_get (ports_of piece.memories) served) ≡ Some p) where
+  due-here : port_number (slice_get (ports_by memory.latency memory.readers memory.writers) served) ≡ Some p
+  due-here = ap (λ memories. port_number (slice_get (ports_of memories) served)) (sym only) ∙ due
+
+  -- one more access can be counted
+  pub served-few : served + 1 < 2 ^ 32
+  served-few = few-of memory.latency (of-sole (λ memory. length memory.readers + length memory.writers < 2 ^ 32) piece.memories memory only is.few) (due-below memory.latency memory.readers memory.writers served p due-here)
+    where
+      few-of : (latency : Latency) → length memory.readers + length memory.writers < 2 ^ 32 → served < count_by latency (length memory.readers) (length memory.writers) → served + 1 < 2 ^ 32
+      few-of Zero few below = omega arith
+      few-of (One under) few below = omega arith
+
+  pub late-reader : p < length memory.readers → read_count memory.latency memory.readers ≡ length memory.readers
+  late-reader below = (reader-due memory.latency memory.readers memory.writers served p due-here below).0
+
+  pub writer-below : length memory.readers ≤ p → p - length memory.readers < length memory.writers
+  writer-below above = (writer-due memory.latency memory.readers memory.writers served p due-here above).0
+
+  module _ (limit cycle : ℕ) (words reads : List ℕ) (latches : List (Option ℕ)) (flags : List Bool) where
+    pub read-step : p < length memory.readers → memory_machine piece limit cycle (state_of words (slice_set reads p (found_word (latched_values latches) words (reader_at memory.readers p)))) (served + 1) latches flags ≡ with_served (memory_machine piece limit cycle (state_of words reads) served latches flags)
+    read-step below =
+        ap (λ n. memory_machine piece limit cycle (state_of words (slice_set reads p (found_word (latched_values latches) words (reader_at memory.readers p)))) n latches flags) (let same : served + 1 ≡ suc served = omega arith in same)
+        ∙ ap (λ port. memory_machine piece limit cycle (accessed latches (state_of words reads) port) (suc served) latches flags)
+        (sym (ap (λ memories. slice_get (ports_of memories) served) only ∙ (reader-due memory.latency memory.readers memory.writers served p due-here below).1))
+
+    pub write-step : length memory.readers ≤ p → memory_machine piece limit cycle (state_of (written (latched_values latches) words (writer_at memory.writers (p - length memory.readers))) reads) (served + 1) latches flags ≡ with_served (memory_machine piece limit cycle (state_of words reads) served latches flags)
+    write-step above =
+        ap (λ n. memory_machine piece limit cycle (state_of (written (latched_values latches) words (writer_at memory.writers (p - length memory.readers))) reads) n latches flags) (let same : served + 1 ≡ suc served = omega arith in same)
+        ∙ ap (λ port. memory_machine piece limit cycle (accessed latches (state_of words reads) port) (suc served) latches flags)
+        (sym (ap (λ memories. slice_get (ports_of memories) served) only ∙ (writer-due memory.latency memory.readers memory.writers served p due-here above).1))
+
+-- ---- the fields of a port
+
+pub looks-among : (piece : FlatCircuit) (memory : Memory) → IsMemoryPiece piece → piece.memories ≡ memory ∷ [] → (readers : List Reader) (p : ℕ) → readers ≡ memory.readers → p < length memory.readers → LooksAmong (length piece.ins) (reader_at readers p)
+looks-among piece memory is only readers p same below =
+    subst (λ readers. LooksAmong (length piece.ins) (reader_at readers p)) (sym same)
+    (of-sole (λ memory. All (LooksAmong (length piece.ins)) memory.readers) piece.memories memory only is.readers p (record { addr = 0; en = 0; word = 0 }) below)
+
+pub writes-among : (piece : FlatCircuit) (memory : Memory) → IsMemoryPiece piece → piece.memories ≡ memory ∷ [] → (readers : List Reader) (writers : List Writer) (p : ℕ) → readers ≡ memory.readers → writers ≡ memory.writers → p - length memory.readers < length memory.writers
+    → WritesAmong (length piece.ins) (writer_at writers (p - length readers))
+writes-among piece memory is only readers writers p same others below =
+    subst (λ (writers : List Writer). WritesAmong (length piece.ins) (writer_at writers (p - length readers))) (sym others)
+    (subst (λ (readers : List Reader). WritesAmong (length piece.ins) (writer_at memory.writers (p - length readers))) (sym same)
+    (of-sole (λ memory. All (WritesAmong (length piece.ins)) memory.writers) piece.memories memory only is.writers (p - length memory.readers) (record { addr = 0; en = 0; word = 0; mask = 0 }) below))
+
+pub written-same : (l k : List (Option ℕ)) (v w : List ℕ) (rs qs : List Reader) (ws us : List Writer) (p : ℕ) → l ≡ k → v ≡ w → rs ≡ qs → ws ≡ us → written (latched_values l) v (writer_at ws (p - length rs)) ≡ written (latched_values k) w (writer_at us (p - length qs))
+written-same l k v w rs qs ws us p latches words readers writers =
+    ap (λ l. written (latched_values l) v (writer_at ws (p - length rs))) latches ∙ ap (λ v. written (latched_values k) v (writer_at ws (p - length rs))) words
+    ∙ ap (λ (rs : List Reader). written (latched_values k) w (writer_at ws (p - length rs))) readers ∙ ap (λ (ws : List Writer). written (latched_values k) w (writer_at ws (p - length qs))) writers
+
+pub found-same : (l k : List (Option ℕ)) (v w : List ℕ) (rs qs : List Reader) (p : ℕ) → l ≡ k → v ≡ w → rs ≡ qs → found_word (latched_values l) v (reader_at rs p) ≡ found_word (latched_values k) w (reader_at qs p)
+found-same l k v w rs qs p latches words readers =
+    ap (λ l. found_word (latched_values l) v (reader_at rs p)) latches ∙ ap (λ v. found_word (latched_values k) v (reader_at rs p)) words ∙ ap (λ (rs : List Reader). found_word (latched_values k) w (reader_at rs p)) readers

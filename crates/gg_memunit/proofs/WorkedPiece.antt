@@ -1,0 +1,79 @@
+-- A piece that is one memory: two words of eight bits, and one reader of latency 0.
+use Rattle.std.proofs.Common.{◌≡◌, ◌≢◌, ◌+◌, ◌<◌, ◌^◌, [], ◌∷◌, length, refl, arith}
+use Rattle.std.specs.Prelude.{All, AllPairs, slice_index_or}
+use Rattle.std.proofs.lemmas.List.Kept.{AllPairs-cons}
+use Rattle.gg_bits.specs.Shape.{shape}
+use Rattle.gg_flat.specs.declared.memory.Latency.TheVariants.{Zero}
+use Rattle.gg_flat.specs.declared.memory.Reader.{Reader}
+use Rattle.gg_flat.specs.declared.memory.Memory.{Memory}
+use Rattle.gg_flat.specs.declared.piece.Driver.TheVariants.{Input, MemoryWord}
+use Rattle.gg_flat.specs.Line.{value_at, HasType}
+use Rattle.gg_flat.specs.Circuit.{FlatCircuit, signal_shapes, driver_at, latency_at, readers_at, reader_at}
+use Rattle.gg_flat.specs.Memory.{LooksAmong, WritesAmong}
+use Rattle.gg_flat.specs.WellFormed.{MayDrive, IsReader, IsWriter, IsMemory, AreDriven, reader_driver, IsRegister, IsWellFormed}
+use Rattle.gg_flat.proofs.WorkedCircuits.{one, eight}
+use Rattle.gg_flat.proofs.WorkedForms.{only, both, three, pair, differ}
+use Rattle.gg_memunit.specs.MemoryUnit.{IsMemoryPiece}
+
+abbrev reader : Reader
+reader = record { addr = 0; en = 1; word = 2 }
+
+abbrev memory : Memory
+memory = record { word = eight; depth = 2; latency = Zero; readers = reader ∷ []; writers = [] }
+
+-- signals 0 and 1 are the fields `addr` and `en`, and 2 the data
+abbrev piece : FlatCircuit
+piece =
+    record {
+      paths = (97 ∷ []) ∷ (101 ∷ []) ∷ (100 ∷ []) ∷ [];
+      signals = record { ty = one; driver = Input 0 } ∷ record { ty = one; driver = Input 1 } ∷ record { ty = eight; driver = MemoryWord 0 0 0 1 } ∷ [];
+      registers = [];
+      memories = memory ∷ [];
+      ins = 0 ∷ 1 ∷ [];
+      outs = 2 ∷ [];
+    }
+
+-- what holds of each element of a list of one
+one-of : {X : Type 0} (P : X → Type 0) (x : X) → P x → All P (x ∷ [])
+one-of P x is k d below = only (λ k. P (slice_index_or (x ∷ []) k d)) is k below
+
+none-of : {X : Type 0} (P : X → Type 0) → All P []
+none-of P k d below = absurd (omega arith)
+
+apart : AllPairs (λ a b. a ≢ b) piece.paths
+apart =
+    AllPairs-cons (λ a b. a ≢ b) (97 ∷ []) ((101 ∷ []) ∷ (100 ∷ []) ∷ [])
+    (λ k d below. both (λ i. (97 ∷ []) ≢ slice_index_or ((101 ∷ []) ∷ (100 ∷ []) ∷ []) i d) (differ 97 101 refl) (differ 97 100 refl) k below)
+    (pair (101 ∷ []) (100 ∷ []) (differ 101 100 refl))
+
+formed : IsWellFormed piece
+formed =
+    record {
+      named = refl;
+      distinct = apart;
+      drivers = three (λ s. MayDrive piece s (driver_at piece s)) (omega arith, refl) (omega arith, refl) (omega arith, refl);
+      ins = both (λ place. (value_at piece.ins place < length piece.signals) × (driver_at piece (value_at piece.ins place) ≡ Input place)) (omega arith, refl) (omega arith, refl);
+      outs = only (λ place. value_at piece.outs place < length piece.signals) (omega arith);
+      registers = none-of (IsRegister (HasType (signal_shapes piece)));
+      memories =
+          one-of (IsMemory (HasType (signal_shapes piece))) memory
+          (record {
+            some = omega arith;
+            readers = one-of (IsReader (HasType (signal_shapes piece)) (shape eight) 2) reader (record { address = (omega arith, refl); enable = (omega arith, refl); output = (omega arith, refl) });
+            writers = none-of (IsWriter (HasType (signal_shapes piece)) (shape eight) 2);
+          });
+      reads = only (λ m. AreDriven (driver_at piece) m (latency_at piece m) (readers_at piece m)) (only (λ r. driver_at piece (reader_at (reader ∷ []) r).word ≡ reader_driver Zero 0 r (reader_at (reader ∷ []) r)) refl);
+    }
+
+is-memory-piece : IsMemoryPiece piece
+is-memory-piece =
+    record {
+      formed = formed;
+      one = refl;
+      alone = refl;
+      first = both (λ i. value_at piece.ins i ≡ i) refl refl;
+      readers = one-of (λ (memory : Memory). All (LooksAmong 2) memory.readers) memory (one-of (LooksAmong 2) reader (omega arith, omega arith));
+      writers = one-of (λ (memory : Memory). All (WritesAmong 2) memory.writers) memory (none-of (WritesAmong 2));
+      few = one-of (λ (memory : Memory). length memory.readers + length memory.writers < 2 ^ 32) memory (omega arith);
+      outs = refl;
+    }

@@ -1,0 +1,111 @@
+-- A memory as a machine of its own, which is served port by port.
+-- Source: ICCAD 2019 (a target memory that its host simulates by serving its ports one after another); FIRRTL
+-- Specification, "Memories".
+use Rattle.std.specs.Prelude.{◌≡◌, ℕ, ◌+◌, ◌-◌, ◌<◌, ◌^◌, List, [], ◌∷◌, Option, Some, None, Bool, false, replicate, All, length, map, fold, nat_lt, if◌then◌else◌}
+use Rattle.gg_flat.specs.declared.memory.UnderWrite.TheVariants.{Old, New, Undefined}
+use Rattle.gg_flat.specs.declared.memory.Latency.{Latency}
+use Rattle.gg_flat.specs.declared.memory.Latency.TheVariants.{Zero, One}
+use Rattle.gg_flat.specs.declared.memory.Reader.{Reader}
+use Rattle.gg_flat.specs.declared.memory.Writer.{Writer}
+use Rattle.gg_flat.specs.declared.memory.Memory.{Memory}
+use Rattle.gg_flat.specs.Line.{value_at}
+use Rattle.gg_flat.specs.Circuit.{FlatCircuit}
+use Rattle.gg_flat.specs.State.{State, opening}
+use Rattle.gg_flat.specs.Memory.{LooksAmong, WritesAmong, read_count}
+use Rattle.gg_flat.specs.Served.{Access, ByReader, ByWriter, due_of}
+use Rattle.gg_flat.specs.WellFormed.{IsWellFormed}
+use Rattle.gg_node.specs.Machine.{RunsPiece, Port, Machine}
+use Rattle.gg_node.specs.Token.{accessed}
+
+-- the signals that readers give
+abbrev pub outs_of : List Memory → List ℕ
+outs_of [] = []
+outs_of (memory ∷ memories) = map (λ reader. reader.word) memory.readers
+
+-- A piece that is one memory: its in-signals come first, and are the fields of the memory's ports; its out-signals are the
+-- data of the readers, in order.
+pub record IsMemoryPiece (piece : FlatCircuit) : Type 0 where
+  pub formed : IsWellFormed piece
+  pub one : length piece.memories ≡ 1
+  pub alone : piece.registers ≡ []
+  pub first : (i : ℕ) → i < length piece.ins → value_at piece.ins i ≡ i
+  pub readers : All (λ memory. All (LooksAmong (length piece.ins)) memory.readers) piece.memories
+  pub writers : All (λ memory. All (WritesAmong (length piece.ins)) memory.writers) piece.memories
+  pub few : All (λ memory. length memory.readers + length memory.writers < 2 ^ 32) piece.memories
+  pub outs : piece.outs ≡ outs_of piece.memories
+
+-- the port of an access: readers are numbered first, then writers
+abbrev pub port_of : ℕ → Access → Port
+port_of readers (ByReader r reader) = record { number = r; access = ByReader r reader }
+port_of readers (ByWriter w writer) = record { number = readers + w; access = ByWriter w writer }
+
+-- the ports of a cycle in the order in which they are served
+abbrev pub ports_by : Latency → List Reader → List Writer → List Port
+ports_by latency readers writers = map (port_of (length readers)) (due_of latency readers writers)
+
+-- how many ports are served in a cycle, of so many readers and writers
+abbrev pub count_by : Latency → ℕ → ℕ → ℕ
+count_by Zero readers writers = writers
+count_by (One under) readers writers = readers + writers
+
+-- the number of the port that stands at a place of the order
+abbrev pub number_by : Latency → ℕ → ℕ → ℕ → ℕ
+number_by Zero readers writers j = readers + j
+number_by (One Old) readers writers j = j
+number_by (One Undefined) readers writers j = j
+number_by (One New) readers writers j = if nat_lt j writers then readers + j else j - writers
+
+-- the ports of the only memory
+abbrev pub ports_of : List Memory → List Port
+ports_of [] = []
+ports_of (memory ∷ memories) = ports_by memory.latency memory.readers memory.writers
+
+-- the ins that the data of a reader needs: its address and its enable, where it gives the word in the same cycle
+abbrev pub needs_by : Latency → Reader → List ℕ
+needs_by Zero reader = reader.addr ∷ reader.en ∷ []
+needs_by (One under) reader = []
+
+-- the needs of the data of each reader
+abbrev pub needs_of : List Memory → List (List ℕ)
+needs_of [] = []
+needs_of (memory ∷ memories) = map (needs_by memory.latency) memory.readers
+
+-- a state of words and read registers
+abbrev pub state_of : List ℕ → List ℕ → State
+state_of words reads = record { registers = []; banks = record { words = words; reads = reads } ∷ [] }
+
+-- a memory unit with this piece, that can do so many cycles
+abbrev pub memory_machine : FlatCircuit → ℕ → ℕ → State → ℕ → List (Option ℕ) → List Bool → Machine
+memory_machine piece limit cycle state served latches flags =
+    record {
+      behaviour = RunsPiece piece;
+      limit = limit;
+      needs = needs_of piece.memories;
+      ports = ports_of piece.memories;
+      cycle = cycle;
+      state = state;
+      served = served;
+      latches = latches;
+      flags = flags;
+      kept = [];
+    }
+
+-- the state after these accesses, one after another
+abbrev pub accessed_by : List (Option ℕ) → State → List Port → State
+accessed_by latches state ports = fold (λ state port. accessed latches state (Some port)) state ports
+
+-- how many cycles a memory unit can do
+abbrev pub cycle_limit : ℕ
+cycle_limit = 1000000
+
+-- a memory unit before its first cycle
+abbrev pub opening_unit : FlatCircuit → Machine
+opening_unit piece = memory_machine piece cycle_limit 0 (opening piece) 0 (replicate (length piece.ins) None) (replicate (length piece.outs) false)
+
+-- What a unit holds is of its piece: there is a read register for each late reader, a latch for each in-signal and a flag for
+-- each out-signal.
+pub record IsOfPiece (piece : FlatCircuit) (reads : List ℕ) (latches : List (Option ℕ)) (flags : List Bool) : Type 0 where
+  pub memory : IsMemoryPiece piece
+  pub held : All (λ memory. length reads ≡ read_count memory.latency memory.readers) piece.memories
+  pub ins : length latches ≡ length piece.ins
+  pub outs : length flags ≡ length piece.outs

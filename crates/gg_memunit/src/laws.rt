@@ -1,0 +1,13 @@
+//! Laws: facts about the definitions, each on a function with an empty body.
+ghost use Rattle.std.specs.Prelude.{◌≡◌, ℕ, List, Option};
+ghost use Rattle.gg_flat.specs.Circuit.{FlatCircuit};
+ghost use Rattle.gg_flat.specs.State.{State, IsState, next_state};
+ghost use Rattle.gg_flat.specs.Settled.{Settled};
+ghost use Rattle.gg_node.specs.Machine.{latched_values};
+ghost use Rattle.gg_memunit.specs.MemoryUnit.{IsMemoryPiece, ports_of, accessed_by};
+
+/// A memory that was served through holds what it holds after the cycle in a piece: its state is the next state, where the
+/// tokens in the latches are the inputs.
+pub fn served_through()
+    ensures { (piece : FlatCircuit) (state : State) (latches : List (Option ℕ)) (signals : List ℕ) → IsMemoryPiece piece → IsState piece state → Settled piece state (latched_values latches) signals → accessed_by latches state (ports_of piece.memories) ≡ next_state piece state signals }
+{}

@@ -1,0 +1,213 @@
+//! `MemUnit`: a memory that is served port by port.
+ghost use Rattle.std.specs.Prelude.{◌≡◌, ℕ, ◌<◌, ◌≤◌, List, [], ◌∷◌, length, is_some, slice_set, IfOk};
+ghost use Rattle.gg_node.specs.Machine.{Machine, machine_at, latch_at, flag_at, missing, due};
+ghost use Rattle.gg_node.specs.Token.{IsToken, IsNextState};
+ghost use Rattle.gg_node.specs.Step.{MayLatch, MayFire, MayServe, MayFinish, with_latch, with_flag, with_served, finished};
+ghost use Rattle.gg_memunit.specs.MemoryUnit.{IsMemoryPiece, opening_unit};
+
+use crate::{access, ports};
+use gg_flat::{Latency, Memory, Piece};
+use gg_node::Host;
+use std::alloc::{AllocError, Global};
+use std::marker::Model;
+
+/// A memory as a machine of its own, which is served port by port. It is a host of one thread. Its ins are the fields of the
+/// memory's ports, its outs the data of the readers. A contract sees it as this machine.
+#[derive(Drop)]
+pub struct MemUnit {
+    piece: Piece,
+    words: Vec<u128>,
+    reads: Vec<u128>,
+    latches: Vec<Option<u128>>,
+    flags: Vec<bool>,
+    cycle: u64,
+    served: u32,
+}
+
+impl Model for MemUnit {
+    ghost use Rattle.gg_node.specs.Machine.{Machine};
+    ghost use Rattle.gg_memunit.specs.MemoryUnit.{memory_machine, state_of, cycle_limit, IsOfPiece};
+
+    ghost Value = { Machine };
+
+    ghost view = { λ unit. memory_machine unit.piece cycle_limit unit.cycle (state_of unit.words.items unit.reads.items) unit.served unit.latches.items unit.flags.items };
+
+    ghost invariant = { λ unit. IsOfPiece unit.piece unit.reads.items unit.latches.items unit.flags.items };
+}
+
+// The only memory of a piece.
+fn memory_of(piece: &Piece) -> &Memory
+    requires { length piece.now.memories ≡ 1 }
+    ensures { piece.now.memories ≡ result.now ∷ [] }
+{
+    &piece.memories()[0]
+}
+
+impl MemUnit {
+    /// A unit of a piece that is one memory, before the first cycle.
+    ///
+    /// # Errors
+    ///
+    /// Where memory is refused.
+    pub fn new(alloc: Global, piece: Piece) -> Result<MemUnit, AllocError>
+        requires { IsMemoryPiece piece }
+        ensures { IfOk result (λ unit. unit ≡ opening_unit piece) }
+    {
+        let memory = memory_of(&piece);
+        let words = vec![in alloc; 0; memory.depth as usize]?;
+        let reads = vec![in alloc; 0; memory.read_count()]?;
+        let latches = vec![in alloc; None; piece.ins().len()]?;
+        let flags = vec![in alloc; false; piece.outs().len()]?;
+        Ok(MemUnit {
+            piece,
+            words,
+            reads,
+            latches,
+            flags,
+            cycle: 0,
+            served: 0,
+        })
+    }
+
+    // The first in that an out needs and that has no token yet.
+    fn first_missing(&self, place: u32) -> Option<u32>
+        requires { place < length self.now.flags }
+        ensures { result ≡ missing self.now place }
+    {
+        let memory = memory_of(&self.piece);
+        let reader = memory.readers.as_slice()[place as usize];
+        ports::first_missing(self.latches.as_slice(), memory.latency, reader)
+    }
+
+    // The number of the port that is due.
+    fn port_due(&self) -> Option<u32>
+        ensures { result ≡ due self.now }
+    {
+        let memory = memory_of(&self.piece);
+        let (readers, writers) = (memory.readers.as_slice(), memory.writers.as_slice());
+        ports::due_after(memory.latency, readers, writers, self.served)
+    }
+
+    // How many ports are served in a cycle.
+    fn port_count(&self) -> u32
+        ensures { result ≡ length self.now.ports }
+    {
+        let memory = memory_of(&self.piece);
+        let (readers, writers) = (memory.readers.as_slice(), memory.writers.as_slice());
+        ports::count(memory.latency, readers, writers)
+    }
+
+    // The token of an out.
+    fn value(&self, place: u32) -> u128
+        requires { MayFire self.now place }
+        ensures { IsToken self.now place result }
+    {
+        let memory = memory_of(&self.piece);
+        let reader = memory.readers.as_slice()[place as usize];
+        match memory.latency {
+            Latency::Zero => access::find(self.words.as_slice(), self.latches.as_slice(), reader),
+            Latency::One(_) => self.reads[place as usize],
+        }
+    }
+
+    // Makes the access of a reader's port.
+    fn read_port(&mut self, port: u32)
+        requires may { MayServe self.old port }
+        requires reader { port < length self.old.flags }
+        ensures { self.new ≡ with_served self.old }
+    {
+        let memory = memory_of(&self.piece);
+        let reader = memory.readers.as_slice()[port as usize];
+        let found = access::find(self.words.as_slice(), self.latches.as_slice(), reader);
+        self.reads[port as usize] = found;
+        self.served += 1;
+    }
+
+    // Makes the access of a writer's port.
+    fn write_port(&mut self, port: u32)
+        requires may { MayServe self.old port }
+        requires writer { length self.old.flags ≤ port }
+        ensures { self.new ≡ with_served self.old }
+    {
+        let memory = memory_of(&self.piece);
+        let count = memory.readers.as_slice().len() as u32;
+        let writer = memory.writers.as_slice()[(port - count) as usize];
+        access::write(&mut self.words, self.latches.as_slice(), writer);
+        self.served += 1;
+    }
+
+    // Goes to the next cycle.
+    fn next_cycle(&mut self)
+        requires { MayFinish self.old }
+        ensures next { IsNextState self.old self.new.state }
+        ensures step { self.new ≡ finished self.old self.new.state }
+    {
+        access::empty(&mut self.latches);
+        access::clear(&mut self.flags);
+        self.cycle += 1;
+        self.served = 0;
+    }
+}
+
+#[tactic(auto, using(gg_node::proofs::OneLemmas::only, gg_node::proofs::OneLemmas::only_set))]
+impl Host for MemUnit {
+    ghost machines = { λ machine. machine ∷ [] };
+
+    fn threads(&self) -> u32 {
+        1
+    }
+
+    fn cycle(&self, thread: u32) -> u64 {
+        self.cycle
+    }
+
+    fn latched(&self, thread: u32, place: u32) -> bool {
+        self.latches[place as usize].is_some()
+    }
+
+    fn fired(&self, thread: u32, place: u32) -> bool {
+        self.flags[place as usize]
+    }
+
+    fn missing(&self, thread: u32, place: u32) -> Option<u32> {
+        self.first_missing(place)
+    }
+
+    fn due(&self, thread: u32) -> Option<u32> {
+        self.port_due()
+    }
+
+    fn served(&self, thread: u32) -> u32 {
+        self.served
+    }
+
+    fn dues(&self, thread: u32) -> u32 {
+        self.port_count()
+    }
+
+    fn token(&mut self, thread: u32, place: u32) -> u128 {
+        self.value(place)
+    }
+
+    fn latch(&mut self, thread: u32, place: u32, value: u128) {
+        self.latches[place as usize] = Some(value);
+    }
+
+    fn fire(&mut self, thread: u32, place: u32) -> u128 {
+        let value = self.value(place);
+        self.flags[place as usize] = true;
+        value
+    }
+
+    fn serve(&mut self, thread: u32, port: u32) {
+        if (port as usize) < self.flags.len() {
+            self.read_port(port);
+        } else {
+            self.write_port(port);
+        }
+    }
+
+    fn finish(&mut self, thread: u32) {
+        self.next_cycle();
+    }
+}

@@ -1,0 +1,46 @@
+-- The token of an out, and the state after a cycle.
+-- Source: MEMOCODE 2009: an output depends on its needed inputs alone (no extraneous dependency), and a node cleans itself
+-- when it finishes; FIRRTL Specification for what a settled cycle and a next state are.
+use Rattle.std.specs.Prelude.{◌≡◌, ℕ, List, [], ◌∷◌, Option, Some, None, Contains}
+use Rattle.gg_flat.specs.Line.{value_at}
+use Rattle.gg_flat.specs.State.{State, next_state}
+use Rattle.gg_flat.specs.Settled.{Settled}
+use Rattle.gg_flat.specs.Memory.{Bank, bank_at}
+use Rattle.gg_flat.specs.Served.{after_access}
+use Rattle.gg_node.specs.Machine.{Behaviour, RunsPiece, GivesColumn, KeepsValues, Port, Machine, latch_at, needs_at, latched_values}
+
+-- The inputs have, for each of these ins, the token in its latch.
+abbrev pub AgreesOn : List ℕ → List (Option ℕ) → List ℕ → Type 0
+AgreesOn ins latches inputs = (i value : ℕ) → Contains ins i → latch_at latches i ≡ Some value → value_at inputs i ≡ value
+
+-- A value is the token of an out. Of a piece: the value that the out-signal has in every settled row, in the machine's
+-- state, that agrees with the tokens of the needed ins. Of a column: the value of this cycle.
+abbrev pub IsTokenOf : Behaviour → Machine → ℕ → ℕ → Type 0
+IsTokenOf (RunsPiece piece) machine o value = (inputs signals : List ℕ) → Settled piece machine.state inputs signals → AgreesOn (needs_at machine.needs o) machine.latches inputs → value_at signals (value_at piece.outs o) ≡ value
+IsTokenOf (GivesColumn column) machine o value = value_at column machine.cycle ≡ value
+IsTokenOf KeepsValues machine o value = ⊥
+
+-- a value is the token of an out in this cycle
+abbrev pub IsToken : Machine → ℕ → ℕ → Type 0
+IsToken machine o value = IsTokenOf machine.behaviour machine o value
+
+-- A state is the next one of a piece with these ports, where all ins have their tokens. Of a piece without ports: what
+-- follows on the settled row with these inputs. Of a memory that is served: what its accesses have made of it.
+abbrev pub IsNextOf : Behaviour → List Port → Machine → State → Type 0
+IsNextOf (RunsPiece piece) [] machine next = (signals : List ℕ) → Settled piece machine.state (latched_values machine.latches) signals → next ≡ next_state piece machine.state signals
+IsNextOf (RunsPiece piece) (port ∷ ports) machine next = next ≡ machine.state
+IsNextOf (GivesColumn column) ports machine next = next ≡ machine.state
+IsNextOf KeepsValues ports machine next = next ≡ machine.state
+
+-- a state is the machine's state after this cycle
+abbrev pub IsNextState : Machine → State → Type 0
+IsNextState machine next = IsNextOf machine.behaviour machine.ports machine next
+
+-- what a memory holds after an access, with the tokens in the latches as its fields
+abbrev pub accessed_bank : List (Option ℕ) → Bank → Option Port → Bank
+accessed_bank latches bank None = bank
+accessed_bank latches bank (Some port) = after_access (latched_values latches) bank port.access
+
+-- the state of a memory after one more access
+abbrev pub accessed : List (Option ℕ) → State → Option Port → State
+accessed latches state port = record { registers = state.registers; banks = accessed_bank latches (bank_at state.banks 0) port ∷ [] }
