@@ -1,0 +1,5 @@
+pub mod ReachLemmas
+pub mod WalkLemmas
+pub mod PickLemmas
+pub mod StepLemmas
+pub mod SlotLemmas
