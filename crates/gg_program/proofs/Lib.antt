@@ -3,3 +3,5 @@ pub mod WalkLemmas
 pub mod PickLemmas
 pub mod StepLemmas
 pub mod SlotLemmas
+pub mod LawLemmas
+pub mod WorkedUnits

@@ -1,5 +1,5 @@
 -- What slots hold, and the values of cones and rows in them.
-use Rattle.std.proofs.Common.{◌≡◌, ℕ, zero, suc, ◌+◌, ◌-◌, ◌<◌, List, ◌∷◌, ◌++◌, length, replicate, sym, ◌∙◌, ap, subst, arith}
+use Rattle.std.proofs.Common.{◌≡◌, ℕ, zero, suc, ◌+◌, ◌-◌, ◌<◌, List, ◌∷◌, ◌++◌, length, replicate, refl, sym, ◌∙◌, ap, subst, arith}
 use Rattle.std.specs.Prelude.{Contains}
 use Rattle.std.proofs.lemmas.List.{get_or_default, get_or-map, get_or-take, length-map, length-append, length-replicate, take-append-le, take_all}
 use Rattle.std.proofs.lemmas.Grind.{same_number_lists}
@@ -142,3 +142,8 @@ AreSlots-zeros circuit slots count room are is has =
     joined : (n : ℕ) → replicate {A = ℕ} (n + room) 0 ≡ replicate {A = ℕ} n 0 ++ replicate {A = ℕ} room 0
     joined zero = let e : zero + room ≡ room = omega arith in ap (λ (k : ℕ). replicate {A = ℕ} k 0) e
     joined (suc n) = let e : suc n + room ≡ suc (n + room) = omega arith in ap (λ (k : ℕ). replicate {A = ℕ} k 0) e ∙ ap (λ (l : List ℕ). 0 ∷ l) (joined n)
+
+pub zeros-at : (count s : ℕ) → value_at (replicate count 0) s ≡ 0
+zeros-at zero s = refl
+zeros-at (suc count) zero = refl
+zeros-at (suc count) (suc s) = zeros-at count s

@@ -1,5 +1,5 @@
 //! `Program`: a circuit with the cone of each out-signal.
-ghost use Rattle.std.specs.Prelude.{◌≡◌, ◌<◌, length, IfOk};
+ghost use Rattle.std.specs.Prelude.{◌≡◌, ℕ, ◌<◌, length, IfOk};
 ghost use Rattle.gg_flat.specs.Line.{value_at};
 ghost use Rattle.gg_flat.specs.State.{IsState, next_state};
 ghost use Rattle.gg_flat.specs.Settled.{Settled};
@@ -89,7 +89,8 @@ impl<'a> Program<'a> {
     ///
     /// `NoMemory`, where memory is refused.
     pub fn slots(&self, alloc: Global) -> Result<Vec<u128>, NoMemory>
-        ensures { IfOk result (λ slots. AreSlots self.now slots.items) }
+        ensures slots { IfOk result (λ slots. AreSlots self.now slots.items) }
+        ensures zeros { IfOk result (λ slots. (s : ℕ) → value_at slots.items s ≡ 0) }
     {
         let piece = self.design.piece();
         let Some(count) = piece.signals().len().checked_add(piece.room()) else {
