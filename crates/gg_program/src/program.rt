@@ -1,8 +1,9 @@
 //! `Program`: a circuit with the cone of each out-signal.
-ghost use Rattle.std.specs.Prelude.{◌≡◌, ℕ, ◌<◌, length, IfOk};
-ghost use Rattle.gg_flat.specs.Line.{value_at};
+ghost use Rattle.std.specs.Prelude.{◌≡◌, ℕ, ◌<◌, length, slice_set, IfOk};
+ghost use Rattle.gg_bits.specs.Shape.{Fits};
+ghost use Rattle.gg_flat.specs.Line.{shape_at, value_at};
 ghost use Rattle.gg_flat.specs.State.{IsState, next_state};
-ghost use Rattle.gg_flat.specs.Settled.{Settled};
+ghost use Rattle.gg_flat.specs.Settled.{Settled, in_shapes};
 ghost use Rattle.gg_program.specs.Cone.{AreNeeds};
 ghost use Rattle.gg_program.specs.ConeValue.{IsConeValue};
 ghost use Rattle.gg_program.specs.Slots.{signals_in, inputs_in, AreSlots};
@@ -73,6 +74,13 @@ impl<'a> Program<'a> {
         Ok(Program { design, cones })
     }
 
+    /// The design.
+    pub fn design(&self) -> &Design
+        ensures { result.now.circuit ≡ self.now }
+    {
+        self.design
+    }
+
     /// What the out-signal at this place needs: the places, ascending, of just the in-signals to which a path of reads
     /// leads from it.
     pub fn needs(&self, out: u32) -> &[u32]
@@ -100,15 +108,29 @@ impl<'a> Program<'a> {
         Ok(slots)
     }
 
+    /// Puts an input, by its place in port order, into its slot.
+    ///
+    /// It is of the in-signal's type, and the slots are of the program's circuit.
+    pub fn put(&self, slots: &mut [u128], place: u32, input: u128)
+        requires place { place < length self.now.ins }
+        requires typed { Fits (shape_at (in_shapes self.now) place) input }
+        requires slots { AreSlots self.now slots.old }
+        ensures inputs { inputs_in self.now slots.new ≡ slice_set (inputs_in self.now slots.old) place input }
+        ensures slots { AreSlots self.now slots.new }
+    {
+        let piece = self.design.piece();
+        slots[piece.ins()[place as usize] as usize] = input;
+    }
+
     /// The value of the out-signal at this place, in this state and with the inputs that it needs in their slots. It
     /// depends on no other slot, keeps all inputs, and takes no memory.
     ///
-    /// State and slots are of the program's circuit (`slots` makes some; an input in its slot is of the in-signal's type).
+    /// State and slots are of the program's circuit (`slots` makes some, `put` puts an input into its slot).
     pub fn run_cone(&self, state: &State, slots: &mut [u128], out: u32) -> u128
         requires out { out < length self.now.outs }
         requires state { IsState self.now state.now }
         requires slots { AreSlots self.now slots.old }
-        ensures value { IsConeValue self.now state.now slots.old (value_at self.now.outs out) result }
+        ensures value { IsConeValue self.now state.now (inputs_in self.now slots.old) (value_at self.now.outs out) result }
         ensures inputs { inputs_in self.now slots.new ≡ inputs_in self.now slots.old }
         ensures slots { AreSlots self.now slots.new }
     {

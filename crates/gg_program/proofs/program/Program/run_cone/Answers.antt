@@ -36,7 +36,7 @@ returns-clause-value c =
     let at : value ≡ value_at after (value_at circuit.outs out) = ap (λ (l : List ℕ). value_at after (value_at l out)) (c.outs.ensures ∙ ap (λ (k : FlatCircuit). k.outs) c.piece-piece.ensures.circuit) in
     let st : IsState circuit state = subst (λ (k : FlatCircuit). IsState k state) (sym c.self.view_is) c.requires.state in
     let slots : AreSlots circuit before = subst (λ (k : FlatCircuit). AreSlots k before) (sym c.self.view_is) c.requires.slots in
-    subst (λ (k : FlatCircuit). IsConeValue k state before (value_at k.outs out) value) c.self.view_is
+    subst (λ (k : FlatCircuit). IsConeValue k state (inputs_in k before) (value_at k.outs out) value) c.self.view_is
     (IsConeValue-followed circuit c.self.inside.design.now.order state before after (value_at circuit.outs out) value c.deref.result.now c.piece-piece.ensures.formed c.order.ensures.ordered st slots is followed at)
 
 pub returns-clause-inputs : goal.returns-clause-inputs
