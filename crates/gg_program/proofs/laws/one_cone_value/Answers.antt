@@ -1,0 +1,8 @@
+use Rattle.gg_program.proofs.LawLemmas.{cone-once, cone-needs}
+use Rattle.gg_program.proofs.laws.one_cone_value.Goals as goal
+
+pub returns-clause-once : goal.returns-clause-once
+returns-clause-once c = cone-once
+
+pub returns-clause-needs : goal.returns-clause-needs
+returns-clause-needs c = cone-needs

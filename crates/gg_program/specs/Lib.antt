@@ -1,0 +1,5 @@
+pub mod Cone
+pub mod Slots
+pub mod ConeValue
+pub mod Steps
+pub mod Walk
