@@ -2,7 +2,7 @@
 ghost use Rattle.std.specs.Prelude.{◌≡◌, ◌<◌, ◌≤◌, ◌^◌, [], true, length, IfOk, IfErr};
 ghost use Rattle.gg_ast.specs.Tree.{CircuitTree};
 ghost use Rattle.gg_flat.specs.WellFormed.{IsWellFormed};
-ghost use Rattle.gg_read.specs.Text.{Spells};
+ghost use Rattle.gg_read.specs.Text.{Spells, HasNoFaultLine};
 ghost use Rattle.gg_shape.specs.Namespace.{IsSingleModule};
 ghost use Rattle.gg_shape.specs.Plain.{plain_modules};
 ghost use Rattle.gg_shape.specs.Shape.{shape_faults};
@@ -49,8 +49,8 @@ impl From<AllocError> for FrontFault {
 ///
 /// # Errors
 ///
-/// `Read` where the text spells no circuit, with the fault of reading; `Plain` where it spells one that isn't plain;
-/// `NoMemory` where memory is refused.
+/// `Read` where the bytes are no text or a line is at fault, with the fault of reading; `Plain` where the text spells a
+/// circuit that isn't plain and no line is at fault; `NoMemory` where memory is refused.
 pub fn front(alloc: Global, bytes: &[u8]) -> Result<Design, FrontFault>
     requires { length bytes.now < 2 ^ 32 }
     ensures ok { IfOk result (λ design. Means bytes.now design.circuit) }
@@ -72,10 +72,11 @@ fn design_of(alloc: Global, bytes: &[u8]) -> Result<Design, FrontFault>
     design(alloc, &circuit, piece)
 }
 
-// The circuit that a text spells.
+// The circuit that a text spells, where no line of it is at fault.
 fn read(alloc: Global, bytes: &[u8]) -> Result<Circuit, FrontFault>
     requires { length bytes.now < 2 ^ 32 }
     ensures spelt { IfOk result (λ circuit. Spells bytes.now circuit) }
+    ensures faultless { IfOk result (λ _. HasNoFaultLine bytes.now) }
     ensures unread { IfErr result (IsRefusedBy bytes.now) }
 {
     match read_circuit(alloc, bytes) {
