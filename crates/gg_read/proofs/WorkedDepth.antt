@@ -3,22 +3,22 @@
 --      1  circuit T :
 --      2    module T :
 --      3      node x =not(not(.. not(a)..))
-use Rattle.std.proofs.Common.{◌≡◌, ℕ, zero, suc, ◌+◌, ◌<◌, inl, inr, Bool, false, ◌==◌, List, [], ◌∷◌, ◌++◌, length, take, None, Some, codes, refl, ap, arith, lit≤}
+use Rattle.std.proofs.Common.{◌≡◌, ℕ, zero, suc, inl, inr, Bool, false, ◌==◌, List, [], ◌∷◌, ◌++◌, length, take, codes, refl, ap, arith, lit≤}
 use Rattle.std.proofs.Math.Dec.{eqb-suc-zero}
 use Rattle.gg_bits.specs.declared.ops.Op1.TheVariants.{Not}
-use Rattle.gg_lex.specs.Lines.{AreTokens, Lexes}
+use Rattle.gg_lex.specs.Lines.{AreTokens}
 use Rattle.gg_lex.specs.declared.token.Tok.{Tok}
 use Rattle.gg_lex.specs.declared.token.Tok.TheVariants.{Word, Symbol}
 use Rattle.gg_lex.specs.declared.token.Symbol.TheVariants as mark
 use Rattle.gg_lex.proofs.WorkedLines.{word, one, ended}
 use Rattle.gg_ast.specs.declared.expression.Reference.TheVariants.{Local}
 use Rattle.gg_ast.specs.declared.statement.StmtKind.TheVariants.{Node}
-use Rattle.gg_ast.specs.Row.{Row, Numbered, numbered, CircuitRow, ModuleRow, NodeRow}
+use Rattle.gg_ast.specs.Row.{numbered, CircuitRow, ModuleRow, NodeRow}
 use Rattle.gg_ast.specs.Term.{Term, NamedTerm, UnaryTerm}
 use Rattle.gg_ast.specs.Tree.{CircuitTree}
 use Rattle.gg_row.specs.Forms.{SpellsExpr}
 use Rattle.gg_read.specs.declared.text.ReadFault.TheVariants.{TooDeep}
-use Rattle.gg_read.specs.Text.{LineTokens, LinePlace, AfterCircuit, InPorts, InStatements, opened, closed, IsTooDeep, IsForm, IsFaultLine, Spells, HasReadFault}
+use Rattle.gg_read.specs.Text.{AfterCircuit, InPorts, InStatements, opened, closed, IsTooDeep, IsForm, Spells, HasReadFault}
 use Rattle.gg_read.proofs.WorkedForms.{text_of, holding, form, shallow}
 
 -- so many times `not(`, and what stands behind

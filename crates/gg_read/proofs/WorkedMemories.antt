@@ -11,9 +11,7 @@
 --      9        writer => w
 --     10        read-under-write => new
 --     11        depth => 4
-use Rattle.std.proofs.Common.{◌≡◌, ℕ, inl, inr, List, [], ◌∷◌, take, Some, None, codes, refl, lit≤}
-use Rattle.std.specs.Str.Lines.{lines}
-use Rattle.gg_lex.specs.Lines.{AreTokens}
+use Rattle.std.proofs.Common.{ℕ, inl, inr, List, [], ◌∷◌, codes, refl, lit≤}
 use Rattle.gg_lex.specs.declared.token.Tok.{Tok}
 use Rattle.gg_lex.specs.declared.token.Tok.TheVariants.{Word, Number, Symbol}
 use Rattle.gg_lex.specs.declared.token.Symbol.TheVariants as mark
@@ -22,11 +20,10 @@ use Rattle.gg_ast.specs.declared.module.GroundType.TheVariants.{UInt}
 use Rattle.gg_ast.specs.declared.statement.MemoryField.TheVariants.{DataType, Depth, ReadLatency, WriteLatency, Readers, Writers, ReadUnderWrite}
 use Rattle.gg_ast.specs.declared.statement.ReadUnderWrite.TheVariants.{New}
 use Rattle.gg_ast.specs.declared.statement.StmtKind.TheVariants.{Memory}
-use Rattle.gg_ast.specs.Row.{Row, Numbered, numbered, CircuitRow, ModuleRow, MemoryRow, FieldRow, SkipRow}
+use Rattle.gg_ast.specs.Row.{numbered, CircuitRow, ModuleRow, MemoryRow, FieldRow, SkipRow}
 use Rattle.gg_ast.specs.Tree.{CircuitTree}
-use Rattle.gg_read.specs.declared.text.ReadFault.{ReadFault}
 use Rattle.gg_read.specs.declared.text.ReadFault.TheVariants.{Syntax, Outside}
-use Rattle.gg_read.specs.Text.{LineTokens, AtStart, AfterCircuit, InPorts, InFields, InStatements, AreLineTokens, AreRows, AreShallow, Spells, HasReadFault}
+use Rattle.gg_read.specs.Text.{AfterCircuit, InPorts, InFields, InStatements, Spells, HasReadFault}
 use Rattle.gg_read.proofs.WorkedForms.{text_of, holding, form, no_row, no_place, shallow}
 
 abbrev text : List ℕ
@@ -96,10 +93,132 @@ unfolding lib.Utf8.encode
 memory_spelt = record {
   utf8 = (text, (refl, refl));
   held = holding header ∷ holding begun ∷ holding memory ∷ holding data_type ∷ holding depth ∷ holding read_latency ∷ holding write_latency ∷ holding readers ∷ holding writers ∷ holding under_write ∷ holding second_depth ∷ [];
-  tokens = (word refl refl (word refl refl (one refl refl (ended tt))), (word refl refl (word refl refl (one refl refl (ended tt))), (word refl refl (word refl refl (one refl refl (ended tt))), (word refl refl (two refl (lit≤ tt) refl (word refl refl (one refl refl (number refl refl (one refl refl (ended tt)))))), (word refl refl (two refl (lit≤ tt) refl (number refl refl (ended tt))), (word refl refl (two refl (lit≤ tt) refl (number refl refl (ended tt))), (word refl refl (two refl (lit≤ tt) refl (number refl refl (ended tt))), (word refl refl (two refl (lit≤ tt) refl (word refl refl (word refl refl (ended tt)))), (word refl refl (two refl (lit≤ tt) refl (word refl refl (ended tt))), (word refl refl (two refl (lit≤ tt) refl (word refl refl (ended tt))), (word refl refl (two refl (lit≤ tt) refl (number refl refl (ended tt))), tt)))))))))));
+  tokens = (
+    word refl refl (word refl refl (one refl refl (ended tt))),
+    (
+      word refl refl (word refl refl (one refl refl (ended tt))),
+      (
+        word refl refl (word refl refl (one refl refl (ended tt))),
+        (
+          word refl refl (two refl (lit≤ tt) refl (word refl refl (one refl refl (number refl refl (one refl refl (ended tt)))))),
+          (
+            word refl refl (two refl (lit≤ tt) refl (number refl refl (ended tt))),
+            (
+              word refl refl (two refl (lit≤ tt) refl (number refl refl (ended tt))),
+              (
+                word refl refl (two refl (lit≤ tt) refl (number refl refl (ended tt))),
+                (
+                  word refl refl (two refl (lit≤ tt) refl (word refl refl (word refl refl (ended tt)))),
+                  (
+                    word refl refl (two refl (lit≤ tt) refl (word refl refl (ended tt))),
+                    (
+                      word refl refl (two refl (lit≤ tt) refl (word refl refl (ended tt))),
+                      (
+                        word refl refl (two refl (lit≤ tt) refl (number refl refl (ended tt))),
+                        tt,
+                      ),
+                    ),
+                  ),
+                ),
+              ),
+            ),
+          ),
+        ),
+      ),
+    ),
+  );
   last = InFields;
-  rows = numbered 1 (CircuitRow (codes "T")) ∷ numbered 2 (ModuleRow (codes "T")) ∷ numbered 3 (MemoryRow (codes "m")) ∷ numbered 4 (FieldRow (DataType (UInt 8))) ∷ numbered 5 (FieldRow (Depth 16)) ∷ numbered 6 (FieldRow (ReadLatency 0)) ∷ numbered 7 (FieldRow (WriteLatency 1)) ∷ numbered 8 (FieldRow (Readers (codes "r" ∷ (codes "s" ∷ [])))) ∷ numbered 9 (FieldRow (Writers (codes "w" ∷ []))) ∷ numbered 10 (FieldRow (ReadUnderWrite New)) ∷ numbered 11 (FieldRow (Depth 4)) ∷ [];
-  read = inr (CircuitRow (codes "T"), AfterCircuit, _, form refl refl, refl, inr (ModuleRow (codes "T"), InPorts, _, form refl refl, refl, inr (MemoryRow (codes "m"), InFields, _, form refl refl, refl, inr (FieldRow (DataType (UInt 8)), InFields, _, form refl refl, refl, inr (FieldRow (Depth 16), InFields, _, form refl refl, refl, inr (FieldRow (ReadLatency 0), InFields, _, form refl refl, refl, inr (FieldRow (WriteLatency 1), InFields, _, form refl refl, refl, inr (FieldRow (Readers (codes "r" ∷ (codes "s" ∷ []))), InFields, _, form refl refl, refl, inr (FieldRow (Writers (codes "w" ∷ [])), InFields, _, form refl refl, refl, inr (FieldRow (ReadUnderWrite New), InFields, _, form refl refl, refl, inr (FieldRow (Depth 4), InFields, _, form refl refl, refl, (refl, refl))))))))))));
+  rows =
+      numbered 1 (CircuitRow (codes "T"))
+      ∷ numbered 2 (ModuleRow (codes "T"))
+      ∷ numbered 3 (MemoryRow (codes "m"))
+      ∷ numbered 4 (FieldRow (DataType (UInt 8)))
+      ∷ numbered 5 (FieldRow (Depth 16))
+      ∷ numbered 6 (FieldRow (ReadLatency 0))
+      ∷ numbered 7 (FieldRow (WriteLatency 1))
+      ∷ numbered 8 (FieldRow (Readers (codes "r" ∷ (codes "s" ∷ []))))
+      ∷ numbered 9 (FieldRow (Writers (codes "w" ∷ [])))
+      ∷ numbered 10 (FieldRow (ReadUnderWrite New))
+      ∷ numbered 11 (FieldRow (Depth 4)) ∷ [];
+  read =
+      inr (
+        CircuitRow (codes "T"),
+        AfterCircuit,
+        _,
+        form refl refl,
+        refl,
+        inr (
+          ModuleRow (codes "T"),
+          InPorts,
+          _,
+          form refl refl,
+          refl,
+          inr (
+            MemoryRow (codes "m"),
+            InFields,
+            _,
+            form refl refl,
+            refl,
+            inr (
+              FieldRow (DataType (UInt 8)),
+              InFields,
+              _,
+              form refl refl,
+              refl,
+              inr (
+                FieldRow (Depth 16),
+                InFields,
+                _,
+                form refl refl,
+                refl,
+                inr (
+                  FieldRow (ReadLatency 0),
+                  InFields,
+                  _,
+                  form refl refl,
+                  refl,
+                  inr (
+                    FieldRow (WriteLatency 1),
+                    InFields,
+                    _,
+                    form refl refl,
+                    refl,
+                    inr (
+                      FieldRow (Readers (codes "r" ∷ (codes "s" ∷ []))),
+                      InFields,
+                      _,
+                      form refl refl,
+                      refl,
+                      inr (
+                        FieldRow (Writers (codes "w" ∷ [])),
+                        InFields,
+                        _,
+                        form refl refl,
+                        refl,
+                        inr (
+                          FieldRow (ReadUnderWrite New),
+                          InFields,
+                          _,
+                          form refl refl,
+                          refl,
+                          inr (
+                            FieldRow (Depth 4),
+                            InFields,
+                            _,
+                            form refl refl,
+                            refl,
+                            (refl, refl),
+                          ),
+                        ),
+                      ),
+                    ),
+                  ),
+                ),
+              ),
+            ),
+          ),
+        ),
+      );
   whole = tt;
   circuit_rows = refl;
 }
@@ -116,11 +235,51 @@ reset_behind_memory = (
     holding reset,
     record {
       before = holding header ∷ holding begun ∷ holding memory ∷ [];
-      tokens = (word refl refl (word refl refl (one refl refl (ended tt))), (word refl refl (word refl refl (one refl refl (ended tt))), (word refl refl (word refl refl (one refl refl (ended tt))), tt)));
+      tokens = (
+        word refl refl (word refl refl (one refl refl (ended tt))),
+        (
+          word refl refl (word refl refl (one refl refl (ended tt))),
+          (
+            word refl refl (word refl refl (one refl refl (ended tt))),
+            tt,
+          ),
+        ),
+      );
       rows = numbered 1 (CircuitRow (codes "T")) ∷ numbered 2 (ModuleRow (codes "T")) ∷ numbered 3 (MemoryRow (codes "m")) ∷ [];
       place = InFields;
-      read = inr (CircuitRow (codes "T"), AfterCircuit, _, form refl refl, refl, inr (ModuleRow (codes "T"), InPorts, _, form refl refl, refl, inr (MemoryRow (codes "m"), InFields, _, form refl refl, refl, (refl, refl))));
-      shallow = (shallow header (lit≤ tt), (shallow begun (lit≤ tt), (shallow memory (lit≤ tt), tt)));
+      read =
+          inr (
+            CircuitRow (codes "T"),
+            AfterCircuit,
+            _,
+            form refl refl,
+            refl,
+            inr (
+              ModuleRow (codes "T"),
+              InPorts,
+              _,
+              form refl refl,
+              refl,
+              inr (
+                MemoryRow (codes "m"),
+                InFields,
+                _,
+                form refl refl,
+                refl,
+                (refl, refl),
+              ),
+            ),
+          );
+      shallow = (
+        shallow header (lit≤ tt),
+        (
+          shallow begun (lit≤ tt),
+          (
+            shallow memory (lit≤ tt),
+            tt,
+          ),
+        ),
+      );
       number = refl;
       fault = inl (codes "      reset => (a, a)", refl, word refl refl (two refl (lit≤ tt) refl (one refl refl (word refl refl (one refl refl (word refl refl (one refl refl (ended tt))))))), inr (no_place refl refl));
     },
@@ -141,11 +300,68 @@ field_behind_statement = (
     holding depth,
     record {
       before = holding header ∷ holding begun ∷ holding memory ∷ holding skips ∷ [];
-      tokens = (word refl refl (word refl refl (one refl refl (ended tt))), (word refl refl (word refl refl (one refl refl (ended tt))), (word refl refl (word refl refl (one refl refl (ended tt))), (word refl refl (ended tt), tt))));
-      rows = numbered 1 (CircuitRow (codes "T")) ∷ numbered 2 (ModuleRow (codes "T")) ∷ numbered 3 (MemoryRow (codes "m")) ∷ numbered 4 SkipRow ∷ [];
+      tokens = (
+        word refl refl (word refl refl (one refl refl (ended tt))),
+        (
+          word refl refl (word refl refl (one refl refl (ended tt))),
+          (
+            word refl refl (word refl refl (one refl refl (ended tt))),
+            (
+              word refl refl (ended tt),
+              tt,
+            ),
+          ),
+        ),
+      );
+      rows =
+          numbered 1 (CircuitRow (codes "T"))
+          ∷ numbered 2 (ModuleRow (codes "T"))
+          ∷ numbered 3 (MemoryRow (codes "m"))
+          ∷ numbered 4 SkipRow ∷ [];
       place = InStatements;
-      read = inr (CircuitRow (codes "T"), AfterCircuit, _, form refl refl, refl, inr (ModuleRow (codes "T"), InPorts, _, form refl refl, refl, inr (MemoryRow (codes "m"), InFields, _, form refl refl, refl, inr (SkipRow, InStatements, _, form refl refl, refl, (refl, refl)))));
-      shallow = (shallow header (lit≤ tt), (shallow begun (lit≤ tt), (shallow memory (lit≤ tt), (shallow skips (lit≤ tt), tt))));
+      read =
+          inr (
+            CircuitRow (codes "T"),
+            AfterCircuit,
+            _,
+            form refl refl,
+            refl,
+            inr (
+              ModuleRow (codes "T"),
+              InPorts,
+              _,
+              form refl refl,
+              refl,
+              inr (
+                MemoryRow (codes "m"),
+                InFields,
+                _,
+                form refl refl,
+                refl,
+                inr (
+                  SkipRow,
+                  InStatements,
+                  _,
+                  form refl refl,
+                  refl,
+                  (refl, refl),
+                ),
+              ),
+            ),
+          );
+      shallow = (
+        shallow header (lit≤ tt),
+        (
+          shallow begun (lit≤ tt),
+          (
+            shallow memory (lit≤ tt),
+            (
+              shallow skips (lit≤ tt),
+              tt,
+            ),
+          ),
+        ),
+      );
       number = refl;
       fault = inl (codes "      depth => 16", refl, word refl refl (two refl (lit≤ tt) refl (number refl refl (ended tt))), inr (no_place refl refl));
     },
@@ -166,11 +382,51 @@ readwriter_is_outside = (
     holding both,
     record {
       before = holding header ∷ holding begun ∷ holding memory ∷ [];
-      tokens = (word refl refl (word refl refl (one refl refl (ended tt))), (word refl refl (word refl refl (one refl refl (ended tt))), (word refl refl (word refl refl (one refl refl (ended tt))), tt)));
+      tokens = (
+        word refl refl (word refl refl (one refl refl (ended tt))),
+        (
+          word refl refl (word refl refl (one refl refl (ended tt))),
+          (
+            word refl refl (word refl refl (one refl refl (ended tt))),
+            tt,
+          ),
+        ),
+      );
       rows = numbered 1 (CircuitRow (codes "T")) ∷ numbered 2 (ModuleRow (codes "T")) ∷ numbered 3 (MemoryRow (codes "m")) ∷ [];
       place = InFields;
-      read = inr (CircuitRow (codes "T"), AfterCircuit, _, form refl refl, refl, inr (ModuleRow (codes "T"), InPorts, _, form refl refl, refl, inr (MemoryRow (codes "m"), InFields, _, form refl refl, refl, (refl, refl))));
-      shallow = (shallow header (lit≤ tt), (shallow begun (lit≤ tt), (shallow memory (lit≤ tt), tt)));
+      read =
+          inr (
+            CircuitRow (codes "T"),
+            AfterCircuit,
+            _,
+            form refl refl,
+            refl,
+            inr (
+              ModuleRow (codes "T"),
+              InPorts,
+              _,
+              form refl refl,
+              refl,
+              inr (
+                MemoryRow (codes "m"),
+                InFields,
+                _,
+                form refl refl,
+                refl,
+                (refl, refl),
+              ),
+            ),
+          );
+      shallow = (
+        shallow header (lit≤ tt),
+        (
+          shallow begun (lit≤ tt),
+          (
+            shallow memory (lit≤ tt),
+            tt,
+          ),
+        ),
+      );
       number = refl;
       fault = inl (codes "      readwriter => r", refl, word refl refl (two refl (lit≤ tt) refl (word refl refl (ended tt))), inr (no_row refl));
     },
