@@ -1,3 +1,3 @@
 pub mod MarkLemmas
 pub mod ReadLemmas
-pub mod OrderLemmas
+pub mod LoopLemmas
