@@ -1,17 +1,21 @@
 -- What signals read, in a circuit that is well formed.
 use Rattle.std.proofs.Common.{◌≡◌, ℕ, ◌<◌, List, length, map, inl, inr, refl, sym, ◌∙◌, subst, arith}
+use Rattle.std.specs.Prelude.{Option, Some, None, MatchOption, slice_get, ⊤}
 use Rattle.std.proofs.lemmas.List.{length-map, get_or_default}
+use Rattle.std.proofs.lemmas.Option.{get_or_from_slice_get, slice_get_within}
 use Rattle.gg_bits.specs.Shape.{Shape, shape}
 use Rattle.gg_flat.specs.declared.line.Node.{Node}
 use Rattle.gg_flat.specs.declared.line.Op.{Op}
 use Rattle.gg_flat.specs.declared.line.Op.TheVariants.{Ref}
 use Rattle.gg_flat.specs.declared.piece.Driver.{Driver}
 use Rattle.gg_flat.specs.declared.piece.Driver.TheVariants.{Input, Held, MemoryWord, ReadRegister, Computed}
+use Rattle.gg_flat.specs.declared.piece.Register.{Register}
+use Rattle.gg_flat.specs.declared.piece.Reset.{Reset}
 use Rattle.gg_flat.specs.declared.piece.Signal.{Signal}
-use Rattle.gg_flat.specs.Line.{shape_at, shapes_of, op_at, HasShape, HasType, IsLine}
+use Rattle.gg_flat.specs.Line.{shape_at, shapes_of, op_at, HasShape, HasType, IsLine, IsSource}
 use Rattle.gg_flat.specs.Circuit.{FlatCircuit, driver_at, signal_shapes}
-use Rattle.gg_flat.specs.WellFormed.{IsWellFormed, MayDrive}
-use Rattle.gg_flat.specs.Reads.{Names, NamesSignal}
+use Rattle.gg_flat.specs.WellFormed.{IsWellFormed, IsRegister, IsReset, MayDrive}
+use Rattle.gg_flat.specs.Reads.{Names, NamesSignal, ResetNames, NextNames, RegisterNames}
 use Rattle.gg_flat.proofs.TypedLemmas.{has-reader, word-names}
 
 -- a line over signals names one of them
@@ -44,3 +48,30 @@ driver_within circuit a s (Computed line) formed is may h =
 -- what a signal reads is a signal of the circuit
 pub names_within : (circuit : FlatCircuit) (a s : ℕ) → IsWellFormed circuit → a < length circuit.signals → NamesSignal (driver_at circuit a) s → s < length circuit.signals
 names_within circuit a s formed within h = driver_within circuit a s (driver_at circuit a) formed refl (formed.drivers a within) h
+
+-- ---- what registers name
+
+source_within : (circuit : FlatCircuit) (sink : Shape) (line : List Node) (s : ℕ) → IsSource (HasType (signal_shapes circuit)) sink line → Names line s → s < length circuit.signals
+source_within circuit sink line s source h =
+    omega (arith, line_within (signal_shapes circuit) line s source.line h, length-map circuit.signals (λ (signal : Signal). shape signal.ty))
+
+reset_within : (circuit : FlatCircuit) (sink : Shape) (reset : Option Reset) (s : ℕ) → MatchOption reset ⊤ (IsReset (HasType (signal_shapes circuit)) sink) → ResetNames reset s → s < length circuit.signals
+reset_within circuit sink None s is h = absurd h
+reset_within circuit sink (Some reset) s is (inl h) =
+    omega (arith, line_within (signal_shapes circuit) reset.condition s is.condition.line h, length-map circuit.signals (λ (signal : Signal). shape signal.ty))
+reset_within circuit sink (Some reset) s is (inr h) = source_within circuit sink reset.init s is.init h
+
+next_within : (circuit : FlatCircuit) (sink : Shape) (next : Option (List Node)) (s : ℕ) → MatchOption next ⊤ (IsSource (HasType (signal_shapes circuit)) sink) → NextNames next s → s < length circuit.signals
+next_within circuit sink None s is h = absurd h
+next_within circuit sink (Some line) s is h = source_within circuit sink line s is h
+
+-- what a register names is a signal of the circuit
+pub register-names_within : (circuit : FlatCircuit) (r s : ℕ) (register : Register) → IsWellFormed circuit → slice_get circuit.registers r ≡ Some register → RegisterNames register s → s < length circuit.signals
+register-names_within circuit r s register formed is names =
+    elim names [
+      | inl h ↦ reset_within circuit (shape register.ty) register.reset s known.reset h
+      | inr h ↦ next_within circuit (shape register.ty) register.next s known.next h
+    ]
+  where
+    known : IsRegister (HasType (signal_shapes circuit)) register
+    known = subst (IsRegister (HasType (signal_shapes circuit))) (get_or_from_slice_get circuit.registers r register register is) (formed.registers r register (slice_get_within circuit.registers r register is))
