@@ -13,10 +13,11 @@ ghost use Rattle.gg_front.specs.Meaning.{Means};
 ghost use Rattle.gg_front.specs.Plain.{IsSound, IsPlainTree, signal_count};
 
 use crate::laws::plainness_agrees;
+use crate::top_tree::top_tree;
 use gg_ast::Circuit;
 use gg_elab::{ElabFault, flatten};
 use gg_flat::Piece;
-use gg_order::{Design, order_by_places};
+use gg_order::{Design, OrderFault, order};
 use gg_read::{ReadFault, read_circuit};
 use gg_shape::{Refusal, is_single_module, names_only_plain, shape};
 use gg_types::types;
@@ -144,7 +145,7 @@ fn flat_circuit(alloc: Global, circuit: &Circuit) -> Result<Piece, FrontFault>
     }
 }
 
-// The flat circuit with an order: no expression names an output port or a wire, so there is one.
+// The flat circuit with an order: no expression names an output port or a wire, so there is no loop.
 fn design(alloc: Global, circuit: &Circuit, piece: Piece) -> Result<Design, FrontFault>
     requires sound { IsSound circuit.now }
     requires flat { IsFlat circuit.now piece }
@@ -152,8 +153,10 @@ fn design(alloc: Global, circuit: &Circuit, piece: Piece) -> Result<Design, Fron
     ensures circuit { IfOk result (λ design. design.circuit ≡ piece) }
     ensures memory { IfErr result (λ fault. fault ≡ FrontFault.NoMemory) }
 {
-    match order_by_places(alloc, &piece)? {
-        Some(order) => Ok(Design::new(piece, order)),
-        None => unreachable!(),
+    let tree = top_tree(alloc, circuit, &piece)?;
+    match order(alloc, &piece) {
+        Ok(order) => Ok(Design::new(piece, tree, order)),
+        Err(OrderFault::Loop(_)) => unreachable!(),
+        Err(OrderFault::NoMemory) => Err(FrontFault::NoMemory),
     }
 }

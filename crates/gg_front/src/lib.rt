@@ -21,6 +21,7 @@ mod order_tests;
 mod reader_tests;
 #[cfg(test)]
 mod tests;
+mod top_tree;
 
 pub use front_end::{FrontFault, front};
 pub use laws::{one_run, plainness_agrees, ports_agree};
