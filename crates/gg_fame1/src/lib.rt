@@ -11,3 +11,6 @@ mod unit;
 
 pub use gg_program::NoMemory;
 pub use unit::Unit;
+
+#[cfg(test)]
+mod tests;
