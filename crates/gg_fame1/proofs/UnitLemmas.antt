@@ -1,15 +1,14 @@
 -- The tokens of a unit, and what it becomes in a cycle.
 use Rattle.std.proofs.Common.{◌≡◌, ℕ, zero, suc, ◌<◌, List, [], ◌∷◌, Option, None, Some, Bool, length, refl, sym, ap, subst, ◌∙◌, arith}
-use Rattle.std.specs.Prelude.{All, Contains, IsSome, MatchOption, slice_index_or, slice_set, replicate, ⊤}
+use Rattle.std.specs.Prelude.{All, Contains, IsSome, slice_index_or, slice_set, replicate}
 use Rattle.std.proofs.lemmas.List.{length-map, length-set}
 use Rattle.gg_flat.specs.Line.{shape_at, value_at}
-use Rattle.gg_flat.specs.Circuit.{FlatCircuit, signal_shapes, driver_at}
+use Rattle.gg_flat.specs.Circuit.{FlatCircuit, signal_shapes}
 use Rattle.gg_flat.specs.WellFormed.{IsWellFormed}
 use Rattle.gg_flat.specs.State.{State, next_state}
 use Rattle.gg_flat.specs.Settled.{Settled, driver_value}
 use Rattle.gg_node.specs.Machine.{RunsPiece, latch_at, latched_value, latched_values, first_empty, empty_or, needs_at}
 use Rattle.gg_node.specs.Token.{IsTokenOf, IsNextOf}
-use Rattle.gg_program.specs.Cone.{AreNeeds}
 use Rattle.gg_program.specs.ConeValue.{IsConeValue}
 use Rattle.gg_program.specs.Programmed.{Programmed, AreNeedsOfOuts}
 use Rattle.gg_program.specs.Slots.{inputs_in, AreSlots}

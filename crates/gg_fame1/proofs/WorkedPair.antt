@@ -1,16 +1,15 @@
 -- The unit `a` of a circuit of two units, driven by hand: its out `p` is the in `x`, and its out `q` is `xor(x, k)`.
-use Rattle.std.proofs.Common.{◌≡◌, ℕ, zero, suc, ◌<◌, List, [], ◌∷◌, Option, Some, None, Bool, true, false, length, refl, sym, ap, subst, ◌∙◌, arith, lit<}
+use Rattle.std.proofs.Common.{◌≡◌, ℕ, zero, suc, ◌<◌, List, [], ◌∷◌, Option, Some, None, Bool, true, false, refl, ap, ◌∙◌, arith, lit<}
 use Rattle.std.specs.Prelude.{Contains, IsSome, slice_index_or}
 use Rattle.gg_bits.specs.Shape.{Fits, uint}
 use Rattle.gg_bits.specs.Meaning.{extended}
-use Rattle.gg_flat.specs.Line.{shape_at, value_at, connected_value}
+use Rattle.gg_flat.specs.Line.{shape_at, value_at}
 use Rattle.gg_flat.specs.Circuit.{signal_shapes, driver_at}
-use Rattle.gg_flat.specs.State.{State}
 use Rattle.gg_flat.specs.Settled.{Settled, driver_value}
 use Rattle.gg_flat.proofs.WorkedForms.{only, both, four}
-use Rattle.gg_node.specs.Machine.{Machine, latch_at, flag_at, latched_value, missing, no_state}
-use Rattle.gg_node.specs.Token.{AgreesOn, IsToken, IsNextState}
-use Rattle.gg_node.specs.Step.{MayFire, MayFinish, with_latch, with_flag, finished}
+use Rattle.gg_node.specs.Machine.{Machine, latch_at, missing, no_state}
+use Rattle.gg_node.specs.Token.{AgreesOn, IsToken}
+use Rattle.gg_node.specs.Step.{MayFire, MayFinish, with_latch, finished}
 use Rattle.gg_program.specs.Programmed.{Programmed}
 use Rattle.gg_program.proofs.WorkedUnits.{unit}
 use Rattle.gg_fame1.specs.Unit.{unit_machine, opening_unit}

@@ -1,6 +1,6 @@
 -- The memories of two circuits of gg_flat, each served port by port over its cycles: it gives the data that it gives inside
 -- its circuit, and holds in the end what it holds there.
-use Rattle.std.proofs.Common.{◌≡◌, ℕ, zero, suc, List, [], ◌∷◌, ◌++◌, Some, map, refl}
+use Rattle.std.proofs.Common.{◌≡◌, ℕ, List, [], ◌∷◌, ◌++◌, Some, map, refl}
 use Rattle.gg_flat.specs.declared.memory.UnderWrite.{UnderWrite}
 use Rattle.gg_flat.specs.declared.memory.UnderWrite.TheVariants.{Old, New, Undefined}
 use Rattle.gg_flat.specs.declared.memory.Latency.{Latency}
@@ -9,7 +9,7 @@ use Rattle.gg_flat.specs.declared.memory.Reader.{Reader}
 use Rattle.gg_flat.specs.declared.memory.Writer.{Writer}
 use Rattle.gg_flat.specs.Line.{value_at}
 use Rattle.gg_flat.specs.State.{State}
-use Rattle.gg_flat.specs.Memory.{Bank, bank_at, found_word}
+use Rattle.gg_flat.specs.Memory.{bank_at, found_word}
 use Rattle.gg_flat.specs.Run.{column, opening_start, state_at}
 use Rattle.gg_flat.specs.Along.{rows_along}
 use Rattle.gg_flat.proofs.WorkedMemories.{ports, ports_order, late, late_order, late_inputs}

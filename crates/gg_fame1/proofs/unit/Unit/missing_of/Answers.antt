@@ -1,4 +1,4 @@
-use Rattle.std.proofs.Common.{◌≡◌, ◌<◌, length, ap, arith}
+use Rattle.std.proofs.Common.{length, ap, arith}
 use Rattle.std.specs.Prelude.{slice_index_or, Contains}
 use Rattle.std.proofs.lemmas.List.{get_or_default}
 use Rattle.gg_fame1.proofs.unit.Unit.missing_of.Goals as goal

@@ -1,11 +1,11 @@
-use Rattle.std.proofs.Common.{◌≡◌, ◌<◌, ◌+◌, length, ap, ◌∙◌, arith}
+use Rattle.std.proofs.Common.{◌≡◌, ◌+◌, length, ap, ◌∙◌, arith}
 use Rattle.gg_flat.specs.declared.memory.Memory.{Memory}
 use Rattle.gg_flat.specs.Memory.{read_count}
 use Rattle.gg_flat.specs.Served.{after_access}
 use Rattle.gg_node.specs.Machine.{cycle_limit, due}
 use Rattle.gg_node.specs.Step.{with_served}
 use Rattle.gg_memunit.specs.MemoryUnit.{access_of, memory_machine, state_of}
-use Rattle.gg_memunit.proofs.UnitLemmas.{of-sole, served-few, late-reader, among-ports, serve-step, looks-among, writes-among}
+use Rattle.gg_memunit.proofs.UnitLemmas.{of-sole, served-few, late-reader, among-ports, serve-step}
 use Rattle.gg_memunit.proofs.unit.MemUnit.serve_port.Goals as goal
 
 pub serve-requires-clause-late : goal.serve-requires-clause-late

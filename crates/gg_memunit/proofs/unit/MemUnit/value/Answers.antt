@@ -1,12 +1,10 @@
 use Rattle.std.proofs.Common.{◌≡◌, ◌<◌, length, refl, ap, sym, subst, ◌∙◌, arith}
-use Rattle.gg_flat.specs.declared.memory.Latency.{Latency}
-use Rattle.gg_flat.specs.declared.memory.Memory.{Memory}
 use Rattle.gg_flat.specs.Circuit.{reader_at}
 use Rattle.gg_flat.specs.Line.{value_at}
-use Rattle.gg_flat.specs.Memory.{found_word, read_count}
+use Rattle.gg_flat.specs.Memory.{found_word}
 use Rattle.gg_node.specs.Machine.{cycle_limit, latched_values, missing}
 use Rattle.gg_node.specs.Token.{IsToken}
-use Rattle.gg_memunit.proofs.UnitLemmas.{of-sole, out-count, same-token, late-token, looks-among}
+use Rattle.gg_memunit.proofs.UnitLemmas.{out-count, same-token, late-token, looks-among}
 use Rattle.gg_memunit.proofs.unit.MemUnit.value.Goals as goal
 
 pub returns-in-Zero : goal.returns-in-Zero
