@@ -1,6 +1,6 @@
 -- The tokens of a unit, and what it becomes in a cycle.
 use Rattle.std.proofs.Common.{◌≡◌, ℕ, zero, suc, ◌<◌, List, [], ◌∷◌, Option, None, Some, Bool, length, refl, sym, ap, subst, ◌∙◌, arith}
-use Rattle.std.specs.Prelude.{All, Contains, IsSome, slice_index_or, slice_set, replicate}
+use Rattle.std.specs.Prelude.{All, Contains, IsSome, slice_index_or, slice_set}
 use Rattle.std.proofs.lemmas.List.{length-map, length-set}
 use Rattle.gg_flat.specs.Line.{shape_at, value_at}
 use Rattle.gg_flat.specs.Circuit.{FlatCircuit, signal_shapes}
@@ -43,15 +43,6 @@ tokens-latched (latch ∷ latches) (input ∷ inputs) (suc place) token same bel
     at : HaveTokens (slice_set latches place (Some token)) (slice_set inputs place token) → (i value : ℕ) → latch_at (latch ∷ slice_set latches place (Some token)) i ≡ Some value → value_at (input ∷ slice_set inputs place token) i ≡ value
     at rest zero value is = have zero value is
     at rest (suc i) value is = rest i value is
-
--- empty latches have no token
-pub tokens-none : (count : ℕ) (inputs : List ℕ) → HaveTokens (replicate count None) inputs
-tokens-none count inputs i value is = absurd (none count i value is)
-  where
-    none : (count i value : ℕ) → latch_at (replicate count None) i ≡ Some value → ⊥
-    none zero i value is = cc
-    none (suc count) zero value is = cc
-    none (suc count) (suc i) value is = none count i value is
 
 -- where all latches have their tokens these are the inputs
 pub all-inputs : (latches : List (Option ℕ)) (inputs : List ℕ) → length latches ≡ length inputs → All (λ latch. IsSome latch) latches → HaveTokens latches inputs → latched_values latches ≡ inputs

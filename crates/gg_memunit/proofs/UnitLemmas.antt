@@ -14,7 +14,7 @@ use Rattle.gg_flat.specs.Circuit.{FlatCircuit, signal_shapes, driver_at, readers
 use Rattle.gg_flat.specs.State.{next_registers, State}
 use Rattle.gg_flat.specs.Settled.{Settled, driver_value}
 use Rattle.gg_flat.specs.WellFormed.{AreDriven, reader_driver}
-use Rattle.gg_flat.specs.Memory.{Bank, found_word, read_word, next_words_from, next_reads, next_banks, read_count, LooksAmong, WritesAmong}
+use Rattle.gg_flat.specs.Memory.{Bank, found_word, read_word, next_words_from, next_reads, next_banks, read_count, LooksAmong}
 use Rattle.gg_flat.specs.Served.{after_access}
 use Rattle.gg_node.specs.Machine.{RunsPiece, Port, Machine, latch_at, latched_value, latched_values, first_empty, empty_or, needs_at, port_number}
 use Rattle.gg_node.specs.Token.{AgreesOn, IsTokenOf, IsNextOf, accessed}
@@ -193,9 +193,6 @@ tokens-cleared inputs zeros latches empty same are none =
 pub tokens-set : (inputs : List ℕ) (latches : List (Option ℕ)) (place token : ℕ) → inputs ≡ latched_values latches → slice_set inputs place token ≡ latched_values (slice_set latches place (Some token))
 tokens-set inputs latches place token same = ap (λ inputs. slice_set inputs place token) same ∙ sym (map-set latched_value latches place (Some token))
 
--- the fields of a memory's ports have tokens
+-- the fields of a memory's readers have tokens
 pub looks-among : (piece : FlatCircuit) (memory : Memory) → IsMemoryPiece piece → piece.memories ≡ memory ∷ [] → (n : ℕ) → n ≡ length piece.ins → All (LooksAmong n) memory.readers
 looks-among piece memory is only n same = subst (λ n. All (LooksAmong n) memory.readers) (sym same) (of-sole (λ memory. All (LooksAmong (length piece.ins)) memory.readers) piece.memories memory only is.readers)
-
-pub writes-among : (piece : FlatCircuit) (memory : Memory) → IsMemoryPiece piece → piece.memories ≡ memory ∷ [] → (n : ℕ) → n ≡ length piece.ins → All (WritesAmong n) memory.writers
-writes-among piece memory is only n same = subst (λ n. All (WritesAmong n) memory.writers) (sym same) (of-sole (λ memory. All (WritesAmong (length piece.ins)) memory.writers) piece.memories memory only is.writers)
