@@ -1,0 +1,3 @@
+pub mod UnitLemmas
+pub mod WorkedPair
+pub mod WorkedMemories
