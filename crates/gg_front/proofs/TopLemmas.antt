@@ -208,9 +208,9 @@ module _ (m : ModuleTree) (flat : FlatCircuit) (j : Judged m flat) where
   ports-within =
       All-append (λ p. p.signal < length flat.signals) (as_ports true flat.ins) (as_ports false flat.outs)
       (All-map (λ p. p.signal < length flat.signals) (λ s. let port : InstancePort = record { signal = s; is_input = true } in port) flat.ins
-        (λ i d lt. subst (λ x. x < length flat.signals) (get_or_default flat.ins i 0 d lt) (j.formed.ins i lt).0))
+      (λ i d lt. subst (λ x. x < length flat.signals) (get_or_default flat.ins i 0 d lt) (j.formed.ins i lt).0))
       (All-map (λ p. p.signal < length flat.signals) (λ s. let port : InstancePort = record { signal = s; is_input = false } in port) flat.outs
-        (λ i d lt. subst (λ x. x < length flat.signals) (get_or_default flat.outs i 0 d lt) (j.formed.outs i lt)))
+      (λ i d lt. subst (λ x. x < length flat.signals) (get_or_default flat.outs i 0 d lt) (j.formed.outs i lt)))
 
   plain : AreNamesOfModule m → (s : ℕ) → s < length flat.signals → ¬ Contains (path_at flat s) 46
   plain named s lt =

@@ -14,11 +14,7 @@ use gg_flat::{AddError, Instance, InstancePort, Piece, Tree};
 use std::alloc::{AllocError, Global};
 
 /// The tree of the flat circuit of a sound circuit: the top alone, with its inputs and, behind them, its outputs.
-pub(crate) fn top_tree(
-    alloc: Global,
-    circuit: &Circuit,
-    piece: &Piece,
-) -> Result<Tree, FrontFault>
+pub(crate) fn top_tree(alloc: Global, circuit: &Circuit, piece: &Piece) -> Result<Tree, FrontFault>
     requires sound { IsSound circuit.now }
     requires flat { IsFlat circuit.now piece.now }
     requires formed { IsWellFormed piece.now }

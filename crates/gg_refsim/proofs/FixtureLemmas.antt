@@ -1,19 +1,23 @@
 -- The tests' circuit has its tree, and keeps to its scopes.
-use Rattle.std.proofs.Common.{◌≡◌, ◌≢◌, ◌⊎◌, inl, inr, ℕ, zero, suc, ◌+◌, ◌<◌, ◌≤◌, List, [], ◌∷◌, ◌++◌, length, map, Some, None, refl, sym, ap, ◌∙◌, subst, arith, lit<, lit≤}
-use Rattle.std.specs.Prelude.{Contains, All, AllPairs, slice_index_or, slice_get}
+use Rattle.std.proofs.Common.{◌≡◌, ◌≢◌, ◌⊎◌, inl, inr, ℕ, zero, suc, ◌+◌, ◌<◌, List, [], ◌∷◌, ◌++◌, length, Some, refl, sym, ap, ◌∙◌, subst, arith, lit<, lit≤}
+use Rattle.std.specs.Prelude.{Result, Ok, Err, IfOk, Contains, AllPairs, slice_index_or}
 use Rattle.std.specs.List.{flat_map}
 use Rattle.std.proofs.lemmas.List.{length-map, get_or-map}
 use Rattle.gg_flat.specs.declared.memory.Reader.{Reader}
 use Rattle.gg_flat.specs.declared.memory.Writer.{Writer}
-use Rattle.gg_flat.specs.declared.piece.Register.{Register}
 use Rattle.gg_flat.specs.declared.tree.InstancePort.{InstancePort}
-use Rattle.gg_flat.specs.Circuit.{FlatCircuit, driver_at, readers_at}
+use Rattle.gg_flat.specs.Circuit.{FlatCircuit}
 use Rattle.gg_flat.specs.WellFormed.{IsWellFormed}
 use Rattle.gg_flat.specs.Tree.{IsTree, IsInstance, IsHeld, IsInnermost, IsWithin, IsJustBelow, Holds, path_at, instance_at, memory_at, joined}
 use Rattle.gg_flat.specs.Scoped.{IsScoped, IsPort, IsOwnPort, IsOwnField, IsMemoryField, IsFieldOf, IsWritten, IsVisible, memory_fields, reader_fields, writer_fields, writers_at}
 use Rattle.gg_flat.proofs.WorkedForms.{only, apart}
 use Rattle.gg_order.proofs.ReadLemmas.{names_within, register-names_within}
-use Rattle.gg_refsim.specs.Fixture.{IsFixture, fixture_paths, fixture_reader, fixture_writer, fixture_top, fixture_tree, field_names}
+use Rattle.gg_refsim.specs.Fixture.{IsFixture, fixture_reader, fixture_top, fixture_tree, field_names}
+
+-- what follows from what holds of an answer
+pub if-ok : {T E : Type 0} (result : Result T E) (P Q : T → Type 0) → ((x : T) → P x → Q x) → IfOk result P → IfOk result Q
+if-ok (Ok x) P Q f h = f x h
+if-ok (Err e) P Q f h = h
 
 -- a name of one letter
 letter : (byte : ℕ) → byte ≢ 46 → ¬ Contains (byte ∷ []) 46
@@ -104,7 +108,7 @@ module _ (circuit : FlatCircuit) (f : IsFixture circuit) where
 
   fields-once : AllPairs (λ a b. a ≢ b) (memory_fields circuit 0)
   fields-once = subst (AllPairs (λ a b. a ≢ b)) (sym fields-are) (λ i j d lt within same.
-    omega (arith, lt, same, field-at i d (omega (arith, lt, within)), field-at j d within))
+      omega (arith, lt, same, field-at i d (omega (arith, lt, within)), field-at j d within))
 
   own-port : (k s : ℕ) → IsPort fixture_tree k s → IsOwnPort circuit fixture_tree k s
   own-port zero s is =

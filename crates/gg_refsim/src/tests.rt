@@ -201,18 +201,27 @@ fn reads_at_once(rt: HostRuntime) -> Result<(), Fail> {
 
 #[test]
 fn reads_new_words_late(rt: HostRuntime) -> Result<(), Fail> {
-    assert_eq!(rt; outputs(rt.alloc(), Latency::One(UnderWrite::New))?, [0, 7, 7]);
+    assert_eq!(rt;
+        outputs(rt.alloc(), Latency::One(UnderWrite::New))?,
+        [0, 7, 7]
+    );
     Ok(())
 }
 
 #[test]
 fn reads_old_words_late(rt: HostRuntime) -> Result<(), Fail> {
-    assert_eq!(rt; outputs(rt.alloc(), Latency::One(UnderWrite::Old))?, [0, 0, 7]);
+    assert_eq!(rt;
+        outputs(rt.alloc(), Latency::One(UnderWrite::Old))?,
+        [0, 0, 7]
+    );
     Ok(())
 }
 
 #[test]
 fn reads_undefined_words_as_old_ones(rt: HostRuntime) -> Result<(), Fail> {
-    assert_eq!(rt; outputs(rt.alloc(), Latency::One(UnderWrite::Undefined))?, [0, 0, 7]);
+    assert_eq!(rt;
+        outputs(rt.alloc(), Latency::One(UnderWrite::Undefined))?,
+        [0, 0, 7]
+    );
     Ok(())
 }
