@@ -1,9 +1,9 @@
 -- The top of a circuit of one module: its names have no dot, and its ports are distinct.
-use Rattle.std.proofs.Common.{◌≡◌, ◌≢◌, ◌⊎◌, inl, inr, ℕ, zero, suc, ◌+◌, ◌-◌, ◌<◌, ◌≤◌, List, [], ◌∷◌, ◌++◌, length, map, get_or, take, Bool, true, false, true≢false, ◌&&◌, Some, None, refl, sym, ap, ◌∙◌, subst, arith, IsTrue, if◌then◌else◌, length-append, append_assoc}
-use Rattle.std.specs.Prelude.{Contains, All, AllPairs, is_some, nat_eq}
+use Rattle.std.proofs.Common.{◌≡◌, ◌≢◌, inl, inr, ℕ, zero, suc, ◌-◌, ◌<◌, List, [], ◌∷◌, ◌++◌, length, map, get_or, Bool, true, false, true≢false, ◌&&◌, Some, None, refl, sym, ap, ◌∙◌, subst, arith, if◌then◌else◌, length-append}
+use Rattle.std.specs.Prelude.{Contains, All, AllPairs}
 use Rattle.std.specs.List.{list_all}
 use Rattle.std.proofs.lemmas.Bool.{cases_lt}
-use Rattle.std.proofs.lemmas.List.{append-nil, map-append, length-map, get_or-map, get_or_default, get_or_append_left, get_or-append_right, take_more}
+use Rattle.std.proofs.lemmas.List.{append-nil, map-append, length-map, get_or-map, get_or_default, get_or_append_left, get_or-append_right}
 use Rattle.std.proofs.lemmas.List.Elements.{All-append, All-map}
 use Rattle.std.proofs.lemmas.List.Kept.{AllPairs-cons}
 use Rattle.gg_ast.specs.declared.module.Direction.{Direction}
@@ -12,12 +12,12 @@ use Rattle.gg_ast.specs.declared.module.Port.{Port}
 use Rattle.gg_ast.specs.declared.statement.Stmt.{Stmt}
 use Rattle.gg_ast.specs.declared.statement.StmtKind.{StmtKind}
 use Rattle.gg_ast.specs.declared.statement.StmtKind.TheVariants as says
-use Rattle.gg_ast.specs.Names.{IsName, is_name_byte, begins_name, AreNamesOfKind, AreNamesOfStatement, AreNamesOfModule, AreNamesOfCircuit}
+use Rattle.gg_ast.specs.Names.{IsName, is_name_byte, begins_name, AreNamesOfKind, AreNamesOfStatement, AreNamesOfModule}
 use Rattle.gg_ast.specs.Names.{IsPortNamed as HasName}
-use Rattle.gg_ast.specs.Tree.{ModuleTree, CircuitTree}
+use Rattle.gg_ast.specs.Tree.{ModuleTree}
 use Rattle.gg_shape.specs.declared.scope.Role.{Role}
 use Rattle.gg_shape.specs.Scope.{role_of}
-use Rattle.gg_shape.specs.Faults.{along, along_from}
+use Rattle.gg_shape.specs.Faults.{along_from}
 use Rattle.gg_shape.specs.Namespace.{declared_by_port, declared_by_kind, role_of_port}
 use Rattle.gg_shape.specs.Shape.{repeated_port}
 use Rattle.gg_flat.specs.declared.piece.Driver.TheVariants.{Input, Computed}
@@ -30,8 +30,7 @@ use Rattle.gg_elab.specs.FlatModule.{path_at, IsComputed}
 use Rattle.gg_elab.specs.Signals.{goes, port_names}
 use Rattle.gg_order.proofs.TopLemmas.{IsLone}
 use Rattle.gg_front.specs.Top.{as_ports, top_ports}
-use Rattle.gg_front.proofs.PlaceLemmas.{Has, has-append, Roles, role-left, role-new, no_fault, is_none, along-at, empty_left, empty_right}
-use Rattle.gg_front.proofs.OriginLemmas.{Declared, IsPortNamed}
+use Rattle.gg_front.proofs.PlaceLemmas.{Has, Roles, role-left, role-new, no_fault, is_none, empty_left, empty_right}
 use Rattle.gg_front.proofs.OrderLemmas.{Judged, all-at, origin, placed}
 
 -- ---- names have no dot
