@@ -19,6 +19,3 @@ mod steps;
 
 pub use laws::{needs_decide, one_cone_value};
 pub use program::{NoMemory, Program};
-
-#[cfg(test)]
-mod tests;
