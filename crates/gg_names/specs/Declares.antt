@@ -1,11 +1,10 @@
 -- How a table grows by what a statement declares.
-use Rattle.std.specs.Prelude.{◌≡◌, ℕ, List, [], ◌∷◌, ◌++◌, Option}
+use Rattle.std.specs.Prelude.{◌≡◌, ℕ, List, [], ◌∷◌, ◌++◌}
 use Rattle.gg_ast.specs.Places.{place_of}
 use Rattle.gg_ast.specs.declared.statement.Field.{Field}
 use Rattle.gg_ast.specs.declared.statement.StmtKind as statements
 use Rattle.gg_ast.specs.declared.statement.StmtKind.TheVariants as kinds
 use Rattle.gg_ast.specs.Tree.{ModuleTree, names_of}
-use Rattle.gg_names.specs.declared.role.Role.{Role}
 use Rattle.gg_names.specs.declared.role.Role.TheVariants as roles
 use Rattle.gg_names.specs.declared.table.Declared.{Declared}
 use Rattle.gg_names.specs.declared.table.Declared.TheVariants.{Plain, Instance, Memory}

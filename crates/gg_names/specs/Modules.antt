@@ -1,11 +1,12 @@
 -- Which modules hold which (FIRRTL Specification, "Instances": a module may not hold itself, directly or through others).
 -- Modules go by their places in the circuit, counted from 0.
-use Rattle.std.specs.Prelude.{◌≡◌, ℕ, List, [], ◌∷◌, ◌++◌, Option, Some, None, Contains, flat_map, option_to_list, slice_index_or, take}
+use Rattle.std.proofs.Math.Nat.{not-suc-le-zero}
+use Rattle.std.specs.Prelude.{ℕ, List, [], Contains, flat_map, option_to_list, slice_index_or, take}
 use Rattle.gg_ast.specs.Places.{place_of}
 use Rattle.gg_ast.specs.declared.statement.Stmt.{Stmt}
 use Rattle.gg_ast.specs.declared.statement.StmtKind as statements
 use Rattle.gg_ast.specs.declared.statement.StmtKind.TheVariants as kinds
-use Rattle.gg_ast.specs.Tree.{ModuleTree, CircuitTree, empty_module, names_of}
+use Rattle.gg_ast.specs.Tree.{ModuleTree, empty_module, names_of}
 
 -- the module at a place; past the end one without a name
 abbrev pub module_at : List ModuleTree → ℕ → ModuleTree
@@ -37,4 +38,4 @@ HoldsBelow modules k n j = Contains (flat_map (held_by modules) (take n (module_
 
 -- no module holds one in none of its statements
 pub none_held : (modules : List ModuleTree) (k j : ℕ) → HoldsBelow modules k 0 j → ⊥
-none_held modules k j h = h
+none_held modules k j h = not-suc-le-zero h.1

@@ -1,6 +1,6 @@
 -- What the parts of a module declare, name and connect (FIRRTL Specification, "Namespaces", "Statements", "Instances",
 -- "Memories", "Flows").
-use Rattle.std.specs.Prelude.{ℕ, Bool, true, false, not, ◌&&◌, List, [], ◌∷◌, ◌++◌, Option, Some, None, map, flat_map, take, if◌then◌else◌}
+use Rattle.std.specs.Prelude.{ℕ, Bool, true, false, not, List, [], ◌∷◌, ◌++◌, Option, Some, None, map, flat_map, if◌then◌else◌}
 use Rattle.std.specs.Str.{bytes_eq}
 use Rattle.gg_ast.specs.declared.expression.Reference.{Reference}
 use Rattle.gg_ast.specs.declared.expression.Reference.TheVariants.{Local, PortOf, FieldOf}
@@ -12,7 +12,7 @@ use Rattle.gg_ast.specs.declared.statement.Field.{Field}
 use Rattle.gg_ast.specs.declared.statement.Stmt.{Stmt}
 use Rattle.gg_ast.specs.declared.statement.StmtKind as statements
 use Rattle.gg_ast.specs.declared.statement.StmtKind.TheVariants as kinds
-use Rattle.gg_ast.specs.Tree.{ModuleTree, CircuitTree}
+use Rattle.gg_ast.specs.Tree.{ModuleTree}
 use Rattle.gg_names.specs.declared.role.Role.{Role}
 use Rattle.gg_names.specs.declared.role.Role.TheVariants.{InputPort, OutputPort, Wire, Register, Node, Instance, Memory, InstanceInput, InstanceOutput, MemoryPort}
 use Rattle.gg_names.specs.declared.role.PortKind.{PortKind}

@@ -1,11 +1,12 @@
 -- Names that come twice: of modules, of what a module declares, of a memory's ports (FIRRTL Specification, "Namespaces"). Each
 -- repetition stands at the later of the two.
-use Rattle.std.specs.Prelude.{◌≡◌, ℕ, Bool, true, false, List, [], ◌∷◌, ◌++◌, map, flat_map, Result, Ok, Err, Some}
+use Rattle.std.specs.Prelude.{◌≡◌, ℕ, Bool, true, false, List, [], ◌∷◌, ◌++◌, flat_map, Result, Ok, Err, Some}
 use Rattle.std.specs.List.{list_any}
 use Rattle.std.specs.Str.{bytes_eq}
 use Rattle.gg_ast.specs.declared.module.Port.{Port}
 use Rattle.gg_ast.specs.declared.statement.Field.{Field}
 use Rattle.gg_ast.specs.declared.statement.MemoryField as fields
+use Rattle.gg_ast.specs.declared.statement.MemoryField.TheVariants.{DataType, Depth, ReadLatency, WriteLatency, Readers, Writers, ReadUnderWrite}
 use Rattle.gg_ast.specs.declared.statement.Stmt.{Stmt}
 use Rattle.gg_ast.specs.declared.statement.StmtKind as statements
 use Rattle.gg_ast.specs.declared.statement.StmtKind.TheVariants as kinds
@@ -14,7 +15,6 @@ use Rattle.gg_names.specs.declared.fault.Repetition.{Repetition}
 use Rattle.gg_names.specs.declared.fault.NamesFault.{NamesFault}
 use Rattle.gg_names.specs.declared.fault.NamesFault.TheVariants.{Repeated, NoMemory}
 use Rattle.gg_names.specs.Along.{along, first}
-use Rattle.gg_names.specs.Memory.{readers_in, writers_in}
 use Rattle.gg_names.specs.Namespace.{names_after}
 
 -- the repetition, where the test holds
@@ -29,7 +29,13 @@ repeated_in before line name = repetition_if (list_any (bytes_eq name) before) l
 -- ---- the ports of a memory: readers and writers have one namespace
 
 abbrev pub ports_in_field : fields.MemoryField → List (List ℕ)
-ports_in_field kind = readers_in kind ++ writers_in kind
+ports_in_field (Readers names) = names
+ports_in_field (Writers names) = names
+ports_in_field (DataType ty) = []
+ports_in_field (Depth n) = []
+ports_in_field (ReadLatency n) = []
+ports_in_field (WriteLatency n) = []
+ports_in_field (ReadUnderWrite word) = []
 
 abbrev pub repeated_port_of : List (List ℕ) → ℕ → List (List ℕ) → List ℕ → List Repetition
 repeated_port_of earlier line before name = repeated_in (earlier ++ before) line name

@@ -1,5 +1,5 @@
 -- What the tables of a namespace tell of the modules.
-use Rattle.std.specs.Prelude.{◌≡◌, ℕ, ◌<◌, ◌≤◌, ◌^◌, Bool, ◌||◌, List, [], ◌∷◌, ◌++◌, Option, Some, None, map, flat_map, length, take, slice_index_or, if◌then◌else◌}
+use Rattle.std.specs.Prelude.{◌≡◌, ℕ, ◌<◌, ◌^◌, ◌||◌, List, [], ◌∷◌, Option, Some, None, map, flat_map, length, take, slice_index_or, if◌then◌else◌}
 use Rattle.std.specs.List.{list_any}
 use Rattle.std.specs.Str.{bytes_eq}
 use Rattle.gg_ast.specs.declared.expression.Reference.{Reference}
@@ -17,7 +17,7 @@ use Rattle.gg_names.specs.declared.table.Declared.{Declared}
 use Rattle.gg_names.specs.declared.table.Declared.TheVariants.{Plain, Instance, Memory}
 use Rattle.gg_names.specs.Memory.{readers_in, writers_in, port_fields, field_of}
 use Rattle.gg_names.specs.Modules.{module_at}
-use Rattle.gg_names.specs.Namespace.{role_of_instance_port, names_in, names_after, scope_after}
+use Rattle.gg_names.specs.Namespace.{role_of_instance_port, names_after, scope_after}
 use Rattle.gg_names.specs.Repetitions.{repetitions}
 use Rattle.gg_names.specs.Scope.{entry_of, first_name}
 

@@ -1,16 +1,16 @@
 //! What references name, by the tables.
-ghost use Rattle.std.specs.Prelude.{◌≡◌, ◌<◌, List, ℕ, length};
+ghost use Rattle.std.specs.Prelude.{◌≡◌, ◌<◌, List, ℕ, length, take, slice_get, option_map};
 ghost use Rattle.gg_ast.specs.declared.expression.Reference.TheVariants.{PortOf as APort, FieldOf as AField};
 ghost use Rattle.gg_ast.specs.Tree.{ModuleTree};
 ghost use Rattle.gg_names.specs.Modules.{module_at};
-ghost use Rattle.gg_names.specs.Namespace.{names_in, scope_of, meaning_of};
+ghost use Rattle.gg_names.specs.Namespace.{names_in, names_after, scope_of, scope_after, meaning_of, role_of_instance_port};
 ghost use Rattle.gg_names.specs.Tables.{AreTold, IsPlaced, names_told, role_of_port_named, through};
 
 use crate::memory::field_role;
 use crate::reference::first_name;
 use crate::role::{Role, instance_port_role};
 use crate::table::{Declared, Table, own_role};
-use gg_ast::{Module, Reference};
+use gg_ast::{Module, Port, Reference};
 use gg_bits::Name;
 
 /// What a reference in the module at this place names.
@@ -24,8 +24,34 @@ pub fn role_in(
     requires within { number < length modules.now }
     ensures { result ≡ meaning_of (scope_of modules.now (module_at modules.now number)) reference.now }
 {
-    let declared = tables[number as usize].get(first_name(reference))?;
-    role_through(modules, tables, declared, reference)
+    match tables[number as usize].get(first_name(reference)) {
+        Some(declared) => role_through(modules, tables, declared, reference),
+        None => None,
+    }
+}
+
+/// What a reference names where only the first `count` names of the module are declared.
+pub fn role_before_in(
+    modules: &[Module],
+    tables: &[Table],
+    number: u32,
+    count: usize,
+    reference: &Reference,
+) -> Option<Role>
+    requires tables { AreTold modules.now (length modules.now) tables.now }
+    requires within { number < length modules.now }
+    ensures { (n : ℕ) → count ≡ length (names_after (module_at modules.now number).ports (take n (module_at modules.now number).statements)) → result ≡ meaning_of (scope_after modules.now (module_at modules.now number).ports (take n (module_at modules.now number).statements)) reference.now }
+{
+    match tables[number as usize].place(first_name(reference)) {
+        Some(place) => {
+            if place < count {
+                role_in(modules, tables, number, reference)
+            } else {
+                None
+            }
+        }
+        None => None,
+    }
 }
 
 // What a reference names whose first name is declared so.
@@ -47,12 +73,7 @@ fn role_through(
 }
 
 // The role of a port of what is declared so, if that is an instance of a module that is there.
-fn port_of(
-    modules: &[Module],
-    tables: &[Table],
-    declared: &Declared,
-    port: &Name,
-) -> Option<Role>
+fn port_of(modules: &[Module], tables: &[Table], declared: &Declared, port: &Name) -> Option<Role>
     requires tables { AreTold modules.now (length modules.now) tables.now }
     requires placed { IsPlaced modules.now declared.now }
     ensures { (instance : List ℕ) → result ≡ through modules.now declared.now (APort instance port.now) }
@@ -71,9 +92,22 @@ fn port_in(this: &Module, table: &Table, port: &Name) -> Option<Role>
     requires { names_told table.now ≡ names_in this.now }
     ensures { result ≡ role_of_port_named port.now this.now.ports }
 {
-    let place = table.place(port)?;
-    let port = this.ports().get(place)?;
-    Some(instance_port_role(port.direction, port.ty))
+    match table.place(port) {
+        Some(place) => role_at(this.ports(), place),
+        None => None,
+    }
+}
+
+// The role of the port at this place, or none past the last.
+fn role_at(ports: &[Port], place: usize) -> Option<Role>
+    ensures { result ≡ option_map (λ port. role_of_instance_port port.direction port.ty) (slice_get ports.now place) }
+{
+    if place < ports.len() {
+        let port = &ports[place];
+        Some(instance_port_role(port.direction, port.ty))
+    } else {
+        None
+    }
 }
 
 // The role of a field of a port of what is declared so, if that is a memory.

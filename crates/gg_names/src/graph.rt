@@ -1,6 +1,5 @@
 //! The graph of modules.
 ghost use Rattle.std.specs.Prelude.{◌≡◌, ◌<◌, ◌^◌, ℕ, List, length, take, Contains, flat_map, IfSome, IfNone, ◌⊎◌, option_to_list};
-
 ghost use Rattle.gg_names.specs.Modules.{Holds, HoldsBelow, held_by};
 
 use crate::namespace::Namespace;
@@ -26,9 +25,25 @@ impl<'a> Graph for Namespace<'a> {
     }
 
     fn target(&self, node: u32, place: usize) -> Option<Target> {
-        let circuit = self.circuit();
-        next_held(circuit, circuit.modules()[node as usize].statements(), place)
+        held_from(self.circuit(), node, place)
     }
+}
+
+// The first module that a module's statement at or behind a place makes an instance of.
+fn held_from(circuit: &Circuit, node: u32, place: usize) -> Option<Target>
+    requires few { length circuit.now.modules < 2 ^ 32 }
+    requires node { node < length circuit.now.modules }
+    ensures held { IfSome result (λ found. Holds circuit.now.modules node found.node) }
+    ensures within { IfSome result (λ found. found.node < length circuit.now.modules) }
+    ensures onward { IfSome result (λ found. place < found.next) }
+    ensures first { IfSome result (λ found. (j : ℕ) → HoldsBelow circuit.now.modules node found.next j → HoldsBelow circuit.now.modules node place j ⊎ (j ≡ found.node)) }
+    ensures none { IfNone result ((j : ℕ) → Holds circuit.now.modules node j → HoldsBelow circuit.now.modules node place j) }
+{
+    next_held(
+        circuit,
+        circuit.modules()[node as usize].statements(),
+        place,
+    )
 }
 
 // The first module of the circuit that a statement at or behind a place makes an instance of.
@@ -42,10 +57,7 @@ fn next_held(circuit: &Circuit, statements: &[Stmt], place: usize) -> Option<Tar
 {
     for i in place..statements.len() {
         if let Some(node) = held(circuit, &statements[i]) {
-            return Some(Target {
-                node,
-                next: i + 1,
-            });
+            return Some(Target { node, next: i + 1 });
         }
     }
     None

@@ -121,12 +121,7 @@ fn field_named(name: &str) -> Option<PortField>
 
 /// The role of the field of a port that are written so, by the memory's readers and writers, or none where there is no such
 /// port or field.
-pub fn field_role(
-    readers: &Words,
-    writers: &Words,
-    port: &Name,
-    field: &Name,
-) -> Option<Role>
+pub fn field_role(readers: &Words, writers: &Words, port: &Name, field: &Name) -> Option<Role>
     ensures { result ≡ role_of_field readers.now writers.now port.now field.now }
 {
     if readers.contains(port) {

@@ -125,13 +125,13 @@ fn declare<'a>(
     table: &mut Table<'a>,
     line: u64,
     name: &'a Name,
-    declared: Declared<'a>,
+    kind: Declared<'a>,
 ) -> Result<(), NamesFault>
     ensures tells { Tells (repeated_in (names_told table.old) line name.now) result }
-    ensures table { OnOk result (table.new ≡ table.old ++ (name.now, declared) ∷ []) }
+    ensures table { OnOk result (table.new ≡ table.old ++ (name.now, kind.entry) ∷ []) }
 {
     fresh(table, line, name)?;
-    table.declare(name, declared)?;
+    table.declare(name, kind)?;
     Ok(())
 }
 

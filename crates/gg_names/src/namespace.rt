@@ -1,6 +1,8 @@
 //! `Namespace`: all names of a circuit.
 ghost use Rattle.std.specs.Prelude.{◌≡◌, ◌<◌, ◌+◌, ◌^◌, ◌++◌, [], ◌∷◌, ℕ, List, IfOk, length, take};
 ghost use Rattle.gg_ast.specs.Names.{AreNamesOfCircuit};
+ghost use Rattle.std.specs.List.{list_any};
+ghost use Rattle.std.specs.Str.{bytes_eq};
 ghost use Rattle.gg_ast.specs.Places.{place_of};
 ghost use Rattle.gg_ast.specs.Tree.{names_of};
 ghost use Rattle.gg_ast.specs.declared.statement.Stmt.{Stmt as Statement};
@@ -10,9 +12,8 @@ ghost use Rattle.gg_names.specs.Repetitions.{Tells, repetitions, repeated_in};
 ghost use Rattle.gg_names.specs.Tables.{AreTold};
 
 use crate::fault::{NamesFault, Repetition};
-use crate::find::role_in;
+use crate::find::{role_before_in, role_in};
 use crate::module::module_table;
-use crate::reference::first_name;
 use crate::role::Role;
 use crate::table::Table;
 use gg_ast::{Circuit, Module, Reference};
@@ -62,10 +63,7 @@ impl<'a> Namespace<'a> {
             return Err(NamesFault::NoMemory);
         }
         let tables = tables_of(alloc, circuit)?;
-        Ok(Namespace {
-            circuit,
-            tables,
-        })
+        Ok(Namespace { circuit, tables })
     }
 
     /// The circuit. No name comes twice in it.
@@ -105,7 +103,12 @@ impl<'a> Namespace<'a> {
         requires { number < length self.now.modules }
         ensures { result ≡ meaning_of (scope_of self.now.modules (module_at self.now.modules number)) reference.now }
     {
-        role_in(self.circuit.modules(), self.tables.as_slice(), number, reference)
+        role_in(
+            self.circuit.modules(),
+            self.tables.as_slice(),
+            number,
+            reference,
+        )
     }
 
     /// What a reference names where only the first `count` names of the module are declared.
@@ -113,11 +116,13 @@ impl<'a> Namespace<'a> {
         requires { number < length self.now.modules }
         ensures { (n : ℕ) → count ≡ length (names_after (module_at self.now.modules number).ports (take n (module_at self.now.modules number).statements)) → result ≡ meaning_of (scope_after self.now.modules (module_at self.now.modules number).ports (take n (module_at self.now.modules number).statements)) reference.now }
     {
-        if self.place(number, first_name(reference))? < count {
-            self.role(number, reference)
-        } else {
-            None
-        }
+        role_before_in(
+            self.circuit.modules(),
+            self.tables.as_slice(),
+            number,
+            count,
+            reference,
+        )
     }
 }
 
@@ -144,11 +149,22 @@ fn module_is_new(circuit: &Circuit, place: usize, this: &Module) -> Result<(), N
     requires within { place < length circuit.now.modules }
     ensures { Tells (repeated_in (names_of (take place circuit.now.modules)) this.now.line this.now.name) result }
 {
-    match circuit.module(this.name().as_str()) {
-        Some(first) if (first as usize) < place => Err(NamesFault::Repeated(Repetition {
+    if has_earlier(circuit, place, this.name()) {
+        return Err(NamesFault::Repeated(Repetition {
             line: this.line(),
             name: this.name().clone()?,
-        })),
-        Some(_) | None => Ok(()),
+        }));
+    }
+    Ok(())
+}
+
+// Whether a module before this place has that name.
+fn has_earlier(circuit: &Circuit, place: usize, name: &Name) -> bool
+    requires { length circuit.now.modules < 2 ^ 32 }
+    ensures { result ≡ list_any (bytes_eq name.now) (names_of (take place circuit.now.modules)) }
+{
+    match circuit.module(name.as_str()) {
+        Some(first) => (first as usize) < place,
+        None => false,
     }
 }

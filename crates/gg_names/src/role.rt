@@ -112,11 +112,7 @@ pub fn is_sink(role: Option<Role>) -> bool
         Some(Role::MemoryPort(kind, field)) => !is_answer(kind, field),
         None
         | Some(
-            Role::InputPort
-            | Role::Node
-            | Role::Instance
-            | Role::Memory
-            | Role::InstanceOutput(_),
+            Role::InputPort | Role::Node | Role::Instance | Role::Memory | Role::InstanceOutput(_),
         ) => false,
     }
 }

@@ -1,5 +1,5 @@
 //! Tables of names.
-ghost use Rattle.std.specs.Prelude.{◌≡◌, [], ◌∷◌, ◌++◌, ◌<◌, ℕ, List, map, not, length, IfSome, IfOk, OnOk, OnErr, option_copied};
+ghost use Rattle.std.specs.Prelude.{◌≡◌, [], ◌∷◌, ◌++◌, ◌<◌, ℕ, List, false, length, IfSome, OnOk, OnErr, option_copied};
 ghost use Rattle.std.specs.List.{list_any};
 ghost use Rattle.std.specs.Str.{bytes_eq};
 ghost use Rattle.gg_ast.specs.Places.{place_of};
@@ -114,12 +114,12 @@ impl<'a> Table<'a> {
     /// # Errors
     ///
     /// `AllocError` where memory is refused; the table is as it was.
-    pub fn declare(&mut self, name: &'a Name, declared: Declared<'a>) -> Result<(), AllocError>
+    pub fn declare(&mut self, name: &'a Name, kind: Declared<'a>) -> Result<(), AllocError>
         requires { list_any (bytes_eq name.now) (names_told self.old) ≡ false }
-        ensures names { OnOk result (self.new ≡ self.old ++ (name.now, declared) ∷ []) }
+        ensures names { OnOk result (self.new ≡ self.old ++ (name.now, kind.entry) ∷ []) }
         ensures err { OnErr result (self.new ≡ self.old) }
     {
-        match self.items.insert(name.as_str(), declared) {
+        match self.items.insert(name.as_str(), kind) {
             Ok(_) => Ok(()),
             Err(_) => Err(AllocError),
         }
