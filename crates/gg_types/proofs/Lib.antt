@@ -1,7 +1,3 @@
-pub mod SortLemmas
+pub mod FaultLemmas
 pub mod LiteralLemmas
-pub mod StepLemmas
-pub mod ClockLemmas
-pub mod CircuitLemmas
-pub mod WorkedRows
-pub mod LiteralRows
+mod LiteralRows
