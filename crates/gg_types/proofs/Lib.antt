@@ -1,3 +1,8 @@
 pub mod FaultLemmas
 pub mod LiteralLemmas
 mod LiteralRows
+pub mod PlaceLemmas
+pub mod WayLemmas
+pub mod ClockLemmas
+pub mod OwnLemmas
+pub mod StepLemmas

@@ -170,6 +170,7 @@ fn judge_connection(
 }
 
 // Refuses a Clock that is invalid.
+#[tactic(auto, using(crate::proofs::FaultLemmas::refused_first))]
 fn judge_invalid(alloc: Global, known: &Known, line: u64, sink: &Reference) -> Result<(), Refusal>
     ensures { Answers (undeclared (roles_seen known.now) (owned_seen known.now) line sink.now ++ invalid_faults line sink.now (sort_of_reference (roles_seen known.now) (owned_seen known.now) sink.now)) result }
 {
