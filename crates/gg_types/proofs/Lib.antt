@@ -6,3 +6,4 @@ pub mod WayLemmas
 pub mod ClockLemmas
 pub mod OwnLemmas
 pub mod StepLemmas
+pub mod KnownLemmas

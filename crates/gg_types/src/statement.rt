@@ -155,6 +155,7 @@ fn judge_reset(
 }
 
 // Refuses the first fault of a connection.
+#[tactic(auto, using(crate::proofs::FaultLemmas::refused_first))]
 fn judge_connection(
     alloc: Global,
     known: &Known,

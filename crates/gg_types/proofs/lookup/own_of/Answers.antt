@@ -1,4 +1,4 @@
-use Rattle.std.proofs.Common.{sym, ap, ◌∙◌, Some, arith}
+use Rattle.std.proofs.Common.{sym, ap, ◌∙◌, arith}
 use Rattle.gg_names.specs.Modules.{module_at}
 use Rattle.gg_names.specs.Namespace.{names_in}
 use Rattle.gg_types.proofs.OwnLemmas.{entry_at, entry-placed, entry_at-there, entry_at-past}
@@ -15,8 +15,7 @@ returns-then-place-own c =
     let ns = names_in (module_at c.args.names.now.modules c.args.number) in
     sym (entry-placed c.args.name.now ns c.args.own.now
     ∙ ap (entry_at c.args.own.now) (sym c.place.ensures ∙ c.in_ok-place.was)
-    ∙ entry_at-there c.args.own.now c.in_ok-place.place c.index-own-place.result (omega arith)
-    ∙ ap (λ t. Some (Some t)) (sym c.index-own-place.is))
+    ∙ entry_at-there c.args.own.now c.in_ok-place.place _ (omega arith))
 
 pub returns-else-place-own : goal.returns-else-place-own
 returns-else-place-own c =
