@@ -29,6 +29,10 @@ module _ (k l : Known) (names : k.names.now ≡ l.names.now) (number : k.number 
   pub traced-same : k.traced.items ≡ l.traced.items → traced_seen k ≡ traced_seen l
   traced-same same = ap (λ ns. flagged ns k.traced.items) names-same ∙ ap (flagged (names_seen l)) same
 
+pub names-at : (k : Known) (circuit : CircuitTree) (number : ℕ) → k.names.now ≡ circuit → k.number ≡ number → names_seen k ≡ names_in (module_at circuit.modules number)
+names-at k circuit number names n =
+    ap (λ (c : CircuitTree). names_in (module_at c.modules k.number)) names ∙ ap (λ i. names_in (module_at circuit.modules i)) n
+
 module _ (circuit : CircuitTree) (m : ModuleTree) (traced : List ℕ → Bool) (ports : List Port) (statements : List Stmt) (t : traced ≡ leads_to_input m) (p : ports ≡ m.ports) (s : statements ≡ m.statements) where
   pub faults-same : (is_top : Bool) → is_top ≡ bytes_eq circuit.name m.name → along (port_faults is_top) ports ++ along (faults_of (scope_of circuit.modules m) traced (map port_own ports)) statements ≡ faults_of_module circuit m
   faults-same is_top top =

@@ -5,9 +5,10 @@ use Rattle.gg_names.specs.Modules.{module_at}
 use Rattle.gg_names.specs.Namespace.{names_in}
 use Rattle.gg_shape.specs.Faults.{Refuses}
 use Rattle.gg_types.specs.Clocks.{leads_to_input}
-use Rattle.gg_types.specs.Named.{flagged}
+use Rattle.gg_types.specs.Known.{names_seen}
+use Rattle.gg_types.specs.Named.{flagged, owned}
 use Rattle.gg_types.specs.Types.{faults_of_module}
-use Rattle.gg_types.proofs.KnownLemmas.{faults-same, known-same}
+use Rattle.gg_types.proofs.KnownLemmas.{faults-same, known-same, names-at}
 use Rattle.gg_types.proofs.circuit.judge_module.Goals as goal
 
 pub returns-in_err-judge_all-clause-answers : goal.returns-in_err-judge_all-clause-answers
@@ -48,4 +49,9 @@ returns-clause-own c =
     let t : traced ≡ leads_to_input m = λ i. λ name. c.in_ok-trace.ensures name i in
     let p = c.ports.ensures ∙ ap (λ (x : ModuleTree). x.ports) c.module_of-here.ensures in
     let s = c.statements.ensures ∙ ap (λ (x : ModuleTree). x.statements) c.module_of-here.ensures in
-    ?
+    let new = c.judge_all.new.known in
+    let names : names_seen new ≡ names_in m = names-at new circuit c.args.number c.judge_all.ensures.names c.judge_all.ensures.number in
+    record {
+      one_each = c.in_ok-judge_all.ensures.count;
+      told = ap (λ ns. owned ns new.own.items) (sym names) ∙ c.in_ok-judge_all.ensures.own ∙ known-same circuit m traced c.ports.result.now c.statements.result.now t p s;
+    }
