@@ -7,3 +7,4 @@ pub mod ClockLemmas
 pub mod OwnLemmas
 pub mod StepLemmas
 pub mod KnownLemmas
+pub mod WidthLemmas

@@ -17,7 +17,7 @@ use Rattle.gg_types.specs.Types.{known_after, own_by, is_clock_input}
 -- ---- one more statement
 
 module _ (roles : List (Reference × Role)) (traced : List ℕ → Bool) where
-  known_after-push : (known : List (List ℕ × Option Own)) (xs : List Stmt) (s : Stmt) → known_after roles traced known (xs ++ s ∷ []) ≡ known_after roles traced known xs ++ own_by roles traced (known_after roles traced known xs) s.kind
+  pub known_after-push : (known : List (List ℕ × Option Own)) (xs : List Stmt) (s : Stmt) → known_after roles traced known (xs ++ s ∷ []) ≡ known_after roles traced known xs ++ own_by roles traced (known_after roles traced known xs) s.kind
   known_after-push known [] s = refl
   known_after-push known (x ∷ xs) s = known_after-push (known ++ own_by roles traced known x.kind) xs s
 
