@@ -6,7 +6,7 @@ use Rattle.gg_ast.specs.declared.statement.Stmt.{Stmt}
 use Rattle.gg_ast.specs.Tree.{CircuitTree, ModuleTree}
 use Rattle.gg_names.specs.Modules.{module_at}
 use Rattle.gg_names.specs.Namespace.{names_in, scope_of}
-use Rattle.gg_shape.specs.Faults.{along}
+use Rattle.gg_names.specs.Along.{along}
 use Rattle.gg_types.specs.declared.known.Known.{Known}
 use Rattle.gg_types.specs.Clocks.{leads_to_input}
 use Rattle.gg_types.specs.Known.{names_seen, roles_seen, traced_seen}

@@ -8,3 +8,4 @@ pub mod OwnLemmas
 pub mod StepLemmas
 pub mod KnownLemmas
 pub mod WidthLemmas
+mod WorkedRows

@@ -1,7 +1,8 @@
 //! The ports and statements of a module, one after another.
 ghost use Rattle.std.specs.Prelude.{◌≡◌, ◌&&◌, ◌||◌, ◌++◌, [], map, OnOk, length};
 ghost use Rattle.gg_names.specs.Namespace.{names_after};
-ghost use Rattle.gg_shape.specs.Faults.{Answers, along};
+ghost use Rattle.gg_names.specs.Along.{along};
+ghost use Rattle.gg_shape.specs.Faults.{Answers};
 ghost use Rattle.gg_types.specs.Known.{names_seen, roles_seen, traced_seen, owned_seen};
 ghost use Rattle.gg_types.specs.Owned.{port_own};
 ghost use Rattle.gg_types.specs.Types.{port_faults, port_judged, is_clock_input as takes_clock, faults_of, known_after};

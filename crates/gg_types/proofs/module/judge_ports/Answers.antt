@@ -1,6 +1,7 @@
 use Rattle.std.proofs.Common.{◌≡◌, ◌+◌, ◌&&◌, ◌||◌, [], ◌∷◌, ◌++◌, length, map, take, Some, refl, sym, ap, subst, ◌∙◌, rules}
 use Rattle.gg_shape.specs.Faults.{Refuses}
-use Rattle.gg_shape.proofs.FaultLemmas.{left-more, left-refused}
+use Rattle.gg_names.proofs.AlongLemmas.{left-more}
+use Rattle.gg_types.proofs.FaultLemmas.{left-refused}
 use Rattle.gg_types.specs.declared.sort.Own.TheVariants.{Single}
 use Rattle.gg_types.specs.Known.{names_seen}
 use Rattle.gg_types.specs.Named.{owned}

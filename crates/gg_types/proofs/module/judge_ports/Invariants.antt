@@ -1,7 +1,7 @@
 use Rattle.std.proofs.Common.{◌≡◌, map, take, length}
 use Rattle.std.specs.List.{list_any}
-use Rattle.gg_shape.specs.Faults.{along}
-use Rattle.gg_shape.proofs.FaultLemmas.{left}
+use Rattle.gg_names.specs.Along.{along}
+use Rattle.gg_names.proofs.AlongLemmas.{left}
 use Rattle.gg_types.specs.Known.{owned_seen}
 use Rattle.gg_types.specs.Owned.{port_own}
 use Rattle.gg_types.specs.Types.{port_faults, is_clock_input}
