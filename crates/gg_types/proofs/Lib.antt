@@ -9,3 +9,4 @@ pub mod StepLemmas
 pub mod KnownLemmas
 pub mod WidthLemmas
 mod WorkedRows
+mod WorkedModules

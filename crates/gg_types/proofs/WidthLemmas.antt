@@ -364,9 +364,10 @@ judged-wide line name f b types.Clock h = tt
 
 all-ports-wide : (is_top : Bool) (before ports : List Port) → along_from (port_faults is_top) before ports ≡ [] → PortsWide ports
 all-ports-wide is_top before [] h = tt
-all-ports-wide is_top before (p ∷ ps) h =
-    (judged-wide p.line p.name _ _ p.ty (none-front (port_faults is_top before p) (along_from (port_faults is_top) (before ++ p ∷ []) ps) h),
-    all-ports-wide is_top (before ++ p ∷ []) ps (none-back (port_faults is_top before p) (along_from (port_faults is_top) (before ++ p ∷ []) ps) h))
+all-ports-wide is_top before (p ∷ ps) h = (
+  judged-wide p.line p.name _ _ p.ty (none-front (port_faults is_top before p) (along_from (port_faults is_top) (before ++ p ∷ []) ps) h),
+  all-ports-wide is_top (before ++ p ∷ []) ps (none-back (port_faults is_top before p) (along_from (port_faults is_top) (before ++ p ∷ []) ps) h),
+)
 
 port-own-wide : (ports : List Port) → PortsWide ports → KnownWide (map port_own ports)
 port-own-wide [] h = tt
@@ -381,9 +382,10 @@ module _ (circuit : CircuitTree) where
 
   all-modules : (ms : List ModuleTree) → flat_map (faults_of_module circuit) ms ≡ [] → ModulesWide ms
   all-modules [] h = tt
-  all-modules (m ∷ ms) h =
-      (module-ports m (none-front (faults_of_module circuit m) (flat_map (faults_of_module circuit) ms) h),
-      all-modules ms (none-back (faults_of_module circuit m) (flat_map (faults_of_module circuit) ms) h))
+  all-modules (m ∷ ms) h = (
+    module-ports m (none-front (faults_of_module circuit m) (flat_map (faults_of_module circuit) ms) h),
+    all-modules ms (none-back (faults_of_module circuit m) (flat_map (faults_of_module circuit) ms) h),
+  )
 
   each-module : (ms : List ModuleTree) → flat_map (faults_of_module circuit) ms ≡ [] → (k : ℕ) (d : ModuleTree) → k < length ms → faults_of_module circuit (get_or ms k d) ≡ []
   each-module [] h k d lt = absurd (omega arith)

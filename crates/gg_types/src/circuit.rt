@@ -10,11 +10,11 @@ ghost use Rattle.gg_types.specs.Typed.{TellsOwn, TellModules};
 ghost use Rattle.gg_types.specs.Types.{module_type_faults, faults_of_module, type_faults};
 ghost use Rattle.gg_walk.specs.Graph.{IsOrderOf, IsRing};
 
+use crate::checked::Typed;
 use crate::clocks::trace;
 use crate::known::Known;
 use crate::module::judge_all;
 use crate::sort::Own;
-use crate::checked::Typed;
 use gg_ast::Module;
 use gg_bits::Items;
 use gg_names::Namespace;

@@ -12,6 +12,7 @@
 //! stands on this crate.
 #![tactic(auto)]
 
+mod checked;
 mod circuit;
 mod clocks;
 mod expression;
@@ -24,10 +25,9 @@ mod places;
 mod results;
 mod sort;
 mod statement;
-mod checked;
 
+pub use checked::Typed;
 pub use circuit::{TypeFault, typed};
 pub use literals::literal;
 pub use places::is_width;
 pub use sort::{Sort, Typing};
-pub use checked::Typed;
