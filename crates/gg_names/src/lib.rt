@@ -28,6 +28,6 @@ pub use fault::{NamesFault, Repetition};
 pub use namespace::Namespace;
 pub use reference::{connection, declared_name, first_name, written};
 pub use role::{
-    PortField, PortKind, Role, has_value, instance_port_role, is_answer, is_sink, is_source,
-    needs_connection, port_role,
+    PortField, PortKind, Role, field_text, has_value, instance_port_role, is_answer, is_sink,
+    is_source, needs_connection, port_fields, port_role,
 };

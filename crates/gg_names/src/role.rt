@@ -1,6 +1,6 @@
 //! Roles of names.
 ghost use Rattle.std.specs.Prelude.{◌≡◌, not};
-ghost use Rattle.gg_names.specs.Memory.{is_answer as answers};
+ghost use Rattle.gg_names.specs.Memory.{is_answer as answers, port_fields as fields_of, field_name};
 ghost use Rattle.gg_names.specs.Namespace.{role_of_port, role_of_instance_port, has_value as stands_for_value, is_sink as takes_connection, is_source as has_own_value, needs_connection as must_be_connected};
 
 use gg_ast::{Direction, GroundType};
@@ -149,5 +149,39 @@ pub fn needs_connection(role: Role) -> bool
         | Role::Instance
         | Role::Memory
         | Role::InstanceOutput(_) => false,
+    }
+}
+
+/// The fields of a port, in the order in which they are told.
+pub fn port_fields(kind: PortKind) -> &'static [PortField]
+    ensures { result.now ≡ fields_of kind }
+{
+    match kind {
+        PortKind::Reader => &[
+            PortField::Addr,
+            PortField::En,
+            PortField::Clk,
+            PortField::Data,
+        ],
+        PortKind::Writer => &[
+            PortField::Addr,
+            PortField::En,
+            PortField::Clk,
+            PortField::Data,
+            PortField::Mask,
+        ],
+    }
+}
+
+/// How a field is written.
+pub fn field_text(field: PortField) -> &'static str
+    ensures { result.now ≡ field_name field }
+{
+    match field {
+        PortField::Addr => "addr",
+        PortField::En => "en",
+        PortField::Clk => "clk",
+        PortField::Data => "data",
+        PortField::Mask => "mask",
     }
 }
