@@ -35,7 +35,7 @@ use Rattle.gg_shape.specs.declared.fault.Fault.{Fault}
 use Rattle.gg_shape.specs.declared.fault.Word.{Word}
 use Rattle.gg_shape.specs.declared.fault.Word.TheVariants as words
 use Rattle.gg_names.specs.Along.{along, along_from}
-use Rattle.gg_shape.specs.Shape.{fault_if}
+use Rattle.gg_shape.specs.Faults.{fault_if}
 use Rattle.gg_types.specs.declared.sort.Own.{Own}
 use Rattle.gg_types.specs.declared.sort.Own.TheVariants as own
 use Rattle.gg_types.specs.declared.sort.Sort.{Sort}
