@@ -1,6 +1,6 @@
 -- What `types` answers: a circuit without faults, with the order of its modules.
 -- Sources: FIRRTL Specification, "Ground Types", "Instances".
-use Rattle.std.specs.Prelude.{◌≡◌, ℕ, ◌<◌, List, [], ◌∷◌, length, slice_index_or}
+use Rattle.std.specs.Prelude.{◌≡◌, ℕ, ◌<◌, List, [], length, slice_index_or}
 use Rattle.gg_bits.specs.Shape.{shape}
 use Rattle.gg_ast.specs.Tree.{CircuitTree, ModuleTree}
 use Rattle.gg_names.specs.Modules.{module_at, Holds}
