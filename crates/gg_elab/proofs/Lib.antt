@@ -5,3 +5,13 @@ pub mod ConnectionLemmas
 pub mod LineLemmas
 pub mod BuildLemmas
 pub mod WholeLineLemmas
+pub mod PairwiseLemmas
+pub mod AlikeLemmas
+pub mod HeldLemmas
+pub mod RunLemmas
+pub mod SameLemmas
+mod WorkedParts
+mod WorkedCounter
+mod WorkedText
+mod WorkedHierarchy
+mod WorkedTree
