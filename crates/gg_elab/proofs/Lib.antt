@@ -4,4 +4,10 @@ pub mod NameLemmas
 pub mod ConnectionLemmas
 pub mod LineLemmas
 pub mod BuildLemmas
+pub mod PlacedLemmas
+pub mod ListLemmas
+pub mod DigestLemmas
+pub mod WholeLemmas
+pub mod FlatLemmas
+pub mod ScopeLemmas
 pub mod WholeLineLemmas

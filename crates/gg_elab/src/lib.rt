@@ -9,6 +9,7 @@ mod expression;
 mod fault;
 mod known;
 mod lines;
+mod lookup;
 mod memories;
 mod names;
 mod own;
