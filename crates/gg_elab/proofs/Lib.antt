@@ -4,6 +4,12 @@ pub mod NameLemmas
 pub mod ConnectionLemmas
 pub mod LineLemmas
 pub mod BuildLemmas
+pub mod PlacedLemmas
+pub mod ListLemmas
+pub mod DigestLemmas
+pub mod WholeLemmas
+pub mod FlatLemmas
+pub mod ScopeLemmas
 pub mod WholeLineLemmas
 pub mod PairwiseLemmas
 pub mod AlikeLemmas

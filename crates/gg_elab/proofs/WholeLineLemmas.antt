@@ -10,7 +10,7 @@ use Rattle.gg_bits.specs.declared.types.Kind.TheVariants.{UInt, SInt}
 use Rattle.gg_bits.specs.Shape.{Shape, shape, uint, of_kind, number}
 use Rattle.gg_bits.specs.Value.{pattern_of, number_of}
 use Rattle.gg_bits.specs.Meaning.{extended}
-use Rattle.gg_bits.specs.ResultType.{same_kind, is_condition}
+use Rattle.gg_bits.specs.ResultType.{same_kind, is_condition, is_uint}
 use Rattle.gg_ast.specs.Term.{Term}
 use Rattle.gg_flat.specs.declared.line.Node.{Node}
 use Rattle.gg_flat.specs.declared.line.Op.{Op}
@@ -139,6 +139,44 @@ module _ (w : Where) (nodes : List Node) (e : Term) (k : ℕ) (h : Added w [] no
         line = record { some = omega (arith, ap (λ (l : List Node). length l) c.added, length-push nodes c.node); typed = zero_typed nodes new sink c w whole_typed };
         kind = ap (λ (s : Shape). s.kind) (zero_shape nodes new sink c);
         width = omega (arith, ap (λ (s : Shape). s.width) (zero_shape nodes new sink c));
+      }
+
+  uint_only : (k : Kind) → is_uint k ≡ true → k ≡ UInt
+  uint_only UInt e = refl
+  uint_only SInt e = absurd (cc)
+
+  -- the line, cut for a condition, is one
+  pub condition_stands : (new : List Node) → IsCut (is_condition (shape_of w e)) nodes (uint 1) new → IsConditionOf w.types w.signals w.scope e new
+  condition_stands new c = go (is_condition (shape_of w e)) refl c
+    where
+      go : (b : Bool) → is_condition (shape_of w e) ≡ b → IsCut b nodes (uint 1) new → IsConditionOf w.types w.signals w.scope e new
+      go true t c = record {
+        value = λ values.
+            ap (λ (l : List Node). line_value values l) c
+            ∙ whole_value values
+            ∙ sym (ap (λ b. if b then value_of w values e else 0) t);
+        names = λ s. (λ n. whole_names s (subst (λ (l : List Node). Names l s) c n), λ n. subst (λ (l : List Node). Names l s) (sym c) (h.stands.named s n));
+      }
+      go false t c = record {
+        value = λ values. zero_value nodes new (uint 1) c values ∙ sym (ap (λ b. if b then value_of w values e else 0) t);
+        names = λ s. (λ n. whole_names s (zero_names nodes new (uint 1) c s n), λ n. old_names nodes new (uint 1) c s (h.stands.named s n));
+      }
+
+  pub condition_fits : (new : List Node) → IsCut (is_condition (shape_of w e)) nodes (uint 1) new → IsCondition (HasType w.signals.shapes) new
+  condition_fits new c = go (is_condition (shape_of w e)) refl c
+    where
+      go : (b : Bool) → is_condition (shape_of w e) ≡ b → IsCut b nodes (uint 1) new → IsCondition (HasType w.signals.shapes) new
+      go true t c =
+          let kind : (shape_of w e).kind ≡ UInt = uint_only (shape_of w e).kind (and-left (is_uint (shape_of w e).kind) ((shape_of w e).width == 1) t) in
+          let narrow : ((shape_of w e).width == 1) ≡ true = and-right (is_uint (shape_of w e).kind) ((shape_of w e).width == 1) t in
+          let one : (shape_of w e).width ≡ 1 = grind (arith, nat_tests) in
+          subst (λ (l : List Node). IsCondition (HasType w.signals.shapes) l) (sym c) (record {
+            line = whole_line;
+            bit = whole_shape ∙ ap (λ (k : Kind). of_kind k (shape_of w e).width) kind ∙ ap (of_kind UInt) one;
+          })
+      go false t c = record {
+        line = record { some = omega (arith, ap (λ (l : List Node). length l) c.added, length-push nodes c.node); typed = zero_typed nodes new (uint 1) c w whole_typed };
+        bit = zero_shape nodes new (uint 1) c;
       }
 
 -- a line of 0 alone gives what no connection and `is invalid` give

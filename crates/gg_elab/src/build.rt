@@ -1,5 +1,5 @@
 //! The flat circuit, signal by signal.
-ghost use Rattle.std.specs.Prelude.{◌≡◌, ◌<◌, ◌-◌, ◌^◌, ℕ, List, ◌++◌, ◌∷◌, [], None, codes, length, map, IfOk, OnOk, IfSome, All, option_copied};
+ghost use Rattle.std.specs.Prelude.{◌≡◌, ◌<◌, ◌-◌, ◌^◌, ℕ, List, ◌++◌, ◌∷◌, [], None, ◌+◌, if◌then◌else◌, codes, length, map, IfOk, OnOk, IfSome, All, option_copied};
 ghost use Rattle.gg_bits.specs.Shape.{shape};
 ghost use Rattle.gg_elab.specs.Flat.{drive_of, input_drive, FlatSignal, flat_signal, signals_at, flat_signals, Gets};
 ghost use Rattle.gg_flat.specs.Circuit.{no_circuit};
@@ -139,6 +139,7 @@ fn input<'a>(
     inputs: u32,
     states: u32,
 ) -> Result<Made, ElabFault>
+    requires even { length table.now.types.items ≡ length table.now.paths }
     requires digests { AreDigests (types_of typed.now.circuit) typed.now.circuit.modules digests.now }
     requires around { IfSome place.now.outer (λ around. around.number < length typed.now.circuit.modules) }
     ensures { IfOk result (λ made. IsMade (types_of typed.now.circuit) (table_signals table.now) table.now.memories inputs states (shape ty) (input_drive typed.now.circuit.modules (site_of place.now).outer name.now) made.driver made.register) }
@@ -173,6 +174,7 @@ fn make<'a>(
     inputs: u32,
     states: u32,
 ) -> Result<Made, ElabFault>
+    requires even { length table.now.types.items ≡ length table.now.paths }
     requires digests { AreDigests (types_of typed.now.circuit) typed.now.circuit.modules digests.now }
     requires number { place.now.number < length typed.now.circuit.modules }
     requires around { IfSome place.now.outer (λ around. around.number < length typed.now.circuit.modules) }
@@ -227,13 +229,14 @@ fn add_made(piece: &mut Piece, path: Name, ty: Ty, made: Made) -> Result<(), Ela
     }
 }
 
-// Whether a driver is an input.
-fn is_input(driver: &Driver) -> bool
-    ensures { result ≡ is_input_driver driver.now }
+// How many inputs there are with this driver, which may be one.
+fn with_input(inputs: u32, driver: &Driver) -> u32
+    requires { inputs < 2 ^ 32 - 1 }
+    ensures { result ≡ (if is_input_driver driver.now then inputs + 1 else inputs) }
 {
     match driver {
-        Driver::Input(_) => true,
-        _ => false,
+        Driver::Input(_) => inputs + 1,
+        _ => inputs,
     }
 }
 
@@ -248,6 +251,7 @@ fn add_signal<'a>(
     inputs: u32,
     piece: &mut Piece,
 ) -> Result<u32, ElabFault>
+    requires even { length table.now.types.items ≡ length table.now.paths }
     requires digests { AreDigests (types_of typed.now.circuit) typed.now.circuit.modules digests.now }
     requires number { place.now.number < length typed.now.circuit.modules }
     requires around { IfSome place.now.outer (λ around. around.number < length typed.now.circuit.modules) }
@@ -261,7 +265,7 @@ fn add_signal<'a>(
         return Err(ElabFault::NoMemory);
     }
     let made = make(alloc, typed, table, digests, place, signal, inputs, states)?;
-    let more = if is_input(&made.driver) { inputs + 1 } else { inputs };
+    let more = with_input(inputs, &made.driver);
     let path = joined(alloc, &place.path, &signal.name)?;
     add_made(piece, path, signal.ty, made)?;
     Ok(more)
@@ -277,6 +281,7 @@ fn add_site<'a>(
     inputs: u32,
     piece: &mut Piece,
 ) -> Result<u32, ElabFault>
+    requires even { length table.now.types.items ≡ length table.now.paths }
     requires digests { AreDigests (types_of typed.now.circuit) typed.now.circuit.modules digests.now }
     requires number { place.now.number < length typed.now.circuit.modules }
     requires around { IfSome place.now.outer (λ around. around.number < length typed.now.circuit.modules) }
@@ -299,6 +304,7 @@ pub(crate) fn add_sites<'a>(
     places: &[Place<'a>],
     piece: &mut Piece,
 ) -> Result<(), ElabFault>
+    requires even { length table.now.types.items ≡ length table.now.paths }
     requires digests { AreDigests (types_of typed.now.circuit) typed.now.circuit.modules digests.now }
     requires places { All (IsPlaceIn (length typed.now.circuit.modules)) places.now }
     requires empty { piece.old ≡ no_circuit }

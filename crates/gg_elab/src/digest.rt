@@ -1,9 +1,9 @@
 //! What each module says, read once.
-ghost use Rattle.std.specs.Prelude.{◌≡◌, ◌<◌, ◌^◌, map, length, option_map, IfOk};
+ghost use Rattle.std.specs.Prelude.{◌≡◌, ◌<◌, ◌^◌, map, length, option_map, option_to_list, ◌++◌, IfOk, OnOk};
 ghost use Rattle.gg_count.specs.Sites.{held_by, held_by_kind, module_at};
 ghost use Rattle.gg_elab.specs.Known.{types_of};
-ghost use Rattle.gg_elab.specs.Signals.{own_banks};
-ghost use Rattle.gg_elab.specs.Views.{held_of, own_bank_of, IsDigest, AreDigests};
+ghost use Rattle.gg_elab.specs.Signals.{own_bank, own_banks, bank_of_kind};
+ghost use Rattle.gg_elab.specs.Views.{held_of, own_bank_of, bank_seen, IsDigest, AreDigests};
 
 use crate::connections::{Sinks, connections};
 use crate::fault::ElabFault;
@@ -52,12 +52,26 @@ fn instances<'a>(
 {
     let mut instances = Vec::new(alloc);
     for statement in statements {
-        if let Some(instance) = instance_of(circuit, &statement.kind) {
-            instances.reserve(1)?;
-            instances.push_reserved(instance);
-        }
+        add_instance(&mut instances, instance_of(circuit, &statement.kind))?;
     }
     Ok(instances)
+}
+
+// Adds an instance, if there is one.
+fn add_instance<'a>(
+    instances: &mut Vec<Instance<'a>>,
+    instance: Option<Instance<'a>>,
+) -> Result<(), ElabFault>
+    ensures { OnOk result (map held_of instances.new.items ≡ map held_of instances.old.items ++ option_to_list (option_map held_of instance.entry)) }
+{
+    match instance {
+        None => Ok(()),
+        Some(instance) => {
+            instances.reserve(1)?;
+            instances.push_reserved(instance);
+            Ok(())
+        }
+    }
 }
 
 // The instance that a statement makes, where its module is there.
@@ -83,14 +97,44 @@ fn memories<'a>(
 {
     let mut memories = Vec::new(alloc);
     for statement in statements {
-        if let StmtKind::Memory { name, fields } = &statement.kind {
-            if let Some(bank) = bank_of(alloc, fields.as_slice())? {
-                memories.reserve(1)?;
-                memories.push_reserved(OwnMemory { name, bank });
-            }
-        }
+        add_statement_memory(alloc, &mut memories, &statement.kind)?;
     }
     Ok(memories)
+}
+
+// Adds the memory of a statement, if it makes one.
+fn add_statement_memory<'a>(
+    alloc: Global,
+    memories: &mut Vec<OwnMemory<'a>>,
+    kind: &'a StmtKind,
+) -> Result<(), ElabFault>
+    ensures { OnOk result (map own_bank_of memories.new.items ≡ map own_bank_of memories.old.items ++ option_to_list (bank_of_kind kind.now)) }
+{
+    match kind {
+        StmtKind::Memory { name, fields } => {
+            let bank = bank_of(alloc, fields.as_slice())?;
+            add_memory(memories, name, bank)
+        }
+        _ => Ok(()),
+    }
+}
+
+// Adds a memory of this name, if there is one.
+fn add_memory<'a>(
+    memories: &mut Vec<OwnMemory<'a>>,
+    name: &'a Name,
+    bank: Option<Bank<'a>>,
+) -> Result<(), ElabFault>
+    ensures { OnOk result (map own_bank_of memories.new.items ≡ map own_bank_of memories.old.items ++ option_to_list (option_map (own_bank name.now) (option_map bank_seen bank.entry))) }
+{
+    match bank {
+        None => Ok(()),
+        Some(bank) => {
+            memories.reserve(1)?;
+            memories.push_reserved(OwnMemory { name, bank });
+            Ok(())
+        }
+    }
 }
 
 // What the module at a place says.
@@ -126,8 +170,8 @@ pub(crate) fn digests<'a>(
     let circuit = typed.circuit();
     let modules = circuit.modules();
     let mut digests = Vec::new(alloc);
-    for (number, body) in modules.iter().enumerate() {
-        let next = digest_of(alloc, typed, circuit, number as u32, body)?;
+    for body in modules {
+        let next = digest_of(alloc, typed, circuit, digests.len() as u32, body)?;
         digests.reserve(1)?;
         digests.push_reserved(next);
     }

@@ -5,7 +5,8 @@ ghost use Rattle.gg_ast.specs.Term.{NamedTerm, ConstantTerm};
 ghost use Rattle.gg_elab.specs.Growing.{where_of, shape_of, IsZeroNode, IsResultNode, IsPlaced, Added};
 
 use crate::fault::ElabFault;
-use crate::scope::{Scope, find};
+use crate::lookup::find;
+use crate::scope::Scope;
 use gg_ast::{Expr, ExprKind, Literal, Reference};
 use gg_bits::{Bad, Kind, Ty, Val, result_const, result_mux, result1, result2};
 use gg_flat::{Line, Node, Op};

@@ -10,6 +10,7 @@ mod fault;
 mod known;
 mod laws;
 mod lines;
+mod lookup;
 mod memories;
 mod names;
 mod own;

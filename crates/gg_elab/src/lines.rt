@@ -1,9 +1,10 @@
 //! The lines of the flat circuit.
 ghost use Rattle.std.specs.Prelude.{◌≡◌, ◌∷◌, [], IfOk, OnOk};
-ghost use Rattle.gg_bits.specs.Shape.{shape, uint};
+ghost use Rattle.gg_bits.specs.Shape.{shape};
 ghost use Rattle.gg_flat.specs.Line.{HasType, IsSource, IsCondition};
 ghost use Rattle.gg_elab.specs.Growing.{where_of, shape_of, Added, IsCut, IsZeroOf};
 ghost use Rattle.gg_elab.specs.IsFlat.{IsLineFor, IsLineOf, IsConditionOf};
+ghost use Rattle.gg_bits.specs.ResultType.{is_condition};
 ghost use Rattle.gg_elab.specs.Meaning.{takes as takes_shape};
 ghost use Rattle.gg_elab.specs.Views.{seen};
 
@@ -34,14 +35,22 @@ fn add_zero_of(line: &mut Line, ty: Ty) -> Result<(), AllocError>
     Ok(())
 }
 
-// The line, where the sink takes its value; else the same with a 0 of the sink's type behind it.
-fn cut(line: Line, found: Ty, sink: Ty) -> Result<Line, ElabFault>
-    ensures { IfOk result (IsCut (takes_shape (shape sink) (shape found)) line (shape sink)) }
+// Whether a type is that of a condition.
+fn is_bit(ty: Ty) -> bool
+    ensures { result ≡ is_condition (shape ty) }
 {
-    let mut line = line;
-    if !takes(sink, found) {
-        add_zero_of(&mut line, sink)?;
+    ty.kind == Kind::UInt && ty.width == 1
+}
+
+// The line, where its value can be taken; else the same with a 0 of this type behind it.
+fn cut(line: Line, taken: bool, sink: Ty) -> Result<Line, ElabFault>
+    ensures { IfOk result (IsCut taken line (shape sink)) }
+{
+    if taken {
+        return Ok(line);
     }
+    let mut line = line;
+    add_zero_of(&mut line, sink)?;
     Ok(line)
 }
 
@@ -57,7 +66,7 @@ pub(crate) fn value_line(
 {
     let mut line = Line::new(alloc);
     let stand = add_expression(alloc, scope, &mut line, e)?;
-    cut(line, stand.ty, ty)
+    cut(line, takes(ty, stand.ty), ty)
 }
 
 /// The line that gives a sink of this type what it is connected to.
@@ -92,8 +101,5 @@ pub(crate) fn condition_line(
     let bit = Ty::new(Kind::UInt, 1);
     let mut line = Line::new(alloc);
     let stand = add_expression(alloc, scope, &mut line, e)?;
-    if stand.ty.kind != Kind::UInt || stand.ty.width != 1 {
-        add_zero_of(&mut line, bit)?;
-    }
-    Ok(line)
+    cut(line, is_bit(stand.ty), bit)
 }

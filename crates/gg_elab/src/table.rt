@@ -85,6 +85,7 @@ pub(crate) fn table_of(
     requires digests { AreDigests (types_of typed.now.circuit) typed.now.circuit.modules digests.now }
     requires numbers { All (λ place. place.number < length typed.now.circuit.modules) places.now }
     ensures signals { IfOk result (λ table. table_signals table ≡ signals_of (flat_signals (types_of typed.now.circuit) typed.now.circuit.modules (map site_of places.now))) }
+    ensures even { IfOk result (λ table. length table.types.items ≡ length table.paths) }
     ensures memories { IfOk result (λ table. table.memories ≡ memory_paths (flat_memories typed.now.circuit.modules (map site_of places.now))) }
 {
     let mut table = Table {

@@ -1,4 +1,6 @@
 use Rattle.gg_elab.proofs.SiteLemmas.{grown-all}
+use Rattle.gg_elab.proofs.WholeLemmas.{whole}
+use Rattle.gg_elab.proofs.FlatLemmas.{table-even}
 use Rattle.gg_elab.proofs.ConnectionLemmas.{noted}
 use Rattle.gg_elab.proofs.BuildLemmas.{so_far-begun}
 use Rattle.gg_elab.proofs.WholeLineLemmas.{no_names}
