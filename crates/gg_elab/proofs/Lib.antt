@@ -1,25 +1,23 @@
-pub mod LineLemmas
-pub mod PlaceLemmas
+pub mod WorkedCircuits
+pub mod SiteLemmas
 pub mod NameLemmas
-pub mod TableLemmas
-pub mod WholeLineLemmas
+pub mod ConnectionLemmas
+pub mod LineLemmas
 pub mod BuildLemmas
+pub mod PlacedLemmas
+pub mod ListLemmas
+pub mod DigestLemmas
+pub mod WholeLemmas
 pub mod FlatLemmas
-pub mod AgreementLemmas
-pub mod ScopeAgreement
-pub mod SoundLemmas
-mod WorkedCircuits
-pub mod ConnectedLemmas
-pub mod DeclaredLemmas
-pub mod FitLemmas
-pub mod StepLemmas
-pub mod DeclareSteps
-pub mod FrontLemmas
-pub mod SoundScope
-pub mod SoundDeclarations
-pub mod FaultlessLemmas
-pub mod NamedLemmas
-pub mod SameLemmas
-pub mod PairLemmas
+pub mod ScopeLemmas
+pub mod WholeLineLemmas
+pub mod PairwiseLemmas
+pub mod AlikeLemmas
+pub mod HeldLemmas
 pub mod RunLemmas
-pub mod PieceLemmas
+pub mod SameLemmas
+mod WorkedParts
+mod WorkedCounter
+mod WorkedText
+mod WorkedHierarchy
+mod WorkedTree

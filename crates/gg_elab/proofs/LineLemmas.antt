@@ -1,30 +1,33 @@
 -- Laws of a line that gets one more node.
-use Rattle.std.proofs.Common.{◌≡◌, ℕ, zero, suc, ◌+◌, ◌<◌, ◌≤◌, List, [], ◌∷◌, ◌++◌, length, map, refl, sym, ap, ◌∙◌, subst, arith, inl, inr, ◌⊎◌, append_assoc, below_more}
-use Rattle.std.specs.Prelude.{Some, Ok, Option, unwrap_or, fold, slice_index_or, Contains}
+use Rattle.std.proofs.Common.{◌≡◌, ℕ, zero, suc, ◌+◌, ◌-◌, ◌<◌, ◌≤◌, List, [], ◌∷◌, ◌++◌, length, map, refl, sym, ap, ◌∙◌, subst, arith, inl, inr, ◌⊎◌, append_assoc, below_more, Result, Ok, Err, Option, Some, None}
+use Rattle.std.specs.Prelude.{fold, slice_index_or, Contains}
 use Rattle.std.proofs.lemmas.List.{map-append, length-append, length-map, get_or_append_left}
 use Rattle.std.proofs.Math.Seq.{get_or-append_seam}
 use Rattle.std.proofs.lemmas.List.Sums.{fold-append}
 use Rattle.std.proofs.lemmas.List.Elements.{Contains-append_left, Contains-append_right, Contains-append_cases}
-use Rattle.gg_bits.specs.Shape.{Shape, shape, uint, Fits}
-use Rattle.gg_flat.specs.declared.line.Node.{Node}
-use Rattle.gg_flat.specs.declared.line.Op.{Op}
-use Rattle.gg_flat.specs.declared.line.Op.TheVariants.{Ref, Literal, Mux}
+use Rattle.std.proofs.lemmas.Nat.{pow_pos}
+use Rattle.gg_bits.specs.declared.types.Bad.{Bad}
+use Rattle.gg_bits.specs.declared.types.Ty.{Ty}
 use Rattle.gg_bits.specs.declared.types.Val.{Val}
-use Rattle.gg_ast.specs.declared.expression.Reference.{Reference}
-use Rattle.gg_ast.specs.declared.expression.Literal as literals
-use Rattle.gg_ast.specs.Term as terms
-use Rattle.gg_types.specs.Literal.{literal_value}
-use Rattle.gg_types.specs.Types.{literal_shape}
-use Rattle.gg_flat.specs.declared.line.Op.TheVariants as flat
 use Rattle.gg_bits.specs.declared.ops.Op1.{Op1}
 use Rattle.gg_bits.specs.declared.ops.Op2.{Op2}
 use Rattle.gg_bits.specs.declared.ops.OpN.{OpN}
 use Rattle.gg_bits.specs.ResultType.{type1, type2, type_const, type_mux}
+use Rattle.gg_bits.specs.Meaning.{value1, value2, value_const, value_mux}
+use Rattle.gg_bits.specs.Shape.{Shape, shape, shape_of as shape_found, uint, Fits}
+use Rattle.gg_ast.specs.declared.expression.Reference.{Reference}
+use Rattle.gg_ast.specs.declared.expression.Literal as literals
+use Rattle.gg_ast.specs.Term.{Term, NamedTerm, ConstantTerm, UnaryTerm, BinaryTerm, FixedTerm, MuxTerm}
+use Rattle.gg_flat.specs.declared.line.Node.{Node}
+use Rattle.gg_flat.specs.declared.line.Op.{Op}
+use Rattle.gg_flat.specs.declared.line.Op.TheVariants.{Ref, Literal, Mux}
+use Rattle.gg_flat.specs.declared.line.Op.TheVariants as flat
 use Rattle.gg_flat.specs.Line.{shape_at, value_at, shapes_of, op_at, op_value, with_node, node_values, HasShape, HasType}
 use Rattle.gg_flat.specs.Reads.{Names}
-use Rattle.gg_ast.specs.Term.{Term, ConstantTerm, UnaryTerm, BinaryTerm, FixedTerm, MuxTerm}
-use Rattle.gg_elab.specs.Expression.{Signals, named, shape_of_term, term_shape, term_value, TermNames}
-use Rattle.gg_elab.specs.Lines.{HaveShapes, StandsFor, Added}
+use Rattle.gg_types.specs.Literal.{literal_value}
+use Rattle.gg_types.specs.Types.{literal_shape}
+use Rattle.gg_elab.specs.Meaning.{named, accepted, value_if}
+use Rattle.gg_elab.specs.Growing.{Where, shape_of, value_of, NamesIn, IsZeroNode, IsResultNode, HaveShapes, StandsFor, Added}
 
 -- ---- lists
 
@@ -122,11 +125,10 @@ shapes_of-before nodes n more = ap (λ l. l ++ more) (shapes_of-push nodes n) �
 
 -- ---- what stands for an expression still does with one more node
 
-pub StandsFor-push : (signals : Signals) (nodes : List Node) (n : Node) (k : ℕ) (e : Term) (to : Shape) → StandsFor signals nodes k e to → StandsFor signals (nodes ++ n ∷ []) k e to
-StandsFor-push signals nodes n k e to h = record {
+pub StandsFor-push : (w : Where) (nodes : List Node) (n : Node) (k : ℕ) (e : Term) → StandsFor w nodes k e → StandsFor w (nodes ++ n ∷ []) k e
+StandsFor-push w nodes n k e h = record {
   within = omega (arith, h.within, length-push nodes n);
   node = shape_at-push nodes n k h.within ∙ h.node;
-  shape = h.shape;
   value = λ values more.
       ap (λ l. value_at (node_values values l (nodes ++ n ∷ [])) k) (shapes_of-before nodes n more)
       ∙ value_at-push values (shapes_of nodes ++ (shape n.ty ∷ more)) nodes n k h.within
@@ -150,43 +152,41 @@ HasShape-push Named nodes n k to (flat.Two op i j) le h = (h.0, h.1, rw (shape_a
 HasShape-push Named nodes n k to (flat.Fix op i p q) le h = (h.0, rw (shape_at-push nodes n i (omega arith)) h.1)
 HasShape-push Named nodes n k to (Mux c i j) le h = (h.0, h.1, h.2, rw (shape_at-push nodes n c (omega arith), shape_at-push nodes n i (omega arith), shape_at-push nodes n j (omega arith)) h.3)
 
-abbrev HoldsAt : Signals → List Node → ℕ → Shape → Op → Type 0
-HoldsAt signals nodes k to op = HasShape (HasType signals.shapes) (shapes_of nodes) k to op
+abbrev HoldsAt : Where → List Node → ℕ → Shape → Op → Type 0
+HoldsAt w nodes k to op = HasShape (HasType w.signals.shapes) (shapes_of nodes) k to op
 
 -- with one more node of its shape, each node has its shape
-pub HaveShapes-push : (signals : Signals) (nodes : List Node) (n : Node) → HasShape (HasType signals.shapes) (shapes_of nodes) (length nodes) (shape n.ty) n.op → HaveShapes signals nodes → HaveShapes signals (nodes ++ n ∷ [])
-HaveShapes-push signals nodes n own h = λ k lt. at k (omega (arith, lt, length-push nodes n))
+pub HaveShapes-push : (w : Where) (nodes : List Node) (n : Node) → HasShape (HasType w.signals.shapes) (shapes_of nodes) (length nodes) (shape n.ty) n.op → HaveShapes w nodes → HaveShapes w (nodes ++ n ∷ [])
+HaveShapes-push w nodes n own h = λ k lt. at k (omega (arith, lt, length-push nodes n))
   where
-    old : (k : ℕ) → k < length nodes → HoldsAt signals (nodes ++ n ∷ []) k (shape_at (shapes_of (nodes ++ n ∷ [])) k) (op_at (nodes ++ n ∷ []) k)
+    old : (k : ℕ) → k < length nodes → HoldsAt w (nodes ++ n ∷ []) k (shape_at (shapes_of (nodes ++ n ∷ [])) k) (op_at (nodes ++ n ∷ []) k)
     old k lt =
-        let at_old = HasShape-push (HasType signals.shapes) nodes n k (shape_at (shapes_of nodes) k) (op_at nodes k) (omega arith) (h k lt) in
-        subst (λ (to : Shape). HoldsAt signals (nodes ++ n ∷ []) k to (op_at (nodes ++ n ∷ []) k)) (sym (shape_at-push nodes n k lt))
-        (subst (λ (op : Op). HoldsAt signals (nodes ++ n ∷ []) k (shape_at (shapes_of nodes) k) op) (sym (op_at-push nodes n k lt)) at_old)
+        let at_old = HasShape-push (HasType w.signals.shapes) nodes n k (shape_at (shapes_of nodes) k) (op_at nodes k) (omega arith) (h k lt) in
+        subst (λ (to : Shape). HoldsAt w (nodes ++ n ∷ []) k to (op_at (nodes ++ n ∷ []) k)) (sym (shape_at-push nodes n k lt))
+        (subst (λ (op : Op). HoldsAt w (nodes ++ n ∷ []) k (shape_at (shapes_of nodes) k) op) (sym (op_at-push nodes n k lt)) at_old)
 
-    last : HoldsAt signals (nodes ++ n ∷ []) (length nodes) (shape_at (shapes_of (nodes ++ n ∷ [])) (length nodes)) (op_at (nodes ++ n ∷ []) (length nodes))
+    last : HoldsAt w (nodes ++ n ∷ []) (length nodes) (shape_at (shapes_of (nodes ++ n ∷ [])) (length nodes)) (op_at (nodes ++ n ∷ []) (length nodes))
     last =
-        let at_last = HasShape-push (HasType signals.shapes) nodes n (length nodes) (shape n.ty) n.op (omega arith) own in
-        subst (λ (to : Shape). HoldsAt signals (nodes ++ n ∷ []) (length nodes) to (op_at (nodes ++ n ∷ []) (length nodes))) (sym (shape_at-last nodes n))
-        (subst (λ (op : Op). HoldsAt signals (nodes ++ n ∷ []) (length nodes) (shape n.ty) op) (sym (op_at-last nodes n)) at_last)
+        let at_last = HasShape-push (HasType w.signals.shapes) nodes n (length nodes) (shape n.ty) n.op (omega arith) own in
+        subst (λ (to : Shape). HoldsAt w (nodes ++ n ∷ []) (length nodes) to (op_at (nodes ++ n ∷ []) (length nodes))) (sym (shape_at-last nodes n))
+        (subst (λ (op : Op). HoldsAt w (nodes ++ n ∷ []) (length nodes) (shape n.ty) op) (sym (op_at-last nodes n)) at_last)
 
-    at : (k : ℕ) → k < length nodes + 1 → HoldsAt signals (nodes ++ n ∷ []) k (shape_at (shapes_of (nodes ++ n ∷ [])) k) (op_at (nodes ++ n ∷ []) k)
-    at = below_more (λ (k : ℕ). HoldsAt signals (nodes ++ n ∷ []) k (shape_at (shapes_of (nodes ++ n ∷ [])) k) (op_at (nodes ++ n ∷ []) k)) (length nodes) old last
+    at : (k : ℕ) → k < length nodes + 1 → HoldsAt w (nodes ++ n ∷ []) k (shape_at (shapes_of (nodes ++ n ∷ [])) k) (op_at (nodes ++ n ∷ []) k)
+    at = below_more (λ (k : ℕ). HoldsAt w (nodes ++ n ∷ []) k (shape_at (shapes_of (nodes ++ n ∷ [])) k) (op_at (nodes ++ n ∷ []) k)) (length nodes) old last
 
 -- ---- the node of each kind of expression
 
 -- what a line needs for one more node that stands for e
-pub record Fresh (signals : Signals) (nodes : List Node) (n : Node) (e : Term) (to : Shape) : Type 0 where
-  pub node : shape n.ty ≡ to
-  pub given : term_shape signals e ≡ Some to
-  pub has : HasShape (HasType signals.shapes) (shapes_of nodes) (length nodes) to n.op
-  pub value : (values : List ℕ) (more : List Shape) → op_value values (shapes_of nodes ++ (shape n.ty ∷ more)) (node_values values (shapes_of nodes ++ (shape n.ty ∷ more)) nodes) n.op ≡ term_value signals values e
-  pub named : (s : ℕ) → TermNames signals s e → Names (nodes ++ n ∷ []) s
+pub record Fresh (w : Where) (nodes : List Node) (n : Node) (e : Term) : Type 0 where
+  pub node : shape n.ty ≡ shape_of w e
+  pub has : HasShape (HasType w.signals.shapes) (shapes_of nodes) (length nodes) (shape_of w e) n.op
+  pub value : (values : List ℕ) (more : List Shape) → op_value values (shapes_of nodes ++ (shape n.ty ∷ more)) (node_values values (shapes_of nodes ++ (shape n.ty ∷ more)) nodes) n.op ≡ value_of w values e
+  pub named : (s : ℕ) → NamesIn w s e → Names (nodes ++ n ∷ []) s
 
-pub StandsFor-new : (signals : Signals) (nodes : List Node) (n : Node) (e : Term) (to : Shape) → Fresh signals nodes n e to → StandsFor signals (nodes ++ n ∷ []) (length nodes) e to
-StandsFor-new signals nodes n e to h = record {
+StandsFor-new : (w : Where) (nodes : List Node) (n : Node) (e : Term) → Fresh w nodes n e → StandsFor w (nodes ++ n ∷ []) (length nodes) e
+StandsFor-new w nodes n e h = record {
   within = omega (arith, length-push nodes n);
   node = shape_at-last nodes n ∙ h.node;
-  shape = h.given;
   value = λ values more.
       ap (λ (l : List Shape). value_at (node_values values l (nodes ++ n ∷ [])) (length nodes)) (shapes_of-before nodes n more)
       ∙ value_at-last values (shapes_of nodes ++ (shape n.ty ∷ more)) nodes n
@@ -194,132 +194,180 @@ StandsFor-new signals nodes n e to h = record {
   named = h.named;
 }
 
-pub HaveShapes-fresh : (signals : Signals) (nodes : List Node) (n : Node) (e : Term) (to : Shape) → Fresh signals nodes n e to → HaveShapes signals nodes → HaveShapes signals (nodes ++ n ∷ [])
-HaveShapes-fresh signals nodes n e to h typed =
-    HaveShapes-push signals nodes n (subst (λ (s : Shape). HasShape (HasType signals.shapes) (shapes_of nodes) (length nodes) s n.op) (sym h.node) h.has) typed
+HaveShapes-fresh : (w : Where) (nodes : List Node) (n : Node) (e : Term) → Fresh w nodes n e → HaveShapes w nodes → HaveShapes w (nodes ++ n ∷ [])
+HaveShapes-fresh w nodes n e h typed =
+    HaveShapes-push w nodes n (subst (λ (s : Shape). HasShape (HasType w.signals.shapes) (shapes_of nodes) (length nodes) s n.op) (sym h.node) h.has) typed
 
--- the value and the shape of an operand, where more shapes follow
-pub operand_shape : (signals : Signals) (nodes : List Node) (k : ℕ) (e : Term) (to : Shape) (more : List Shape) → StandsFor signals nodes k e to → shape_at (shapes_of nodes ++ more) k ≡ shape_of_term signals e
-operand_shape signals nodes k e to more h = shape_at-more nodes more k h.within ∙ h.node ∙ sym (ap (λ (o : Option Shape). unwrap_or o (uint 0)) h.shape)
-
-fresh_one : (signals : Signals) (nodes : List Node) (n : Node) (op : Op1) (a : Term) (i : ℕ) (s to : Shape) → StandsFor signals nodes i a s → type1 op s ≡ Ok to → shape n.ty ≡ to → n.op ≡ flat.One op i → Fresh signals nodes n (UnaryTerm op a) to
-fresh_one signals nodes n op a i s to at result is does = record {
-  node = is;
-  given = rw (at.shape, result) refl;
-  has = rw does (at.within, rw at.node result);
-  value = λ values more. rw (does, operand_shape signals nodes i a s (shape n.ty ∷ more) at, at.value values (shape n.ty ∷ more)) refl;
-  named = λ t names. Names-push nodes n t (at.named t names);
-}
-
-fresh_two : (signals : Signals) (nodes : List Node) (n : Node) (op : Op2) (a b : Term) (i j : ℕ) (s t to : Shape) → StandsFor signals nodes i a s → StandsFor signals nodes j b t → type2 op s t ≡ Ok to → shape n.ty ≡ to → n.op ≡ flat.Two op i j → Fresh signals nodes n (BinaryTerm op a b) to
-fresh_two signals nodes n op a b i j s t to at bt result is does = record {
-  node = is;
-  given = rw (at.shape, bt.shape, result) refl;
-  has = rw does (at.within, bt.within, rw (at.node, bt.node) result);
-  value = λ values more. rw (does, operand_shape signals nodes i a s (shape n.ty ∷ more) at, at.value values (shape n.ty ∷ more), operand_shape signals nodes j b t (shape n.ty ∷ more) bt, bt.value values (shape n.ty ∷ more)) refl;
-  named = λ q names. elim names [ inl h ↦ Names-push nodes n q (at.named q h) | inr h ↦ Names-push nodes n q (bt.named q h) ];
-}
-
-fresh_fix : (signals : Signals) (nodes : List Node) (n : Node) (op : OpN) (a : Term) (i p q : ℕ) (s to : Shape) → StandsFor signals nodes i a s → type_const op s p q ≡ Ok to → shape n.ty ≡ to → n.op ≡ flat.Fix op i p q → Fresh signals nodes n (FixedTerm op a p q) to
-fresh_fix signals nodes n op a i p q s to at result is does = record {
-  node = is;
-  given = rw (at.shape, result) refl;
-  has = rw does (at.within, rw at.node result);
-  value = λ values more. rw (does, operand_shape signals nodes i a s (shape n.ty ∷ more) at, at.value values (shape n.ty ∷ more)) refl;
-  named = λ t names. Names-push nodes n t (at.named t names);
-}
-
-fresh_mux : (signals : Signals) (nodes : List Node) (n : Node) (c a b : Term) (h i j : ℕ) (u s t to : Shape) → StandsFor signals nodes h c u → StandsFor signals nodes i a s → StandsFor signals nodes j b t → type_mux u s t ≡ Ok to → shape n.ty ≡ to → n.op ≡ Mux h i j → Fresh signals nodes n (MuxTerm c a b) to
-fresh_mux signals nodes n c a b h i j u s t to ct at bt result is does = record {
-  node = is;
-  given = rw (ct.shape, at.shape, bt.shape, result) refl;
-  has = rw does (ct.within, at.within, bt.within, rw (ct.node, at.node, bt.node) result);
-  value = λ values more. rw (does, ct.value values (shape n.ty ∷ more), operand_shape signals nodes i a s (shape n.ty ∷ more) at, at.value values (shape n.ty ∷ more), operand_shape signals nodes j b t (shape n.ty ∷ more) bt, bt.value values (shape n.ty ∷ more)) refl;
-  named = λ q names. elim names [
-    | inl g ↦ Names-push nodes n q (ct.named q g)
-    | inr g ↦ elim g [ inl g ↦ Names-push nodes n q (at.named q g) | inr g ↦ Names-push nodes n q (bt.named q g) ]
-  ];
-}
-
-fresh_reference : (signals : Signals) (nodes : List Node) (n : Node) (r : Reference) (i : ℕ) (to : Shape) → named signals r ≡ Some i → i < length signals.shapes → shape_at signals.shapes i ≡ to → shape n.ty ≡ to → n.op ≡ flat.Ref i → Fresh signals nodes n (terms.NamedTerm r) to
-fresh_reference signals nodes n r i to at within typed is does = record {
-  node = is;
-  given = rw at (ap Some typed);
-  has = rw does (within, typed);
-  value = λ values more. rw (does, at) refl;
-  named = λ s names. let same : i ≡ s = cc in Names-new nodes n s (does ∙ ap flat.Ref same);
-}
-
-fresh_literal : (signals : Signals) (nodes : List Node) (n : Node) (l : literals.Literal) (v : Val) (to : Shape) → literal_shape l ≡ Some to → Fits to v.0 → v.0 ≡ literal_value l → shape n.ty ≡ to → n.op ≡ flat.Literal v → Fresh signals nodes n (ConstantTerm l) to
-fresh_literal signals nodes n l v to given fits value is does = record {
-  node = is;
-  given = given;
-  has = rw does fits;
-  value = λ values more. rw does value;
-  named = λ s names. absurd names;
-}
-
--- ---- a node that is added stands for its expression
+-- the shape of an operand, where more shapes follow
+operand_shape : (w : Where) (nodes : List Node) (k : ℕ) (e : Term) (more : List Shape) → StandsFor w nodes k e → shape_at (shapes_of nodes ++ more) k ≡ shape_of w e
+operand_shape w nodes k e more h = shape_at-more nodes more k h.within ∙ h.node
 
 -- what the operands' nodes, added before, left
-pub record Kept (signals : Signals) (old mid : List Node) (e : Term) : Type 0 where
-  pub kept : (i : ℕ) (f : Term) (s : Shape) → StandsFor signals old i f s → StandsFor signals mid i f s
-  pub typed : HaveShapes signals old → HaveShapes signals mid
-  pub names : (s : ℕ) → Names mid s → Names old s ⊎ TermNames signals s e
+pub record Kept (w : Where) (old mid : List Node) (e : Term) : Type 0 where
+  pub kept : (i : ℕ) (f : Term) → StandsFor w old i f → StandsFor w mid i f
+  pub typed : HaveShapes w old → HaveShapes w mid
+  pub names : (s : ℕ) → Names mid s → Names old s ⊎ NamesIn w s e
 
-added_fresh : (signals : Signals) (old mid : List Node) (n : Node) (e : Term) (to : Shape) → Kept signals old mid e → Fresh signals mid n e to → ((s : ℕ) → n.op ≡ flat.Ref s → TermNames signals s e) → Added signals old (mid ++ n ∷ []) e (length mid) to
-added_fresh signals old mid n e to before fresh own = record {
-  stands = StandsFor-new signals mid n e to fresh;
+added_fresh : (w : Where) (old mid : List Node) (n : Node) (e : Term) → Kept w old mid e → Fresh w mid n e → ((s : ℕ) → n.op ≡ flat.Ref s → NamesIn w s e) → Added w old (mid ++ n ∷ []) e (length mid)
+added_fresh w old mid n e before fresh own = record {
+  stands = StandsFor-new w mid n e fresh;
   last = length-push mid n;
-  kept = λ i f s h. StandsFor-push signals mid n i f s (before.kept i f s h);
-  typed = λ h. HaveShapes-fresh signals mid n e to fresh (before.typed h);
+  kept = λ i f h. StandsFor-push w mid n i f (before.kept i f h);
+  typed = λ h. HaveShapes-fresh w mid n e fresh (before.typed h);
   names = λ s h. elim (Names-push_cases mid n s h) [ inl g ↦ before.names s g | inr g ↦ inr (own s g) ];
 }
 
-pub added_reference : (signals : Signals) (old : List Node) (n : Node) (r : Reference) (i : ℕ) (to : Shape) → named signals r ≡ Some i → i < length signals.shapes → shape_at signals.shapes i ≡ to → shape n.ty ≡ to → n.op ≡ flat.Ref i → Added signals old (old ++ n ∷ []) (terms.NamedTerm r) (length old) to
-added_reference signals old n r i to at within typed is does =
-    added_fresh signals old old n (terms.NamedTerm r) to
-    (record { kept = λ i f s h. h; typed = λ h. h; names = λ s h. inl h })
-    (fresh_reference signals old n r i to at within typed is does)
+nothing_before : (w : Where) (old : List Node) (e : Term) → Kept w old old e
+nothing_before w old e = record { kept = λ i f h. h; typed = λ h. h; names = λ s h. inl h }
+
+no_name : (n : Node) (s : ℕ) → IsZeroNode n → n.op ≡ flat.Ref s → ⊥
+no_name n s z is = let e : Literal (record { 0 = 0 }) ≡ flat.Ref s = sym z.zero ∙ is in cc
+
+-- ---- leaves
+
+pub added_reference : (w : Where) (old : List Node) (n : Node) (r : Reference) (i : ℕ) → named w.types w.signals w.scope r ≡ Some i → i < length w.signals.shapes → shape_at w.signals.shapes i ≡ shape n.ty → n.op ≡ flat.Ref i → Added w old (old ++ n ∷ []) (NamedTerm r) (length old)
+added_reference w old n r i at within typed does =
+    added_fresh w old old n (NamedTerm r) (nothing_before w old (NamedTerm r))
+    (record {
+      node = rw at (sym typed);
+      has = rw (does, at) (within, refl);
+      value = λ values more. rw (does, at) refl;
+      named = λ s names. let same : i ≡ s = cc in Names-new old n s (does ∙ ap flat.Ref same);
+    })
     (λ s h. let same : i ≡ s = cc in at ∙ ap Some same)
 
-pub added_literal : (signals : Signals) (old : List Node) (n : Node) (l : literals.Literal) (v : Val) (to : Shape) → literal_shape l ≡ Some to → Fits to v.0 → v.0 ≡ literal_value l → shape n.ty ≡ to → n.op ≡ flat.Literal v → Added signals old (old ++ n ∷ []) (ConstantTerm l) (length old) to
-added_literal signals old n l v to given fits value is does =
-    added_fresh signals old old n (ConstantTerm l) to
-    (record { kept = λ i f s h. h; typed = λ h. h; names = λ s h. inl h })
-    (fresh_literal signals old n l v to given fits value is does)
-    (λ s h. cc)
-
-pub added_one : (signals : Signals) (old mid : List Node) (n : Node) (op : Op1) (a : Term) (i : ℕ) (s to : Shape) → Added signals old mid a i s → type1 op s ≡ Ok to → shape n.ty ≡ to → n.op ≡ flat.One op i → Added signals old (mid ++ n ∷ []) (UnaryTerm op a) (length mid) to
-added_one signals old mid n op a i s to at result is does =
-    added_fresh signals old mid n (UnaryTerm op a) to
-    (record { kept = at.kept; typed = at.typed; names = at.names })
-    (fresh_one signals mid n op a i s to at.stands result is does)
-    (λ s h. cc)
-
-pub added_fix : (signals : Signals) (old mid : List Node) (n : Node) (op : OpN) (a : Term) (i p q : ℕ) (s to : Shape) → Added signals old mid a i s → type_const op s p q ≡ Ok to → shape n.ty ≡ to → n.op ≡ flat.Fix op i p q → Added signals old (mid ++ n ∷ []) (FixedTerm op a p q) (length mid) to
-added_fix signals old mid n op a i p q s to at result is does =
-    added_fresh signals old mid n (FixedTerm op a p q) to
-    (record { kept = at.kept; typed = at.typed; names = at.names })
-    (fresh_fix signals mid n op a i p q s to at.stands result is does)
-    (λ s h. cc)
-
-pub added_two : (signals : Signals) (old one mid : List Node) (n : Node) (op : Op2) (a b : Term) (i j : ℕ) (s t to : Shape) → Added signals old one a i s → Added signals one mid b j t → type2 op s t ≡ Ok to → shape n.ty ≡ to → n.op ≡ flat.Two op i j → Added signals old (mid ++ n ∷ []) (BinaryTerm op a b) (length mid) to
-added_two signals old one mid n op a b i j s t to at bt result is does =
-    added_fresh signals old mid n (BinaryTerm op a b) to
+pub added_nothing : (w : Where) (old : List Node) (n : Node) (r : Reference) → named w.types w.signals w.scope r ≡ None → IsZeroNode n → Added w old (old ++ n ∷ []) (NamedTerm r) (length old)
+added_nothing w old n r none z =
+    added_fresh w old old n (NamedTerm r) (nothing_before w old (NamedTerm r))
     (record {
-      kept = λ i f s h. bt.kept i f s (at.kept i f s h);
+      node = rw none z.typed;
+      has = rw (z.zero, none) (pow_pos 1);
+      value = λ values more. rw (z.zero, none) refl;
+      named = λ s names. absurd (cc);
+    })
+    (λ s h. absurd (no_name n s z h))
+
+pub added_literal : (w : Where) (old : List Node) (n : Node) (l : literals.Literal) (v : Val) (to : Shape) → literal_shape l ≡ Some to → Fits to v.0 → v.0 ≡ literal_value l → shape n.ty ≡ to → n.op ≡ flat.Literal v → Added w old (old ++ n ∷ []) (ConstantTerm l) (length old)
+added_literal w old n l v to given fits value is does =
+    added_fresh w old old n (ConstantTerm l) (nothing_before w old (ConstantTerm l))
+    (record {
+      node = rw given is;
+      has = rw (does, given) fits;
+      value = λ values more. rw (does, given) value;
+      named = λ s names. absurd names;
+    })
+    (λ s h. absurd (cc))
+
+pub added_no_literal : (w : Where) (old : List Node) (n : Node) (l : literals.Literal) → literal_shape l ≡ None → IsZeroNode n → Added w old (old ++ n ∷ []) (ConstantTerm l) (length old)
+added_no_literal w old n l none z =
+    added_fresh w old old n (ConstantTerm l) (nothing_before w old (ConstantTerm l))
+    (record {
+      node = rw none z.typed;
+      has = rw (z.zero, none) (pow_pos 1);
+      value = λ values more. rw (z.zero, none) refl;
+      named = λ s names. absurd names;
+    })
+    (λ s h. absurd (no_name n s z h))
+
+-- ---- operations
+
+-- What an operation needs of the line: where it has its result type, its shape and value there, and that it names what its operands do.
+pub record Operation (w : Where) (mid : List Node) (e : Term) (result : Result Shape Bad) (op : Op) : Type 0 where
+  pub shaped : shape_of w e ≡ accepted result
+  pub has : (to : Shape) → result ≡ Ok to → HasShape (HasType w.signals.shapes) (shapes_of mid) (length mid) to op
+  pub value : (values : List ℕ) (more : List Shape) (to : Shape) → result ≡ Ok to → op_value values (shapes_of mid ++ more) (node_values values (shapes_of mid ++ more) mid) op ≡ value_of w values e
+  pub none : (values : List ℕ) (bad : Bad) → result ≡ Err bad → value_of w values e ≡ 0
+  pub named : (s : ℕ) → NamesIn w s e → Names mid s
+  pub no_reference : (s : ℕ) → op ≡ flat.Ref s → ⊥
+
+pub added_operation : (w : Where) (old mid : List Node) (n : Node) (e : Term) (found : Result Ty Bad) (op : Op) → Kept w old mid e → Operation w mid e (shape_found found) op → IsResultNode found op n → Added w old (mid ++ n ∷ []) e (length mid)
+added_operation w old mid n e (Ok ty) op before o is =
+    added_fresh w old mid n e before
+    (record {
+      node = ap shape is.0 ∙ sym o.shaped;
+      has = subst (λ (p : Op). HasShape (HasType w.signals.shapes) (shapes_of mid) (length mid) (shape_of w e) p) (sym is.1)
+            (subst (λ (t : Shape). HasShape (HasType w.signals.shapes) (shapes_of mid) (length mid) t op) (sym o.shaped) (o.has (shape ty) refl));
+      value = λ values more. rw is.1 (o.value values (shape n.ty ∷ more) (shape ty) refl);
+      named = λ s names. Names-push mid n s (o.named s names);
+    })
+    (λ s h. absurd (o.no_reference s (sym is.1 ∙ h)))
+added_operation w old mid n e (Err bad) op before o is =
+    added_fresh w old mid n e before
+    (record {
+      node = is.typed ∙ sym o.shaped;
+      has = rw (is.zero, o.shaped) (pow_pos 1);
+      value = λ values more. rw is.zero (sym (o.none values bad refl));
+      named = λ s names. Names-push mid n s (o.named s names);
+    })
+    (λ s h. absurd (no_name n s is h))
+
+one_is : (w : Where) (nodes : List Node) (op : Op1) (a : Term) (i : ℕ) → StandsFor w nodes i a → Operation w nodes (UnaryTerm op a) (type1 op (shape_of w a)) (flat.One op i)
+one_is w nodes op a i at = record {
+  shaped = refl;
+  has = λ to e. (at.within, rw at.node e);
+  value = λ values more to e. rw (operand_shape w nodes i a more at, at.value values more) (rw e refl);
+  none = λ values bad e. rw e refl;
+  named = at.named;
+  no_reference = λ s h. absurd (cc);
+}
+
+two_is : (w : Where) (nodes : List Node) (op : Op2) (a b : Term) (i j : ℕ) → StandsFor w nodes i a → StandsFor w nodes j b → Operation w nodes (BinaryTerm op a b) (type2 op (shape_of w a) (shape_of w b)) (flat.Two op i j)
+two_is w nodes op a b i j at bt = record {
+  shaped = refl;
+  has = λ to e. (at.within, bt.within, rw (at.node, bt.node) e);
+  value = λ values more to e. rw (operand_shape w nodes i a more at, at.value values more, operand_shape w nodes j b more bt, bt.value values more) (rw e refl);
+  none = λ values bad e. rw e refl;
+  named = λ s names. elim names [ inl h ↦ at.named s h | inr h ↦ bt.named s h ];
+  no_reference = λ s h. absurd (cc);
+}
+
+fixed_is : (w : Where) (nodes : List Node) (op : OpN) (a : Term) (i p q : ℕ) → StandsFor w nodes i a → Operation w nodes (FixedTerm op a p q) (type_const op (shape_of w a) p q) (flat.Fix op i p q)
+fixed_is w nodes op a i p q at = record {
+  shaped = refl;
+  has = λ to e. (at.within, rw at.node e);
+  value = λ values more to e. rw (operand_shape w nodes i a more at, at.value values more) (rw e refl);
+  none = λ values bad e. rw e refl;
+  named = at.named;
+  no_reference = λ s h. absurd (cc);
+}
+
+mux_is : (w : Where) (nodes : List Node) (c a b : Term) (h i j : ℕ) → StandsFor w nodes h c → StandsFor w nodes i a → StandsFor w nodes j b → Operation w nodes (MuxTerm c a b) (type_mux (shape_of w c) (shape_of w a) (shape_of w b)) (Mux h i j)
+mux_is w nodes c a b h i j ct at bt = record {
+  shaped = refl;
+  has = λ to e. (ct.within, at.within, bt.within, rw (ct.node, at.node, bt.node) e);
+  value = λ values more to e. rw (ct.value values more, operand_shape w nodes i a more at, at.value values more, operand_shape w nodes j b more bt, bt.value values more) (rw e refl);
+  none = λ values bad e. rw e refl;
+  named = λ s names. elim names [ inl g ↦ ct.named s g | inr g ↦ elim g [ inl k ↦ at.named s k | inr k ↦ bt.named s k ] ];
+  no_reference = λ s g. absurd (cc);
+}
+
+pub added_one : (w : Where) (old mid : List Node) (n : Node) (op : Op1) (a : Term) (i : ℕ) (found : Result Ty Bad) → Added w old mid a i → shape_found found ≡ type1 op (shape_of w a) → IsResultNode found (flat.One op i) n → Added w old (mid ++ n ∷ []) (UnaryTerm op a) (length mid)
+added_one w old mid n op a i found at same is =
+    added_operation w old mid n (UnaryTerm op a) found (flat.One op i)
+    (record { kept = at.kept; typed = at.typed; names = at.names })
+    (subst (λ (r : Result Shape Bad). Operation w mid (UnaryTerm op a) r (flat.One op i)) (sym same) (one_is w mid op a i at.stands)) is
+
+pub added_fix : (w : Where) (old mid : List Node) (n : Node) (op : OpN) (a : Term) (i p q : ℕ) (found : Result Ty Bad) → Added w old mid a i → shape_found found ≡ type_const op (shape_of w a) p q → IsResultNode found (flat.Fix op i p q) n → Added w old (mid ++ n ∷ []) (FixedTerm op a p q) (length mid)
+added_fix w old mid n op a i p q found at same is =
+    added_operation w old mid n (FixedTerm op a p q) found (flat.Fix op i p q)
+    (record { kept = at.kept; typed = at.typed; names = at.names })
+    (subst (λ (r : Result Shape Bad). Operation w mid (FixedTerm op a p q) r (flat.Fix op i p q)) (sym same) (fixed_is w mid op a i p q at.stands)) is
+
+pub added_two : (w : Where) (old one mid : List Node) (n : Node) (op : Op2) (a b : Term) (i j : ℕ) (found : Result Ty Bad) → Added w old one a i → Added w one mid b j → shape_found found ≡ type2 op (shape_of w a) (shape_of w b) → IsResultNode found (flat.Two op i j) n → Added w old (mid ++ n ∷ []) (BinaryTerm op a b) (length mid)
+added_two w old one mid n op a b i j found at bt same is =
+    added_operation w old mid n (BinaryTerm op a b) found (flat.Two op i j)
+    (record {
+      kept = λ i f h. bt.kept i f (at.kept i f h);
       typed = λ h. bt.typed (at.typed h);
       names = λ s h. elim (bt.names s h) [ inl g ↦ elim (at.names s g) [ inl k ↦ inl k | inr k ↦ inr (inl k) ] | inr g ↦ inr (inr g) ];
     })
-    (fresh_two signals mid n op a b i j s t to (bt.kept i a s at.stands) bt.stands result is does)
-    (λ s h. cc)
+    (subst (λ (r : Result Shape Bad). Operation w mid (BinaryTerm op a b) r (flat.Two op i j)) (sym same) (two_is w mid op a b i j (bt.kept i a at.stands) bt.stands)) is
 
-pub added_mux : (signals : Signals) (old one two mid : List Node) (n : Node) (c a b : Term) (h i j : ℕ) (u s t to : Shape) → Added signals old one c h u → Added signals one two a i s → Added signals two mid b j t → type_mux u s t ≡ Ok to → shape n.ty ≡ to → n.op ≡ Mux h i j → Added signals old (mid ++ n ∷ []) (MuxTerm c a b) (length mid) to
-added_mux signals old one two mid n c a b h i j u s t to ct at bt result is does =
-    added_fresh signals old mid n (MuxTerm c a b) to
+pub added_mux : (w : Where) (old one two mid : List Node) (n : Node) (c a b : Term) (h i j : ℕ) (found : Result Ty Bad) → Added w old one c h → Added w one two a i → Added w two mid b j → shape_found found ≡ type_mux (shape_of w c) (shape_of w a) (shape_of w b) → IsResultNode found (Mux h i j) n → Added w old (mid ++ n ∷ []) (MuxTerm c a b) (length mid)
+added_mux w old one two mid n c a b h i j found ct at bt same is =
+    added_operation w old mid n (MuxTerm c a b) found (Mux h i j)
     (record {
-      kept = λ i f s h. bt.kept i f s (at.kept i f s (ct.kept i f s h));
+      kept = λ i f h. bt.kept i f (at.kept i f (ct.kept i f h));
       typed = λ h. bt.typed (at.typed (ct.typed h));
       names = λ s h. elim (bt.names s h) [
         | inl g ↦ elim (at.names s g) [
@@ -329,5 +377,4 @@ added_mux signals old one two mid n c a b h i j u s t to ct at bt result is does
         | inr g ↦ inr (inr (inr g))
       ];
     })
-    (fresh_mux signals mid n c a b h i j u s t to (bt.kept h c u (at.kept h c u ct.stands)) (bt.kept i a s at.stands) bt.stands result is does)
-    (λ s h. cc)
+    (subst (λ (r : Result Shape Bad). Operation w mid (MuxTerm c a b) r (Mux h i j)) (sym same) (mux_is w mid c a b h i j (bt.kept h c (at.kept h c ct.stands)) (bt.kept i a at.stands) bt.stands)) is

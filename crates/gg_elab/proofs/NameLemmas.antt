@@ -1,5 +1,5 @@
 -- Laws of the place of a name in a list of distinct names.
-use Rattle.std.proofs.Common.{◌≡◌, ◌≢◌, ℕ, zero, suc, ◌+◌, ◌<◌, List, [], ◌∷◌, length, take, Bool, true, false, true≢false, refl, sym, ap, ◌∙◌, subst, arith, Option, None, Some}
+use Rattle.std.proofs.Common.{◌≡◌, ◌≢◌, ℕ, zero, suc, ◌+◌, ◌<◌, List, [], ◌∷◌, length, Bool, true, false, refl, sym, ap, ◌∙◌, subst, arith, Option, None, Some}
 use Rattle.std.specs.Prelude.{slice_get, slice_index_or, option_map, if◌then◌else◌, Contains, AllPairs}
 use Rattle.std.specs.Bool.{Decides}
 use Rattle.std.specs.Str.{bytes_eq}
@@ -62,22 +62,3 @@ place_of-path (n ∷ ns) name k h = go (bytes_eq name n) (bytes_eq-Decides name 
         let r = rest j refl in
         subst (λ i. (i < length (n ∷ ns)) × (slice_index_or (n ∷ ns) i [] ≡ name)) further (omega (arith, r.0), r.1)
 
--- before the place of a name it doesn't stand
-pub place_of-first : (names : List (List ℕ)) (name : List ℕ) (k : ℕ) → place_of name names ≡ Some k → ¬ Contains (take k names) name
-place_of-first [] name k h has = cc
-place_of-first (n ∷ ns) name k h has = go (bytes_eq name n) (bytes_eq-Decides name n) (place_of name ns) (place_of-first ns name) h
-  where
-    later : (j : ℕ) → ¬ Contains (take j ns) name → Decides false (name ≡ n) → Contains (n ∷ take j ns) name → ⊥
-    later j missing d (zero, lt, is) = true≢false (sym (d.1 (sym is)))
-    later j missing d (suc i, lt, is) = missing (i, omega arith, is)
-
-    go : (b : Bool) → Decides b (name ≡ n) → (o : Option ℕ) → ((j : ℕ) → o ≡ Some j → ¬ Contains (take j ns) name) → (if b then Some 0 else option_map (λ i. i + 1) o) ≡ Some k → ⊥
-    go true d o rest e =
-        let start : k ≡ zero = cc in
-        let none : Contains (take 0 (n ∷ ns)) name = subst (λ (i : ℕ). Contains (take i (n ∷ ns)) name) start has in
-        let lt = none.1 in omega arith
-    go false d None rest e = cc
-    go false d (Some j) rest e =
-        let turned : j + 1 ≡ k = cc in
-        let further : k ≡ suc j = omega arith in
-        later j (rest j refl) d (subst (λ (i : ℕ). Contains (take i (n ∷ ns)) name) further has)

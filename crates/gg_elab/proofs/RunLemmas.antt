@@ -1,86 +1,74 @@
--- Two well-formed flat circuits of one circuit have the same ports and the same runs.
-use Rattle.std.proofs.Common.{◌≡◌, ◌≢◌, ℕ, zero, suc, ◌<◌, List, [], ◌∷◌, length, map, refl, sym, ap, ◌∙◌, subst, arith}
-use Rattle.std.specs.Prelude.{slice_index_or, AllPairs}
-use Rattle.gg_ast.specs.Tree.{ModuleTree, CircuitTree}
-use Rattle.gg_flat.specs.Circuit.{FlatCircuit}
-use Rattle.gg_flat.specs.WellFormed.{IsWellFormed}
-use Rattle.gg_flat.specs.Run.{IsRun}
-use Rattle.gg_elab.specs.FlatModule.{path_at, IsFlatModule, IsFlat}
-use Rattle.gg_elab.proofs.FaultlessLemmas.{faultless_module}
-use Rattle.gg_elab.proofs.PairLemmas.{modules_same}
-use Rattle.gg_elab.proofs.SameLemmas.{SameCircuits, run_same}
+-- All flat circuits of a circuit have the same runs and the same reads.
+use Rattle.std.proofs.Common.{◌≡◌, ℕ, ◌<◌, List, [], length, map, take, true, sym, ap, ◌∙◌, subst, arith}
+use Rattle.std.specs.Prelude.{slice_index_or, count_by}
+use Rattle.std.proofs.lemmas.List.{take_all, length-map}
+use Rattle.gg_bits.specs.Shape.{Shape, shape, uint}
+use Rattle.gg_ast.specs.declared.module.Port.{Port}
+use Rattle.gg_flat.specs.declared.memory.Latency.TheVariants.{Zero}
+use Rattle.gg_flat.specs.declared.memory.Memory.{Memory}
+use Rattle.gg_flat.specs.declared.piece.Driver.{Driver}
+use Rattle.gg_flat.specs.Circuit.{FlatCircuit, signal_shapes, driver_at}
+use Rattle.gg_flat.specs.Line.{shape_at}
+use Rattle.gg_elab.specs.Flat.{Drive, Outside, Gets, Holds, Answers, FlatSignal, FlatMemory}
+use Rattle.gg_elab.specs.IsFlat.{IsDrivenBy, IsFlatOf, is_register, is_outside, count_before, drive_at, signals_of, memory_paths}
+use Rattle.gg_elab.specs.IsTreeOf.{Pairwise}
+use Rattle.gg_elab.specs.Signals.{Types}
+use Rattle.gg_elab.proofs.AlikeLemmas.{AlikeDrivers, AlikeRegisters, AlikeAt, AlikeMemories, drivers_alike, held_alike, memories_alike}
+use Rattle.gg_elab.proofs.HeldLemmas.{held_by}
+use Rattle.gg_elab.proofs.PairwiseLemmas.{Pairwise-each}
 
--- ---- the places of names in a list without repetition
+-- Two flat circuits do the same, part by part.
+pub record AlikeCircuits (f g : FlatCircuit) : Type 0 where
+  pub shapes : signal_shapes f ≡ signal_shapes g
+  pub count : length f.signals ≡ length g.signals
+  pub drivers : (s : ℕ) → s < length f.signals → AlikeDrivers (shape_at (signal_shapes g) s) (driver_at f s) (driver_at g s)
+  pub registers : Pairwise AlikeRegisters f.registers g.registers
+  pub memories : Pairwise AlikeMemories f.memories g.memories
 
-place_once : (paths : List (List ℕ)) → AllPairs (λ a b. a ≢ b) paths → (i j : ℕ) → i < length paths → j < length paths → slice_index_or paths i [] ≡ slice_index_or paths j [] → i ≡ j
-place_once paths distinct i j hi hj e =
-    let below : i < j → ⊥ = λ lt. distinct i j [] lt hj e in
-    let above : j < i → ⊥ = λ lt. distinct j i [] lt hi (sym e) in
-    omega arith
+-- ---- the parts
 
-abbrev pub AreBelow : ℕ → List ℕ → Type 0
-AreBelow n xs = (k : ℕ) → k < length xs → slice_index_or xs k 0 < n
+module _ (types : Types) (all : List FlatSignal) (banks : List FlatMemory) (ports : List Port) (f g : FlatCircuit) (one : IsFlatOf types all banks ports f) (other : IsFlatOf types all banks ports g) where
+  counted : (flat : FlatCircuit) → IsFlatOf types all banks ports flat → length flat.signals ≡ length all
+  counted flat h =
+      sym (length-map flat.signals (λ signal. shape signal.ty)) ∙ ap length h.shapes ∙ length-map all (λ x. x.shape)
 
-below_rest : (n x : ℕ) (xs : List ℕ) → AreBelow n (x ∷ xs) → AreBelow n xs
-below_rest n x xs h = λ k lt. h (suc k) (omega arith)
+  shapes_same : signal_shapes f ≡ signal_shapes g
+  shapes_same = one.shapes ∙ sym other.shapes
 
-below_first : (n x : ℕ) (xs : List ℕ) → AreBelow n (x ∷ xs) → x < n
-below_first n x xs h = h zero (omega arith)
+  alike_at : (s : ℕ) → s < length all → AlikeDrivers (shape_at (signal_shapes g) s) (driver_at f s) (driver_at g s)
+  alike_at s lt =
+      subst (λ (shapes : List Shape). AlikeDrivers (shape_at shapes s) (driver_at f s) (driver_at g s)) (sym other.shapes)
+      (drivers_alike types (signals_of all) (memory_paths banks) f.registers g.registers (count_before is_outside all s) (count_before is_register all s) _ (drive_at all s) _ _ (one.drivers s lt) (other.drivers s lt))
 
-abbrev names_at : List (List ℕ) → List ℕ → List (List ℕ)
-names_at paths xs = map (λ s. slice_index_or paths s []) xs
+  -- the register that a signal holds
+  register_at : (s r : ℕ) (drive : Drive) (d e : Driver) → is_register drive ≡ true → IsDrivenBy types (signals_of all) (memory_paths banks) f.registers (count_before is_outside all s) r (shape_at (signals_of all).shapes s) drive d → IsDrivenBy types (signals_of all) (memory_paths banks) g.registers (count_before is_outside all s) r (shape_at (signals_of all).shapes s) drive e → AlikeAt f.registers g.registers r
+  register_at s r Outside d e is h k = absurd (cc)
+  register_at s r (Gets scope c) d e is h k = absurd (cc)
+  register_at s r (Holds scope reset next) d e is h k = held_alike types (signals_of all) scope _ reset next f.registers g.registers r d e h k
+  register_at s r (Answers memory place latency addr en) d e is h k = absurd (cc)
 
-places_once : (paths : List (List ℕ)) → AllPairs (λ a b. a ≢ b) paths → (xs ys : List ℕ) → AreBelow (length paths) xs → AreBelow (length paths) ys → names_at paths xs ≡ names_at paths ys → xs ≡ ys
-places_once paths distinct [] [] hx hy e = refl
-places_once paths distinct [] (y ∷ ys) hx hy e = absurd (cc)
-places_once paths distinct (x ∷ xs) [] hx hy e = absurd (cc)
-places_once paths distinct (x ∷ xs) (y ∷ ys) hx hy e =
-    let first : slice_index_or paths x [] ≡ slice_index_or paths y [] = cc in
-    let rest : names_at paths xs ≡ names_at paths ys = cc in
-    let same : x ≡ y = place_once paths distinct x y (below_first _ x xs hx) (below_first _ y ys hy) first in
-    let tail : xs ≡ ys = places_once paths distinct xs ys (below_rest _ x xs hx) (below_rest _ y ys hy) rest in
-    cc
+  registers_at : (r : ℕ) → r < length f.registers → AlikeAt f.registers g.registers r
+  registers_at r lt =
+      let drives : List Drive = map (λ x. x.drive) all in
+      let total : count_by is_register (take (length all) drives) ≡ count_by is_register drives =
+      ap (λ (ds : List Drive). count_by is_register ds) (take_all (length all) drives (omega (arith, length-map all (λ (x : FlatSignal). x.drive)))) in
+      let few : r < count_by is_register drives = let e = one.register_count in omega (arith, lt, e, total) in
+      let held = held_by drives r few in
+      let within : held.place < length all = let p = held.within in omega (arith, p, length-map all (λ (x : FlatSignal). x.drive)) in
+      subst (λ (q : ℕ). AlikeAt f.registers g.registers q) held.number
+      (register_at held.place (count_before is_register all held.place) (drive_at all held.place) _ _ held.holds (one.drivers held.place within) (other.drivers held.place within))
 
--- signals of the same names are the same
-pub signals_same : (f g : FlatCircuit) → IsWellFormed f → IsWellFormed g → f.paths ≡ g.paths → (xs ys : List ℕ) → AreBelow (length f.signals) xs → AreBelow (length g.signals) ys → map (path_at f) xs ≡ map (path_at g) ys → xs ≡ ys
-signals_same f g one other same xs ys hx hy e =
-    let counted : length f.paths ≡ length g.paths = ap length same in
-    places_once f.paths one.distinct xs ys
-    (λ k lt. let h = hx k lt in omega (arith, one.named))
-    (λ k lt. let h = hy k lt in omega (arith, other.named, counted))
-    (e ∙ ap (λ (l : List (List ℕ)). names_at l ys) (sym same))
+  memories_at : (m : ℕ) (a b : Memory) → m < length f.memories → AlikeMemories (slice_index_or f.memories m a) (slice_index_or g.memories m b)
+  memories_at m a b lt =
+      let few : m < length banks = let e = one.memory_count in omega (arith, e) in
+      let none : FlatMemory = record { path = []; bank = record { word = uint 0; depth = 0; latency = Zero; readers = []; writers = [] } } in
+      memories_alike (signals_of all).paths (slice_index_or banks m none) _ _ (one.memories m none a few) (other.memories m none b few)
 
--- ---- circuits
-
--- both are flat circuits of the same module
-record Both (circuit : CircuitTree) (f g : FlatCircuit) : Type 0 where
-  top : ModuleTree
-  only : circuit.modules ≡ top ∷ []
-  one : IsFlatModule top f
-  other : IsFlatModule top g
-
-both : (circuit : CircuitTree) (f g : FlatCircuit) → IsFlat circuit f → IsFlat circuit g → Both circuit f g
-both circuit f g one other =
-    let same : other.top ≡ one.top = let a = one.only in let b = other.only in cc in
-    record { top = one.top; only = one.only; one = one.module_flat; other = subst (λ (m : ModuleTree). IsFlatModule m g) same other.module_flat }
-
-pub circuits_same : (circuit : CircuitTree) (f g : FlatCircuit) → IsFlat circuit f → IsFlat circuit g → IsWellFormed f → IsWellFormed g → SameCircuits f g
-circuits_same circuit f g one other one_formed other_formed =
-    let b = both circuit f g one other in
-    modules_same b.top f g (faultless_module circuit b.top b.only one.faultless).unconnected b.one b.other one_formed other_formed
-
-pub ins_same : (circuit : CircuitTree) (f g : FlatCircuit) → IsFlat circuit f → IsFlat circuit g → IsWellFormed f → IsWellFormed g → f.ins ≡ g.ins
-ins_same circuit f g one other one_formed other_formed =
-    let b = both circuit f g one other in
-    signals_same f g one_formed other_formed (b.one.paths ∙ sym b.other.paths) f.ins g.ins
-    (λ k lt. (one_formed.ins k lt).0) (λ k lt. (other_formed.ins k lt).0) (b.one.ins ∙ sym b.other.ins)
-
-pub outs_same : (circuit : CircuitTree) (f g : FlatCircuit) → IsFlat circuit f → IsFlat circuit g → IsWellFormed f → IsWellFormed g → f.outs ≡ g.outs
-outs_same circuit f g one other one_formed other_formed =
-    let b = both circuit f g one other in
-    signals_same f g one_formed other_formed (b.one.paths ∙ sym b.other.paths) f.outs g.outs
-    one_formed.outs other_formed.outs (b.one.outs ∙ sym b.other.outs)
-
-pub runs_same : (circuit : CircuitTree) (f g : FlatCircuit) (columns : List (List ℕ)) (n : ℕ) (rows : List (List ℕ)) → IsFlat circuit f → IsFlat circuit g → IsWellFormed f → IsWellFormed g → IsRun f columns n rows → IsRun g columns n rows
-runs_same circuit f g columns n rows one other one_formed other_formed run =
-    run_same f g columns n rows (circuits_same circuit f g one other one_formed other_formed) run
+  pub circuits_alike : AlikeCircuits f g
+  circuits_alike = record {
+    shapes = shapes_same;
+    count = counted f one ∙ sym (counted g other);
+    drivers = λ s lt. alike_at s (let e = counted f one in omega (arith, e));
+    registers = Pairwise-each AlikeRegisters f.registers g.registers (one.register_count ∙ sym other.register_count) (λ r a b lt. registers_at r lt a b);
+    memories = Pairwise-each AlikeMemories f.memories g.memories (one.memory_count ∙ sym other.memory_count) (λ m a b lt. memories_at m a b lt);
+  }

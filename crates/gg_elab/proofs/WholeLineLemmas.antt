@@ -1,73 +1,191 @@
 -- Laws of a whole line.
-use Rattle.std.proofs.Common.{◌≡◌, ℕ, zero, suc, ◌+◌, ◌-◌, ◌<◌, ◌≤◌, List, [], ◌∷◌, length, refl, sym, ap, ◌∙◌, arith, inl, inr, Some}
-use Rattle.std.specs.Prelude.{slice_index_or}
+use Rattle.std.proofs.Common.{◌≡◌, ℕ, zero, suc, ◌+◌, ◌-◌, ◌<◌, ◌≤◌, ◌^◌, List, [], ◌∷◌, ◌++◌, length, refl, sym, ap, ◌∙◌, subst, arith, inl, inr, Some, None, Bool, true, false, ◌&&◌, if◌then◌else◌}
+use Rattle.std.specs.Prelude.{nat_le, nat_lt, ◌==◌, ℤ, pos, unsigned_abs, ◌-ℤ◌}
 use Rattle.std.proofs.lemmas.List.{append-nil}
 use Rattle.std.proofs.lemmas.Nat.{pow_pos}
-use Rattle.gg_bits.specs.declared.types.Val.{Val}
-use Rattle.gg_bits.specs.declared.types.Ty.{Ty}
-use Rattle.gg_bits.specs.declared.types.Kind.TheVariants.{UInt}
-use Rattle.gg_bits.specs.Shape.{Shape, shape, of_kind}
-use Rattle.gg_flat.specs.declared.line.Node.{Node}
-use Rattle.gg_flat.specs.declared.line.Op.TheVariants.{Ref, Literal}
-use Rattle.gg_flat.specs.Line.{shape_at, value_at, shapes_of, HasType, op_at, HasShape, IsSource, IsCondition, line_shape, node_values}
+use Rattle.std.proofs.lemmas.Bool.Decides.{nat_tests}
+use Rattle.std.proofs.Math.Nat.{zero-mod}
+use Rattle.gg_bits.specs.declared.types.Kind.{Kind}
+use Rattle.gg_bits.specs.declared.types.Kind.TheVariants.{UInt, SInt}
+use Rattle.gg_bits.specs.Shape.{Shape, shape, uint, of_kind, number}
+use Rattle.gg_bits.specs.Value.{pattern_of, number_of}
+use Rattle.gg_bits.specs.Meaning.{extended}
+use Rattle.gg_bits.specs.ResultType.{same_kind, is_condition, is_uint}
 use Rattle.gg_ast.specs.Term.{Term}
-use Rattle.gg_elab.specs.Expression.{Signals}
-use Rattle.gg_elab.specs.Lines.{IsLineOf, Added}
-use Rattle.gg_elab.specs.Connection.{IsZeroLine}
+use Rattle.gg_flat.specs.declared.line.Node.{Node}
+use Rattle.gg_flat.specs.declared.line.Op.{Op}
+use Rattle.gg_flat.specs.declared.line.Op.TheVariants.{Ref, Literal}
+use Rattle.gg_flat.specs.Line.{shape_at, value_at, shapes_of, HasType, HasShape, IsLine, IsSource, IsCondition, line_shape, line_value, node_values, connected_value}
+use Rattle.gg_flat.specs.Reads.{Names}
+use Rattle.gg_elab.specs.Growing.{Where, shape_of, value_of, NamesIn, HaveShapes, StandsFor, Added, IsZeroOf, IsCut}
+use Rattle.gg_elab.specs.IsFlat.{IsLineFor, IsLineOf, IsConditionOf}
+use Rattle.gg_elab.specs.Meaning.{takes, taken_value, condition_value}
+use Rattle.gg_elab.proofs.LineLemmas.{length-push, shape_at-last, value_at-last, Names-push, Names-push_cases, HaveShapes-push}
 
 last_node : (n k : ℕ) → n ≡ k + 1 → n - 1 ≡ k
 last_node n k e = omega arith
 
-pub added_shape : (signals : Signals) (nodes : List Node) (e : Term) (k : ℕ) (to : Shape) → Added signals [] nodes e k to → line_shape nodes ≡ to
-added_shape signals nodes e k to h = ap (shape_at (shapes_of nodes)) (last_node (length nodes) k h.last) ∙ h.stands.node
+-- ---- 0
 
--- the nodes of an expression alone are a line that stands for it
-pub IsLineOf-added : (signals : Signals) (nodes : List Node) (e : Term) (k : ℕ) (to : Shape) → Added signals [] nodes e k to → IsLineOf signals e nodes
-IsLineOf-added signals nodes e k to h = record {
-  line = record { some = omega (arith, h.last); typed = h.typed (λ i lt. absurd (omega arith)) };
-  shape = h.stands.shape ∙ ap Some (sym (added_shape signals nodes e k to h));
-  value = λ values.
+-- 0 in so many bits is 0
+pub extended-zero : (s : Shape) (w : ℕ) → extended s w 0 ≡ 0
+extended-zero s w = ap (pattern_of w) (number-zero s.kind s.width) ∙ zero-mod (2 ^ w)
+  where
+    number-zero : (k : Kind) (n : ℕ) → number_of k n 0 ≡ pos 0
+    number-zero UInt n = refl
+    number-zero SInt n = go (nat_lt 0 (2 ^ (n - 1))) refl
+      where
+        go : (b : Bool) → nat_lt 0 (2 ^ (n - 1)) ≡ b → (if b then pos 0 else (pos 0 -ℤ pos (2 ^ n))) ≡ pos 0
+        go true e = refl
+        go false e = absurd (let le : 2 ^ (n - 1) ≤ 0 = grind (arith, nat_tests) in omega (arith, pow_pos (n - 1)))
+
+-- a line with a 0 behind it gives 0
+module _ (old new : List Node) (sink : Shape) (z : IsZeroOf old new sink) where
+  pub zero_shape : line_shape new ≡ sink
+  zero_shape =
+      ap (λ (l : List Node). line_shape l) z.added
+      ∙ ap (λ k. shape_at (shapes_of (old ++ z.node ∷ [])) k) (last_node (length (old ++ z.node ∷ [])) (length old) (length-push old z.node))
+      ∙ shape_at-last old z.node ∙ z.typed
+
+  pub zero_value : (values : List ℕ) → line_value values new ≡ 0
+  zero_value values =
+      ap (λ (l : List Node). line_value values l) z.added
+      ∙ ap (λ k. value_at (node_values values (shapes_of (old ++ z.node ∷ [])) (old ++ z.node ∷ [])) k) (last_node (length (old ++ z.node ∷ [])) (length old) (length-push old z.node))
+      ∙ value_at-last values (shapes_of (old ++ z.node ∷ [])) old z.node
+      ∙ rw z.zero refl
+
+  pub zero_connected : (values : List ℕ) → connected_value values sink new ≡ 0
+  zero_connected values = ap (extended (line_shape new) sink.width) (zero_value values) ∙ extended-zero (line_shape new) sink.width
+
+  zero_names : (s : ℕ) → Names new s → Names old s
+  zero_names s h =
+      elim (Names-push_cases old z.node s (subst (λ (l : List Node). Names l s) z.added h)) [
+        | inl n ↦ n
+        | inr e ↦ absurd (let clash : Literal (record { 0 = 0 }) ≡ Ref s = sym z.zero ∙ e in cc)
+      ]
+
+  old_names : (s : ℕ) → Names old s → Names new s
+  old_names s h = subst (λ (l : List Node). Names l s) (sym z.added) (Names-push old z.node s h)
+
+  zero_typed : (w : Where) → HaveShapes w old → HaveShapes w new
+  zero_typed w h = subst (λ (l : List Node). HaveShapes w l) (sym z.added) (HaveShapes-push w old z.node (rw z.zero (pow_pos z.node.ty.width)) h)
+
+-- ---- a whole expression
+
+module _ (w : Where) (nodes : List Node) (e : Term) (k : ℕ) (h : Added w [] nodes e k) where
+  pub whole_shape : line_shape nodes ≡ shape_of w e
+  whole_shape = ap (shape_at (shapes_of nodes)) (last_node (length nodes) k h.last) ∙ h.stands.node
+
+  pub whole_value : (values : List ℕ) → line_value values nodes ≡ value_of w values e
+  whole_value values =
       ap (value_at (node_values values (shapes_of nodes) nodes)) (last_node (length nodes) k h.last)
       ∙ ap (λ (l : List Shape). value_at (node_values values l nodes) k) (sym (append-nil (shapes_of nodes)))
-      ∙ h.stands.value values [];
-  names = λ s. (λ n. elim (h.names s n) [ inl none ↦ absurd (omega (arith, none.1)) | inr t ↦ t ], h.stands.named s);
+      ∙ h.stands.value values []
+
+  whole_names : (s : ℕ) → Names nodes s → NamesIn w s e
+  whole_names s n = elim (h.names s n) [ inl none ↦ absurd (omega (arith, none.1)) | inr t ↦ t ]
+
+  whole_typed : HaveShapes w nodes
+  whole_typed = h.typed (λ i lt. absurd (omega arith))
+
+  whole_line : IsLine (HasType w.signals.shapes) nodes
+  whole_line = record { some = omega (arith, h.last); typed = whole_typed }
+
+  -- the line, cut for a sink, gives it the expression's value
+  pub cut_stands : (sink : Shape) (new : List Node) → IsCut (takes sink (shape_of w e)) nodes sink new → IsLineOf w.types w.signals w.scope sink e new
+  cut_stands sink new c = go (takes sink (shape_of w e)) refl c
+    where
+      go : (b : Bool) → takes sink (shape_of w e) ≡ b → IsCut b nodes sink new → IsLineOf w.types w.signals w.scope sink e new
+      go true t c = record {
+        value = λ values.
+            ap (λ (l : List Node). connected_value values sink l) c
+            ∙ ap (λ (s : Shape). extended s sink.width (line_value values nodes)) whole_shape
+            ∙ ap (extended (shape_of w e) sink.width) (whole_value values)
+            ∙ sym (ap (λ b. if b then extended (shape_of w e) sink.width (value_of w values e) else 0) t);
+        names = λ s. (λ n. whole_names s (subst (λ (l : List Node). Names l s) c n), λ n. subst (λ (l : List Node). Names l s) (sym c) (h.stands.named s n));
+      }
+      go false t c = record {
+        value = λ values. zero_connected nodes new sink c values ∙ sym (ap (λ b. if b then extended (shape_of w e) sink.width (value_of w values e) else 0) t);
+        names = λ s. (λ n. whole_names s (zero_names nodes new sink c s n), λ n. old_names nodes new sink c s (h.stands.named s n));
+      }
+
+  same-kind : (a b : Kind) → same_kind a b ≡ true → b ≡ a
+  same-kind UInt UInt e = refl
+  same-kind UInt SInt e = absurd (cc)
+  same-kind SInt UInt e = absurd (cc)
+  same-kind SInt SInt e = refl
+
+  and-left : (a b : Bool) → (a && b) ≡ true → a ≡ true
+  and-left true b e = refl
+  and-left false b e = e
+
+  and-right : (a b : Bool) → (a && b) ≡ true → b ≡ true
+  and-right true b e = e
+  and-right false b e = absurd (cc)
+
+  pub cut_fits : (sink : Shape) (new : List Node) → IsCut (takes sink (shape_of w e)) nodes sink new → IsSource (HasType w.signals.shapes) sink new
+  cut_fits sink new c = go (takes sink (shape_of w e)) refl c
+    where
+      go : (b : Bool) → takes sink (shape_of w e) ≡ b → IsCut b nodes sink new → IsSource (HasType w.signals.shapes) sink new
+      go true t c =
+          let narrow : nat_le (shape_of w e).width sink.width ≡ true = and-right (same_kind sink.kind (shape_of w e).kind) (nat_le (shape_of w e).width sink.width) t in
+          let le : (shape_of w e).width ≤ sink.width = grind (arith, nat_tests) in
+          subst (λ (l : List Node). IsSource (HasType w.signals.shapes) sink l) (sym c) (record {
+            line = whole_line;
+            kind = ap (λ (s : Shape). s.kind) whole_shape ∙ same-kind sink.kind (shape_of w e).kind (and-left (same_kind sink.kind (shape_of w e).kind) (nat_le (shape_of w e).width sink.width) t);
+            width = omega (arith, ap (λ (s : Shape). s.width) whole_shape, le);
+          })
+      go false t c = record {
+        line = record { some = omega (arith, ap (λ (l : List Node). length l) c.added, length-push nodes c.node); typed = zero_typed nodes new sink c w whole_typed };
+        kind = ap (λ (s : Shape). s.kind) (zero_shape nodes new sink c);
+        width = omega (arith, ap (λ (s : Shape). s.width) (zero_shape nodes new sink c));
+      }
+
+  uint_only : (k : Kind) → is_uint k ≡ true → k ≡ UInt
+  uint_only UInt e = refl
+  uint_only SInt e = absurd (cc)
+
+  -- the line, cut for a condition, is one
+  pub condition_stands : (new : List Node) → IsCut (is_condition (shape_of w e)) nodes (uint 1) new → IsConditionOf w.types w.signals w.scope e new
+  condition_stands new c = go (is_condition (shape_of w e)) refl c
+    where
+      go : (b : Bool) → is_condition (shape_of w e) ≡ b → IsCut b nodes (uint 1) new → IsConditionOf w.types w.signals w.scope e new
+      go true t c = record {
+        value = λ values.
+            ap (λ (l : List Node). line_value values l) c
+            ∙ whole_value values
+            ∙ sym (ap (λ b. if b then value_of w values e else 0) t);
+        names = λ s. (λ n. whole_names s (subst (λ (l : List Node). Names l s) c n), λ n. subst (λ (l : List Node). Names l s) (sym c) (h.stands.named s n));
+      }
+      go false t c = record {
+        value = λ values. zero_value nodes new (uint 1) c values ∙ sym (ap (λ b. if b then value_of w values e else 0) t);
+        names = λ s. (λ n. whole_names s (zero_names nodes new (uint 1) c s n), λ n. old_names nodes new (uint 1) c s (h.stands.named s n));
+      }
+
+  pub condition_fits : (new : List Node) → IsCut (is_condition (shape_of w e)) nodes (uint 1) new → IsCondition (HasType w.signals.shapes) new
+  condition_fits new c = go (is_condition (shape_of w e)) refl c
+    where
+      go : (b : Bool) → is_condition (shape_of w e) ≡ b → IsCut b nodes (uint 1) new → IsCondition (HasType w.signals.shapes) new
+      go true t c =
+          let kind : (shape_of w e).kind ≡ UInt = uint_only (shape_of w e).kind (and-left (is_uint (shape_of w e).kind) ((shape_of w e).width == 1) t) in
+          let narrow : ((shape_of w e).width == 1) ≡ true = and-right (is_uint (shape_of w e).kind) ((shape_of w e).width == 1) t in
+          let one : (shape_of w e).width ≡ 1 = grind (arith, nat_tests) in
+          subst (λ (l : List Node). IsCondition (HasType w.signals.shapes) l) (sym c) (record {
+            line = whole_line;
+            bit = whole_shape ∙ ap (λ (k : Kind). of_kind k (shape_of w e).width) kind ∙ ap (of_kind UInt) one;
+          })
+      go false t c = record {
+        line = record { some = omega (arith, ap (λ (l : List Node). length l) c.added, length-push nodes c.node); typed = zero_typed nodes new (uint 1) c w whole_typed };
+        bit = zero_shape nodes new (uint 1) c;
+      }
+
+-- a line of 0 alone gives what no connection and `is invalid` give
+pub IsLine-zero : (w : Where) (new : List Node) (sink : Shape) → IsZeroOf [] new sink → IsSource (HasType w.signals.shapes) sink new
+IsLine-zero w new sink z = record {
+  line = record { some = omega (arith, ap (λ (l : List Node). length l) z.added); typed = zero_typed [] new sink z w (λ k lt. absurd (omega arith)) };
+  kind = ap (λ (s : Shape). s.kind) (zero_shape [] new sink z);
+  width = omega (arith, ap (λ (s : Shape). s.width) (zero_shape [] new sink z));
 }
 
--- a line whose result is of the sink's kind and no wider may be connected to it
-pub IsSource-line : (signals : Signals) (nodes : List Node) (e : Term) (k : ℕ) (ty sink : Ty) → Added signals [] nodes e k (shape ty) → ty.kind ≡ sink.kind → ty.width ≤ sink.width → IsSource (HasType signals.shapes) (shape sink) nodes
-IsSource-line signals nodes e k ty sink h same fits =
-    let is = added_shape signals nodes e k (shape ty) h in
-    record {
-      line = (IsLineOf-added signals nodes e k (shape ty) h).line;
-      kind = ap (λ (s : Shape). s.kind) is ∙ same;
-      width = omega (arith, ap (λ (s : Shape). s.width) is, fits);
-    }
-
-pub IsCondition-line : (signals : Signals) (nodes : List Node) (e : Term) (k : ℕ) (ty : Ty) → Added signals [] nodes e k (shape ty) → ty.kind ≡ UInt → ty.width ≡ 1 → IsCondition (HasType signals.shapes) nodes
-IsCondition-line signals nodes e k ty h is_uint one =
-    record {
-      line = (IsLineOf-added signals nodes e k (shape ty) h).line;
-      bit = added_shape signals nodes e k (shape ty) h ∙ ap (λ c. of_kind c ty.width) is_uint ∙ ap (of_kind UInt) one;
-    }
-
--- a line of the literal 0
-pub IsZeroLine-literal : (n : Node) (v : Val) → n.op ≡ Literal v → v.0 ≡ 0 → IsZeroLine (n ∷ [])
-IsZeroLine-literal n v does is = record {
-  value = λ values. rw does is;
-  names = λ s h. named s h.0 h.1 h.2;
-}
-  where
-    named : (s k : ℕ) → k < 1 → slice_index_or (n.op ∷ []) k (Ref s) ≡ Ref s → ⊥
-    named s zero lt e = cc
-    named s (suc k) lt e = omega arith
-
-pub IsSource-zero : (shapes : List Shape) (n : Node) (v : Val) → n.op ≡ Literal v → v.0 ≡ 0 → IsSource (HasType shapes) (shape n.ty) (n ∷ [])
-IsSource-zero shapes n v does is = record {
-  line = record { some = omega arith; typed = λ k lt. typed k lt };
-  kind = refl;
-  width = omega arith;
-}
-  where
-    typed : (k : ℕ) → k < 1 → HasShape (HasType shapes) (shapes_of (n ∷ [])) k (shape_at (shapes_of (n ∷ [])) k) (op_at (n ∷ []) k)
-    typed zero lt = rw (does, is) (pow_pos n.ty.width)
-    typed (suc k) lt = absurd (omega arith)
+pub no_names : (new : List Node) (sink : Shape) → IsZeroOf [] new sink → (s : ℕ) → Names new s → ⊥
+no_names new sink z s n = let h = zero_names [] new sink z s n in omega (arith, h.1)

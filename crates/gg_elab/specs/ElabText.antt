@@ -1,11 +1,21 @@
--- Why a circuit has no flat circuit, in words: the limit that it goes past, as the program prints it.
+-- What is said of a circuit that has no flat circuit.
 use Rattle.std.specs.Prelude.{ℕ, List, codes}
-use Rattle.gg_shape.specs.FaultText.{fault_text}
+use Rattle.gg_count.specs.declared.counts.Measure.{Measure}
+use Rattle.gg_count.specs.declared.counts.Measure.TheVariants as measures
 use Rattle.gg_shape.specs.declared.fault.Fault.TheVariants.{OverLimit}
-use Rattle.gg_shape.specs.declared.fault.Limit.TheVariants.{Signals}
+use Rattle.gg_shape.specs.declared.fault.Limit.{Limit}
+use Rattle.gg_shape.specs.declared.fault.Limit.TheVariants as limits
+use Rattle.gg_shape.specs.FaultText.{fault_text}
 use Rattle.gg_elab.specs.declared.fault.ElabFault.{ElabFault}
-use Rattle.gg_elab.specs.declared.fault.ElabFault.TheVariants.{TooManySignals, NoMemory}
+use Rattle.gg_elab.specs.declared.fault.ElabFault.TheVariants.{TooLarge, NoMemory}
+
+abbrev pub limit_of : Measure → Limit
+limit_of measures.Depth = limits.Depth
+limit_of measures.Signals = limits.Signals
+limit_of measures.Memory = limits.Memory
+limit_of measures.Words = limits.Words
+limit_of measures.Instances = limits.Instances
 
 abbrev pub elab_text : ElabFault → List ℕ
-elab_text (TooManySignals count) = fault_text (OverLimit Signals count)
+elab_text (TooLarge excess) = fault_text (OverLimit (limit_of excess.measure) excess.count)
 elab_text NoMemory = codes "out of memory"

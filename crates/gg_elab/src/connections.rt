@@ -1,13 +1,19 @@
-//! The connections of a module, by sink.
-ghost use Rattle.std.specs.Prelude.{◌≡◌, length, replicate, None, Err, IfOk, OnOk};
-ghost use Rattle.gg_elab.specs.declared.fault.Stop.TheVariants.{Faulty};
-ghost use Rattle.gg_elab.specs.Connection.{connection};
-ghost use Rattle.gg_elab.specs.Table.{Recorded, Noted, NotedSink, IsTaken, ConnectsTaken, IsConnectedAgain};
+//! The connections of a module, by the written names of sinks.
+ghost use Rattle.std.specs.Prelude.{◌≡◌, ℕ, List, Some, None, length, IfOk, IfNone, OnOk, if◌then◌else◌};
+ghost use Rattle.std.specs.Str.{bytes_eq};
+ghost use Rattle.gg_ast.specs.Places.{place_of};
+ghost use Rattle.gg_ast.specs.declared.statement.Stmt.{Stmt};
+ghost use Rattle.gg_names.specs.Scope.{written as written_text};
+ghost use Rattle.gg_elab.specs.Memories.{or_later};
+ghost use Rattle.gg_elab.specs.Connection.{connection_in, connection_by};
+ghost use Rattle.gg_elab.specs.Views.{connection, seen, source_at, TellsConnections};
 
-use crate::fault::Stop;
-use crate::scope::Scope;
+use crate::fault::ElabFault;
+use crate::names::written;
 use gg_ast::{Expr, Reference, Stmt, StmtKind};
-use std::alloc::{AllocError, Global};
+use gg_bits::Name;
+use gg_flat::{AddError, Paths};
+use std::alloc::Global;
 
 /// What a sink is connected to.
 #[derive(Clone, Copy)]
@@ -18,79 +24,80 @@ pub(crate) enum Source<'a> {
     Zero,
 }
 
-/// What each signal of the scope is connected to by the statements, if it is connected. A second connection of a signal
-/// is a fault.
+/// The sinks that are connected, by their written names, each with what its first connection gives it.
+#[derive(Drop)]
+pub(crate) struct Sinks<'a> {
+    pub(crate) names: Paths,
+    pub(crate) sources: Vec<Source<'a>>,
+}
+
+/// The connections that statements make.
 pub(crate) fn connections<'a>(
     alloc: Global,
-    scope: &Scope,
     statements: &'a [Stmt],
-) -> Result<Vec<Option<Source<'a>>>, Stop>
-    ensures recorded { IfOk result (λ table. Recorded scope.now statements.now table.items) }
-    ensures refused { result ≡ Err Faulty → IsConnectedAgain statements.now }
+) -> Result<Sinks<'a>, ElabFault>
+    ensures tells { IfOk result (λ sinks. TellsConnections statements.now sinks.names sinks.sources.items) }
+    ensures count { IfOk result (λ sinks. length sinks.sources.items ≡ length sinks.names) }
 {
-    let mut table = unconnected(alloc, scope.len())?;
-    note_all(&mut table, scope, statements)?;
-    Ok(table)
-}
-
-// No connections.
-fn unconnected<'a>(alloc: Global, count: usize) -> Result<Vec<Option<Source<'a>>>, AllocError>
-    ensures { IfOk result (λ table. table.items ≡ replicate count None) }
-{
-    let mut table = Vec::new(alloc);
-    for _ in 0..count {
-        table.push(None)?;
-    }
-    Ok(table)
-}
-
-// Notes the connections of statements in a table without connections.
-fn note_all<'a>(
-    table: &mut [Option<Source<'a>>],
-    scope: &Scope,
-    statements: &'a [Stmt],
-) -> Result<(), Stop>
-    requires { table.old ≡ replicate (length scope.now.paths) None }
-    ensures recorded { OnOk result (Recorded scope.now statements.now table.new) }
-    ensures refused { result ≡ Err Faulty → IsConnectedAgain statements.now }
-{
+    let mut sinks = Sinks {
+        names: Paths::new(alloc),
+        sources: Vec::new(alloc),
+    };
     for statement in statements {
-        note(table, scope, &statement.kind)?;
+        note(alloc, &mut sinks, &statement.kind)?;
     }
-    Ok(())
+    Ok(sinks)
 }
 
-// Notes the connection of a statement, if it makes one.
-fn note<'a>(table: &mut [Option<Source<'a>>], scope: &Scope, kind: &'a StmtKind) -> Result<(), Stop>
-    requires { length table.old ≡ length scope.now.paths }
-    ensures noted { OnOk result (Noted scope.now kind.now table.old table.new) }
-    ensures refused { result ≡ Err Faulty → ConnectsTaken scope.now table.old kind.now }
+// Notes the connection of a statement, if it makes one, unless its sink is noted.
+fn note<'a>(alloc: Global, sinks: &mut Sinks<'a>, kind: &'a StmtKind) -> Result<(), ElabFault>
+    requires { length sinks.old.sources.items ≡ length sinks.old.names }
+    ensures noted { OnOk result ((name : List ℕ) → source_at sinks.new.sources.items (place_of name sinks.new.names) ≡ or_later (source_at sinks.old.sources.items (place_of name sinks.old.names)) (connection_by name kind.now)) }
+    ensures count { OnOk result (length sinks.new.sources.items ≡ length sinks.new.names) }
 {
     match kind {
-        StmtKind::Connect { sink, source } => note_sink(table, scope, sink, Source::Of(source)),
-        StmtKind::Invalid { sink } => note_sink(table, scope, sink, Source::Zero),
+        StmtKind::Connect { sink, source } => note_sink(alloc, sinks, sink, Source::Of(source)),
+        StmtKind::Invalid { sink } => note_sink(alloc, sinks, sink, Source::Zero),
         _ => Ok(()),
     }
 }
 
-// Notes the connection of a sink, if that is a signal.
+// Notes the connection of a sink, unless it is noted. More than 4,294,967,295 sinks are refused as want of memory.
 fn note_sink<'a>(
-    table: &mut [Option<Source<'a>>],
-    scope: &Scope,
+    alloc: Global,
+    sinks: &mut Sinks<'a>,
     sink: &Reference,
     source: Source<'a>,
-) -> Result<(), Stop>
-    requires { length table.old ≡ length scope.now.paths }
-    ensures noted { OnOk result (NotedSink scope.now sink.now (connection source.entry) table.old table.new) }
-    ensures refused { result ≡ Err Faulty → IsTaken scope.now table.old sink.now }
+) -> Result<(), ElabFault>
+    requires { length sinks.old.sources.items ≡ length sinks.old.names }
+    ensures noted { OnOk result ((name : List ℕ) → source_at sinks.new.sources.items (place_of name sinks.new.names) ≡ or_later (source_at sinks.old.sources.items (place_of name sinks.old.names)) (if bytes_eq name (written_text sink.now) then Some (connection source.entry) else None)) }
+    ensures count { OnOk result (length sinks.new.sources.items ≡ length sinks.new.names) }
 {
-    let Some(found) = scope.find(sink) else {
-        return Ok(());
-    };
-    let place = found.signal as usize;
-    if table[place].is_some() {
-        return Err(Stop::Faulty);
+    let name = written(alloc, sink)?;
+    if sinks.names.len() >= u32::MAX as usize {
+        return Err(ElabFault::NoMemory);
     }
-    table[place] = Some(source);
-    Ok(())
+    sinks.sources.reserve(1)?;
+    match sinks.names.add(name) {
+        Ok(()) => {
+            sinks.sources.push_reserved(source);
+            Ok(())
+        }
+        Err(AddError::Doubled) => Ok(()),
+        Err(AddError::NoMemory) => Err(ElabFault::NoMemory),
+    }
+}
+
+impl<'a> Sinks<'a> {
+    /// What the sink of a written name is connected to, if it is connected.
+    pub(crate) fn source(&self, name: &Name) -> Option<Source<'a>>
+        requires { length self.now.sources.items ≡ length self.now.names }
+        ensures { seen result ≡ source_at self.now.sources.items (place_of name.now self.now.names) }
+    {
+        let _ = self.names.len();
+        match self.names.find(name) {
+            Some(place) => Some(self.sources[place as usize]),
+            None => None,
+        }
+    }
 }

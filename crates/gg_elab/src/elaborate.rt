@@ -1,76 +1,80 @@
-//! `flatten`: the flat circuit of a circuit.
-ghost use Rattle.std.specs.Prelude.{◌≡◌, ◌≢◌, ℕ, ◌<◌, ◌≤◌, length, Err, IfOk, AllPairs};
-ghost use Rattle.gg_flat.specs.WellFormed.{IsWellFormed};
-ghost use Rattle.gg_elab.specs.Faultless.{IsFaultlessModule, IsFaultless};
-ghost use Rattle.gg_elab.specs.declared.fault.ElabFault.TheVariants as answers;
-ghost use Rattle.gg_elab.specs.declared.fault.Stop.TheVariants.{Faulty};
-ghost use Rattle.gg_elab.specs.FlatModule.{IsFlatModule, IsFlat, HasSignals};
-ghost use Rattle.gg_elab.specs.Signals.{signals_of};
+//! `flatten`: from a circuit to its flat circuit.
+ghost use Rattle.std.specs.Prelude.{◌≡◌, ◌<◌, ◌^◌, [], length, map, Some, None, Err, IfOk, IfErr, All};
+ghost use Rattle.gg_ast.specs.Places.{place_of};
+ghost use Rattle.gg_ast.specs.Tree.{module_names};
+ghost use Rattle.gg_elab.specs.Building.{IsPlaceIn};
+ghost use Rattle.gg_elab.specs.IsFlat.{IsFlatWith};
+ghost use Rattle.gg_elab.specs.Known.{types_of};
+ghost use Rattle.gg_elab.specs.Limits.{excess_over, IsAnswered};
+ghost use Rattle.gg_walk.specs.Graph.{IsOrderOf};
+ghost use Rattle.gg_elab.specs.Views.{AreDigests, site_of};
+ghost use Rattle.gg_count.specs.Sites.{HoldsModule};
 
-use crate::build::build;
-use crate::connections::connections;
-use crate::declare::signals;
-use crate::fault::{ElabFault, Stop};
-use crate::scope::Scope;
-use gg_ast::{Circuit, Module};
+use crate::build::add_sites;
+use crate::digest::{Digest, digests};
+use crate::fault::ElabFault;
+use crate::known::Typed;
+use crate::ports::{add_all_memories, add_ports};
+use crate::sites::{Place, places};
+use crate::table::table_of;
+use gg_count::count;
 use gg_flat::Piece;
 use std::alloc::Global;
 
-/// How many signals a circuit may have.
-pub const MAX_SIGNALS: usize = 200_000;
+// How many signals each module has of its own.
+fn own_counts(alloc: Global, digests: &[Digest]) -> Result<Vec<u64>, ElabFault>
+    ensures { IfOk result (λ counts. counts.items ≡ map (λ d. length d.signals.items) digests.now) }
+{
+    let mut counts = Vec::new(alloc);
+    for digest in digests {
+        counts.reserve(1)?;
+        counts.push_reserved(digest.signals.len() as u64);
+    }
+    Ok(counts)
+}
 
-/// The flat circuit of a circuit of one module, its top, without instances and memories. The caller owes that the checks of
-/// shape and types find no fault in it.
+// The flat circuit of a circuit whose top is the module at this place.
+fn build<'a>(
+    alloc: Global,
+    typed: &Typed<'a>,
+    digests: &[Digest<'a>],
+    top: u32,
+) -> Result<Piece, ElabFault>
+    requires digests { AreDigests (types_of typed.now.circuit) typed.now.circuit.modules digests.now }
+    requires few { length typed.now.circuit.modules < 2 ^ 32 }
+    requires top { place_of typed.now.circuit.name (module_names typed.now.circuit) ≡ Some top }
+    ensures { IfOk result (IsFlatWith (types_of typed.now.circuit) typed.now.circuit) }
+{
+    let modules = typed.circuit().modules();
+    let places = places(alloc, typed, digests, top)?;
+    let table = table_of(alloc, typed, digests, places.as_slice())?;
+    let mut piece = Piece::new(alloc);
+    add_sites(alloc, typed, &table, digests, places.as_slice(), &mut piece)?;
+    add_all_memories(alloc, typed, &table, digests, places.as_slice(), &mut piece)?;
+    add_ports(&table.paths, modules[top as usize].ports(), &mut piece)?;
+    Ok(piece)
+}
+
+/// The flat circuit of a circuit that the checks passed.
 ///
 /// # Errors
 ///
-/// `TooManySignals`, where the circuit has more than 200,000 signals; `NoMemory`, where memory is refused.
-pub fn flatten(alloc: Global, circuit: &Circuit) -> Result<Piece, ElabFault>
-    requires { IsFaultless circuit.now }
-    ensures flat { IfOk result (λ piece. IsFlat circuit.now piece) }
-    ensures formed { IfOk result (λ piece. IsWellFormed piece) }
-    ensures few { IfOk result (λ piece. length piece.signals ≤ 200000) }
-    ensures many { (n : ℕ) → result ≡ Err (answers.TooManySignals n) → 200000 < n }
-    ensures counted { (n : ℕ) → result ≡ Err (answers.TooManySignals n) → HasSignals circuit.now n }
+/// `TooLarge` with the first count that is above its limit, exactly where there is one; `NoMemory`, where memory is refused.
+pub fn flatten(alloc: Global, typed: &Typed) -> Result<Piece, ElabFault>
+    requires few { length typed.now.circuit.modules < 2 ^ 32 }
+    requires order { IsOrderOf (HoldsModule typed.now.circuit.modules) (length typed.now.circuit.modules) typed.now.order }
+    ensures flat { IfOk result (IsFlatWith (types_of typed.now.circuit) typed.now.circuit) }
+    ensures limits { IsAnswered (excess_over (types_of typed.now.circuit) typed.now.circuit.modules (place_of typed.now.circuit.name (module_names typed.now.circuit))) result }
 {
-    flatten_module(alloc, &circuit.modules()[0])
-}
-
-// The flat circuit of a module without faults.
-fn flatten_module(alloc: Global, top: &Module) -> Result<Piece, ElabFault>
-    requires { IsFaultlessModule top.now }
-    ensures flat { IfOk result (λ piece. IsFlatModule top.now piece) }
-    ensures formed { IfOk result (λ piece. IsWellFormed piece) }
-    ensures few { IfOk result (λ piece. length piece.signals ≤ 200000) }
-    ensures many { (n : ℕ) → result ≡ Err (answers.TooManySignals n) → 200000 < n }
-    ensures counted { (n : ℕ) → result ≡ Err (answers.TooManySignals n) → n ≡ length (signals_of top.now).paths }
-{
-    let scope = match signals(alloc, top) {
-        Ok(scope) => scope,
-        Err(Stop::Faulty) => unreachable!(),
-        Err(Stop::NoMemory) => return Err(ElabFault::NoMemory),
+    let circuit = typed.circuit();
+    let Some(top) = circuit.module(circuit.name().as_str()) else {
+        return Ok(Piece::new(alloc));
     };
-    if scope.len() > MAX_SIGNALS {
-        return Err(ElabFault::TooManySignals(scope.len() as u64));
+    let digests = digests(alloc, typed)?;
+    let own = own_counts(alloc, digests.as_slice())?;
+    let counts = count(alloc, circuit, typed.order(), top, own.as_slice())?;
+    if let Some(excess) = counts.excess() {
+        return Err(ElabFault::TooLarge(excess));
     }
-    match piece_of(alloc, top, &scope) {
-        Ok(piece) => Ok(piece),
-        Err(Stop::Faulty) => unreachable!(),
-        Err(Stop::NoMemory) => Err(ElabFault::NoMemory),
-    }
-}
-
-// The flat circuit of a module without faults, from its signals.
-fn piece_of(alloc: Global, top: &Module, scope: &Scope) -> Result<Piece, Stop>
-    requires faultless { IsFaultlessModule top.now }
-    requires scope { scope.now ≡ signals_of top.now }
-    requires shapes { length scope.now.shapes ≡ length scope.now.paths }
-    requires distinct { AllPairs (λ a b. a ≢ b) scope.now.paths }
-    ensures flat { IfOk result (λ piece. IsFlatModule top.now piece) }
-    ensures formed { IfOk result (λ piece. IsWellFormed piece) }
-    ensures count { IfOk result (λ piece. length piece.signals ≡ length scope.now.paths) }
-    ensures memory { result ≢ Err Faulty }
-{
-    let table = connections(alloc, scope, top.statements())?;
-    build(alloc, top, scope, &table)
+    build(alloc, typed, digests.as_slice(), top)
 }

@@ -1,89 +1,115 @@
-//! Expressions as lines of the flat circuit (FIRRTL Specification, "Expressions").
-ghost use Rattle.std.specs.Prelude.{◌≡◌, ◌≢◌, ◌∷◌, [], ◌++◌, length, None, Err, OnOk, IfOk};
+//! Expressions as nodes of a line.
+ghost use Rattle.std.specs.Prelude.{◌≡◌, ◌≢◌, ◌<◌, ◌∷◌, [], ◌++◌, length, OnOk, IfOk};
 ghost use Rattle.gg_bits.specs.Shape.{shape};
-ghost use Rattle.gg_elab.specs.declared.fault.Stop.TheVariants.{Faulty};
-ghost use Rattle.gg_elab.specs.Expression.{term_shape};
-ghost use Rattle.gg_elab.specs.Lines.{Added};
+ghost use Rattle.gg_ast.specs.Term.{NamedTerm, ConstantTerm};
+ghost use Rattle.gg_elab.specs.Growing.{where_of, shape_of, IsZeroNode, IsResultNode, IsPlaced, Added};
 
-use crate::fault::Stop;
+use crate::fault::ElabFault;
+use crate::lookup::find;
 use crate::scope::Scope;
-use gg_ast::{Expr, ExprKind};
-use gg_bits::{Ty, result_const, result_mux, result1, result2};
+use gg_ast::{Expr, ExprKind, Literal, Reference};
+use gg_bits::{Bad, Kind, Ty, Val, result_const, result_mux, result1, result2};
 use gg_flat::{Line, Node, Op};
 use gg_types::literal;
+use std::alloc::Global;
 
 /// The node of a line that stands for an expression.
 #[derive(Clone, Copy)]
-pub(crate) struct Place {
+pub(crate) struct Stand {
     /// Its place in the line.
     pub(crate) node: u32,
     /// The expression's type.
     pub(crate) ty: Ty,
 }
 
-/// Adds a node at the end. A line of 4,294,967,296 nodes is refused as want of memory.
-fn add_node(line: &mut Line, ty: Ty, op: Op) -> Result<Place, Stop>
-    ensures new { OnOk result (line.new ≡ line.old ++ (record { ty = ty; op = op }) ∷ []) }
-    ensures place { IfOk result (λ place. place.node ≡ length line.old) }
-    ensures typed { IfOk result (λ place. place.ty ≡ ty) }
-    ensures memory { result ≢ Err Faulty }
+// Adds a node at the end. A line of 4,294,967,296 nodes is refused as want of memory.
+fn add_node(line: &mut Line, ty: Ty, op: Op) -> Result<Stand, ElabFault>
+    ensures { IfOk result (λ stand. IsPlaced (λ n. (n.ty ≡ ty) × (n.op ≡ op)) line.old line.new stand) }
 {
     let node = match u32::try_from(line.len()) {
         Ok(node) => node,
-        Err(_) => return Err(Stop::NoMemory),
+        Err(_) => return Err(ElabFault::NoMemory),
     };
     line.push(Node { ty, op })?;
-    Ok(Place { node, ty })
+    Ok(Stand { node, ty })
 }
 
-/// Adds the nodes of an expression; the last stands for it. An expression without a type is a fault.
-pub(crate) fn add_expression(scope: &Scope, line: &mut Line, e: &Expr) -> Result<Place, Stop>
-    ensures added { IfOk result (λ place. Added scope.now line.old line.new e.now place.node (shape place.ty)) }
-    ensures refused { result ≡ Err Faulty → term_shape scope.now e.now ≡ None }
+// Adds the node of the UInt<1> 0.
+fn add_zero(line: &mut Line) -> Result<Stand, ElabFault>
+    ensures { IfOk result (λ stand. IsPlaced IsZeroNode line.old line.new stand) }
+{
+    add_node(line, Ty::new(Kind::UInt, 1), Op::Literal(Val(0)))
+}
+
+// Adds the node of an operation with this result, or of 0 where it has none.
+fn add_result(line: &mut Line, found: Result<Ty, Bad>, op: Op) -> Result<Stand, ElabFault>
+    ensures { IfOk result (λ stand. IsPlaced (IsResultNode found op) line.old line.new stand) }
+{
+    match found {
+        Ok(ty) => add_node(line, ty, op),
+        Err(_) => add_zero(line),
+    }
+}
+
+// Adds the node of a reference.
+fn add_reference(
+    alloc: Global,
+    scope: &Scope,
+    line: &mut Line,
+    reference: &Reference,
+) -> Result<Stand, ElabFault>
+    ensures { IfOk result (λ stand. Added (where_of scope.now) line.old line.new (NamedTerm reference.now) stand.node × (shape stand.ty ≡ shape_of (where_of scope.now) (NamedTerm reference.now))) }
+{
+    match find(alloc, scope, reference)? {
+        Some(signal) => {
+            let ty = scope.table.types[signal as usize];
+            add_node(line, ty, Op::Ref(signal))
+        }
+        None => add_zero(line),
+    }
+}
+
+// Adds the node of a literal.
+fn add_literal(scope: &Scope, line: &mut Line, constant: &Literal) -> Result<Stand, ElabFault>
+    ensures { IfOk result (λ stand. Added (where_of scope.now) line.old line.new (ConstantTerm constant.now) stand.node × (shape stand.ty ≡ shape_of (where_of scope.now) (ConstantTerm constant.now))) }
+{
+    let _ = scope;
+    match literal(constant) {
+        Some((ty, value)) => add_node(line, ty, Op::Literal(value)),
+        None => add_zero(line),
+    }
+}
+
+/// Adds the nodes of an expression; the last stands for it.
+pub(crate) fn add_expression(
+    alloc: Global,
+    scope: &Scope,
+    line: &mut Line,
+    e: &Expr,
+) -> Result<Stand, ElabFault>
+    ensures { IfOk result (λ stand. Added (where_of scope.now) line.old line.new e.now stand.node × (shape stand.ty ≡ shape_of (where_of scope.now) e.now)) }
 {
     match &e.kind {
-        ExprKind::Named(reference) => {
-            let Some(found) = scope.find(reference) else {
-                return Err(Stop::Faulty);
-            };
-            add_node(line, found.ty, Op::Ref(found.signal))
-        }
-        ExprKind::Constant(constant) => {
-            let Some((ty, value)) = literal(constant) else {
-                return Err(Stop::Faulty);
-            };
-            add_node(line, ty, Op::Literal(value))
-        }
+        ExprKind::Named(reference) => add_reference(alloc, scope, line, reference),
+        ExprKind::Constant(constant) => add_literal(scope, line, constant),
         ExprKind::Unary(op, a) => {
-            let a = add_expression(scope, line, a)?;
-            let Ok(ty) = result1(*op, a.ty) else {
-                return Err(Stop::Faulty);
-            };
-            add_node(line, ty, Op::One(*op, a.node))
+            let a = add_expression(alloc, scope, line, a)?;
+            add_result(line, result1(*op, a.ty), Op::One(*op, a.node))
         }
         ExprKind::Binary(op, a, b) => {
-            let a = add_expression(scope, line, a)?;
-            let b = add_expression(scope, line, b)?;
-            let Ok(ty) = result2(*op, a.ty, b.ty) else {
-                return Err(Stop::Faulty);
-            };
-            add_node(line, ty, Op::Two(*op, a.node, b.node))
+            let a = add_expression(alloc, scope, line, a)?;
+            let b = add_expression(alloc, scope, line, b)?;
+            add_result(line, result2(*op, a.ty, b.ty), Op::Two(*op, a.node, b.node))
         }
         ExprKind::Fixed(op, a, n, m) => {
-            let a = add_expression(scope, line, a)?;
-            let Ok(ty) = result_const(*op, a.ty, *n, *m) else {
-                return Err(Stop::Faulty);
-            };
-            add_node(line, ty, Op::Fix(*op, a.node, *n, *m))
+            let a = add_expression(alloc, scope, line, a)?;
+            add_result(line, result_const(*op, a.ty, *n, *m), Op::Fix(*op, a.node, *n, *m))
         }
         ExprKind::Mux(c, a, b) => {
-            let c = add_expression(scope, line, c)?;
-            let a = add_expression(scope, line, a)?;
-            let b = add_expression(scope, line, b)?;
-            let Ok(ty) = result_mux(c.ty, a.ty, b.ty) else {
-                return Err(Stop::Faulty);
-            };
-            add_node(line, ty, Op::Mux(c.node, a.node, b.node))
+            let c = add_expression(alloc, scope, line, c)?;
+            let a = add_expression(alloc, scope, line, a)?;
+            let b = add_expression(alloc, scope, line, b)?;
+            add_result(line, result_mux(c.ty, a.ty, b.ty), Op::Mux(c.node, a.node, b.node))
         }
     }
 }

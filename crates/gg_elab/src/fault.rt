@@ -1,7 +1,9 @@
 //! Why a circuit has no flat circuit.
 ghost use Rattle.std.specs.Prelude.{◌≡◌};
-ghost use Rattle.gg_elab.specs.declared.fault.Stop.TheVariants.{NoMemory};
+ghost use Rattle.gg_elab.specs.declared.fault.ElabFault.TheVariants.{NoMemory};
+ghost use Rattle.gg_elab.specs.ElabText.{limit_of};
 
+use gg_count::{Excess, Measure};
 use gg_shape::{Fault, Limit};
 use std::alloc::AllocError;
 use std::error::Error;
@@ -10,8 +12,8 @@ use std::fmt;
 /// What the elaboration answers in place of a flat circuit.
 #[derive(Clone, Copy, Debug, PartialEq, Eq)]
 pub enum ElabFault {
-    /// F15: the circuit has this number of signals, which is above 200,000.
-    TooManySignals(u64),
+    /// F15: this count of the circuit is above its limit, and no count that comes before it.
+    TooLarge(Excess),
     /// Memory was refused.
     NoMemory,
 }
@@ -24,9 +26,9 @@ impl fmt::Display for ElabFault {
 
     fn fmt<W: fmt::Write>(&self, f: &mut fmt::Formatter<W>) -> fmt::Result {
         match self {
-            ElabFault::TooManySignals(count) => {
-                let limit = Limit::Signals;
-                let count = *count;
+            ElabFault::TooLarge(excess) => {
+                let limit = limit_of(excess.measure);
+                let count = excess.count;
                 write!(f, "{}", Fault::OverLimit { limit, count })
             }
             ElabFault::NoMemory => f.write_str("out of memory"),
@@ -36,20 +38,24 @@ impl fmt::Display for ElabFault {
 
 impl Error for ElabFault {}
 
-/// Why a part of the elaboration stops.
-#[derive(Clone, Copy, Debug, PartialEq, Eq)]
-pub(crate) enum Stop {
-    /// A name, a type or a connection is at fault.
-    Faulty,
-    /// Memory was refused.
-    NoMemory,
+// What was counted, as faults name it.
+fn limit_of(measure: Measure) -> Limit
+    ensures { result ≡ limit_of measure }
+{
+    match measure {
+        Measure::Depth => Limit::Depth,
+        Measure::Signals => Limit::Signals,
+        Measure::Memory => Limit::Memory,
+        Measure::Words => Limit::Words,
+        Measure::Instances => Limit::Instances,
+    }
 }
 
-impl From<AllocError> for Stop {
-    ghost from_gives = { λ error stop. stop ≡ NoMemory };
+impl From<AllocError> for ElabFault {
+    ghost from_gives = { λ error fault. fault ≡ NoMemory };
 
-    fn from(error: AllocError) -> Stop {
+    fn from(error: AllocError) -> ElabFault {
         let _ = error;
-        Stop::NoMemory
+        ElabFault::NoMemory
     }
 }

@@ -1,77 +1,105 @@
 //! The lines of the flat circuit.
-ghost use Rattle.std.specs.Prelude.{◌≡◌, ◌≢◌, Some, Err, IfOk};
-ghost use Rattle.gg_bits.specs.Shape.{shape, uint};
+ghost use Rattle.std.specs.Prelude.{◌≡◌, ◌∷◌, [], IfOk, OnOk};
+ghost use Rattle.gg_bits.specs.Shape.{shape};
 ghost use Rattle.gg_flat.specs.Line.{HasType, IsSource, IsCondition};
-ghost use Rattle.gg_elab.specs.declared.fault.Stop.TheVariants.{Faulty};
-ghost use Rattle.gg_elab.specs.Expression.{term_shape};
-ghost use Rattle.gg_elab.specs.Lines.{IsLineOf};
-ghost use Rattle.gg_elab.specs.Connection.{connection, IsLineFor, IsZeroLine};
-ghost use Rattle.gg_elab.specs.Causes.{CanStand, CanDrive};
+ghost use Rattle.gg_elab.specs.Growing.{where_of, shape_of, Added, IsCut, IsZeroOf};
+ghost use Rattle.gg_elab.specs.IsFlat.{IsLineFor, IsLineOf, IsConditionOf};
+ghost use Rattle.gg_bits.specs.ResultType.{is_condition};
+ghost use Rattle.gg_elab.specs.Meaning.{takes as takes_shape};
+ghost use Rattle.gg_elab.specs.Views.{seen};
 
 use crate::connections::Source;
 use crate::expression::add_expression;
-use crate::fault::Stop;
+use crate::fault::ElabFault;
 use crate::scope::Scope;
 use gg_ast::Expr;
 use gg_bits::{Kind, Ty, Val};
 use gg_flat::{Line, Node, Op};
-use std::alloc::Global;
+use std::alloc::{AllocError, Global};
 
-/// The line of an expression that stands for a value of this type. An expression of another kind, or wider, is a fault.
-pub(crate) fn node_line(alloc: Global, scope: &Scope, e: &Expr, ty: Ty) -> Result<Line, Stop>
-    ensures stands { IfOk result (λ line. IsLineOf scope.now e.now line) }
-    ensures fits { IfOk result (λ line. IsSource (HasType scope.now.shapes) (shape ty) line) }
-    ensures refused { result ≡ Err Faulty → CanStand scope.now e.now (shape ty) → ⊥ }
+// Whether a sink of the first type takes a value of the second.
+fn takes(sink: Ty, source: Ty) -> bool
+    ensures { result ≡ takes_shape (shape sink) (shape source) }
 {
-    let mut line = Line::new(alloc);
-    let place = add_expression(scope, &mut line, e)?;
-    if place.ty.kind != ty.kind || place.ty.width > ty.width {
-        return Err(Stop::Faulty);
-    }
-    Ok(line)
+    sink.kind == source.kind && source.width <= sink.width
 }
 
-/// The line of a condition. An expression of a type other than `UInt<1>` is a fault.
-pub(crate) fn condition_line(alloc: Global, scope: &Scope, e: &Expr) -> Result<Line, Stop>
-    ensures stands { IfOk result (λ line. IsLineOf scope.now e.now line) }
-    ensures fits { IfOk result (λ line. IsCondition (HasType scope.now.shapes) line) }
-    ensures refused { result ≡ Err Faulty → term_shape scope.now e.now ≢ Some (uint 1) }
+// Adds the node of 0 of a type.
+fn add_zero_of(line: &mut Line, ty: Ty) -> Result<(), AllocError>
+    ensures { OnOk result (IsZeroOf line.old line.new (shape ty)) }
 {
-    let mut line = Line::new(alloc);
-    let place = add_expression(scope, &mut line, e)?;
-    if place.ty.kind != Kind::UInt || place.ty.width != 1 {
-        return Err(Stop::Faulty);
-    }
-    Ok(line)
-}
-
-/// The line of what a sink of this type is connected to. An expression of another kind, or wider, is a fault.
-pub(crate) fn source_line(
-    alloc: Global,
-    scope: &Scope,
-    source: Source,
-    ty: Ty,
-) -> Result<Line, Stop>
-    ensures stands { IfOk result (λ line. IsLineFor scope.now (connection source.entry) line) }
-    ensures fits { IfOk result (λ line. IsSource (HasType scope.now.shapes) (shape ty) line) }
-    ensures refused { result ≡ Err Faulty → CanDrive scope.now (connection source.entry) (shape ty) → ⊥ }
-{
-    match source {
-        Source::Of(e) => node_line(alloc, scope, e, ty),
-        Source::Zero => zero_line(alloc, scope, ty),
-    }
-}
-
-// The line of 0.
-fn zero_line(alloc: Global, scope: &Scope, ty: Ty) -> Result<Line, Stop>
-    ensures stands { IfOk result IsZeroLine }
-    ensures fits { IfOk result (λ line. IsSource (HasType scope.now.shapes) (shape ty) line) }
-    ensures memory { result ≢ Err Faulty }
-{
-    let mut line = Line::new(alloc);
     line.push(Node {
         ty,
         op: Op::Literal(Val(0)),
     })?;
+    Ok(())
+}
+
+// Whether a type is that of a condition.
+fn is_bit(ty: Ty) -> bool
+    ensures { result ≡ is_condition (shape ty) }
+{
+    ty.kind == Kind::UInt && ty.width == 1
+}
+
+// The line, where its value can be taken; else the same with a 0 of this type behind it.
+fn cut(line: Line, taken: bool, sink: Ty) -> Result<Line, ElabFault>
+    ensures { IfOk result (IsCut taken line (shape sink)) }
+{
+    if taken {
+        return Ok(line);
+    }
+    let mut line = line;
+    add_zero_of(&mut line, sink)?;
     Ok(line)
+}
+
+/// The line that gives a sink of this type the value of an expression.
+pub(crate) fn value_line(
+    alloc: Global,
+    scope: &Scope,
+    e: &Expr,
+    ty: Ty,
+) -> Result<Line, ElabFault>
+    ensures stands { IfOk result (IsLineOf (where_of scope.now).types (where_of scope.now).signals (where_of scope.now).scope (shape ty) e.now) }
+    ensures fits { IfOk result (IsSource (HasType (where_of scope.now).signals.shapes) (shape ty)) }
+{
+    let mut line = Line::new(alloc);
+    let stand = add_expression(alloc, scope, &mut line, e)?;
+    cut(line, takes(ty, stand.ty), ty)
+}
+
+/// The line that gives a sink of this type what it is connected to.
+pub(crate) fn source_line(
+    alloc: Global,
+    scope: &Scope,
+    source: Option<Source>,
+    ty: Ty,
+) -> Result<Line, ElabFault>
+    ensures stands { IfOk result (IsLineFor (where_of scope.now).types (where_of scope.now).signals (where_of scope.now).scope (shape ty) (seen source.entry)) }
+    ensures fits { IfOk result (IsSource (HasType (where_of scope.now).signals.shapes) (shape ty)) }
+{
+    match source {
+        Some(Source::Of(e)) => value_line(alloc, scope, e, ty),
+        Some(Source::Zero) | None => {
+            let mut line = Line::new(alloc);
+            add_zero_of(&mut line, ty)?;
+            Ok(line)
+        }
+    }
+}
+
+/// The line of a condition.
+pub(crate) fn condition_line(
+    alloc: Global,
+    scope: &Scope,
+    e: &Expr,
+) -> Result<Line, ElabFault>
+    ensures stands { IfOk result (IsConditionOf (where_of scope.now).types (where_of scope.now).signals (where_of scope.now).scope e.now) }
+    ensures fits { IfOk result (IsCondition (HasType (where_of scope.now).signals.shapes)) }
+{
+    let bit = Ty::new(Kind::UInt, 1);
+    let mut line = Line::new(alloc);
+    let stand = add_expression(alloc, scope, &mut line, e)?;
+    cut(line, is_bit(stand.ty), bit)
 }

@@ -1,27 +1,30 @@
-use Rattle.std.proofs.Common.{sym, ap, ◌∙◌, arith}
-use Rattle.std.specs.Prelude.{is_some}
-use Rattle.gg_elab.proofs.TableLemmas.{named-path, unset, NotedSink-set, is_seen}
+use Rattle.std.proofs.Common.{◌≡◌, List, [], ◌∷◌, ◌++◌, ap, sym, ◌∙◌, Some, None, if◌then◌else◌, ℕ}
+use Rattle.std.specs.Str.{bytes_eq}
+use Rattle.gg_ast.specs.Places.{place_of}
+use Rattle.gg_elab.specs.declared.connections.Source.{Source}
+use Rattle.gg_elab.specs.Memories.{or_later}
+use Rattle.gg_elab.specs.Views.{connection, source_at}
+use Rattle.gg_elab.proofs.ConnectionLemmas.{noted, noted-again}
 use Rattle.gg_elab.proofs.connections.note_sink.Goals as goal
 
-pub bounds-table-place : goal.bounds-table-place
-bounds-table-place c = let lt = (named-path c.args.scope.now c.args.sink.now c.in-Some.found.signal c.in-Some.ensures.some).0 in omega arith
+pub returns-in-Ok-clause-noted : goal.returns-in-Ok-clause-noted
+returns-in-Ok-clause-noted c = λ q.
+    let names = c.args.sinks.now.names in
+    let sources = c.args.sinks.now.sources.items in
+    let more : c.push_reserved.new.self.items ≡ sources ++ c.args.source ∷ [] = cc in
+    let named : c.add.new.self ≡ names ++ c.in_ok-name.name ∷ [] = c.in-Ok.ensures.ok in
+    ap (λ (l : List Source). source_at l (place_of q c.add.new.self)) more
+    ∙ ap (λ (l : List (List ℕ)). source_at (sources ++ c.args.source ∷ []) (place_of q l)) named
+    ∙ noted names sources c.in_ok-name.name c.args.source c.requires q
+    ∙ ap (λ (n : List ℕ). or_later (source_at sources (place_of q names)) (if bytes_eq q n then Some (connection c.args.source) else None)) c.in_ok-name.ensures
 
-pub bounds-table-place-2 : goal.bounds-table-place-2
-bounds-table-place-2 c = let lt = (named-path c.args.scope.now c.args.sink.now c.in-Some.found.signal c.in-Some.ensures.some).0 in omega arith
-
-pub returns-clause-noted : goal.returns-clause-noted
-returns-clause-noted c =
-    let a = c.is_some.ensures in
-    let b = c.if-is_some.false in
-    let d = c.index-table-place.is in
-    NotedSink-set c.args.scope.now c.args.sink.now c.args.table.now c.in-Some.found.signal c.args.source c.in-Some.ensures.some c.requires
-    (unset c.args.table.now c.in-Some.found.signal c.index-table-place.result c.index-table-place.is (ap is_some c.index-table-place.is ∙ sym a ∙ b))
-
-pub returns-then-is_some-clause-refused : goal.returns-then-is_some-clause-refused
-returns-then-is_some-clause-refused c =
-    let lt = (named-path c.args.scope.now c.args.sink.now c.in-Some.found.signal c.in-Some.ensures.some).0 in
-    λ e. record {
-      place = c.in-Some.found.signal;
-      at = c.in-Some.ensures.some;
-      taken = is_seen c.args.table.now c.in-Some.found.signal c.index-table-place.result (omega arith) c.index-table-place.is (ap is_some c.index-table-place.is ∙ sym c.is_some.ensures ∙ c.if-is_some.true);
-    }
+pub returns-in-Err-Doubled-clause-noted : goal.returns-in-Err-Doubled-clause-noted
+returns-in-Err-Doubled-clause-noted c = λ q.
+    let names = c.args.sinks.now.names in
+    let sources = c.args.sinks.now.sources.items in
+    let same : c.reserve.new.self.items ≡ sources = cc in
+    let named : c.add.new.self ≡ names = c.in-Err-Doubled.ensures.err in
+    ap (λ (l : List Source). source_at l (place_of q c.add.new.self)) same
+    ∙ ap (λ (l : List (List ℕ)). source_at sources (place_of q l)) named
+    ∙ noted-again names sources c.in_ok-name.name (connection c.args.source) c.requires (c.in-Err-Doubled.ensures.doubled.0 (ap _ c.in-Err-Doubled.field-0-is)) q
+    ∙ ap (λ (n : List ℕ). or_later (source_at sources (place_of q names)) (if bytes_eq q n then Some (connection c.args.source) else None)) c.in_ok-name.ensures

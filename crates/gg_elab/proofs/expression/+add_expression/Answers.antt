@@ -1,81 +1,58 @@
-use Rattle.std.proofs.Common.{◌∙◌, refl, ap, sym}
+use Rattle.std.proofs.Common.{◌≡◌, ◌∙◌, ap, ap₂, refl, sym}
+use Rattle.gg_bits.specs.ResultType.{type1, type2, type_const, type_mux}
+use Rattle.gg_bits.specs.Shape.{Shape, shape}
 use Rattle.gg_ast.specs.TermOf.{term_of}
-use Rattle.gg_bits.specs.Shape.{shape}
-use Rattle.gg_flat.specs.declared.line.Op.TheVariants.{Ref, Literal, One, Two, Fix, Mux}
-use Rattle.gg_elab.proofs.LineLemmas.{added_reference, added_literal, added_one, added_two, added_fix, added_mux}
-use Rattle.gg_elab.proofs.PlaceLemmas.{a_node, placed, operand}
+use Rattle.gg_flat.specs.declared.line.Op.TheVariants.{One, Two, Fix, Mux}
+use Rattle.gg_elab.specs.Growing.{where_of, shape_of, IsResultNode}
+use Rattle.gg_elab.proofs.LineLemmas.{added_one, added_two, added_fix, added_mux}
+use Rattle.gg_elab.proofs.PlacedLemmas.{Stands, finished, operand}
 use Rattle.gg_elab.proofs.expression.+add_expression.Goals as goal
 
-pub returns-in-Some-clause-added : goal.returns-in-Some-clause-added
-returns-in-Some-clause-added t c =
-    let found = c.in-Some.found in
-    let n = a_node found.ty (Ref found.signal) in
-    let h = c.add_node.ensures in
-    placed c.add_node.result c.args.scope.now c.args.line.now c.args.line.now c.add_node.new.line n _ _
-    (record { added = h.new; place = h.place; typed = h.typed })
-    (sym c.e.view_is ∙ ap term_of c.in-Named.is)
-    (added_reference c.args.scope.now c.args.line.now n c.in-Named.reference found.signal (shape found.ty) c.in-Some.ensures.some c.in-Some.ensures.within c.in-Some.ensures.typed refl refl)
-
-pub returns-in-Some-literal-clause-added : goal.returns-in-Some-literal-clause-added
-returns-in-Some-literal-clause-added t c =
-    let found = c.in-Some-literal in
-    let n = a_node found.ty (Literal found.value) in
-    let h = c.add_node-in-Constant.ensures in
-    placed c.add_node-in-Constant.result c.args.scope.now c.args.line.now c.args.line.now c.add_node-in-Constant.new.line n _ _
-    (record { added = h.new; place = h.place; typed = h.typed })
-    (sym c.e.view_is ∙ ap term_of c.in-Constant.is)
-    (added_literal c.args.scope.now c.args.line.now n c.in-Constant.constant found.value (shape found.ty) found.ensures.some found.ensures.fits found.ensures.value refl refl)
-
-pub returns-in-Ok-clause-added : goal.returns-in-Ok-clause-added
-returns-in-Ok-clause-added t c =
+pub returns-in_ok-a-in-Unary : goal.returns-in_ok-a-in-Unary
+returns-in_ok-a-in-Unary t c =
+    let w = where_of c.args.scope.now in
+    let op = c.in-Unary.op in
     let a = c.in_ok-a-in-Unary.a in
-    let n = a_node c.in-Ok.ty (One c.in-Unary.op a.node) in
-    let h = c.add_node-in-Unary.ensures in
-    placed c.add_node-in-Unary.result c.args.scope.now c.args.line.now c.add_expression.new.line c.add_node-in-Unary.new.line n _ _
-    (record { added = h.new; place = h.place; typed = h.typed })
-    (sym c.e.view_is ∙ ap term_of c.in-Unary.is)
-    (added_one c.args.scope.now c.args.line.now c.add_expression.new.line n c.in-Unary.op c.in-Unary.a.value a.node (shape a.ty) (shape c.in-Ok.ty)
-    (operand _ _ _ _ _ _ _ c.deref.ensures c.in_ok-a-in-Unary.ensures.added)
-    (sym c.in-Ok.ensures.exact) refl refl)
+    let mid = c.add_expression.new.line in
+    let pa : Stands w c.args.line.now mid c.in-Unary.a.value a = operand w c.args.line.now mid _ c.in-Unary.a.value a c.deref.ensures c.in_ok-a-in-Unary.ensures in
+    finished c.add_result.result w c.args.line.now mid c.add_result.new.line _ _ (IsResultNode c.result1.result (One op a.node)) (sym c.e.view_is ∙ ap term_of c.in-Unary.is) c.add_result.ensures
+    (λ n p. added_one w c.args.line.now mid n op c.in-Unary.a.value a.node c.result1.result pa.0 (c.result1.ensures.exact ∙ ap (type1 op) pa.1) p)
 
-pub returns-in-Ok-result2-clause-added : goal.returns-in-Ok-result2-clause-added
-returns-in-Ok-result2-clause-added t c =
+pub returns-in_ok-b-in-Binary : goal.returns-in_ok-b-in-Binary
+returns-in_ok-b-in-Binary t c =
+    let w = where_of c.args.scope.now in
+    let op = c.in-Binary.op in
     let a = c.in_ok-a-in-Binary.a in
     let b = c.in_ok-b-in-Binary.b in
-    let n = a_node c.in-Ok-result2.ty (Two c.in-Binary.op a.node b.node) in
-    let h = c.add_node-in-Binary.ensures in
-    placed c.add_node-in-Binary.result c.args.scope.now c.args.line.now c.add_expression-in-Binary-2.new.line c.add_node-in-Binary.new.line n _ _
-    (record { added = h.new; place = h.place; typed = h.typed })
-    (sym c.e.view_is ∙ ap term_of c.in-Binary.is)
-    (added_two c.args.scope.now c.args.line.now c.add_expression-in-Binary.new.line c.add_expression-in-Binary-2.new.line n c.in-Binary.op c.in-Binary.a.value c.in-Binary.b.value a.node b.node (shape a.ty) (shape b.ty) (shape c.in-Ok-result2.ty)
-    (operand _ _ _ _ _ _ _ c.deref-in-Binary.ensures c.in_ok-a-in-Binary.ensures.added)
-    (operand _ _ _ _ _ _ _ c.deref-in-Binary-2.ensures c.in_ok-b-in-Binary.ensures.added)
-    (sym c.in-Ok-result2.ensures.exact) refl refl)
+    let one = c.add_expression-in-Binary.new.line in
+    let mid = c.add_expression-in-Binary-2.new.line in
+    let pa : Stands w c.args.line.now one c.in-Binary.a.value a = operand w c.args.line.now one _ c.in-Binary.a.value a c.deref-in-Binary.ensures c.in_ok-a-in-Binary.ensures in
+    let pb : Stands w one mid c.in-Binary.b.value b = operand w one mid _ c.in-Binary.b.value b c.deref-in-Binary-2.ensures c.in_ok-b-in-Binary.ensures in
+    finished c.add_result-in-Binary.result w c.args.line.now mid c.add_result-in-Binary.new.line _ _ (IsResultNode c.result2.result (Two op a.node b.node)) (sym c.e.view_is ∙ ap term_of c.in-Binary.is) c.add_result-in-Binary.ensures
+    (λ n p. added_two w c.args.line.now one mid n op c.in-Binary.a.value c.in-Binary.b.value a.node b.node c.result2.result pa.0 pb.0 (c.result2.ensures.exact ∙ ap (λ s. type2 op s (shape b.ty)) pa.1 ∙ ap (type2 op (shape_of w c.in-Binary.a.value)) pb.1) p)
 
-pub returns-in-Ok-result_const-clause-added : goal.returns-in-Ok-result_const-clause-added
-returns-in-Ok-result_const-clause-added t c =
+pub returns-in_ok-a-in-Fixed : goal.returns-in_ok-a-in-Fixed
+returns-in_ok-a-in-Fixed t c =
+    let w = where_of c.args.scope.now in
+    let op = c.in-Fixed.op in
     let a = c.in_ok-a-in-Fixed.a in
-    let n = a_node c.in-Ok-result_const.ty (Fix c.in-Fixed.op a.node c.in-Fixed.n c.in-Fixed.m) in
-    let h = c.add_node-in-Fixed.ensures in
-    placed c.add_node-in-Fixed.result c.args.scope.now c.args.line.now c.add_expression-in-Fixed.new.line c.add_node-in-Fixed.new.line n _ _
-    (record { added = h.new; place = h.place; typed = h.typed })
-    (sym c.e.view_is ∙ ap term_of c.in-Fixed.is)
-    (added_fix c.args.scope.now c.args.line.now c.add_expression-in-Fixed.new.line n c.in-Fixed.op c.in-Fixed.a.value a.node c.in-Fixed.n c.in-Fixed.m (shape a.ty) (shape c.in-Ok-result_const.ty)
-    (operand _ _ _ _ _ _ _ c.deref-in-Fixed.ensures c.in_ok-a-in-Fixed.ensures.added)
-    (sym c.in-Ok-result_const.ensures.exact) refl refl)
+    let mid = c.add_expression-in-Fixed.new.line in
+    let pa : Stands w c.args.line.now mid c.in-Fixed.a.value a = operand w c.args.line.now mid _ c.in-Fixed.a.value a c.deref-in-Fixed.ensures c.in_ok-a-in-Fixed.ensures in
+    finished c.add_result-in-Fixed.result w c.args.line.now mid c.add_result-in-Fixed.new.line _ _ (IsResultNode c.result_const.result (Fix op a.node c.in-Fixed.n c.in-Fixed.m)) (sym c.e.view_is ∙ ap term_of c.in-Fixed.is) c.add_result-in-Fixed.ensures
+    (λ n p. added_fix w c.args.line.now mid n op c.in-Fixed.a.value a.node c.in-Fixed.n c.in-Fixed.m c.result_const.result pa.0 (c.result_const.ensures.exact ∙ ap (λ s. type_const op s c.in-Fixed.n c.in-Fixed.m) pa.1) p)
 
-pub returns-in-Ok-result_mux-clause-added : goal.returns-in-Ok-result_mux-clause-added
-returns-in-Ok-result_mux-clause-added t c =
+pub returns-in_ok-b-in-Mux : goal.returns-in_ok-b-in-Mux
+returns-in_ok-b-in-Mux t c =
+    let w = where_of c.args.scope.now in
     let u = c.in_ok-c-in-Mux.c in
     let a = c.in_ok-a-in-Mux.a in
     let b = c.in_ok-b-in-Mux.b in
-    let n = a_node c.in-Ok-result_mux.ty (Mux u.node a.node b.node) in
-    let h = c.add_node-in-Mux.ensures in
-    placed c.add_node-in-Mux.result c.args.scope.now c.args.line.now c.add_expression-in-Mux-3.new.line c.add_node-in-Mux.new.line n _ _
-    (record { added = h.new; place = h.place; typed = h.typed })
-    (sym c.e.view_is ∙ ap term_of c.in-Mux.is)
-    (added_mux c.args.scope.now c.args.line.now c.add_expression-in-Mux.new.line c.add_expression-in-Mux-2.new.line c.add_expression-in-Mux-3.new.line n c.in-Mux.c.value c.in-Mux.a.value c.in-Mux.b.value u.node a.node b.node (shape u.ty) (shape a.ty) (shape b.ty) (shape c.in-Ok-result_mux.ty)
-    (operand _ _ _ _ _ _ _ c.deref-in-Mux.ensures c.in_ok-c-in-Mux.ensures.added)
-    (operand _ _ _ _ _ _ _ c.deref-in-Mux-2.ensures c.in_ok-a-in-Mux.ensures.added)
-    (operand _ _ _ _ _ _ _ c.deref-in-Mux-3.ensures c.in_ok-b-in-Mux.ensures.added)
-    (sym c.in-Ok-result_mux.ensures.exact) refl refl)
+    let one = c.add_expression-in-Mux.new.line in
+    let two = c.add_expression-in-Mux-2.new.line in
+    let mid = c.add_expression-in-Mux-3.new.line in
+    let pc : Stands w c.args.line.now one c.in-Mux.c.value u = operand w c.args.line.now one _ c.in-Mux.c.value u c.deref-in-Mux.ensures c.in_ok-c-in-Mux.ensures in
+    let pa : Stands w one two c.in-Mux.a.value a = operand w one two _ c.in-Mux.a.value a c.deref-in-Mux-2.ensures c.in_ok-a-in-Mux.ensures in
+    let pb : Stands w two mid c.in-Mux.b.value b = operand w two mid _ c.in-Mux.b.value b c.deref-in-Mux-3.ensures c.in_ok-b-in-Mux.ensures in
+    finished c.add_result-in-Mux.result w c.args.line.now mid c.add_result-in-Mux.new.line _ _ (IsResultNode c.result_mux.result (Mux u.node a.node b.node)) (sym c.e.view_is ∙ ap term_of c.in-Mux.is) c.add_result-in-Mux.ensures
+    (λ n p. added_mux w c.args.line.now one two mid n c.in-Mux.c.value c.in-Mux.a.value c.in-Mux.b.value u.node a.node b.node c.result_mux.result pc.0 pa.0 pb.0
+      (c.result_mux.ensures.exact ∙ ap (λ s. type_mux s (shape a.ty) (shape b.ty)) pc.1 ∙ ap (λ s. type_mux (shape_of w c.in-Mux.c.value) s (shape b.ty)) pa.1 ∙ ap (type_mux (shape_of w c.in-Mux.c.value) (shape_of w c.in-Mux.a.value)) pb.1) p)

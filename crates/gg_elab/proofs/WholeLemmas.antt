@@ -1,0 +1,78 @@
+-- The whole flat circuit: its signals, then its memories, then its ports.
+use Rattle.std.proofs.Common.{◌≡◌, ℕ, ◌<◌, List, [], ◌∷◌, ◌++◌, length, map, Option, Some, None, refl, sym, ap, ◌∙◌, subst, arith}
+use Rattle.std.specs.Prelude.{slice_index_or}
+use Rattle.std.proofs.lemmas.List.{append-nil, get_or_append_left, get_or_push, length-append}
+use Rattle.std.proofs.Common.{below_more}
+use Rattle.gg_ast.specs.declared.module.Direction.TheVariants as direction
+use Rattle.gg_ast.specs.declared.module.Port.{Port}
+use Rattle.gg_flat.specs.declared.memory.Memory.{Memory}
+use Rattle.gg_flat.specs.Circuit.{FlatCircuit}
+use Rattle.gg_elab.specs.Building.{IsSoFar, HasMemories}
+use Rattle.gg_elab.specs.Flat.{FlatSignal, FlatMemory}
+use Rattle.gg_elab.specs.IsFlat.{IsFlatOf, IsMemoryOf, signals_of, memory_paths, number_of, port_names}
+use Rattle.gg_elab.specs.Meaning.{Signals}
+use Rattle.gg_elab.specs.Signals.{Types}
+
+pub whole : (types : Types) (all : List FlatSignal) (banks : List FlatMemory) (ports : List Port) (table : Signals) (memories : List (List ℕ)) (one two three : FlatCircuit) (inputs : ℕ) → table ≡ signals_of all → memories ≡ memory_paths banks → IsSoFar types table memories all one inputs → HasMemories table.paths banks one two → three.ins ≡ two.ins ++ map (number_of table.paths) (port_names direction.Input ports) → three.outs ≡ two.outs ++ map (number_of table.paths) (port_names direction.Output ports) → three ≡ record two { ins = three.ins; outs = three.outs } → IsFlatOf types all banks ports three
+whole types all banks ports table memories one two three inputs same listed far has ins outs rest =
+    let so = subst (λ (t : Signals). IsSoFar types t (memory_paths banks) all one inputs) same (subst (λ (m : List (List ℕ)). IsSoFar types table m all one inputs) listed far) in
+    let numbers : table.paths ≡ (signals_of all).paths = ap (λ (t : Signals). t.paths) same in
+    let no_ins : two.ins ≡ [] = ap (λ (f : FlatCircuit). f.ins) has.rest ∙ far.no_ins in
+    let no_outs : two.outs ≡ [] = ap (λ (f : FlatCircuit). f.outs) has.rest ∙ far.no_outs in
+    let is : three ≡ record one { memories = two.memories; ins = three.ins; outs = three.outs } =
+          rest ∙ ap (λ (f : FlatCircuit). record f { ins = three.ins; outs = three.outs }) has.rest in
+    subst (λ (f : FlatCircuit). IsFlatOf types all banks ports f) (sym is) (record {
+      paths = so.paths;
+      shapes = so.shapes;
+      drivers = so.drivers;
+      register_count = so.register_count;
+      memory_count = has.count;
+      memories = λ m said any lt. subst (λ (p : List (List ℕ)). IsMemoryOf p (slice_index_or banks m said) (slice_index_or two.memories m any)) numbers (has.each m said any lt);
+      ins = ins ∙ ap (λ l. l ++ map (number_of table.paths) (port_names direction.Input ports)) no_ins ∙ ap (λ p. map (number_of p) (port_names direction.Input ports)) numbers;
+      outs = outs ∙ ap (λ l. l ++ map (number_of table.paths) (port_names direction.Output ports)) no_outs ∙ ap (λ p. map (number_of p) (port_names direction.Output ports)) numbers;
+    })
+
+-- ---- memories
+
+pub memories-begun : (paths : List (List ℕ)) (flat : FlatCircuit) → flat.memories ≡ [] → HasMemories paths [] flat flat
+memories-begun paths flat none = record {
+  rest = refl;
+  count = ap (λ (l : List Memory). length l) none;
+  each = λ m other any lt. absurd (omega (arith, lt));
+}
+
+-- what is known of the memories of one circuit holds of them in another
+pub memories-own : (paths : List (List ℕ)) (said : List FlatMemory) (old new : FlatCircuit) → HasMemories paths said old new → HasMemories paths said new new
+memories-own paths said old new h = record { rest = refl; count = h.count; each = h.each }
+
+pub memories-on : (paths : List (List ℕ)) (said all : List FlatMemory) (one two three : FlatCircuit) → HasMemories paths said one two → HasMemories paths all two three → HasMemories paths all one three
+memories-on paths said all one two three h g = record {
+  rest = g.rest ∙ ap (λ (f : FlatCircuit). record f { memories = three.memories }) h.rest;
+  count = g.count;
+  each = g.each;
+}
+
+-- one memory more
+pub memories-push : (paths : List (List ℕ)) (said : List FlatMemory) (x : FlatMemory) (base old new : FlatCircuit) (memory : Memory) → HasMemories paths said base old → new ≡ record old { memories = old.memories ++ memory ∷ [] } → IsMemoryOf paths x memory → HasMemories paths (said ++ x ∷ []) base new
+memories-push paths said x base old new memory h is of = record {
+  rest = is ∙ ap (λ (f : FlatCircuit). record f { memories = old.memories ++ memory ∷ [] }) h.rest ∙ ap (λ (l : List Memory). record base { memories = l }) (sym items);
+  count = ap (λ (l : List Memory). length l) items ∙ omega (arith, length-append old.memories (memory ∷ []), length-append said (x ∷ []), h.count);
+  each = λ m other any lt. below_more (λ (m : ℕ). IsMemoryOf paths (slice_index_or (said ++ x ∷ []) m other) (slice_index_or new.memories m any)) (length said) (before other any) (last other any) m (omega (arith, lt, length-append said (x ∷ [])));
+}
+  where
+    items : new.memories ≡ old.memories ++ memory ∷ []
+    items = ap (λ (f : FlatCircuit). f.memories) is
+
+    place : (m : ℕ) (other : FlatMemory) (any : Memory) (y : FlatMemory) (z : Memory) → slice_index_or (said ++ x ∷ []) m other ≡ y → slice_index_or new.memories m any ≡ z → IsMemoryOf paths y z → IsMemoryOf paths (slice_index_or (said ++ x ∷ []) m other) (slice_index_or new.memories m any)
+    place m other any y z a b k = subst (λ (s : FlatMemory). IsMemoryOf paths s (slice_index_or new.memories m any)) (sym a) (subst (λ (s : Memory). IsMemoryOf paths y s) (sym b) k)
+
+    before : (other : FlatMemory) (any : Memory) (m : ℕ) → m < length said → IsMemoryOf paths (slice_index_or (said ++ x ∷ []) m other) (slice_index_or new.memories m any)
+    before other any m lt =
+        place m other any _ _ (get_or_append_left said (x ∷ []) other m lt)
+        (ap (λ (l : List Memory). slice_index_or l m any) items ∙ get_or_append_left old.memories (memory ∷ []) any m (omega (arith, lt, h.count)))
+        (h.each m other any lt)
+
+    last : (other : FlatMemory) (any : Memory) → IsMemoryOf paths (slice_index_or (said ++ x ∷ []) (length said) other) (slice_index_or new.memories (length said) any)
+    last other any =
+        place (length said) other any x memory (get_or_push said x other (length said) refl)
+        (ap (λ (l : List Memory). slice_index_or l (length said) any) items ∙ get_or_push old.memories memory any (length said) h.count) of

@@ -1,0 +1,10 @@
+use Rattle.std.proofs.Common.{◌≡◌, ℕ, ◌<◌, ◌≤◌, ◌++◌, ◌∷◌, [], List, length, map, take, drop, Option}
+use Rattle.gg_elab.specs.Known.{types_of}
+use Rattle.gg_elab.specs.Flat.{FlatSignal, flat_signal, flat_signals, FlatMemory, flat_memory, flat_memories}
+use Rattle.gg_elab.specs.Views.{site_of, own_of, own_bank_of}
+use Rattle.gg_elab.specs.Building.{IsSoFar, HasMemories}
+use Rattle.gg_elab.specs.Growing.{table_signals}
+use Rattle.gg_elab.proofs.build.add_sites.Given as goal
+
+abbrev pub invariant-loop-place : goal.invariant-loop-place
+invariant-loop-place l = IsSoFar (types_of l.typed.circuit) (table_signals l.table) l.table.memories (flat_signals (types_of l.typed.circuit) l.typed.circuit.modules (map site_of (take l.place-index l.places))) l.piece l.inputs

@@ -1,0 +1,8 @@
+use Rattle.std.proofs.Common.{◌≡◌, ℕ, ◌<◌, ◌≤◌, ◌++◌, ◌∷◌, [], List, length, map, take, drop, Option}
+use Rattle.gg_elab.specs.Flat.{FlatSignal, flat_signal, flat_signals, FlatMemory, flat_memory, flat_memories}
+use Rattle.gg_elab.specs.Views.{site_of, own_of, own_bank_of}
+use Rattle.gg_elab.specs.Building.{IsSoFar, HasMemories}
+use Rattle.gg_elab.proofs.ports.add_all_memories.Given as goal
+
+abbrev pub invariant-loop-place : goal.invariant-loop-place
+invariant-loop-place l = HasMemories l.table.paths (flat_memories l.typed.circuit.modules (map site_of (take l.place-index l.places))) l.fn.piece l.piece

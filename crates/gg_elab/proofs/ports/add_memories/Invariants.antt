@@ -1,0 +1,9 @@
+use Rattle.std.proofs.Common.{◌≡◌, ℕ, ◌<◌, ◌≤◌, ◌++◌, ◌∷◌, [], List, length, map, take, drop, Option}
+use Rattle.gg_elab.specs.Flat.{FlatSignal, flat_signal, flat_signals, FlatMemory, flat_memory, flat_memories}
+use Rattle.gg_elab.specs.Views.{site_of, own_of, own_bank_of}
+use Rattle.gg_elab.specs.Building.{IsSoFar, HasMemories}
+use Rattle.gg_elab.specs.declared.sites.Place.{Place}
+use Rattle.gg_elab.proofs.ports.add_memories.Given as goal
+
+abbrev pub invariant-loop-own : goal.invariant-loop-own
+invariant-loop-own l = (place : Place) (said : List FlatMemory) → place.path ≡ l.path → HasMemories l.paths said l.fn.piece l.fn.piece → HasMemories l.paths (said ++ map (λ m. flat_memory (site_of place) (own_bank_of m)) (take l.own-index l.memories)) l.fn.piece l.piece

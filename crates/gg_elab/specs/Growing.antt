@@ -1,0 +1,96 @@
+-- A line while it grows, node by node.
+use Rattle.std.specs.Prelude.{◌≡◌, ℕ, ◌+◌, ◌<◌, List, [], ◌∷◌, ◌++◌, Result, Ok, Err, length, map, ◌⊎◌, Bool, true, false}
+use Rattle.gg_bits.specs.declared.types.Bad.{Bad}
+use Rattle.gg_bits.specs.declared.types.Ty.{Ty}
+use Rattle.gg_bits.specs.Shape.{Shape, shape, uint}
+use Rattle.gg_ast.specs.Term.{Term}
+use Rattle.gg_flat.specs.declared.line.Node.{Node}
+use Rattle.gg_flat.specs.declared.line.Op.{Op}
+use Rattle.gg_flat.specs.declared.line.Op.TheVariants.{Literal}
+use Rattle.gg_flat.specs.Line.{shape_at, value_at, shapes_of, op_at, HasShape, HasType, node_values}
+use Rattle.gg_flat.specs.Reads.{Names}
+use Rattle.gg_elab.specs.declared.expression.Stand.{Stand}
+use Rattle.gg_elab.specs.declared.scope.Scope as kept
+use Rattle.gg_elab.specs.declared.table.Table.{Table}
+use Rattle.gg_elab.specs.Flat.{Scope}
+use Rattle.gg_elab.specs.Known.{types_of}
+use Rattle.gg_elab.specs.Meaning.{Signals, term_shape, term_value, TermNames}
+use Rattle.gg_elab.specs.Signals.{Types}
+
+-- the signals of the program's table
+abbrev pub table_signals : Table → Signals
+table_signals table = record { paths = table.paths; shapes = map (λ t. shape t) table.types.items }
+
+-- what an expression is read by: what the type checks say, the circuit's signals, and where it stands
+pub record Where : Type 0 where
+  pub types : Types
+  pub signals : Signals
+  pub scope : Scope
+
+abbrev pub where_of : kept.Scope → Where
+where_of s =
+    record {
+      types = types_of s.typed.now.circuit;
+      signals = table_signals s.table.now;
+      scope = record { path = s.path.now; number = s.number };
+    }
+
+abbrev pub shape_of : Where → Term → Shape
+shape_of w e = term_shape w.types w.signals w.scope e
+
+abbrev pub value_of : Where → List ℕ → Term → ℕ
+value_of w values e = term_value w.types w.signals w.scope values e
+
+abbrev pub NamesIn : Where → ℕ → Term → Type 0
+NamesIn w s e = TermNames w.types w.signals w.scope s e
+
+-- the node of the UInt<1> 0
+pub record IsZeroNode (n : Node) : Type 0 where
+  pub typed : shape n.ty ≡ uint 1
+  pub zero : n.op ≡ Literal (record { 0 = 0 })
+
+-- The node of an operation with this result: the operation, or 0 where it doesn't take its operands.
+abbrev pub IsResultNode : Result Ty Bad → Op → Node → Type 0
+IsResultNode (Ok ty) op n = (n.ty ≡ ty) × (n.op ≡ op)
+IsResultNode (Err bad) op n = IsZeroNode n
+
+-- A node was added to a line, as the last.
+pub record IsPlaced (IsIt : Node → Type 0) (old new : List Node) (stand : Stand) : Type 0 where
+  pub node : Node
+  pub is : IsIt node
+  pub added : new ≡ old ++ node ∷ []
+  pub place : stand.node ≡ length old
+  pub typed : stand.ty ≡ node.ty
+
+-- each node has its shape
+abbrev pub HaveShapes : Where → List Node → Type 0
+HaveShapes w nodes = (k : ℕ) → k < length nodes → HasShape (HasType w.signals.shapes) (shapes_of nodes) k (shape_at (shapes_of nodes) k) (op_at nodes k)
+
+-- Node k stands for an expression, whatever nodes follow.
+pub record StandsFor (w : Where) (nodes : List Node) (k : ℕ) (e : Term) : Type 0 where
+  pub within : k < length nodes
+  pub node : shape_at (shapes_of nodes) k ≡ shape_of w e
+  pub value : (values : List ℕ) (more : List Shape) → value_at (node_values values (shapes_of nodes ++ more) nodes) k ≡ value_of w values e
+  pub named : (s : ℕ) → NamesIn w s e → Names nodes s
+
+-- The nodes of an expression were added to `old`; the last of them, node k, stands for it.
+pub record Added (w : Where) (old new : List Node) (e : Term) (k : ℕ) : Type 0 where
+  pub stands : StandsFor w new k e
+  pub last : length new ≡ k + 1
+  pub kept : (i : ℕ) (f : Term) → StandsFor w old i f → StandsFor w new i f
+  pub typed : HaveShapes w old → HaveShapes w new
+  pub names : (s : ℕ) → Names new s → Names old s ⊎ NamesIn w s e
+
+-- ---- whole lines
+
+-- A node of 0 of this shape was added.
+pub record IsZeroOf (old new : List Node) (sink : Shape) : Type 0 where
+  pub node : Node
+  pub typed : shape node.ty ≡ sink
+  pub zero : node.op ≡ Literal (record { 0 = 0 })
+  pub added : new ≡ old ++ node ∷ []
+
+-- The line, where its value can be taken; else it has a 0 behind it.
+abbrev pub IsCut : Bool → List Node → Shape → List Node → Type 0
+IsCut true line sink new = new ≡ line
+IsCut false line sink new = IsZeroOf line new sink
