@@ -20,7 +20,7 @@ use Rattle.gg_elab.specs.Meaning.{Signals}
 use Rattle.gg_elab.specs.Signals.{Types, Own, OwnBank, own_signals, own_banks}
 use Rattle.gg_elab.specs.Views.{own_of, own_bank_of, site_of, IsDigest, AreDigests}
 
-map-twice : {A B C : Type 0} (f : B → C) (g : A → B) (xs : List A) → map f (map g xs) ≡ map (λ x. f (g x)) xs
+pub map-twice : {A B C : Type 0} (f : B → C) (g : A → B) (xs : List A) → map f (map g xs) ≡ map (λ x. f (g x)) xs
 map-twice f g [] = refl
 map-twice f g (x ∷ xs) = ap (λ l. f (g x) ∷ l) (map-twice f g xs)
 

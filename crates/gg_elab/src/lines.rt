@@ -1,12 +1,13 @@
 //! The lines of the flat circuit.
-ghost use Rattle.std.specs.Prelude.{◌≡◌, ◌∷◌, [], IfOk, OnOk};
+ghost use Rattle.std.specs.Prelude.{◌≡◌, ◌∷◌, [], Some, None, IfOk, OnOk};
 ghost use Rattle.gg_bits.specs.Shape.{shape};
 ghost use Rattle.gg_flat.specs.Line.{HasType, IsSource, IsCondition};
 ghost use Rattle.gg_elab.specs.Growing.{where_of, shape_of, Added, IsCut, IsZeroOf};
 ghost use Rattle.gg_elab.specs.IsFlat.{IsLineFor, IsLineOf, IsConditionOf};
 ghost use Rattle.gg_bits.specs.ResultType.{is_condition};
 ghost use Rattle.gg_elab.specs.Meaning.{takes as takes_shape};
-ghost use Rattle.gg_elab.specs.Views.{seen};
+ghost use Rattle.gg_elab.specs.Views.{seen, connection};
+ghost use Rattle.gg_elab.specs.Connection.{Zeroed};
 
 use crate::connections::Source;
 use crate::expression::add_expression;
@@ -80,12 +81,36 @@ pub(crate) fn source_line(
     ensures fits { IfOk result (IsSource (HasType (where_of scope.now).signals.shapes) (shape ty)) }
 {
     match source {
-        Some(Source::Of(e)) => value_line(alloc, scope, e, ty),
-        Some(Source::Zero) | None => {
-            let mut line = Line::new(alloc);
-            add_zero_of(&mut line, ty)?;
-            Ok(line)
-        }
+        Some(source) => given_line(alloc, scope, source, ty),
+        None => zero_line(alloc, scope, ty),
+    }
+}
+
+// The line of 0 alone.
+fn zero_line(alloc: Global, scope: &Scope, ty: Ty) -> Result<Line, ElabFault>
+    ensures none { IfOk result (IsLineFor (where_of scope.now).types (where_of scope.now).signals (where_of scope.now).scope (shape ty) None) }
+    ensures zeroed { IfOk result (IsLineFor (where_of scope.now).types (where_of scope.now).signals (where_of scope.now).scope (shape ty) (Some Zeroed)) }
+    ensures fits { IfOk result (IsSource (HasType (where_of scope.now).signals.shapes) (shape ty)) }
+{
+    let _ = scope.number;
+    let mut line = Line::new(alloc);
+    add_zero_of(&mut line, ty)?;
+    Ok(line)
+}
+
+// The line that gives a sink of this type a connection.
+fn given_line(
+    alloc: Global,
+    scope: &Scope,
+    source: Source,
+    ty: Ty,
+) -> Result<Line, ElabFault>
+    ensures stands { IfOk result (IsLineFor (where_of scope.now).types (where_of scope.now).signals (where_of scope.now).scope (shape ty) (Some (connection source.entry))) }
+    ensures fits { IfOk result (IsSource (HasType (where_of scope.now).signals.shapes) (shape ty)) }
+{
+    match source {
+        Source::Of(e) => value_line(alloc, scope, e, ty),
+        Source::Zero => zero_line(alloc, scope, ty),
     }
 }
 

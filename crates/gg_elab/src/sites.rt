@@ -70,7 +70,7 @@ fn add_site<'a>(
     requires number { IsPlaceIn (length typed.now.circuit.modules) here }
     requires depth { here.depth + levels < 2 ^ 32 }
     ensures within { OnOk result (All (IsPlaceIn (length typed.now.circuit.modules)) places.old.items → All (IsPlaceIn (length typed.now.circuit.modules)) places.new.items) }
-    ensures sites { OnOk result (map site_of places.new.items ≡ map site_of places.old.items ++ sites_below levels typed.now.circuit.modules (site_of here)) }
+    ensures sites { OnOk result (map site_of places.new.items ≡ map site_of places.old.items ++ sites_below levels typed.now.circuit.modules (site_of here.entry)) }
 {
     if places.len() >= u32::MAX as usize {
         return Err(ElabFault::NoMemory);

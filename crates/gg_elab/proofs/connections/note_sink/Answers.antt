@@ -1,5 +1,6 @@
-use Rattle.std.proofs.Common.{◌≡◌, List, [], ◌∷◌, ◌++◌, ap, sym, ◌∙◌, Some, None, if◌then◌else◌, ℕ}
+use Rattle.std.proofs.Common.{◌≡◌, List, [], ◌∷◌, ◌++◌, ap, sym, ◌∙◌, Some, None, Err, if◌then◌else◌, ℕ}
 use Rattle.std.specs.Str.{bytes_eq}
+use Rattle.gg_flat.specs.declared.paths.AddError.{AddError}
 use Rattle.gg_ast.specs.Places.{place_of}
 use Rattle.gg_elab.specs.declared.connections.Source.{Source}
 use Rattle.gg_elab.specs.Memories.{or_later}
@@ -26,5 +27,5 @@ returns-in-Err-Doubled-clause-noted c = λ q.
     let named : c.add.new.self ≡ names = c.in-Err-Doubled.ensures.err in
     ap (λ (l : List Source). source_at l (place_of q c.add.new.self)) same
     ∙ ap (λ (l : List (List ℕ)). source_at sources (place_of q l)) named
-    ∙ noted-again names sources c.in_ok-name.name (connection c.args.source) c.requires (c.in-Err-Doubled.ensures.doubled.0 (ap _ c.in-Err-Doubled.field-0-is)) q
+    ∙ noted-again names sources c.in_ok-name.name (connection c.args.source) c.requires (c.in-Err-Doubled.ensures.doubled.0 (ap (λ (x : AddError). Err x) (sym c.in-Err-Doubled.field-0-is))) q
     ∙ ap (λ (n : List ℕ). or_later (source_at sources (place_of q names)) (if bytes_eq q n then Some (connection c.args.source) else None)) c.in_ok-name.ensures
