@@ -12,7 +12,7 @@ use Rattle.gg_front.specs.Meaning.{Means}
 use Rattle.gg_front.specs.Plain.{IsPlain}
 use Rattle.gg_front.specs.declared.front_end.FrontFault.{FrontFault}
 use Rattle.gg_front.specs.declared.front_end.FrontFault.TheVariants.{Read, Plain, NoMemory}
-use Rattle.golden.specs.Lines.{Said, IsUnreadText, circuit_fault}
+use Rattle.golden.specs.Lines.{Said, IsUnreadText, TellsUnread, circuit_fault}
 use Rattle.golden.specs.Order.{IsExactFile}
 use Rattle.golden.specs.Run.{TellsCircuit, circuit_file}
 use Rattle.golden.specs.Endings.{TellsFront}
@@ -79,24 +79,21 @@ module _ (one : OneFaultLine) (name bytes : List ℕ) where
   circuit-apart said plain (inl (fault, has, tells)) = unread-apart bytes tells.0 plain.circuit (names-unread bytes fault tells.0 has tells.1) plain.plain.spelt plain.plain.faultless
   circuit-apart said plain (inr (read, is)) = read.none plain
 
-  circuit-once : (said other : Said) → TellsCircuit name bytes said → TellsCircuit name bytes other → said ≡ other
-  circuit-once said other (inl (fault, has, tells)) (inl (fault', has', tells')) =
-      tells.2 ∙ ap circuit_fault (names-unread-once one bytes tells.0 tells'.0 (names-unread bytes fault tells.0 has tells.1) (names-unread bytes fault' tells'.0 has' tells'.1)) ∙ sym tells'.2
-  circuit-once said other (inl (fault, has, tells)) (inr (read, is)) =
+  -- of a text with a fault of reading just that is said
+  pub unread-once : (fault : ReadFault) (said other : Said) → HasReadFault bytes fault → TellsUnread fault said → TellsCircuit name bytes other → other ≡ said
+  unread-once fault said other has tells (inl (fault', has', tells')) =
+      tells'.2 ∙ ap circuit_fault (names-unread-once one bytes tells'.0 tells.0 (names-unread bytes fault' tells'.0 has' tells'.1) (names-unread bytes fault tells.0 has tells.1)) ∙ sym tells.2
+  unread-once fault said other has tells (inr (read, is)) =
       absurd (unread-apart bytes tells.0 read.unplain.circuit (names-unread bytes fault tells.0 has tells.1) read.unplain.spelt read.unplain.faultless)
-  circuit-once said other (inr (read, is)) (inl (fault, has, tells)) =
-      absurd (unread-apart bytes tells.0 read.unplain.circuit (names-unread bytes fault tells.0 has tells.1) read.unplain.spelt read.unplain.faultless)
-  circuit-once said other (inr (read, is)) (inr (read', is')) = is ∙ sym is'
 
   circuit-status : (said : Said) → TellsCircuit name bytes said → said.status ≡ 1
   circuit-status said (inl (fault, has, tells)) = ap (λ (s : Said). s.status) tells.2
   circuit-status said (inr (read, is)) = ap (λ (s : Said). s.status) is
 
--- of a circuit's bytes one thing is said at most, and nothing of plain ones
+-- nothing is said of a circuit's bytes that are plain, and all that is said of others has the status 1
 pub circuit_file-exact : OneFaultLine → (name : List ℕ) → IsExactFile (circuit_file name)
 circuit_file-exact one name = record {
   apart = λ bytes said accepts refuses. circuit-apart one name bytes said accepts refuses;
-  once = λ bytes said other refuses refuses'. circuit-once one name bytes said other refuses refuses';
   status = λ bytes said refuses. circuit-status one name bytes said refuses;
   judges = inl refl;
 }
