@@ -19,10 +19,10 @@ use crate::sites::{Place, places};
 use crate::table::table_of;
 use gg_count::count;
 use gg_flat::Piece;
-use std::alloc::Global;
+use std::alloc::{AllocError, Global};
 
 // How many signals each module has of its own.
-fn own_counts(alloc: Global, digests: &[Digest]) -> Result<Vec<u64>, ElabFault>
+fn own_counts(alloc: Global, digests: &[Digest]) -> Result<Vec<u64>, AllocError>
     ensures { IfOk result (λ counts. counts.items ≡ map (λ d. length d.signals.items) digests.now) }
 {
     let mut counts = Vec::new(alloc);
@@ -39,7 +39,7 @@ fn build<'a>(
     typed: &Typed<'a>,
     digests: &[Digest<'a>],
     top: u32,
-) -> Result<Piece, ElabFault>
+) -> Result<Piece, AllocError>
     requires digests { AreDigests (types_of typed.now.circuit) typed.now.circuit.modules digests.now }
     requires few { length typed.now.circuit.modules < 2 ^ 32 }
     requires top { place_of typed.now.circuit.name (module_names typed.now.circuit) ≡ Some top }
@@ -73,8 +73,8 @@ pub fn flatten(alloc: Global, typed: &Typed) -> Result<Piece, ElabFault>
     let digests = digests(alloc, typed)?;
     let own = own_counts(alloc, digests.as_slice())?;
     let counts = count(alloc, circuit, typed.order(), top, own.as_slice())?;
-    if let Some(excess) = counts.excess() {
-        return Err(ElabFault::TooLarge(excess));
+    match counts.excess() {
+        Some(excess) => Err(ElabFault::TooLarge(excess)),
+        None => Ok(build(alloc, typed, digests.as_slice(), top)?),
     }
-    build(alloc, typed, digests.as_slice(), top)
 }
