@@ -5,6 +5,7 @@ pub mod ConnectionLemmas
 pub mod LineLemmas
 pub mod BuildLemmas
 pub mod PlacedLemmas
+pub mod OrderLemmas
 pub mod LimitLemmas
 pub mod ListLemmas
 pub mod DigestLemmas
@@ -12,3 +13,13 @@ pub mod WholeLemmas
 pub mod FlatLemmas
 pub mod ScopeLemmas
 pub mod WholeLineLemmas
+pub mod PairwiseLemmas
+pub mod AlikeLemmas
+pub mod HeldLemmas
+pub mod RunLemmas
+pub mod SameLemmas
+mod WorkedParts
+mod WorkedCounter
+mod WorkedText
+mod WorkedHierarchy
+mod WorkedTree

@@ -6,7 +6,7 @@ use Rattle.gg_ast.specs.declared.statement.StmtKind.{StmtKind}
 use Rattle.gg_ast.specs.declared.statement.StmtKind.TheVariants as says
 use Rattle.gg_ast.specs.declared.statement.Stmt.{Stmt}
 use Rattle.gg_ast.specs.Term.{Term}
-use Rattle.gg_shape.specs.Namespace.{written}
+use Rattle.gg_names.specs.Scope.{written}
 use Rattle.gg_elab.specs.Memories.{or_later}
 
 -- an expression (`<=`), or 0 (`is invalid`)

@@ -29,6 +29,7 @@ use Rattle.gg_elab.specs.Memories.{Bank, type_shape}
 use Rattle.gg_elab.specs.Signals.{Types, field_name}
 use Rattle.gg_elab.specs.Connection.{Connection}
 use Rattle.gg_elab.specs.Flat.{Scope, Drive, Outside, Gets, Holds, Answers, FlatSignal, FlatMemory, flat_signals, flat_memories}
+use Rattle.gg_elab.specs.Known.{types_of}
 use Rattle.gg_elab.specs.Meaning.{Signals, TermNames, taken_value, connected_value, ConnectionNames, condition_value}
 
 -- ---- lines
@@ -199,3 +200,7 @@ IsFlatWith types circuit flat =
     (flat_memories circuit.modules (sites_of circuit))
     (top_ports circuit.modules (place_of circuit.name (module_names circuit)))
     flat
+
+-- The flat circuit of a circuit.
+abbrev pub IsFlat : CircuitTree → FlatCircuit → Type 0
+IsFlat circuit flat = IsFlatWith (types_of circuit) circuit flat

@@ -4,6 +4,7 @@ pub mod Connection
 pub mod Flat
 pub mod Meaning
 pub mod IsFlat
+pub mod IsTreeOf
 pub mod Known
 pub mod Views
 pub mod Growing

@@ -13,7 +13,6 @@ ghost use Rattle.gg_elab.specs.Building.{IsMade, with_made, is_input_driver, IsP
 
 use crate::connections::Source;
 use crate::digest::Digest;
-use crate::known::Typed;
 use crate::lines::{condition_line, source_line, value_line};
 use crate::names::{dotted, field_name, joined};
 use crate::own::{Origin, OwnSignal};
@@ -23,6 +22,7 @@ use crate::table::{Table, number};
 use gg_ast::Reset;
 use gg_bits::{Name, Ty};
 use gg_flat::{AddError, Driver, Latency, Line, Piece, Register, Signal};
+use gg_types::Typed;
 use std::alloc::{AllocError, Global};
 
 /// A signal's driver, and the register that it holds, if it holds one.

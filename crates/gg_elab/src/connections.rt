@@ -3,7 +3,7 @@ ghost use Rattle.std.specs.Prelude.{◌≡◌, ℕ, List, Some, None, length, If
 ghost use Rattle.std.specs.Str.{bytes_eq};
 ghost use Rattle.gg_ast.specs.Places.{place_of};
 ghost use Rattle.gg_ast.specs.declared.statement.Stmt.{Stmt};
-ghost use Rattle.gg_shape.specs.Namespace.{written as written_text};
+ghost use Rattle.gg_names.specs.Scope.{written as written_text};
 ghost use Rattle.gg_elab.specs.Memories.{or_later};
 ghost use Rattle.gg_elab.specs.Connection.{connection_in, connection_by};
 ghost use Rattle.gg_elab.specs.Views.{connection, seen, source_at, TellsConnections};

@@ -6,11 +6,11 @@ ghost use Rattle.gg_elab.specs.Signals.{own_bank, own_banks, bank_of_kind};
 ghost use Rattle.gg_elab.specs.Views.{held_of, own_bank_of, bank_seen, IsDigest, AreDigests};
 
 use crate::connections::{Sinks, connections};
-use crate::known::Typed;
 use crate::memories::{Bank, bank_of};
 use crate::own::{OwnSignal, own_signals};
 use gg_ast::{Circuit, Module, Stmt, StmtKind};
 use gg_bits::Name;
+use gg_types::Typed;
 use std::alloc::{AllocError, Global};
 
 /// An instance that a module holds.
@@ -143,6 +143,7 @@ fn digest_of<'a>(
 ) -> Result<Digest<'a>, AllocError>
     requires few { length circuit.now.modules < 2 ^ 32 }
     requires same { circuit.now ≡ typed.now.circuit }
+    requires there { number < length typed.now.circuit.modules }
     requires body { body.now ≡ module_at circuit.now.modules number }
     ensures { IfOk result (IsDigest (types_of typed.now.circuit) typed.now.circuit.modules number) }
 {
@@ -160,7 +161,7 @@ pub(crate) fn digests<'a>(alloc: Global, typed: &Typed<'a>) -> Result<Vec<Digest
     requires { length typed.now.circuit.modules < 2 ^ 32 }
     ensures { IfOk result (λ digests. AreDigests (types_of typed.now.circuit) typed.now.circuit.modules digests.items) }
 {
-    let circuit = typed.circuit();
+    let circuit = typed.names().circuit();
     let modules = circuit.modules();
     let mut digests = Vec::new(alloc);
     for body in modules {

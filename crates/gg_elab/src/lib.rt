@@ -20,6 +20,7 @@ mod elaborate;
 mod expression;
 mod fault;
 mod known;
+mod laws;
 mod lines;
 mod lookup;
 mod memories;
@@ -32,4 +33,4 @@ mod table;
 
 pub use elaborate::flatten;
 pub use fault::ElabFault;
-pub use known::Typed;
+pub use laws::{one_reads, one_run};

@@ -3,6 +3,7 @@ ghost use Rattle.std.specs.Prelude.{◌≡◌, IfOk};
 ghost use Rattle.gg_elab.specs.Meaning.{named};
 ghost use Rattle.gg_elab.specs.Growing.{where_of};
 
+use crate::known::value_type;
 use crate::names::{joined, written};
 use crate::scope::Scope;
 use gg_ast::Reference;
@@ -16,7 +17,7 @@ pub(crate) fn find(
 ) -> Result<Option<u32>, AllocError>
     ensures { IfOk result (λ found. found ≡ named (where_of scope.now).types (where_of scope.now).signals (where_of scope.now).scope reference.now) }
 {
-    if scope.typed.value_type(scope.number, reference).is_none() {
+    if value_type(scope.typed, scope.number, reference).is_none() {
         return Ok(None);
     }
     let name = written(alloc, reference)?;

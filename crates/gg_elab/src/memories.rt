@@ -21,7 +21,7 @@ pub(crate) struct Bank<'a> {
 }
 
 /// The type of a signal; none of a Clock, and none of a width that is 0 or above 128.
-pub(crate) fn value_type(ty: GroundType) -> Option<Ty>
+pub(crate) fn ground_type(ty: GroundType) -> Option<Ty>
     ensures { option_map (λ t. shape t) result ≡ type_shape ty }
 {
     match ty {
@@ -178,7 +178,7 @@ pub(crate) fn bank_of<'a>(
     ensures { IfOk result (λ bank. option_map bank_seen bank ≡ bank_of fields.now) }
 {
     let word = match said_type(fields) {
-        Some(ty) => value_type(ty),
+        Some(ty) => ground_type(ty),
         None => None,
     };
     let under = said_under(fields).unwrap_or(UnderWrite::Undefined);

@@ -1,7 +1,7 @@
 //! Names with dots between them.
 ghost use Rattle.std.specs.Prelude.{◌≡◌, IfOk};
 ghost use Rattle.gg_flat.specs.Tree.{joined as joined_text};
-ghost use Rattle.gg_shape.specs.Namespace.{written as written_text};
+ghost use Rattle.gg_names.specs.Scope.{written as written_text};
 ghost use Rattle.gg_elab.specs.Signals.{dotted as dotted_text, field_name as field_text};
 
 use gg_ast::Reference;

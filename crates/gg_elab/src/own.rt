@@ -6,12 +6,13 @@ ghost use Rattle.gg_elab.specs.Known.{types_of};
 ghost use Rattle.gg_elab.specs.Signals.{own, own_of_port, own_of_kind, own_signals as signals_of_module, memory_signals, reader_signals, readers_signals, writer_signals};
 ghost use Rattle.gg_elab.specs.Views.{own_of, cause_of, bank_seen};
 
-use crate::known::Typed;
-use crate::memories::{Bank, bank_of, value_type};
+use crate::known::value_type;
+use crate::memories::{Bank, bank_of, ground_type};
 use crate::names::field_name;
 use gg_ast::{Direction, Expr, Module, Port, Reference, Reset, Stmt, StmtKind};
 use gg_bits::{Kind, Name, Ty};
 use gg_flat::{Latency, address_width};
+use gg_types::Typed;
 use std::alloc::{AllocError, Global};
 
 /// What gives a signal its value, as its module says it.
@@ -55,7 +56,7 @@ fn add<'a>(
 fn add_port<'a>(signals: &mut Vec<OwnSignal<'a>>, port: &'a Port) -> Result<(), AllocError>
     ensures { OnOk result (map own_of signals.new.items ≡ map own_of signals.old.items ++ option_to_list (own_of_port port.now)) }
 {
-    let Some(ty) = value_type(port.ty) else {
+    let Some(ty) = ground_type(port.ty) else {
         return Ok(());
     };
     let origin = match port.direction {
@@ -201,14 +202,15 @@ fn add_statement<'a>(
     signals: &mut Vec<OwnSignal<'a>>,
     kind: &'a StmtKind,
 ) -> Result<(), AllocError>
+    requires { number < length typed.now.circuit.modules }
     ensures { OnOk result (map own_of signals.new.items ≡ map own_of signals.old.items ++ own_of_kind (types_of typed.now.circuit) number kind.now) }
 {
     match kind {
         StmtKind::Wire { name, ty } => {
-            add_typed(signals, name, value_type(*ty), Origin::Connected)
+            add_typed(signals, name, ground_type(*ty), Origin::Connected)
         }
         StmtKind::Node { name, value } => {
-            let ty = typed.value_type(number, &Reference::Local(name.clone()?));
+            let ty = value_type(typed, number, &Reference::Local(name.clone()?));
             add_typed(signals, name, ty, Origin::Expressed(value))
         }
         StmtKind::Register {
@@ -216,7 +218,12 @@ fn add_statement<'a>(
             ty,
             reset,
             ..
-        } => add_typed(signals, name, value_type(*ty), Origin::Kept(reset.as_ref())),
+        } => add_typed(
+            signals,
+            name,
+            ground_type(*ty),
+            Origin::Kept(reset.as_ref()),
+        ),
         StmtKind::Memory { name, fields } => {
             let bank = bank_of(alloc, fields.as_slice())?;
             add_memory(alloc, signals, name, &bank)
@@ -233,6 +240,7 @@ fn add_statements<'a>(
     signals: &mut Vec<OwnSignal<'a>>,
     statements: &'a [Stmt],
 ) -> Result<(), AllocError>
+    requires { number < length typed.now.circuit.modules }
     ensures { OnOk result (map own_of signals.new.items ≡ map own_of signals.old.items ++ flat_map (λ (s : Stmt). own_of_kind (types_of typed.now.circuit) number s.kind) statements.now) }
 {
     for statement in statements {
@@ -248,6 +256,7 @@ pub(crate) fn own_signals<'a>(
     number: u32,
     body: &'a Module,
 ) -> Result<Vec<OwnSignal<'a>>, AllocError>
+    requires { number < length typed.now.circuit.modules }
     ensures { IfOk result (λ signals. map own_of signals.items ≡ signals_of_module (types_of typed.now.circuit) number body.now) }
 {
     let mut signals = Vec::new(alloc);

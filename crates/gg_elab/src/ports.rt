@@ -9,14 +9,14 @@ ghost use Rattle.gg_elab.specs.Known.{types_of};
 ghost use Rattle.gg_elab.specs.Views.{own_bank_of, site_of, AreDigests};
 
 use crate::digest::{Digest, OwnMemory};
-use crate::known::Typed;
-use crate::memories::value_type;
+use crate::memories::ground_type;
 use crate::names::{field_name, joined};
 use crate::sites::Place;
 use crate::table::{Table, number};
 use gg_ast::{Direction, Port};
 use gg_bits::Name;
 use gg_flat::{Memory, Paths, Piece, Reader, Readers, Writer, Writers};
+use gg_types::Typed;
 use std::alloc::{AllocError, Global};
 
 // The field of a port of the memory of this path, as a signal.
@@ -151,7 +151,7 @@ fn add_port(paths: &Paths, port: &Port, piece: &mut Piece) -> Result<(), AllocEr
     ensures outs { OnOk result (piece.new.outs ≡ piece.old.outs ++ map (number_of paths.now) (port_names direction.Output (port.now ∷ []))) }
     ensures rest { OnOk result (piece.new ≡ record piece.old { ins = piece.new.ins; outs = piece.new.outs }) }
 {
-    if value_type(port.ty).is_none() {
+    if ground_type(port.ty).is_none() {
         return Ok(());
     }
     let signal = number(paths, &port.name);

@@ -7,9 +7,9 @@ ghost use Rattle.gg_elab.specs.Building.{IsPlaceIn};
 ghost use Rattle.gg_elab.specs.Views.{site_of, held_of, AreDigests};
 
 use crate::digest::{Digest, Instance};
-use crate::known::Typed;
 use crate::names::joined;
 use gg_bits::Name;
+use gg_types::Typed;
 use std::alloc::{AllocError, Global};
 
 /// What holds an instance: its path, its module's place, and the name that the instance has there.

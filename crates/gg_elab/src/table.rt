@@ -9,12 +9,12 @@ ghost use Rattle.gg_elab.specs.Views.{site_of, AreDigests};
 ghost use Rattle.gg_elab.specs.Growing.{table_signals};
 
 use crate::digest::{Digest, OwnMemory};
-use crate::known::Typed;
 use crate::names::joined;
 use crate::own::OwnSignal;
 use crate::sites::Place;
 use gg_bits::{Name, Ty};
 use gg_flat::{AddError, Paths};
+use gg_types::Typed;
 use std::alloc::{AllocError, Global};
 
 /// The paths and types of all signals, and the paths of all memories, in order.

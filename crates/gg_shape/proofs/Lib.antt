@@ -1,7 +1,5 @@
-pub mod ScopeLemmas
-pub mod FaultLemmas
-pub mod ScopeSteps
-pub mod MarkLemmas
-pub mod SingleModule
-pub mod WorkedRows
 pub mod FaultRows
+pub mod ConnectedLemmas
+pub mod FlatLemmas
+pub mod PlaceLemmas
+pub mod UnconnectedLemmas

@@ -1,22 +1,14 @@
--- Lists of faults in the order of the text, and what a check answers.
-use Rattle.std.specs.Prelude.{◌≡◌, List, [], ◌∷◌, ◌++◌, Option, Some, None, Result, Ok, Err}
+-- What a check answers of faults in the order of the text.
+pub use Rattle.gg_names.specs.Along.{along, along_from, first}
+use Rattle.std.specs.Prelude.{◌≡◌, Bool, true, false, List, [], ◌∷◌, Some, Result, Ok, Err}
 use Rattle.gg_shape.specs.declared.fault.Fault.{Fault}
 use Rattle.gg_shape.specs.declared.fault.Refusal.{Refusal}
 use Rattle.gg_shape.specs.declared.fault.Refusal.TheVariants.{F, NoMemory}
 
--- The faults of a list of things in the order of the file, where what is wrong with one rests on those before it:
--- `faults before x` are those of `x` after the things `before`.
-abbrev pub along_from : {A : Type 0} → (List A → A → List Fault) → List A → List A → List Fault
-along_from faults before [] = []
-along_from faults before (x ∷ xs) = faults before x ++ along_from faults (before ++ x ∷ []) xs
-
-abbrev pub along : {A : Type 0} → (List A → A → List Fault) → List A → List Fault
-along faults xs = along_from faults [] xs
-
--- the first fault of a list
-abbrev pub first : List Fault → Option Fault
-first [] = None
-first (fault ∷ _) = Some fault
+-- the fault, where the test holds
+abbrev pub fault_if : Bool → Fault → List Fault
+fault_if true fault = fault ∷ []
+fault_if false fault = []
 
 -- a refusal names the first fault; want of memory says nothing of the faults
 abbrev pub Refuses : List Fault → Refusal → Type 0

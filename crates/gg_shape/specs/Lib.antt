@@ -1,7 +1,8 @@
-pub mod Scope
 pub mod Faults
-pub mod Namespace
 pub mod Shape
-pub mod Marks
-pub mod Plain
+pub mod Memories
+pub mod Rings
+pub mod Judged
+pub mod Told
+pub mod Counted
 pub mod FaultText

@@ -1,82 +1,62 @@
-//! `shape`: the first fault of a circuit's shape.
-ghost use Rattle.std.specs.Prelude.{◌≡◌, [], ◌∷◌, ◌↔◌, IsTrue};
-ghost use Rattle.std.specs.List.{list_all};
+//! `shape`: a fault of a circuit's shape.
+ghost use Rattle.std.specs.Prelude.{◌≡◌, ◌++◌, IfOk};
+ghost use Rattle.std.specs.List.{list_any};
+ghost use Rattle.std.specs.Str.{bytes_eq};
 ghost use Rattle.gg_shape.specs.Faults.{Answers};
-ghost use Rattle.gg_shape.specs.Namespace.{IsSingleModule, is_flat as stands_alone};
-ghost use Rattle.gg_shape.specs.Shape.{missing_top, module_faults, shape_faults};
+ghost use Rattle.gg_shape.specs.Judged.{AnswersShape, AnswersFrom, reference_faults};
+ghost use Rattle.gg_shape.specs.Shape.{in_modules, missing_top, repeated_names, unknown_names, second_connections, unconnected_sinks, connected_sources};
 
-use crate::connections::{check_second, check_sources, check_unconnected};
+use crate::connections::{check_second, check_sources};
 use crate::fault::{Fault, Refusal};
-use crate::names::declarations;
+use crate::memories::check_memories;
 use crate::references::check_references;
-use gg_ast::{Circuit, Module, Stmt, StmtKind};
+use crate::rings::check_rings;
+use crate::unconnected::check_unconnected;
+use gg_ast::Circuit;
+use gg_names::{NamesFault, Namespace};
 use std::alloc::Global;
 
 /// What `shape` answers in place of Ok.
 pub type ShapeFault = Refusal;
 
-/// Whether the circuit has one module, which has neither instances nor memories.
-pub fn is_single_module(circuit: &Circuit) -> bool
-    ensures { IsTrue result ↔ IsSingleModule circuit.now }
-{
-    match circuit.modules() {
-        [top] => all_flat(top.statements()),
-        _ => false,
-    }
-}
-
-// Whether no statement is an instance or a memory.
-fn all_flat(statements: &[Stmt]) -> bool
-    ensures { result ≡ list_all (λ s. stands_alone s.kind) statements.now }
-{
-    for statement in statements {
-        if !is_flat(&statement.kind) {
-            return false;
-        }
-    }
-    true
-}
-
-// Whether a statement is no instance and no memory.
-fn is_flat(kind: &StmtKind) -> bool
-    ensures { result ≡ stands_alone kind.now }
-{
-    match kind {
-        StmtKind::Instance { .. } | StmtKind::Memory { .. } => false,
-        StmtKind::Wire { .. }
-        | StmtKind::Node { .. }
-        | StmtKind::Register { .. }
-        | StmtKind::Connect { .. }
-        | StmtKind::Invalid { .. }
-        | StmtKind::Skip
-        | StmtKind::Stop { .. }
-        | StmtKind::Report { .. } => true,
-    }
-}
-
-/// Refuses the first of F1 to F8, by number and then in the order of the text; Ok exactly where a circuit of one module
-/// has none of them.
+/// Refuses a fault of F1 to F8 of the least number, of F1 to F6 and F8 the first in the order of the text, of F7 any ring; Ok
+/// exactly where a circuit has none of them.
 ///
 /// # Errors
 ///
-/// `Refusal::F` with that fault; `Refusal::NoMemory` where memory ran out.
+/// `Refusal::F` with that fault; `Refusal::NoMemory` where memory was refused, or the circuit has 4,294,967,296 modules or
+/// more.
 pub fn shape(alloc: Global, circuit: &Circuit) -> Result<(), ShapeFault>
-    requires { IsSingleModule circuit.now }
-    ensures { Answers (shape_faults circuit.now) result }
+    ensures { AnswersShape circuit.now result }
 {
-    let [top] = circuit.modules() else {
-        unreachable!()
-    };
-    check_top(circuit, top)?;
-    check_module(alloc, top)
+    match shaped(alloc, circuit) {
+        Ok(_) => Ok(()),
+        Err(fault) => Err(fault),
+    }
 }
 
-// Refuses a circuit whose one module has another name.
-fn check_top(circuit: &Circuit, top: &Module) -> Result<(), Refusal>
-    requires { circuit.now.modules ≡ top.now ∷ [] }
+/// As `shape`; where the circuit has none of these faults it answers the namespace.
+///
+/// # Errors
+///
+/// Those of `shape`.
+pub fn shaped<'a>(alloc: Global, circuit: &'a Circuit) -> Result<Namespace<'a>, ShapeFault>
+    ensures answers { AnswersShape circuit.now result }
+    ensures names { IfOk result (λ names. names ≡ circuit.now) }
+{
+    check_top(circuit)?;
+    let names = namespace_of(alloc, circuit)?;
+    match check_names(alloc, &names) {
+        Ok(()) => Ok(names),
+        Err(fault) => Err(fault),
+    }
+}
+
+// Refuses a circuit none of whose modules has its name.
+fn check_top(circuit: &Circuit) -> Result<(), Refusal>
     ensures { Answers (missing_top circuit.now) result }
 {
-    if circuit.name().as_str() == top.name().as_str() {
+    if has_top(circuit) {
         return Ok(());
     }
     Err(Refusal::F(Fault::MissingTop {
@@ -84,13 +64,48 @@ fn check_top(circuit: &Circuit, top: &Module) -> Result<(), Refusal>
     }))
 }
 
-// Refuses the first of F2 to F6 of a module.
-fn check_module(alloc: Global, top: &Module) -> Result<(), Refusal>
-    ensures { Answers (module_faults top.now) result }
+// Whether a module has the circuit's name.
+fn has_top(circuit: &Circuit) -> bool
+    ensures { result ≡ list_any (λ m. bytes_eq circuit.now.name m.name) circuit.now.modules }
 {
-    let scope = declarations(alloc, top)?;
-    check_references(alloc, &scope, top.ports(), top.statements())?;
-    let connected = check_second(alloc, &scope, top.statements())?;
-    check_unconnected(&scope, &connected, top.ports(), top.statements())?;
-    check_sources(alloc, &scope, top.statements())
+    for module in circuit.modules() {
+        if circuit.name().as_str() == module.name().as_str() {
+            return true;
+        }
+    }
+    false
+}
+
+// The names of the circuit; refused at the first that comes twice.
+fn namespace_of<'a>(alloc: Global, circuit: &'a Circuit) -> Result<Namespace<'a>, Refusal>
+    ensures answers { Answers (repeated_names circuit.now) result }
+    ensures names { IfOk result (λ names. names ≡ circuit.now) }
+{
+    match Namespace::of(alloc, circuit) {
+        Ok(names) => Ok(names),
+        Err(NamesFault::Repeated(repetition)) => Err(Refusal::F(Fault::RepeatedName {
+            line: repetition.line,
+            name: repetition.name,
+        })),
+        Err(NamesFault::NoMemory) => Err(Refusal::NoMemory),
+    }
+}
+
+// Refuses a fault of F3 to F8.
+fn check_names(alloc: Global, names: &Namespace) -> Result<(), Refusal>
+    ensures { AnswersFrom (reference_faults names.now) names.now result }
+{
+    check_references(alloc, names)?;
+    check_connections(alloc, names)?;
+    check_rings(alloc, names)?;
+    check_memories(names.circuit())
+}
+
+// Refuses the first of F4 to F6.
+fn check_connections(alloc: Global, names: &Namespace) -> Result<(), Refusal>
+    ensures { Answers (in_modules second_connections names.now ++ (in_modules unconnected_sinks names.now ++ in_modules connected_sources names.now)) result }
+{
+    let all = check_second(alloc, names)?;
+    check_unconnected(alloc, names, all.as_slice())?;
+    check_sources(alloc, names)
 }

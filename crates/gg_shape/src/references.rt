@@ -1,30 +1,77 @@
-//! F3: references that name nothing that has a value.
-ghost use Rattle.std.specs.Prelude.{◌≡◌, ◌++◌, ◌+◌, ◌<◌, ◌≤◌, ◌^◌, length, take, IfOk};
-ghost use Rattle.gg_shape.specs.Faults.{Answers, along};
-ghost use Rattle.gg_shape.specs.Namespace.{declared_by, scope_after, written as written_text, meaning_of, has_value as stands_for_value, IsDeclaredNext};
-ghost use Rattle.gg_shape.specs.Shape.{unknown_reference, unknown_in, unknown_in_reset, unknown_in_arguments, unknown_in_kind, unknown_by};
+//! F3: references that name nothing that has a value, and modules that aren't there.
+ghost use Rattle.std.specs.Prelude.{◌≡◌, ◌++◌, ◌<◌, length};
+ghost use Rattle.gg_names.specs.Namespace.{entries_by, name_by};
+ghost use Rattle.gg_shape.specs.Faults.{Answers};
+ghost use Rattle.gg_shape.specs.Shape.{in_modules, unknown_names, unknown_module, unknown_reference, unknown_in, unknown_in_reset, unknown_in_arguments, unknown_in_kind};
+ghost use Rattle.gg_shape.specs.Told.{IsBefore, module_of, scope_before};
 
 use crate::fault::{Fault, Refusal};
-use crate::scope::{Role, Scope};
-use gg_ast::{Argument, Expr, ExprKind, Port, Reference, Reset, Stmt, StmtKind};
+use gg_ast::{Argument, Expr, ExprKind, Reference, Reset, Stmt, StmtKind};
 use gg_bits::Name;
-use std::alloc::{AllocError, Global};
+use gg_names::{Namespace, declared_name, has_value, written};
+use std::alloc::Global;
 
-/// Refuses the first reference of a module that names nothing that has a value.
-pub fn check_references(
+/// A place in a module: what is declared there.
+#[derive(Clone, Copy)]
+pub struct Before {
+    /// The module.
+    pub number: u32,
+    /// How many statements stand before this place.
+    pub statements: usize,
+    /// How many names are declared by the ports and those statements.
+    pub names: usize,
+}
+
+/// Refuses the first reference of the circuit that names nothing that has a value, and the first module of an instance that
+/// isn't there.
+pub fn check_references(alloc: Global, names: &Namespace) -> Result<(), Refusal>
+    ensures { Answers (in_modules unknown_names names.now) result }
+{
+    for number in 0..names.circuit().modules().len() {
+        check_module(alloc, names, number as u32)?;
+    }
+    Ok(())
+}
+
+// Refuses the first of a module.
+fn check_module(alloc: Global, names: &Namespace, number: u32) -> Result<(), Refusal>
+    requires { number < length names.now.modules }
+    ensures { Answers (unknown_names names.now.modules (module_of names.now number)) result }
+{
+    let this = &names.circuit().modules()[number as usize];
+    check_statements(alloc, names, number, this.ports().len(), this.statements())
+}
+
+// Refuses the first of a module's statements.
+fn check_statements(
     alloc: Global,
-    scope: &Scope,
-    ports: &[Port],
+    names: &Namespace,
+    number: u32,
+    ports: usize,
     statements: &[Stmt],
 ) -> Result<(), Refusal>
-    requires { scope.now ≡ scope_after ports.now statements.now }
-    ensures { Answers (along (unknown_by ports.now) statements.now) result }
+    requires within { number < length names.now.modules }
+    requires ports { ports ≡ length (module_of names.now number).ports }
+    requires statements { statements.now ≡ (module_of names.now number).statements }
+    ensures { Answers (unknown_names names.now.modules (module_of names.now number)) result }
 {
-    let total = scope.len();
-    let mut count = ports.len();
-    for statement in statements {
-        known_by(alloc, scope, count, statement)?;
-        count += declared_count(statement);
+    let total = names.len(number);
+    let mut count = ports;
+    for place in 0..statements.len() {
+        let statement = &statements[place];
+        let next = count + declared_count(statement);
+        let before = Before {
+            number,
+            statements: place,
+            names: count,
+        };
+        let behind = Before {
+            number,
+            statements: place + 1,
+            names: next,
+        };
+        known_by(alloc, names, before, behind, statement)?;
+        count = next;
     }
     prove!(count <= total);
     Ok(())
@@ -32,72 +79,83 @@ pub fn check_references(
 
 // How many names the statement declares.
 fn declared_count(statement: &Stmt) -> usize
-    ensures { result ≡ length (declared_by statement.now) }
+    ensures { result ≡ length (name_by statement.now) }
 {
-    match &statement.kind {
-        StmtKind::Wire { .. }
-        | StmtKind::Node { .. }
-        | StmtKind::Register { .. }
-        | StmtKind::Instance { .. }
-        | StmtKind::Memory { .. } => 1,
-        StmtKind::Connect { .. }
-        | StmtKind::Invalid { .. }
-        | StmtKind::Skip
-        | StmtKind::Stop { .. }
-        | StmtKind::Report { .. } => 0,
+    match declared_name(statement) {
+        Some(_) => 1,
+        None => 0,
     }
 }
 
-// Refuses the first unknown reference of a statement, before which `count` names of the scope are declared.
-fn known_by(alloc: Global, scope: &Scope, count: usize, statement: &Stmt) -> Result<(), Refusal>
-    requires small { count < 2 ^ 63 }
-    requires next { IsDeclaredNext scope.now count (declared_by statement.now) }
-    ensures { Answers (unknown_in_kind (take count scope.now) statement.now.line statement.now.kind) result }
+// Refuses the first of a statement; a register's reset stands behind its name.
+fn known_by(
+    alloc: Global,
+    names: &Namespace,
+    before: Before,
+    behind: Before,
+    statement: &Stmt,
+) -> Result<(), Refusal>
+    requires before { IsBefore names.now before }
+    requires behind { IsBefore names.now behind }
+    requires next { scope_before names.now behind ≡ scope_before names.now before ++ entries_by names.now.modules statement.now }
+    ensures { Answers (unknown_in_kind names.now.modules (scope_before names.now before) statement.now.line statement.now.kind) result }
 {
     let line = statement.line;
     match &statement.kind {
-        StmtKind::Wire { .. }
-        | StmtKind::Instance { .. }
-        | StmtKind::Memory { .. }
-        | StmtKind::Skip => Ok(()),
-        StmtKind::Node { value, .. } => known_in(alloc, scope, count, line, value),
+        StmtKind::Wire { .. } | StmtKind::Memory { .. } | StmtKind::Skip => Ok(()),
+        StmtKind::Instance { module, .. } => known_module(names, line, module),
+        StmtKind::Node { value, .. } => known_in(alloc, names, before, line, value),
         StmtKind::Register { clock, reset, .. } => {
-            known_in(alloc, scope, count, line, clock)?;
-            known_in_reset(alloc, scope, count + 1, reset)
+            known_in(alloc, names, before, line, clock)?;
+            known_in_reset(alloc, names, behind, reset)
         }
         StmtKind::Connect { sink, source } => {
-            known(alloc, scope, count, line, sink)?;
-            known_in(alloc, scope, count, line, source)
+            known(alloc, names, before, line, sink)?;
+            known_in(alloc, names, before, line, source)
         }
-        StmtKind::Invalid { sink } => known(alloc, scope, count, line, sink),
+        StmtKind::Invalid { sink } => known(alloc, names, before, line, sink),
         StmtKind::Stop {
             clock,
             condition,
             ..
         } => {
-            known_in(alloc, scope, count, line, clock)?;
-            known_in(alloc, scope, count, line, condition)
+            known_in(alloc, names, before, line, clock)?;
+            known_in(alloc, names, before, line, condition)
         }
         StmtKind::Report { arguments, .. } => {
-            known_in_arguments(alloc, scope, count, line, arguments.as_slice())
+            known_in_arguments(alloc, names, before, line, arguments.as_slice())
         }
+    }
+}
+
+// Refuses the module of an instance that isn't there.
+fn known_module(names: &Namespace, line: u64, name: &Name) -> Result<(), Refusal>
+    ensures { Answers (unknown_module names.now.modules line name.now) result }
+{
+    match names.place_of_module(name) {
+        Some(_) => Ok(()),
+        None => Err(Refusal::F(Fault::UnknownName {
+            line,
+            name: name.clone()?,
+        })),
     }
 }
 
 // Refuses the first unknown reference of a reset.
 fn known_in_reset(
     alloc: Global,
-    scope: &Scope,
-    count: usize,
+    names: &Namespace,
+    before: Before,
     reset: &Option<Reset>,
 ) -> Result<(), Refusal>
-    ensures { Answers (unknown_in_reset (take count scope.now) reset.now) result }
+    requires { IsBefore names.now before }
+    ensures { Answers (unknown_in_reset (scope_before names.now before) reset.now) result }
 {
     match reset {
         None => Ok(()),
         Some(reset) => {
-            known_in(alloc, scope, count, reset.line, &reset.condition)?;
-            known_in(alloc, scope, count, reset.line, &reset.init)
+            known_in(alloc, names, before, reset.line, &reset.condition)?;
+            known_in(alloc, names, before, reset.line, &reset.init)
         }
     }
 }
@@ -105,111 +163,67 @@ fn known_in_reset(
 // Refuses the first unknown reference of the arguments.
 fn known_in_arguments(
     alloc: Global,
-    scope: &Scope,
-    count: usize,
+    names: &Namespace,
+    before: Before,
     line: u64,
     arguments: &[Argument],
 ) -> Result<(), Refusal>
-    ensures { Answers (unknown_in_arguments (take count scope.now) line arguments.now) result }
+    requires { IsBefore names.now before }
+    ensures { Answers (unknown_in_arguments (scope_before names.now before) line arguments.now) result }
 {
     for argument in arguments {
         match argument {
-            Argument::Value(value) => known_in(alloc, scope, count, line, value)?,
+            Argument::Value(value) => known_in(alloc, names, before, line, value)?,
             Argument::Text(_) => {}
         }
     }
     Ok(())
 }
 
-// Refuses the first unknown reference of an expression on this line, among the first `count` names of the scope.
+// Refuses the first unknown reference of an expression on this line.
 fn known_in(
     alloc: Global,
-    scope: &Scope,
-    count: usize,
+    names: &Namespace,
+    before: Before,
     line: u64,
     value: &Expr,
 ) -> Result<(), Refusal>
-    ensures { Answers (unknown_in (take count scope.now) line value.now) result }
+    requires { IsBefore names.now before }
+    ensures { Answers (unknown_in (scope_before names.now before) line value.now) result }
 {
     match &value.kind {
-        ExprKind::Named(reference) => known(alloc, scope, count, line, reference),
+        ExprKind::Named(reference) => known(alloc, names, before, line, reference),
         ExprKind::Constant(_) => Ok(()),
-        ExprKind::Unary(_, a) => known_in(alloc, scope, count, line, a),
+        ExprKind::Unary(_, a) => known_in(alloc, names, before, line, a),
         ExprKind::Binary(_, a, b) => {
-            known_in(alloc, scope, count, line, a)?;
-            known_in(alloc, scope, count, line, b)
+            known_in(alloc, names, before, line, a)?;
+            known_in(alloc, names, before, line, b)
         }
-        ExprKind::Fixed(_, a, _, _) => known_in(alloc, scope, count, line, a),
+        ExprKind::Fixed(_, a, _, _) => known_in(alloc, names, before, line, a),
         ExprKind::Mux(c, a, b) => {
-            known_in(alloc, scope, count, line, c)?;
-            known_in(alloc, scope, count, line, a)?;
-            known_in(alloc, scope, count, line, b)
+            known_in(alloc, names, before, line, c)?;
+            known_in(alloc, names, before, line, a)?;
+            known_in(alloc, names, before, line, b)
         }
     }
 }
 
-// Refuses a reference that names nothing that has a value among the first `count` names.
+// Refuses a reference that names nothing that has a value.
 fn known(
     alloc: Global,
-    scope: &Scope,
-    count: usize,
+    names: &Namespace,
+    before: Before,
     line: u64,
     reference: &Reference,
 ) -> Result<(), Refusal>
-    ensures { Answers (unknown_reference (take count scope.now) line reference.now) result }
+    requires { IsBefore names.now before }
+    ensures { Answers (unknown_reference (scope_before names.now before) line reference.now) result }
 {
-    if has_value(meaning_before(scope, count, reference)) {
+    if has_value(names.role_before(before.number, before.names, reference)) {
         return Ok(());
     }
     Err(Refusal::F(Fault::UnknownName {
         line,
         name: written(alloc, reference)?,
     }))
-}
-
-// What a reference names among the first `count` names.
-fn meaning_before(scope: &Scope, count: usize, reference: &Reference) -> Option<Role>
-    ensures { result ≡ meaning_of (take count scope.now) reference.now }
-{
-    match reference {
-        Reference::Local(name) => scope.role_before(name, count),
-        Reference::PortOf(_, _) | Reference::FieldOf(_, _, _) => None,
-    }
-}
-
-// Whether what is named has a value of its own.
-fn has_value(role: Option<Role>) -> bool
-    ensures { result ≡ stands_for_value role }
-{
-    match role {
-        None | Some(Role::Instance | Role::Memory) => false,
-        Some(Role::InputPort | Role::OutputPort | Role::Wire | Role::Register | Role::Node) => true,
-    }
-}
-
-/// The text of a reference: its names with dots between them.
-///
-/// # Errors
-///
-/// `AllocError` where memory ran out.
-pub fn written(alloc: Global, reference: &Reference) -> Result<Name, AllocError>
-    ensures { IfOk result (λ name. name ≡ written_text reference.now) }
-{
-    match reference {
-        Reference::Local(a) => a.clone(),
-        Reference::PortOf(a, b) => {
-            let mut text = String::from_str(alloc, a.as_str())?;
-            text.push_str(".")?;
-            text.push_str(b.as_str())?;
-            Ok(Name::from(text))
-        }
-        Reference::FieldOf(a, b, c) => {
-            let mut text = String::from_str(alloc, a.as_str())?;
-            text.push_str(".")?;
-            text.push_str(b.as_str())?;
-            text.push_str(".")?;
-            text.push_str(c.as_str())?;
-            Ok(Name::from(text))
-        }
-    }
 }

@@ -1,7 +1,12 @@
-pub mod SortLemmas
+pub mod FaultLemmas
 pub mod LiteralLemmas
-pub mod StepLemmas
+mod LiteralRows
+pub mod PlaceLemmas
+pub mod WayLemmas
 pub mod ClockLemmas
-pub mod CircuitLemmas
-pub mod WorkedRows
-pub mod LiteralRows
+pub mod OwnLemmas
+pub mod StepLemmas
+pub mod KnownLemmas
+pub mod WidthLemmas
+mod WorkedRows
+mod WorkedModules

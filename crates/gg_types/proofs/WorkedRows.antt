@@ -18,7 +18,6 @@ use Rattle.gg_bits.specs.declared.ops.Op2.TheVariants.{Add, Dshl, Mul}
 use Rattle.gg_bits.specs.declared.ops.OpN.TheVariants as fixed
 use Rattle.gg_bits.specs.declared.types.Kind.{Kind}
 use Rattle.gg_bits.specs.declared.types.Kind.TheVariants as kind
-use Rattle.gg_bits.specs.Shape.{uint}
 use Rattle.gg_ast.specs.declared.expression.Literal.{Literal}
 use Rattle.gg_ast.specs.declared.expression.Radix.TheVariants.{Hexadecimal}
 use Rattle.gg_ast.specs.declared.expression.Reference.TheVariants.{Local}
@@ -38,8 +37,10 @@ use Rattle.gg_shape.specs.declared.fault.Fault.{Fault}
 use Rattle.gg_shape.specs.declared.fault.Fault.TheVariants.{WrongKind, WrongWidth, WrongParameter, LiteralTooLarge, TooWide, WrongClock}
 use Rattle.gg_shape.specs.declared.fault.Word.TheVariants as word
 use Rattle.gg_types.specs.Literal.{digit}
-use Rattle.gg_types.specs.Sorts.{Bits, ClockSort}
-use Rattle.gg_types.specs.Types.{type_faults, module_sorts, report_faults}
+use Rattle.gg_types.specs.declared.sort.Own.TheVariants.{Single}
+use Rattle.gg_types.specs.declared.sort.Sort.TheVariants as sort
+use Rattle.gg_names.specs.declared.role.Role.TheVariants.{InputPort}
+use Rattle.gg_types.specs.Types.{type_faults, known_in, report_faults}
 
 -- ---- the parts of the counter
 
@@ -109,9 +110,9 @@ right : faults whole ≡ []
 unfolding digit
 right = refl
 
-types : module_sorts (counter_with [] whole)
-    ≡ (codes "clock", Some ClockSort) ∷ (codes "reset", Some (Bits (uint 1))) ∷ (codes "out", Some (Bits (uint 8)))
-    ∷ (codes "c", Some (Bits (uint 8))) ∷ (codes "n", Some (Bits (uint 9))) ∷ []
+types : known_in (counter_with [] whole ∷ []) (counter_with [] whole)
+    ≡ (codes "clock", Some (Single sort.Clock)) ∷ (codes "reset", Some (Single (sort.Bits kind.UInt 1))) ∷ (codes "out", Some (Single (sort.Bits kind.UInt 8)))
+    ∷ (codes "c", Some (Single (sort.Bits kind.UInt 8))) ∷ (codes "n", Some (Single (sort.Bits kind.UInt 9))) ∷ []
 unfolding digit
 types = refl
 
@@ -266,7 +267,8 @@ wide_through_nodes = refl
 
 abbrev faults_of_arguments : Report → List Argument → List Fault
 faults_of_arguments report arguments =
-    report_faults (λ name. true) ((codes "clock", Some ClockSort) ∷ (codes "reset", Some (Bits (uint 1))) ∷ []) 12 (word.Report report) arguments
+    report_faults ((Local (codes "clock"), InputPort) ∷ (Local (codes "reset"), InputPort) ∷ []) (λ name. true)
+    ((codes "clock", Some (Single sort.Clock)) ∷ (codes "reset", Some (Single (sort.Bits kind.UInt 1))) ∷ []) 12 (word.Report report) arguments
 
 -- `printf(clock, "x", clock)`: a text and a Clock may stand among the rest
 printed : faults_of_arguments Printf (Value (signal (codes "clock")) ∷ Text (codes "x") ∷ Value (signal (codes "clock")) ∷ []) ≡ []

@@ -1,19 +1,62 @@
 -- Where a Clock comes from: through the drivers of wires and nodes to an input port (FIRRTL Specification, "Clock Type").
-use Rattle.std.specs.Prelude.{ℕ, zero, suc, Bool, true, false, List, [], ◌∷◌, Option, Some, None, length, if◌then◌else◌}
+use Rattle.std.specs.Prelude.{ℕ, zero, suc, Bool, true, false, List, [], ◌∷◌, ◌++◌, map, flat_map, Option, Some, None, length, if◌then◌else◌}
 use Rattle.std.specs.Str.{bytes_eq}
 use Rattle.gg_ast.specs.declared.expression.Reference.{Reference}
 use Rattle.gg_ast.specs.declared.expression.Reference.TheVariants as references
+use Rattle.gg_ast.specs.declared.module.Direction.{Direction}
+use Rattle.gg_ast.specs.declared.module.Direction.TheVariants as directions
+use Rattle.gg_ast.specs.declared.module.Port.{Port}
 use Rattle.gg_ast.specs.declared.statement.Stmt.{Stmt}
 use Rattle.gg_ast.specs.declared.statement.StmtKind as statements
-use Rattle.gg_ast.specs.declared.statement.StmtKind.TheVariants.{Wire, Node, Register, Instance, Memory, Connect, Invalid, Skip, Stop, Report}
+use Rattle.gg_ast.specs.declared.statement.StmtKind.TheVariants as kinds
 use Rattle.gg_ast.specs.Term.{Term, NamedTerm, ConstantTerm, UnaryTerm, BinaryTerm, FixedTerm, MuxTerm}
 use Rattle.gg_ast.specs.Tree.{ModuleTree}
-use Rattle.gg_shape.specs.declared.scope.Role.{Role}
-use Rattle.gg_shape.specs.declared.scope.Role.TheVariants as roles
-use Rattle.gg_shape.specs.Scope.{role_of}
-use Rattle.gg_shape.specs.Namespace.{scope_of}
+use Rattle.gg_types.specs.Named.{find_named}
+use Rattle.gg_types.specs.declared.clocks.Way.{Way}
+use Rattle.gg_types.specs.declared.clocks.Way.TheVariants.{FromOutside, FromDriver, Nowhere}
 
--- the name that a driver leads to: only a bare reference leads on
+-- ---- the ways in which a Clock comes to the names of a module
+
+-- an input port has it from outside
+abbrev pub way_of_port : Direction → Way
+way_of_port directions.Input = FromOutside
+way_of_port directions.Output = Nowhere
+
+abbrev pub port_way : Port → List ℕ × Way
+port_way port = (port.name, way_of_port port.direction)
+
+-- a wire and a node have it from their driver; a register, an instance and a memory have it in no way that is followed
+abbrev pub ways_by : statements.StmtKind → List (List ℕ × Way)
+ways_by (kinds.Wire name ty) = (name, FromDriver) ∷ []
+ways_by (kinds.Node name value) = (name, FromDriver) ∷ []
+ways_by (kinds.Register name ty clock reset) = (name, Nowhere) ∷ []
+ways_by (kinds.Instance name of_module) = (name, Nowhere) ∷ []
+ways_by (kinds.Memory name fields) = (name, Nowhere) ∷ []
+ways_by (kinds.Connect sink source) = []
+ways_by (kinds.Invalid sink) = []
+ways_by kinds.Skip = []
+ways_by (kinds.Stop clock condition code label) = []
+ways_by (kinds.Report word arguments label) = []
+
+abbrev pub ways_of : ModuleTree → List (List ℕ × Way)
+ways_of m = map port_way m.ports ++ flat_map (λ s. ways_by s.kind) m.statements
+
+abbrev pub is_outside : Option Way → Bool
+is_outside None = false
+is_outside (Some FromOutside) = true
+is_outside (Some FromDriver) = false
+is_outside (Some Nowhere) = false
+
+abbrev pub is_followed : Option Way → Bool
+is_followed None = false
+is_followed (Some FromOutside) = false
+is_followed (Some FromDriver) = true
+is_followed (Some Nowhere) = false
+
+-- ---- drivers
+
+-- The name that a driver leads to: only a bare reference leads on, and a port of an instance and a field of a memory are no name
+-- of the module.
 abbrev pub bare_reference : Reference → Option (List ℕ)
 bare_reference (references.Local name) = Some name
 bare_reference (references.PortOf instance port) = None
@@ -35,16 +78,16 @@ driven_reference (references.PortOf instance port) lead = None
 driven_reference (references.FieldOf memory port field) lead = None
 
 abbrev pub driven_by : statements.StmtKind → Option (List ℕ × Option (List ℕ))
-driven_by (Wire name ty) = None
-driven_by (Node name value) = Some (name, bare value)
-driven_by (Register name ty clock reset) = None
-driven_by (Instance name of_module) = None
-driven_by (Memory name fields) = None
-driven_by (Connect sink source) = driven_reference sink (bare source)
-driven_by (Invalid sink) = driven_reference sink None
-driven_by Skip = None
-driven_by (Stop clock condition code label) = None
-driven_by (Report word arguments label) = None
+driven_by (kinds.Wire name ty) = None
+driven_by (kinds.Node name value) = Some (name, bare value)
+driven_by (kinds.Register name ty clock reset) = None
+driven_by (kinds.Instance name of_module) = None
+driven_by (kinds.Memory name fields) = None
+driven_by (kinds.Connect sink source) = driven_reference sink (bare source)
+driven_by (kinds.Invalid sink) = driven_reference sink None
+driven_by kinds.Skip = None
+driven_by (kinds.Stop clock condition code label) = None
+driven_by (kinds.Report word arguments label) = None
 
 -- where a name leads after one more statement
 abbrev pub led_on : List ℕ → Option (List ℕ) → Option (List ℕ × Option (List ℕ)) → Option (List ℕ)
@@ -59,44 +102,25 @@ lead_from name so_far (s ∷ ss) = lead_from name (led_on name so_far (driven_by
 abbrev pub lead_of : List ℕ → List Stmt → Option (List ℕ)
 lead_of name statements = lead_from name None statements
 
--- drivers of wires and nodes are followed
-abbrev pub is_followed : Option Role → Bool
-is_followed None = false
-is_followed (Some roles.InputPort) = false
-is_followed (Some roles.OutputPort) = false
-is_followed (Some roles.Wire) = true
-is_followed (Some roles.Register) = false
-is_followed (Some roles.Node) = true
-is_followed (Some roles.Instance) = false
-is_followed (Some roles.Memory) = false
-
-abbrev pub is_input_port : Option Role → Bool
-is_input_port None = false
-is_input_port (Some roles.InputPort) = true
-is_input_port (Some roles.OutputPort) = false
-is_input_port (Some roles.Wire) = false
-is_input_port (Some roles.Register) = false
-is_input_port (Some roles.Node) = false
-is_input_port (Some roles.Instance) = false
-is_input_port (Some roles.Memory) = false
+-- ---- following them
 
 -- the name to which a name is followed
-abbrev pub next_of : List (List ℕ × Role) → List Stmt → List ℕ → Option (List ℕ)
-next_of scope statements name = if is_followed (role_of name scope) then lead_of name statements else None
+abbrev pub next_of : List (List ℕ × Way) → List Stmt → List ℕ → Option (List ℕ)
+next_of ways statements name = if is_followed (find_named name ways) then lead_of name statements else None
 
 -- the name that n steps lead to; where no step leads on, the name stays
 abbrev pub stay_or : List ℕ → Option (List ℕ) → List ℕ
 stay_or name None = name
 stay_or name (Some other) = other
 
-abbrev pub followed : List (List ℕ × Role) → List Stmt → ℕ → List ℕ → List ℕ
-followed scope statements zero name = name
-followed scope statements (suc n) name = followed scope statements n (stay_or name (next_of scope statements name))
+abbrev pub followed : List (List ℕ × Way) → List Stmt → ℕ → List ℕ → List ℕ
+followed ways statements zero name = name
+followed ways statements (suc n) name = followed ways statements n (stay_or name (next_of ways statements name))
 
 -- A name leads to an input port where as many steps as there are names lead there: a longer way would pass a name twice, and so
 -- be a ring.
-abbrev pub leads : List (List ℕ × Role) → List Stmt → List ℕ → Bool
-leads scope statements name = is_input_port (role_of (followed scope statements (length scope) name) scope)
+abbrev pub leads : List (List ℕ × Way) → List Stmt → List ℕ → Bool
+leads ways statements name = is_outside (find_named (followed ways statements (length ways) name) ways)
 
 abbrev pub leads_to_input : ModuleTree → List ℕ → Bool
-leads_to_input m name = leads (scope_of m) m.statements name
+leads_to_input m name = leads (ways_of m) m.statements name

@@ -1,6 +1,9 @@
 pub mod Literal
 pub mod Sorts
+pub mod Named
+pub mod Owned
 pub mod Clocks
 pub mod Places
 pub mod Types
+pub mod Known
 pub mod Typed

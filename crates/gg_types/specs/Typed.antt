@@ -1,18 +1,45 @@
--- What `types` answers: the type of each name.
-use Rattle.std.specs.Prelude.{◌≡◌, List, [], ◌∷◌, length}
-use Rattle.gg_ast.specs.Tree.{ModuleTree}
-use Rattle.gg_shape.specs.Namespace.{scope_of}
-use Rattle.gg_types.specs.declared.known.Typing.{Typing}
-use Rattle.gg_types.specs.Sorts.{sorts_with}
-use Rattle.gg_types.specs.Types.{module_sorts}
+-- What `types` answers: a circuit without faults, with the order of its modules.
+-- Sources: FIRRTL Specification, "Ground Types", "Instances".
+use Rattle.std.specs.Prelude.{◌≡◌, ℕ, ◌<◌, List, [], length, slice_index_or}
+use Rattle.gg_bits.specs.Shape.{shape}
+use Rattle.gg_ast.specs.Tree.{CircuitTree, ModuleTree}
+use Rattle.gg_names.specs.Modules.{module_at, Holds}
+use Rattle.gg_names.specs.Namespace.{names_in}
+use Rattle.gg_shape.specs.Judged.{IsShaped}
+use Rattle.gg_walk.specs.Graph.{IsOrderOf}
+use Rattle.gg_types.specs.declared.sort.Own.{Own}
+use Rattle.gg_types.specs.declared.sort.Sort.{Sort}
+use Rattle.gg_types.specs.declared.sort.Sort.TheVariants as sorts
+use Rattle.gg_types.specs.declared.sort.Typing.{Typing}
+use Rattle.gg_types.specs.declared.sort.Typing.TheVariants.{Ground, Clock}
+use Rattle.gg_types.specs.Named.{owned}
+use Rattle.gg_types.specs.Sorts.{bits}
+use Rattle.gg_types.specs.Types.{known_in, type_faults}
 
--- there is a type for each name that the module declares, in the order of the file, and it is the name's
-pub record TellsTypes (m : ModuleTree) (types : List Typing) : Type 0 where
-  pub one_each : length types ≡ length (scope_of m)
-  pub sorts : sorts_with (scope_of m) types ≡ module_sorts m
+-- a circuit and an order of its modules
+pub record TypedTree : Type 0 where
+  pub circuit : CircuitTree
+  pub order : List ℕ
 
--- those of the one module
-abbrev pub TellsTypesOf : List ModuleTree → List Typing → Type 0
-TellsTypesOf [] types = ⊥
-TellsTypesOf (m ∷ []) types = TellsTypes m types
-TellsTypesOf (m ∷ (n ∷ ms)) types = ⊥
+-- a type whose width is 1 to 128
+abbrev pub sort : Typing → Sort
+sort (Ground ty) = bits (shape ty)
+sort Clock = sorts.Clock
+
+-- the list has for each declared name of a module what it has of its own
+pub record TellsOwn (modules : List ModuleTree) (m : ModuleTree) (own : List Own) : Type 0 where
+  pub one_each : length own ≡ length (names_in m)
+  pub told : owned (names_in m) own ≡ known_in modules m
+
+-- .. for each of the first n modules
+pub record TellModules (modules : List ModuleTree) (n : ℕ) (lists : List (List Own)) : Type 0 where
+  pub count : length lists ≡ n
+  pub each : (k : ℕ) → k < n → TellsOwn modules (module_at modules k) (slice_index_or lists k [])
+
+-- The circuit has none of the faults F1 to F14; its modules stand in the order each behind all that it holds; the lists tell what its names
+-- have of their own.
+pub record IsTyped (circuit : CircuitTree) (order : List ℕ) (lists : List (List Own)) : Type 0 where
+  pub shaped : IsShaped circuit
+  pub faultless : type_faults circuit ≡ []
+  pub ordered : IsOrderOf (Holds circuit.modules) (length circuit.modules) order
+  pub tells : TellModules circuit.modules (length circuit.modules) lists

@@ -1,65 +1,121 @@
-//! `types`: the types of a circuit, or the first fault in them.
-ghost use Rattle.std.specs.Prelude.{◌≡◌, [], true, IfOk};
-ghost use Rattle.std.specs.List.{list_all};
+//! `types`: the first fault of a circuit's types, or the circuit that has none.
+ghost use Rattle.std.specs.Prelude.{◌≡◌, ◌<◌, ◌++◌, ◌∷◌, ℕ, List, [], IfOk, length, flat_map, take};
+ghost use Rattle.std.specs.Str.{bytes_eq};
+ghost use Rattle.std.specs.List.{All};
+ghost use Rattle.gg_names.specs.Modules.{module_at, Holds};
+ghost use Rattle.gg_names.specs.Namespace.{scope_of};
 ghost use Rattle.gg_shape.specs.Faults.{Answers};
-ghost use Rattle.gg_shape.specs.Namespace.{IsSingleModule, is_flat};
-ghost use Rattle.gg_shape.specs.Shape.{shape_faults, repeated_names};
+ghost use Rattle.gg_shape.specs.Judged.{IsShaped};
+ghost use Rattle.gg_shape.specs.Rings.{HasNoRing};
 ghost use Rattle.gg_types.specs.Clocks.{leads_to_input};
-ghost use Rattle.gg_types.specs.Types.{module_type_faults, type_faults};
-ghost use Rattle.gg_types.specs.Typed.{TellsTypes, TellsTypesOf};
+ghost use Rattle.gg_types.specs.Typed.{TellsOwn, TellModules};
+ghost use Rattle.gg_types.specs.Types.{module_type_faults, faults_of_module, type_faults};
+ghost use Rattle.gg_walk.specs.Graph.{IsOrderOf, IsRing};
 
+use crate::checked::Typed;
 use crate::clocks::trace;
-use crate::known::{Known, Typing};
+use crate::known::Known;
 use crate::module::judge_all;
+use crate::sort::Own;
 use gg_ast::{Circuit, Module};
-use gg_shape::{Refusal, declarations};
-use std::alloc::Global;
+use gg_bits::Items;
+use gg_names::{NamesFault, Namespace};
+use gg_shape::Refusal;
+use gg_walk::{Graph, WalkFault, walk};
+use std::alloc::{AllocError, Global};
 
 /// What `types` answers in place of Ok.
 pub type TypeFault = Refusal;
 
-/// The types of the names of a circuit's module, in the order in which it declares them.
-#[derive(Debug, Drop)]
-pub struct Typed {
-    /// A port's, a wire's and a register's type is the declared one, a node's that of its expression.
-    pub types: Vec<Typing>,
-}
-
-/// Refuses the first of F9 to F14 in the order of the text; else the types of all names. `gg_shape::shape` has to have
-/// found no fault in the circuit before.
+/// Refuses the first of F9 to F14 in the order of the text; else answers the circuit with its names' types. It may have none
+/// of F1 to F8, which `gg_shape::shape` tells before.
 ///
 /// # Errors
 ///
 /// `Refusal::F` with that fault; `Refusal::NoMemory` where memory ran out.
-pub fn types(alloc: Global, circuit: &Circuit) -> Result<Typed, TypeFault>
-    requires single { IsSingleModule circuit.now }
-    requires shape { shape_faults circuit.now ≡ [] }
+pub fn types<'a>(alloc: Global, circuit: &'a Circuit) -> Result<Typed<'a>, TypeFault>
+    requires shaped { IsShaped circuit.now }
     ensures answers { Answers (type_faults circuit.now) result }
-    ensures types { IfOk result (λ typed. TellsTypesOf circuit.now.modules typed.types.items) }
+    ensures circuit { IfOk result (λ t. t.circuit ≡ circuit.now) }
 {
-    let [top] = circuit.modules() else {
-        unreachable!()
-    };
-    let is_top = circuit.name().as_str() == top.name().as_str();
-    types_of(alloc, is_top, top)
+    match Namespace::of(alloc, circuit) {
+        Ok(names) => typed(alloc, names),
+        Err(NamesFault::Repeated(_)) => unreachable!(),
+        Err(NamesFault::NoMemory) => Err(Refusal::NoMemory),
+    }
 }
 
-// The types of a module's names, or the first fault in them.
-fn types_of(alloc: Global, is_top: bool, top: &Module) -> Result<Typed, Refusal>
-    requires flat { list_all (λ s. is_flat s.kind) top.now.statements ≡ true }
-    requires distinct { repeated_names top.now ≡ [] }
-    ensures answers { Answers (module_type_faults is_top (leads_to_input top.now) top.now) result }
-    ensures types { IfOk result (λ typed. TellsTypes top.now typed.types.items) }
+/// The same of a circuit whose names are collected.
+///
+/// # Errors
+///
+/// `Refusal::F` with the first of F9 to F14; `Refusal::NoMemory` where memory ran out.
+pub fn typed<'a>(alloc: Global, names: Namespace<'a>) -> Result<Typed<'a>, TypeFault>
+    requires shaped { IsShaped names }
+    ensures answers { Answers (type_faults names.entry) result }
+    ensures circuit { IfOk result (λ t. t.circuit ≡ names.entry) }
 {
-    let ports = top.ports();
-    let statements = top.statements();
-    let scope = declarations(alloc, top)?;
-    let traced = trace(alloc, &scope, statements)?;
+    let own = judge_modules(alloc, &names)?;
+    let order = module_order(alloc, &names)?;
+    Ok(Typed { names, own, order })
+}
+
+// The order of the modules, each behind all that it holds.
+fn module_order(alloc: Global, names: &Namespace) -> Result<Vec<u32>, Refusal>
+    requires free { HasNoRing names.now }
+    ensures order { IfOk result (λ order. IsOrderOf (Holds names.now.modules) (length names.now.modules) order.items) }
+    ensures answers { Answers [] result }
+{
+    match walk(alloc, names) {
+        Ok(order) => Ok(order),
+        Err(WalkFault::Ring(_)) => unreachable!(),
+        Err(WalkFault::NoMemory) => Err(Refusal::NoMemory),
+    }
+}
+
+// Refuses the first fault of the modules in their order, or answers what their names have of their own.
+fn judge_modules(alloc: Global, names: &Namespace) -> Result<Vec<Items<Own>>, Refusal>
+    ensures answers { Answers (type_faults names.now) result }
+    ensures own { IfOk result (λ lists. TellModules names.now.modules (length names.now.modules) lists.items) }
+{
+    let mut lists = Vec::new(alloc);
+    for number in 0..names.node_count() {
+        let own = judge_module(alloc, names, number)?;
+        add_list(&mut lists, own)?;
+    }
+    Ok(lists)
+}
+
+// Adds a list behind the others.
+fn add_list(lists: &mut Vec<Items<Own>>, own: Vec<Own>) -> Result<(), AllocError>
+    ensures { IfOk result (λ _. lists.new.items ≡ lists.old.items ++ own.items ∷ []) }
+{
+    lists.push(Items::from(own))?;
+    Ok(())
+}
+
+// Refuses the first fault of a module, or answers what its names have of their own.
+fn judge_module(alloc: Global, names: &Namespace, number: u32) -> Result<Vec<Own>, Refusal>
+    requires { number < length names.now.modules }
+    ensures answers { Answers (faults_of_module names.now (module_at names.now.modules number)) result }
+    ensures own { IfOk result (λ own. TellsOwn names.now.modules (module_at names.now.modules number) own.items) }
+{
+    let here = module_of(names, number);
+    let is_top = names.circuit().name().as_str() == here.name().as_str();
     let mut known = Known {
-        scope,
-        traced,
-        types: Vec::new(alloc),
+        names,
+        number,
+        traced: trace(alloc, names, number)?,
+        own: Vec::new(alloc),
     };
-    judge_all(alloc, &mut known, is_top, ports, statements)?;
-    Ok(Typed { types: known.types })
+    judge_all(alloc, &mut known, is_top, here.ports(), here.statements())?;
+    Ok(known.own)
+}
+
+/// The module at a place.
+pub fn module_of<'a>(names: &Namespace<'a>, number: u32) -> &'a Module
+    requires { number < length names.now.modules }
+    ensures { result.now ≡ module_at names.now.modules number }
+{
+    &names.circuit().modules()[number as usize]
 }

@@ -1,31 +1,178 @@
 //! F14: which names lead to an input port, through the drivers of wires and nodes.
-ghost use Rattle.std.specs.Prelude.{◌≡◌, ◌<◌, ◌+◌, ◌*◌, ◌≤◌, ◌-◌, ◌%◌, ◌/◌, ℕ, List, IfOk, length, map, option_copied, slice_index, Some, None, if◌then◌else◌};
-ghost use Rattle.gg_types.specs.Clocks.{bare as bare_name, driven_by, is_followed as leads_on, is_input_port as is_port, leads};
-ghost use Rattle.gg_types.specs.Places.{ArePlaces, TellsNext, Reaches, next_at, with_driven, role_at};
-ghost use Rattle.gg_types.specs.Sorts.{traced_with};
+ghost use Rattle.std.specs.Prelude.{◌≡◌, ◌<◌, ◌+◌, ◌*◌, ◌≤◌, ◌-◌, ◌%◌, ◌/◌, ◌++◌, ℕ, List, IfOk, IfSome, length, map, flat_map, option_copied, option_to_list, slice_index, Some, None, if◌then◌else◌};
+ghost use Rattle.gg_ast.specs.Tree.{ModuleTree};
+ghost use Rattle.gg_names.specs.Modules.{module_at};
+ghost use Rattle.gg_names.specs.Namespace.{names_in};
+ghost use Rattle.gg_types.specs.Clocks.{bare as bare_name, driven_by, is_followed as leads_on, is_outside as comes_from_outside, leads, leads_to_input, way_of_port as port_way, ways_by, ways_of};
+ghost use Rattle.gg_types.specs.Named.{flagged};
+ghost use Rattle.gg_types.specs.Places.{ArePlaces, TellsNext, Reaches, next_at, place_in, with_driven, way_at};
 
-use gg_ast::{Expr, ExprKind, Reference, Stmt, StmtKind};
+use crate::circuit::module_of;
+use gg_ast::{Direction, Expr, ExprKind, Module, Port, Reference, Stmt, StmtKind};
 use gg_bits::Name;
-use gg_shape::{Role, Scope};
+use gg_names::Namespace;
 use std::alloc::{AllocError, Global};
+use std::marker::Model;
 
-/// For each name of the scope whether it leads to an input port.
-pub fn trace(alloc: Global, scope: &Scope, statements: &[Stmt]) -> Result<Vec<bool>, AllocError>
-    ensures { IfOk result (λ flags. (name : List ℕ) → traced_with scope.now flags.items name ≡ leads scope.now statements.now name) }
+/// How a Clock comes to a declared name of a module.
+#[derive(Clone, Copy, Debug, PartialEq, Eq)]
+pub enum Way {
+    /// From outside the module: an input port.
+    FromOutside,
+    /// From its driver: a wire, a node.
+    FromDriver,
+    /// In no way that is followed.
+    Nowhere,
+}
+
+/// The declared names of a module, each with the way in which a Clock comes to it. A contract sees it as their list.
+#[derive(Drop)]
+pub struct Ways<'b, 'a> {
+    names: &'b Namespace<'a>,
+    number: u32,
+    ways: Vec<Way>,
+}
+
+impl<'b, 'a> Model for Ways<'b, 'a> {
+    ghost use Rattle.std.specs.Prelude.{◌≡◌, ◌<◌, ℕ, List, length, map};
+    ghost use Rattle.gg_names.specs.Modules.{module_at};
+    ghost use Rattle.gg_types.specs.declared.clocks.Way.{Way as Road};
+    ghost use Rattle.gg_types.specs.Clocks.{ways_of};
+
+    ghost Value = { List (List ℕ × Road) };
+
+    ghost view = { λ w. ways_of (module_at w.names.now.modules w.number) };
+
+    ghost invariant = { λ w. (w.number < length w.names.now.modules) × (w.ways.items ≡ map (λ (e : List ℕ × Road). e.1) (ways_of (module_at w.names.now.modules w.number))) };
+}
+
+impl<'b, 'a> Ways<'b, 'a> {
+    // The ways of the names of the module at a place.
+    fn of(alloc: Global, names: &'b Namespace<'a>, number: u32) -> Result<Ways<'b, 'a>, AllocError>
+        requires { number < length names.now.modules }
+        ensures { IfOk result (λ ways. ways ≡ ways_of (module_at names.now.modules number)) }
+    {
+        let ways = ways_in(alloc, module_of(names, number))?;
+        Ok(Ways {
+            names,
+            number,
+            ways,
+        })
+    }
+
+    // How many names there are.
+    fn len(&self) -> usize
+        ensures { result ≡ length self.now }
+    {
+        self.ways.len()
+    }
+
+    // The place of a name.
+    fn place(&self, name: &Name) -> Option<usize>
+        ensures place { result ≡ place_in name.now self.now }
+        ensures within { IfSome result (λ place. place < length self.now) }
+    {
+        self.names.place(self.number, name)
+    }
+
+    // The way of the name at a place.
+    fn way_at(&self, place: usize) -> Option<Way>
+        ensures { result ≡ way_at self.now place }
+    {
+        if place < self.ways.len() {
+            Some(self.ways[place])
+        } else {
+            None
+        }
+    }
+}
+
+// The ways of what a module declares.
+fn ways_in(alloc: Global, this: &Module) -> Result<Vec<Way>, AllocError>
+    ensures { IfOk result (λ ways. ways.items ≡ map (λ w. w.1) (ways_of this.now)) }
 {
-    let next = next_places(alloc, scope, statements)?;
-    let reached = after_steps(alloc, next, scope.len())?;
-    let flags = input_flags(alloc, scope, &reached)?;
+    let mut ways = port_ways(alloc, this.ports())?;
+    add_ways(&mut ways, this.statements())?;
+    Ok(ways)
+}
+
+// The ways of ports.
+fn port_ways(alloc: Global, ports: &[Port]) -> Result<Vec<Way>, AllocError>
+    ensures { IfOk result (λ ways. ways.items ≡ map (λ p. port_way p.direction) ports.now) }
+{
+    let mut ways = Vec::new(alloc);
+    for port in ports {
+        ways.push(way_of_port(port.direction))?;
+    }
+    Ok(ways)
+}
+
+// The way of a port.
+fn way_of_port(direction: Direction) -> Way
+    ensures { result ≡ port_way direction }
+{
+    match direction {
+        Direction::Input => Way::FromOutside,
+        Direction::Output => Way::Nowhere,
+    }
+}
+
+// Adds the ways of what statements declare.
+fn add_ways(ways: &mut Vec<Way>, statements: &[Stmt]) -> Result<(), AllocError>
+    ensures { IfOk result (λ _. ways.new.items ≡ ways.old.items ++ map (λ w. w.1) (flat_map (λ s. ways_by s.kind) statements.now)) }
+{
+    for statement in statements {
+        add_way(ways, statement)?;
+    }
+    Ok(())
+}
+
+// Adds the way of what a statement declares.
+fn add_way(ways: &mut Vec<Way>, statement: &Stmt) -> Result<(), AllocError>
+    ensures { IfOk result (λ _. ways.new.items ≡ ways.old.items ++ map (λ w. w.1) (ways_by statement.now.kind)) }
+{
+    if let Some(way) = way_of(statement) {
+        ways.push(way)?;
+    }
+    Ok(())
+}
+
+// The way of what a statement declares.
+fn way_of(statement: &Stmt) -> Option<Way>
+    ensures { option_to_list result ≡ map (λ w. w.1) (ways_by statement.now.kind) }
+{
+    match &statement.kind {
+        StmtKind::Wire { .. } | StmtKind::Node { .. } => Some(Way::FromDriver),
+        StmtKind::Register { .. } | StmtKind::Instance { .. } | StmtKind::Memory { .. } => {
+            Some(Way::Nowhere)
+        }
+        StmtKind::Connect { .. }
+        | StmtKind::Invalid { .. }
+        | StmtKind::Skip
+        | StmtKind::Stop { .. }
+        | StmtKind::Report { .. } => None,
+    }
+}
+
+/// For each declared name of a module whether it leads to an input port.
+pub fn trace(alloc: Global, names: &Namespace, number: u32) -> Result<Vec<bool>, AllocError>
+    requires { number < length names.now.modules }
+    ensures { IfOk result (λ flags. (name : List ℕ) → flagged (names_in (module_at names.now.modules number)) flags.items name ≡ leads_to_input (module_at names.now.modules number) name) }
+{
+    let ways = Ways::of(alloc, names, number)?;
+    let next = next_places(alloc, &ways, module_of(names, number).statements())?;
+    let reached = after_steps(alloc, next, ways.len())?;
+    let flags = outside_flags(alloc, &ways, &reached)?;
     Ok(flags)
 }
 
 // The place that each name's driver leads to.
-fn next_places(alloc: Global, scope: &Scope, statements: &[Stmt]) -> Result<Vec<usize>, AllocError>
-    ensures { IfOk result (λ next. TellsNext scope.now statements.now next.items) }
+fn next_places(alloc: Global, ways: &Ways, statements: &[Stmt]) -> Result<Vec<usize>, AllocError>
+    ensures { IfOk result (λ next. TellsNext ways.now statements.now next.items) }
 {
-    let mut next = own_places(alloc, scope.len())?;
+    let mut next = own_places(alloc, ways.len())?;
     for statement in statements {
-        follow(scope, &mut next, statement);
+        follow(ways, &mut next, statement);
     }
     Ok(next)
 }
@@ -43,20 +190,20 @@ fn own_places(alloc: Global, n: usize) -> Result<Vec<usize>, AllocError>
 }
 
 // Notes where the statement makes a name lead.
-fn follow(scope: &Scope, next: &mut Vec<usize>, statement: &Stmt)
-    requires { length next.old.items ≡ length scope.now }
-    ensures { next.new.items ≡ with_driven scope.now next.old.items (driven_by statement.now.kind) }
+fn follow(ways: &Ways, next: &mut Vec<usize>, statement: &Stmt)
+    requires { length next.old.items ≡ length ways.now }
+    ensures { next.new.items ≡ with_driven ways.now next.old.items (driven_by statement.now.kind) }
 {
     match &statement.kind {
-        StmtKind::Node { name, value } => lead(scope, next, name, bare(value)),
+        StmtKind::Node { name, value } => lead(ways, next, name, bare(value)),
         StmtKind::Connect { sink, source } => {
             if let Reference::Local(name) = sink {
-                lead(scope, next, name, bare(source));
+                lead(ways, next, name, bare(source));
             }
         }
         StmtKind::Invalid { sink } => {
             if let Reference::Local(name) = sink {
-                lead(scope, next, name, None);
+                lead(ways, next, name, None);
             }
         }
         StmtKind::Wire { .. }
@@ -85,38 +232,35 @@ fn bare(value: &Expr) -> Option<&Name>
 }
 
 // Notes that a name, if it is followed, leads to another, or to itself where there is none.
-fn lead(scope: &Scope, next: &mut Vec<usize>, name: &Name, to: Option<&Name>)
-    requires { length next.old.items ≡ length scope.now }
-    ensures { next.new.items ≡ with_driven scope.now next.old.items (Some (name.now, option_copied to.entry)) }
+fn lead(ways: &Ways, next: &mut Vec<usize>, name: &Name, to: Option<&Name>)
+    requires { length next.old.items ≡ length ways.now }
+    ensures { next.new.items ≡ with_driven ways.now next.old.items (Some (name.now, option_copied to.entry)) }
 {
-    let Some(place) = scope.place(name) else {
+    let Some(place) = ways.place(name) else {
         return;
     };
-    if is_followed(scope.role(name)) {
-        next[place] = place_or(scope, place, to);
+    if is_followed(ways.way_at(place)) {
+        next[place] = place_or(ways, place, to);
     }
 }
 
 // The place of a name; this one where there is none.
-fn place_or(scope: &Scope, place: usize, to: Option<&Name>) -> usize
-    ensures { result ≡ next_at scope.now place (option_copied to.entry) }
+fn place_or(ways: &Ways, place: usize, to: Option<&Name>) -> usize
+    ensures { result ≡ next_at ways.now place (option_copied to.entry) }
 {
     match to {
-        Some(name) => scope.place(name).unwrap_or(place),
+        Some(name) => ways.place(name).unwrap_or(place),
         None => place,
     }
 }
 
-// Whether what is named leads to what drives it: a wire or a node.
-fn is_followed(role: Option<Role>) -> bool
-    ensures { result ≡ leads_on role }
+// Whether what is named gets a Clock from its driver.
+fn is_followed(way: Option<Way>) -> bool
+    ensures { result ≡ leads_on way }
 {
-    match role {
-        Some(Role::Wire | Role::Node) => true,
-        None
-        | Some(
-            Role::InputPort | Role::OutputPort | Role::Register | Role::Instance | Role::Memory,
-        ) => false,
+    match way {
+        Some(Way::FromDriver) => true,
+        None | Some(Way::FromOutside | Way::Nowhere) => false,
     }
 }
 
@@ -165,31 +309,23 @@ fn through(alloc: Global, first: &Vec<usize>, second: &Vec<usize>) -> Result<Vec
     Ok(places)
 }
 
-// For each place whether that which it reaches is an input port's.
-fn input_flags(alloc: Global, scope: &Scope, reached: &Vec<usize>) -> Result<Vec<bool>, AllocError>
-    ensures { IfOk result (λ flags. flags.items ≡ map (λ place. is_port (role_at scope.now place)) reached.now.items) }
+// For each place whether the name that it reaches is an input port.
+fn outside_flags(alloc: Global, ways: &Ways, reached: &Vec<usize>) -> Result<Vec<bool>, AllocError>
+    ensures { IfOk result (λ flags. flags.items ≡ map (λ place. comes_from_outside (way_at ways.now place)) reached.now.items) }
 {
     let mut flags = Vec::new(alloc);
     for place in reached {
-        flags.push(is_input(scope.role_at(*place)))?;
+        flags.push(is_outside(ways.way_at(*place)))?;
     }
     Ok(flags)
 }
 
-// Whether what is named is an input port.
-fn is_input(role: Option<Role>) -> bool
-    ensures { result ≡ is_port role }
+// Whether what is named gets a Clock from outside.
+fn is_outside(way: Option<Way>) -> bool
+    ensures { result ≡ comes_from_outside way }
 {
-    match role {
-        Some(Role::InputPort) => true,
-        None
-        | Some(
-            Role::OutputPort
-            | Role::Wire
-            | Role::Register
-            | Role::Node
-            | Role::Instance
-            | Role::Memory,
-        ) => false,
+    match way {
+        Some(Way::FromOutside) => true,
+        None | Some(Way::FromDriver | Way::Nowhere) => false,
     }
 }

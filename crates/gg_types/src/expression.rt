@@ -1,26 +1,30 @@
 //! The type of an expression, and its first fault.
-ghost use Rattle.std.specs.Prelude.{◌≡◌, ◌++◌, Some, IfOk, Err};
+ghost use Rattle.std.specs.Prelude.{◌≡◌, ◌++◌, ◌<◌, Some, IfOk, Err, length};
 ghost use Rattle.gg_bits.specs.Shape.{shape_of};
 ghost use Rattle.gg_bits.specs.ResultType.{type1, type2, type_const, type_mux};
 ghost use Rattle.gg_shape.specs.Faults.{Answers};
-ghost use Rattle.gg_types.specs.Sorts.{sort, sorts_with, traced_with};
-ghost use Rattle.gg_types.specs.Types.{undeclared, clock_faults, read_sort, sort_of_reference, literal_faults, literal_sort, sort_in, faults_in, result1 as result_1, result2 as result_2, result3 as result_3, is_traced, result_faults, result_sort};
+ghost use Rattle.gg_types.specs.Known.{roles_seen, traced_seen, owned_seen};
+ghost use Rattle.gg_types.specs.Owned.{sort_of_reference};
+ghost use Rattle.gg_types.specs.Types.{undeclared, clock_faults, read_sort, literal_faults, literal_sort, sort_in, faults_in, result1 as result_1, result2 as result_2, result3 as result_3, is_traced, result_faults, result_sort};
 ghost use Rattle.gg_shape.specs.declared.fault.Word.TheVariants as words;
 ghost use Rattle.gg_shape.specs.declared.fault.Refusal.TheVariants.{F};
 ghost use Rattle.gg_shape.specs.declared.fault.Fault.TheVariants.{WrongKind};
 
-use crate::known::{Known, Typing};
+use crate::known::Known;
 use crate::literals::literal;
 use crate::places::is_width;
+use crate::results::{result_const, result_mux, result1, result2};
+use crate::sort::Sort;
 use gg_ast::{Expr, ExprKind, Literal, Reference};
-use gg_bits::{Bad, Op1, Op2, OpN, Ty, result_const, result_mux, result1, result2};
-use gg_shape::{Fault, Refusal, Word, written};
+use gg_bits::{Bad, Op1, Op2, OpN, Ty};
+use gg_names::written;
+use gg_shape::{Fault, Refusal, Word};
 use std::alloc::Global;
 
 /// The type of an expression on this line, or its first fault.
-pub fn type_of(alloc: Global, known: &Known, line: u64, value: &Expr) -> Result<Typing, Refusal>
-    ensures answers { Answers (faults_in (traced_with known.now.scope known.now.traced.items) (sorts_with known.now.scope known.now.types.items) line value.now) result }
-    ensures sort { IfOk result (λ t. sort_in (traced_with known.now.scope known.now.traced.items) (sorts_with known.now.scope known.now.types.items) value.now ≡ Some (sort t)) }
+pub fn type_of(alloc: Global, known: &Known, line: u64, value: &Expr) -> Result<Sort, Refusal>
+    ensures answers { Answers (faults_in (roles_seen known.now) (traced_seen known.now) (owned_seen known.now) line value.now) result }
+    ensures sort { IfOk result (λ s. sort_in (roles_seen known.now) (traced_seen known.now) (owned_seen known.now) value.now ≡ Some s) }
 {
     match &value.kind {
         ExprKind::Named(reference) => read(alloc, known, line, reference),
@@ -48,16 +52,17 @@ pub fn type_of(alloc: Global, known: &Known, line: u64, value: &Expr) -> Result<
 }
 
 // The type of a reference that is read.
-fn read(alloc: Global, known: &Known, line: u64, reference: &Reference) -> Result<Typing, Refusal>
-    ensures answers { Answers (undeclared (sorts_with known.now.scope known.now.types.items) line reference.now ++ clock_faults (traced_with known.now.scope known.now.traced.items) line reference.now (sort_of_reference (sorts_with known.now.scope known.now.types.items) reference.now)) result }
-    ensures sort { IfOk result (λ t. read_sort (traced_with known.now.scope known.now.traced.items) reference.now (sort_of_reference (sorts_with known.now.scope known.now.types.items) reference.now) ≡ Some (sort t)) }
+#[tactic(auto, using(crate::proofs::FaultLemmas::refused_first))]
+fn read(alloc: Global, known: &Known, line: u64, reference: &Reference) -> Result<Sort, Refusal>
+    ensures answers { Answers (undeclared (roles_seen known.now) (owned_seen known.now) line reference.now ++ clock_faults (traced_seen known.now) line reference.now (sort_of_reference (roles_seen known.now) (owned_seen known.now) reference.now)) result }
+    ensures sort { IfOk result (λ s. read_sort (traced_seen known.now) reference.now (sort_of_reference (roles_seen known.now) (owned_seen known.now) reference.now) ≡ Some s) }
 {
-    let typing = named(alloc, known, line, reference)?;
-    match typing {
-        Typing::Ground(_) => Ok(typing),
-        Typing::Clock => {
+    let sort = named(alloc, known, line, reference)?;
+    match sort {
+        Sort::Bits(_, _) => Ok(sort),
+        Sort::Clock => {
             if leads_to_input(known, reference) {
-                return Ok(typing);
+                return Ok(sort);
             }
             Err(Refusal::F(Fault::WrongClock {
                 line,
@@ -69,7 +74,7 @@ fn read(alloc: Global, known: &Known, line: u64, reference: &Reference) -> Resul
 
 // Whether a reference leads to an input port through the drivers of wires and nodes.
 fn leads_to_input(known: &Known, reference: &Reference) -> bool
-    ensures { result ≡ is_traced (traced_with known.now.scope known.now.traced.items) reference.now }
+    ensures { result ≡ is_traced (traced_seen known.now) reference.now }
 {
     match reference {
         Reference::Local(name) => known.is_traced(name),
@@ -83,14 +88,12 @@ pub fn named(
     known: &Known,
     line: u64,
     reference: &Reference,
-) -> Result<Typing, Refusal>
-    ensures answers { Answers (undeclared (sorts_with known.now.scope known.now.types.items) line reference.now) result }
-    ensures sort { IfOk result (λ t. sort_of_reference (sorts_with known.now.scope known.now.types.items) reference.now ≡ Some (sort t)) }
+) -> Result<Sort, Refusal>
+    ensures answers { Answers (undeclared (roles_seen known.now) (owned_seen known.now) line reference.now) result }
+    ensures sort { IfOk result (λ s. sort_of_reference (roles_seen known.now) (owned_seen known.now) reference.now ≡ Some s) }
 {
-    if let Reference::Local(name) = reference {
-        if let Some(typing) = known.typing(name) {
-            return Ok(typing);
-        }
+    if let Some(sort) = known.sort(reference) {
+        return Ok(sort);
     }
     Err(Refusal::F(Fault::UnknownName {
         line,
@@ -99,9 +102,9 @@ pub fn named(
 }
 
 // The type of a literal.
-fn constant(line: u64, number: &Literal) -> Result<Typing, Refusal>
+fn constant(line: u64, number: &Literal) -> Result<Sort, Refusal>
     ensures answers { Answers (literal_faults line number.now) result }
-    ensures sort { IfOk result (λ t. literal_sort number.now ≡ Some (sort t)) }
+    ensures sort { IfOk result (λ s. literal_sort number.now ≡ Some s) }
 {
     if !is_width(number.width) {
         return Err(Refusal::F(Fault::WrongWidth {
@@ -110,69 +113,73 @@ fn constant(line: u64, number: &Literal) -> Result<Typing, Refusal>
         }));
     }
     match literal(number) {
-        Some((ty, _)) => Ok(Typing::Ground(ty)),
+        Some((ty, _)) => Ok(Sort::Bits(ty.kind, ty.width)),
         None => Err(Refusal::F(Fault::LiteralTooLarge { line })),
     }
 }
 
 // The type of an operation on one value, by its operand's type.
-fn unary(line: u64, operation: Op1, ta: Typing) -> Result<Typing, Refusal>
-    ensures answers { Answers (result_faults line (words.Unary operation) (result_1 (type1 operation) (Some (sort ta)))) result }
-    ensures sort { IfOk result (λ t. result_sort (result_1 (type1 operation) (Some (sort ta))) ≡ Some (sort t)) }
+fn unary(line: u64, operation: Op1, ta: Sort) -> Result<Sort, Refusal>
+    ensures answers { Answers (result_faults line (words.Unary operation) (result_1 (type1 operation) (Some ta))) result }
+    ensures sort { IfOk result (λ s. result_sort (result_1 (type1 operation) (Some ta)) ≡ Some s) }
 {
     let word = Word::Unary(operation);
     match ta {
-        Typing::Ground(a) => judged(line, word, result1(operation, a)),
-        Typing::Clock => wrong_kind(line, word),
+        Sort::Bits(kind, width) => judged(line, word, result1(operation, kind, width)),
+        Sort::Clock => wrong_kind(line, word),
     }
 }
 
 // The type of an operation on two values, by its operands' types.
-fn binary(line: u64, operation: Op2, ta: Typing, tb: Typing) -> Result<Typing, Refusal>
-    ensures answers { Answers (result_faults line (words.Binary operation) (result_2 (type2 operation) (Some (sort ta)) (Some (sort tb)))) result }
-    ensures sort { IfOk result (λ t. result_sort (result_2 (type2 operation) (Some (sort ta)) (Some (sort tb))) ≡ Some (sort t)) }
+fn binary(line: u64, operation: Op2, ta: Sort, tb: Sort) -> Result<Sort, Refusal>
+    ensures answers { Answers (result_faults line (words.Binary operation) (result_2 (type2 operation) (Some ta) (Some tb))) result }
+    ensures sort { IfOk result (λ s. result_sort (result_2 (type2 operation) (Some ta) (Some tb)) ≡ Some s) }
 {
     let word = Word::Binary(operation);
     match (ta, tb) {
-        (Typing::Ground(a), Typing::Ground(b)) => judged(line, word, result2(operation, a, b)),
-        (Typing::Clock, _) | (_, Typing::Clock) => wrong_kind(line, word),
+        (Sort::Bits(ka, a), Sort::Bits(kb, b)) => {
+            judged(line, word, result2(operation, ka, a, kb, b))
+        },
+        (Sort::Clock, _) | (_, Sort::Clock) => wrong_kind(line, word),
     }
 }
 
 // The type of an operation with parameters, by its operand's type.
-fn fixed(line: u64, operation: OpN, ta: Typing, n: u32, m: u32) -> Result<Typing, Refusal>
-    ensures answers { Answers (result_faults line (words.Fixed operation) (result_1 (λ s. type_const operation s n m) (Some (sort ta)))) result }
-    ensures sort { IfOk result (λ t. result_sort (result_1 (λ s. type_const operation s n m) (Some (sort ta))) ≡ Some (sort t)) }
+fn fixed(line: u64, operation: OpN, ta: Sort, n: u32, m: u32) -> Result<Sort, Refusal>
+    ensures answers { Answers (result_faults line (words.Fixed operation) (result_1 (λ s. type_const operation s n m) (Some ta))) result }
+    ensures sort { IfOk result (λ s. result_sort (result_1 (λ s. type_const operation s n m) (Some ta)) ≡ Some s) }
 {
     let word = Word::Fixed(operation);
     match ta {
-        Typing::Ground(a) => judged(line, word, result_const(operation, a, n, m)),
-        Typing::Clock => wrong_kind(line, word),
+        Sort::Bits(kind, width) => {
+            judged(line, word, result_const(operation, kind, width, n, m))
+        },
+        Sort::Clock => wrong_kind(line, word),
     }
 }
 
 // The type of a multiplexer, by its operands' types.
-fn mux(line: u64, tc: Typing, ta: Typing, tb: Typing) -> Result<Typing, Refusal>
-    ensures answers { Answers (result_faults line words.Mux (result_3 type_mux (Some (sort tc)) (Some (sort ta)) (Some (sort tb)))) result }
-    ensures sort { IfOk result (λ t. result_sort (result_3 type_mux (Some (sort tc)) (Some (sort ta)) (Some (sort tb))) ≡ Some (sort t)) }
+fn mux(line: u64, tc: Sort, ta: Sort, tb: Sort) -> Result<Sort, Refusal>
+    ensures answers { Answers (result_faults line words.Mux (result_3 type_mux (Some tc) (Some ta) (Some tb))) result }
+    ensures sort { IfOk result (λ s. result_sort (result_3 type_mux (Some tc) (Some ta) (Some tb)) ≡ Some s) }
 {
     match (tc, ta, tb) {
-        (Typing::Ground(c), Typing::Ground(a), Typing::Ground(b)) => {
-            judged(line, Word::Mux, result_mux(c, a, b))
+        (Sort::Bits(kc, c), Sort::Bits(ka, a), Sort::Bits(kb, b)) => {
+            judged(line, Word::Mux, result_mux(kc, c, ka, a, kb, b))
         }
-        (Typing::Clock, _, _) | (_, Typing::Clock, _) | (_, _, Typing::Clock) => {
+        (Sort::Clock, _, _) | (_, Sort::Clock, _) | (_, _, Sort::Clock) => {
             wrong_kind(line, Word::Mux)
         }
     }
 }
 
 // The type of a result, or what is wrong with it.
-fn judged(line: u64, word: Word, result_type: Result<Ty, Bad>) -> Result<Typing, Refusal>
+fn judged(line: u64, word: Word, result_type: Result<Ty, Bad>) -> Result<Sort, Refusal>
     ensures answers { Answers (result_faults line word (Some (shape_of result_type))) result }
-    ensures sort { IfOk result (λ t. result_sort (Some (shape_of result_type)) ≡ Some (sort t)) }
+    ensures sort { IfOk result (λ s. result_sort (Some (shape_of result_type)) ≡ Some s) }
 {
     match result_type {
-        Ok(ty) => Ok(Typing::Ground(ty)),
+        Ok(ty) => Ok(Sort::Bits(ty.kind, ty.width)),
         Err(Bad::Kind) => wrong_kind(line, word),
         Err(Bad::Width(width)) => Err(Refusal::F(Fault::WrongWidth { line, width })),
         Err(Bad::Param) => Err(Refusal::F(Fault::WrongParameter { line, word })),

@@ -1,19 +1,21 @@
 //! The ports and statements of a module, one after another.
-ghost use Rattle.std.specs.Prelude.{◌≡◌, ◌&&◌, ◌||◌, ◌++◌, [], ℕ, List, true, map, Some, OnOk, IfOk, length};
-ghost use Rattle.std.specs.List.{list_all};
-ghost use Rattle.gg_shape.specs.Faults.{Answers, along};
-ghost use Rattle.gg_shape.specs.Namespace.{scope_after, is_flat};
-ghost use Rattle.gg_types.specs.Sorts.{sort, sorts_with, traced_with};
-ghost use Rattle.gg_types.specs.Types.{port_faults, port_judged, port_sort, is_clock_input as takes_clock, declared_sort, faults_of, sorts_after};
+ghost use Rattle.std.specs.Prelude.{◌≡◌, ◌&&◌, ◌||◌, ◌++◌, [], map, OnOk, length};
+ghost use Rattle.gg_names.specs.Namespace.{names_after};
+ghost use Rattle.gg_names.specs.Along.{along};
+ghost use Rattle.gg_shape.specs.Faults.{Answers};
+ghost use Rattle.gg_types.specs.Known.{names_seen, roles_seen, traced_seen, owned_seen};
+ghost use Rattle.gg_types.specs.Owned.{port_own};
+ghost use Rattle.gg_types.specs.Types.{port_faults, port_judged, is_clock_input as takes_clock, faults_of, known_after};
 
-use crate::known::{Known, Typing};
+use crate::known::Known;
 use crate::places::declared_type;
+use crate::sort::{Own, sort_of};
 use crate::statement::{declare, judge};
 use gg_ast::{Direction, GroundType, Port, Stmt};
 use gg_shape::{Fault, Refusal};
 use std::alloc::Global;
 
-/// Refuses the first fault of a module's types, or adds the types of all its names.
+/// Refuses the first fault of a module's types, or adds what all its names have of their own.
 pub fn judge_all(
     alloc: Global,
     known: &mut Known,
@@ -21,13 +23,13 @@ pub fn judge_all(
     ports: &[Port],
     statements: &[Stmt],
 ) -> Result<(), Refusal>
-    requires flat { list_all (λ s. is_flat s.kind) statements.now ≡ true }
-    requires empty { known.old.types.items ≡ [] }
-    requires scope { known.old.scope ≡ scope_after ports.now statements.now }
-    ensures answers { Answers (along (port_faults is_top) ports.now ++ along (faults_of (traced_with known.old.scope known.old.traced.items) (map port_sort ports.now)) statements.now) result }
-    ensures types { OnOk result (sorts_with known.new.scope known.new.types.items ≡ sorts_after (traced_with known.old.scope known.old.traced.items) (map port_sort ports.now) statements.now) }
-    ensures count { OnOk result (length known.new.types.items ≡ length known.new.scope) }
-    ensures scope { known.new.scope ≡ known.old.scope }
+    requires empty { known.old.own.items ≡ [] }
+    requires names { names_seen known.old ≡ names_after ports.now statements.now }
+    ensures answers { Answers (along (port_faults is_top) ports.now ++ along (faults_of (roles_seen known.old) (traced_seen known.old) (map port_own ports.now)) statements.now) result }
+    ensures own { OnOk result (owned_seen known.new ≡ known_after (roles_seen known.old) (traced_seen known.old) (map port_own ports.now) statements.now) }
+    ensures count { OnOk result (length known.new.own.items ≡ length (names_seen known.old)) }
+    ensures names { known.new.names.now ≡ known.old.names.now }
+    ensures number { known.new.number ≡ known.old.number }
 {
     judge_ports(known, is_top, ports, statements)?;
     judge_statements(alloc, known, ports, statements)
@@ -40,28 +42,28 @@ fn judge_ports(
     ports: &[Port],
     statements: &[Stmt],
 ) -> Result<(), Refusal>
-    requires empty { known.old.types.items ≡ [] }
-    requires scope { known.old.scope ≡ scope_after ports.now statements.now }
+    requires empty { known.old.own.items ≡ [] }
+    requires names { names_seen known.old ≡ names_after ports.now statements.now }
     ensures answers { Answers (along (port_faults is_top) ports.now) result }
-    ensures types { OnOk result (sorts_with known.new.scope known.new.types.items ≡ map port_sort ports.now) }
-    ensures count { OnOk result (length known.new.types.items ≡ length ports.now) }
-    ensures scope { known.new.scope ≡ known.old.scope }
+    ensures own { OnOk result (owned_seen known.new ≡ map port_own ports.now) }
+    ensures count { OnOk result (length known.new.own.items ≡ length ports.now) }
+    ensures names { known.new.names.now ≡ known.old.names.now }
+    ensures number { known.new.number ≡ known.old.number }
     ensures traced { known.new.traced.items ≡ known.old.traced.items }
 {
     let _ = statements;
     let mut has_clock = false;
     for port in ports {
-        let typing = judge_port(is_top, has_clock, port)?;
-        declare(known, typing)?;
+        judge_port(is_top, has_clock, port)?;
+        declare(known, Own::Single(sort_of(port.ty)))?;
         has_clock = has_clock_after(has_clock, port);
     }
     Ok(())
 }
 
-// The type of a port, after those that have a clock or not.
-fn judge_port(is_top: bool, has_clock: bool, port: &Port) -> Result<Typing, Refusal>
-    ensures answers { Answers (port_judged (is_top && has_clock) port.now) result }
-    ensures sort { IfOk result (λ t. declared_sort port.now.ty ≡ Some (sort t)) }
+// Refuses a port, after those that have a clock or not.
+fn judge_port(is_top: bool, has_clock: bool, port: &Port) -> Result<(), Refusal>
+    ensures { Answers (port_judged (is_top && has_clock) port.now) result }
 {
     if port.ty == GroundType::Clock
         && (port.direction == Direction::Output || is_top && has_clock)
@@ -85,21 +87,21 @@ fn has_clock_after(has_clock: bool, port: &Port) -> bool
     }
 }
 
-// Refuses the first fault of a module's statements, or adds the types of what they declare.
+// Refuses the first fault of a module's statements, or adds what they declare.
 fn judge_statements(
     alloc: Global,
     known: &mut Known,
     ports: &[Port],
     statements: &[Stmt],
 ) -> Result<(), Refusal>
-    requires flat { list_all (λ s. is_flat s.kind) statements.now ≡ true }
-    requires scope { known.old.scope ≡ scope_after ports.now statements.now }
-    requires types { sorts_with known.old.scope known.old.types.items ≡ map port_sort ports.now }
-    requires count { length known.old.types.items ≡ length ports.now }
-    ensures answers { Answers (along (faults_of (traced_with known.old.scope known.old.traced.items) (map port_sort ports.now)) statements.now) result }
-    ensures types { OnOk result (sorts_with known.new.scope known.new.types.items ≡ sorts_after (traced_with known.old.scope known.old.traced.items) (map port_sort ports.now) statements.now) }
-    ensures count { OnOk result (length known.new.types.items ≡ length (scope_after ports.now statements.now)) }
-    ensures scope { known.new.scope ≡ known.old.scope }
+    requires names { names_seen known.old ≡ names_after ports.now statements.now }
+    requires own { owned_seen known.old ≡ map port_own ports.now }
+    requires count { length known.old.own.items ≡ length ports.now }
+    ensures answers { Answers (along (faults_of (roles_seen known.old) (traced_seen known.old) (map port_own ports.now)) statements.now) result }
+    ensures own { OnOk result (owned_seen known.new ≡ known_after (roles_seen known.old) (traced_seen known.old) (map port_own ports.now) statements.now) }
+    ensures count { OnOk result (length known.new.own.items ≡ length (names_after ports.now statements.now)) }
+    ensures names { known.new.names.now ≡ known.old.names.now }
+    ensures number { known.new.number ≡ known.old.number }
 {
     let _ = ports;
     for statement in statements {

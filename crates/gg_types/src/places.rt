@@ -1,14 +1,13 @@
 //! Declared types, and places with a rule of their own: clocks, conditions, connections.
-ghost use Rattle.std.specs.Prelude.{◌≡◌, ◌≤◌, ◌++◌, true, not, Some, IsOk, IfOk};
-ghost use Rattle.gg_shape.specs.Faults.{Answers};
-ghost use Rattle.gg_bits.specs.Shape.{shape, of_kind};
-ghost use Rattle.gg_shape.specs.Shape.{fault_if};
+ghost use Rattle.std.specs.Prelude.{◌≡◌, ◌≤◌, ◌<◌, ◌++◌, true, not, Some, length};
+ghost use Rattle.gg_shape.specs.Faults.{Answers, fault_if};
 ghost use Rattle.gg_shape.specs.declared.fault.Fault.TheVariants.{WrongWidth};
-ghost use Rattle.gg_types.specs.Sorts.{sort, Bits, sorts_with, traced_with};
-ghost use Rattle.gg_types.specs.Types.{is_width, width_faults, declared_sort, register_type_faults, register_sort, clock_faults_in, clock_position, condition_faults_in, condition_position, connected as connected_faults, bits_connected};
+ghost use Rattle.gg_types.specs.Known.{roles_seen, traced_seen, owned_seen};
+ghost use Rattle.gg_types.specs.Types.{is_width, width_faults, stored_type_faults, clock_faults_in, clock_position, condition_faults_in, condition_position, connected as connected_faults, bits_connected};
 
 use crate::expression::{type_of, wrong_kind};
-use crate::known::{Known, Typing};
+use crate::known::Known;
+use crate::sort::Sort;
 use gg_ast::{Expr, GroundType};
 use gg_bits::{Kind, Ty};
 use gg_shape::{Fault, Refusal, Word};
@@ -22,40 +21,34 @@ pub fn is_width(width: u32) -> bool
     1 <= width && width <= Ty::MAX_WIDTH
 }
 
-/// The type that a port or a wire is declared with.
-pub fn declared_type(line: u64, ty: GroundType) -> Result<Typing, Refusal>
-    ensures answers { Answers (width_faults line ty) result }
-    ensures sort { IfOk result (λ t. declared_sort ty ≡ Some (sort t)) }
+/// Refuses the type of a port or a wire whose width is 0 or above 128.
+pub fn declared_type(line: u64, ty: GroundType) -> Result<(), Refusal>
+    ensures { Answers (width_faults line ty) result }
 {
     match ty {
-        GroundType::UInt(width) => of_width(line, Kind::UInt, width),
-        GroundType::SInt(width) => of_width(line, Kind::SInt, width),
-        GroundType::Clock => Ok(Typing::Clock),
+        GroundType::UInt(width) | GroundType::SInt(width) => judged_width(line, width),
+        GroundType::Clock => Ok(()),
     }
 }
 
-/// The type that a register is declared with.
-pub fn register_type(line: u64, ty: GroundType) -> Result<Typing, Refusal>
-    ensures answers { Answers (register_type_faults line ty) result }
-    ensures sort { IfOk result (λ t. register_sort ty ≡ Some (sort t)) }
+/// Refuses the type of a register or of a memory's words that is a Clock, or whose width is 0 or above 128.
+pub fn stored_type(line: u64, word: Word, ty: GroundType) -> Result<(), Refusal>
+    ensures { Answers (stored_type_faults line word ty) result }
 {
     match ty {
-        GroundType::UInt(width) => of_width(line, Kind::UInt, width),
-        GroundType::SInt(width) => of_width(line, Kind::SInt, width),
-        GroundType::Clock => wrong_kind(line, Word::Register),
+        GroundType::UInt(width) | GroundType::SInt(width) => judged_width(line, width),
+        GroundType::Clock => wrong_kind(line, word),
     }
 }
 
-// The ground type of a width that is 1 to 128.
-fn of_width(line: u64, kind: Kind, width: u32) -> Result<Typing, Refusal>
-    ensures answers { Answers (fault_if (not (is_width width)) (WrongWidth line width)) result }
-    ensures within { IsOk result → is_width width ≡ true }
-    ensures sort { IfOk result (λ t. sort t ≡ Bits (of_kind kind width)) }
+// Refuses a width that is 0 or above 128.
+fn judged_width(line: u64, width: u32) -> Result<(), Refusal>
+    ensures { Answers (fault_if (not (is_width width)) (WrongWidth line width)) result }
 {
     if !is_width(width) {
         return Err(Refusal::F(Fault::WrongWidth { line, width }));
     }
-    Ok(Typing::Ground(Ty::new(kind, width)))
+    Ok(())
 }
 
 /// Refuses an expression in a clock position that is no reference of type Clock.
@@ -66,19 +59,19 @@ pub fn clock(
     word: Word,
     value: &Expr,
 ) -> Result<(), Refusal>
-    ensures { Answers (clock_faults_in (traced_with known.now.scope known.now.traced.items) (sorts_with known.now.scope known.now.types.items) line word value.now) result }
+    ensures { Answers (clock_faults_in (roles_seen known.now) (traced_seen known.now) (owned_seen known.now) line word value.now) result }
 {
-    let typing = type_of(alloc, known, line, value)?;
-    only_clock(line, word, typing)
+    let sort = type_of(alloc, known, line, value)?;
+    only_clock(line, word, sort)
 }
 
 // Refuses a type in a clock position that isn't Clock.
-fn only_clock(line: u64, word: Word, typing: Typing) -> Result<(), Refusal>
-    ensures { Answers (clock_position line word (Some (sort typing))) result }
+fn only_clock(line: u64, word: Word, sort: Sort) -> Result<(), Refusal>
+    ensures { Answers (clock_position line word (Some sort)) result }
 {
-    match typing {
-        Typing::Ground(_) => wrong_kind(line, word),
-        Typing::Clock => Ok(()),
+    match sort {
+        Sort::Bits(_, _) => wrong_kind(line, word),
+        Sort::Clock => Ok(()),
     }
 }
 
@@ -90,24 +83,19 @@ pub fn condition(
     word: Word,
     value: &Expr,
 ) -> Result<(), Refusal>
-    ensures { Answers (condition_faults_in (traced_with known.now.scope known.now.traced.items) (sorts_with known.now.scope known.now.types.items) line word value.now) result }
+    ensures { Answers (condition_faults_in (roles_seen known.now) (traced_seen known.now) (owned_seen known.now) line word value.now) result }
 {
-    let typing = type_of(alloc, known, line, value)?;
-    only_condition(line, word, typing)
+    let sort = type_of(alloc, known, line, value)?;
+    only_condition(line, word, sort)
 }
 
 // Refuses the type of a condition that isn't `UInt<1>`.
-fn only_condition(line: u64, word: Word, typing: Typing) -> Result<(), Refusal>
-    ensures { Answers (condition_position line word (Some (sort typing))) result }
+fn only_condition(line: u64, word: Word, sort: Sort) -> Result<(), Refusal>
+    ensures { Answers (condition_position line word (Some sort)) result }
 {
-    match typing {
-        Typing::Ground(
-            Ty {
-                kind: Kind::UInt,
-                width: 1,
-            },
-        ) => Ok(()),
-        Typing::Ground(_) | Typing::Clock => wrong_kind(line, word),
+    match sort {
+        Sort::Bits(Kind::UInt, 1) => Ok(()),
+        Sort::Bits(_, _) | Sort::Clock => wrong_kind(line, word),
     }
 }
 
@@ -120,38 +108,41 @@ pub fn clocked(
     tick: &Expr,
     test: &Expr,
 ) -> Result<(), Refusal>
-    ensures { Answers (clock_faults_in (traced_with known.now.scope known.now.traced.items) (sorts_with known.now.scope known.now.types.items) line word tick.now ++ condition_faults_in (traced_with known.now.scope known.now.traced.items) (sorts_with known.now.scope known.now.types.items) line word test.now) result }
+    ensures { Answers (clock_faults_in (roles_seen known.now) (traced_seen known.now) (owned_seen known.now) line word tick.now ++ condition_faults_in (roles_seen known.now) (traced_seen known.now) (owned_seen known.now) line word test.now) result }
 {
     clock(alloc, known, line, word, tick)?;
     condition(alloc, known, line, word, test)
 }
 
 /// Refuses a value of a type that may not be connected to a sink.
-pub fn connected(line: u64, word: Word, sink: Typing, source: Typing) -> Result<(), Refusal>
-    ensures { Answers (connected_faults line word (Some (sort sink)) (Some (sort source))) result }
+pub fn connected(line: u64, word: Word, sink: Sort, source: Sort) -> Result<(), Refusal>
+    ensures { Answers (connected_faults line word (Some sink) (Some source)) result }
 {
     match (sink, source) {
-        (Typing::Ground(wide), Typing::Ground(narrow)) => connected_bits(line, word, wide, narrow),
-        (Typing::Clock, Typing::Clock) => Ok(()),
-        (Typing::Ground(_), Typing::Clock) | (Typing::Clock, Typing::Ground(_)) => {
-            wrong_kind(line, word)
+        (Sort::Bits(ks, wide), Sort::Bits(kv, narrow)) => {
+            connected_bits(line, word, ks, wide, kv, narrow)
         }
+        (Sort::Clock, Sort::Clock) => Ok(()),
+        (Sort::Bits(_, _), Sort::Clock) | (Sort::Clock, Sort::Bits(_, _)) => wrong_kind(line, word),
     }
 }
 
 // Refuses a ground type that may not be connected to a sink of another.
-fn connected_bits(line: u64, word: Word, sink: Ty, source: Ty) -> Result<(), Refusal>
-    ensures { Answers (bits_connected line word (shape sink) (shape source)) result }
+fn connected_bits(
+    line: u64,
+    word: Word,
+    sink_kind: Kind,
+    sink: u32,
+    source_kind: Kind,
+    source: u32,
+) -> Result<(), Refusal>
+    ensures { Answers (bits_connected line word sink_kind sink source_kind source) result }
 {
-    if sink.kind != source.kind {
+    if sink_kind != source_kind {
         return wrong_kind(line, word);
     }
-    if source.width > sink.width {
-        return Err(Refusal::F(Fault::TooWide {
-            line,
-            source: source.width,
-            sink: sink.width,
-        }));
+    if source > sink {
+        return Err(Refusal::F(Fault::TooWide { line, source, sink }));
     }
     Ok(())
 }

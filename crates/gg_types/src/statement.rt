@@ -1,43 +1,47 @@
-//! The faults of a statement's types, and the types of what it declares.
-ghost use Rattle.std.specs.Prelude.{◌≡◌, ◌++◌, ◌∷◌, [], ℕ, List, true, Some, OnOk, ◌+◌, length};
-ghost use Rattle.gg_shape.specs.declared.scope.Role.{Role as Roles};
-ghost use Rattle.gg_shape.specs.declared.scope.Role.TheVariants.{Register};
+//! The faults of a statement's types, and what it declares.
+ghost use Rattle.std.specs.Prelude.{◌≡◌, ◌++◌, ◌∷◌, [], ℕ, List, Some, OnOk, ◌+◌, length, option_map};
+ghost use Rattle.gg_names.specs.Namespace.{name_by};
 ghost use Rattle.gg_shape.specs.declared.fault.Word.TheVariants as words;
 ghost use Rattle.gg_shape.specs.Faults.{Answers};
-ghost use Rattle.gg_shape.specs.Namespace.{declared_by, is_flat, IsDeclaredNext};
-ghost use Rattle.gg_types.specs.Sorts.{sort, sorts_with, traced_with};
-ghost use Rattle.gg_types.specs.Types.{faults_of_kind, sorts_of_kind, register_faults, register_sort, connection_faults, reset_faults, report_faults, argument_faults, invalid_faults, undeclared, sort_of_reference};
+ghost use Rattle.gg_types.specs.declared.sort.Own.TheVariants.{Single};
+ghost use Rattle.gg_types.specs.Known.{names_seen, roles_seen, traced_seen, owned_seen};
+ghost use Rattle.gg_types.specs.Named.{AreNext};
+ghost use Rattle.gg_types.specs.Owned.{memory_own, sort_of_reference};
+ghost use Rattle.gg_types.specs.Sorts.{sort_of};
+ghost use Rattle.gg_types.specs.Types.{width_faults, faults_in, sort_in, memory_type_faults, faults_of_kind, own_by, register_faults, connection_faults, reset_faults, report_faults, argument_faults, invalid_faults, undeclared};
 
 use crate::expression::{named, type_of, wrong_kind};
-use crate::known::{Known, Typing};
-use crate::places::{clock, clocked, condition, connected, declared_type, register_type};
-use gg_ast::{Argument, Expr, GroundType, Reference, Report, Reset, Stmt, StmtKind};
-use gg_shape::{Fault, Refusal, Word, written};
+use crate::known::Known;
+use crate::memory::{depth_of, judge_fields, word_type};
+use crate::places::{clock, clocked, condition, connected, declared_type, stored_type};
+use crate::sort::{Own, Sort, sort_of};
+use gg_ast::{Argument, Expr, Field, GroundType, Reference, Report, Reset, Stmt, StmtKind};
+use gg_names::written;
+use gg_shape::{Fault, Refusal, Word};
 use std::alloc::Global;
 
 /// Refuses the first fault of a statement's types, or adds the type of what it declares.
 pub fn judge(alloc: Global, known: &mut Known, statement: &Stmt) -> Result<(), Refusal>
-    requires flat { is_flat statement.now.kind ≡ true }
-    requires next { IsDeclaredNext known.old.scope (length known.old.types.items) (declared_by statement.now) }
-    ensures answers { Answers (faults_of_kind (traced_with known.old.scope known.old.traced.items) (sorts_with known.old.scope known.old.types.items) statement.now.line statement.now.kind) result }
-    ensures types { OnOk result (sorts_with known.new.scope known.new.types.items ≡ sorts_with known.old.scope known.old.types.items ++ sorts_of_kind (traced_with known.old.scope known.old.traced.items) (sorts_with known.old.scope known.old.types.items) statement.now.kind) }
-    ensures count { OnOk result (length known.new.types.items ≡ length known.old.types.items + length (declared_by statement.now)) }
-    ensures scope { known.new.scope ≡ known.old.scope }
+    requires next { AreNext (names_seen known.old) (length known.old.own.items) (name_by statement.now) }
+    ensures answers { Answers (faults_of_kind (roles_seen known.old) (traced_seen known.old) (owned_seen known.old) statement.now.line statement.now.kind) result }
+    ensures own { OnOk result (owned_seen known.new ≡ owned_seen known.old ++ own_by (roles_seen known.old) (traced_seen known.old) (owned_seen known.old) statement.now.kind) }
+    ensures count { OnOk result (length known.new.own.items ≡ length known.old.own.items + length (name_by statement.now)) }
+    ensures names { known.new.names.now ≡ known.old.names.now }
+    ensures number { known.new.number ≡ known.old.number }
     ensures traced { known.new.traced.items ≡ known.old.traced.items }
 {
     let line = statement.line;
     match &statement.kind {
-        StmtKind::Wire { ty, .. } => declare(known, declared_type(line, *ty)?),
-        StmtKind::Node { value, .. } => {
-            let typing = type_of(alloc, known, line, value)?;
-            declare(known, typing)
-        }
+        StmtKind::Wire { ty, .. } => judge_wire(known, line, *ty),
+        StmtKind::Node { value, .. } => judge_node(alloc, known, line, value),
         StmtKind::Register {
             ty,
             clock,
             reset,
             ..
         } => judge_register(alloc, known, line, *ty, clock, reset),
+        StmtKind::Instance { .. } => declare(known, Own::Instance),
+        StmtKind::Memory { fields, .. } => judge_memory(known, fields.as_slice()),
         StmtKind::Connect { sink, source } => judge_connection(alloc, known, line, sink, source),
         StmtKind::Invalid { sink } => judge_invalid(alloc, known, line, sink),
         StmtKind::Skip => Ok(()),
@@ -51,22 +55,61 @@ pub fn judge(alloc: Global, known: &mut Known, statement: &Stmt) -> Result<(), R
             arguments,
             ..
         } => judge_report(alloc, known, line, *word, arguments.as_slice()),
-        StmtKind::Instance { .. } | StmtKind::Memory { .. } => unreachable!(),
     }
 }
 
-/// The next name of the scope has this type.
-pub fn declare(known: &mut Known, typing: Typing) -> Result<(), Refusal>
+/// The next of the declared names has this of its own.
+pub fn declare(known: &mut Known, own: Own) -> Result<(), Refusal>
     ensures answers { Answers [] result }
-    ensures types { (name : List ℕ) (role : Roles) → IsDeclaredNext known.old.scope (length known.old.types.items) ((name, role) ∷ []) → OnOk result (sorts_with known.new.scope known.new.types.items ≡ sorts_with known.old.scope known.old.types.items ++ (name, Some (sort typing)) ∷ []) }
-    ensures count { OnOk result (length known.new.types.items ≡ length known.old.types.items + 1) }
-    ensures scope { known.new.scope ≡ known.old.scope }
+    ensures own { (name : List ℕ) → AreNext (names_seen known.old) (length known.old.own.items) (name ∷ []) → OnOk result (owned_seen known.new ≡ owned_seen known.old ++ (name, Some own) ∷ []) }
+    ensures count { OnOk result (length known.new.own.items ≡ length known.old.own.items + 1) }
+    ensures names { known.new.names.now ≡ known.old.names.now }
+    ensures number { known.new.number ≡ known.old.number }
     ensures traced { known.new.traced.items ≡ known.old.traced.items }
 {
-    match known.types.push(typing) {
+    match known.own.push(own) {
         Ok(()) => Ok(()),
         Err(_) => Err(Refusal::NoMemory),
     }
+}
+
+// Refuses the type of a wire, or adds it.
+fn judge_wire(known: &mut Known, line: u64, ty: GroundType) -> Result<(), Refusal>
+    ensures answers { Answers (width_faults line ty) result }
+    ensures own { (name : List ℕ) → AreNext (names_seen known.old) (length known.old.own.items) (name ∷ []) → OnOk result (owned_seen known.new ≡ owned_seen known.old ++ (name, Some (Single (sort_of ty))) ∷ []) }
+    ensures count { OnOk result (length known.new.own.items ≡ length known.old.own.items + 1) }
+    ensures names { known.new.names.now ≡ known.old.names.now }
+    ensures number { known.new.number ≡ known.old.number }
+    ensures traced { known.new.traced.items ≡ known.old.traced.items }
+{
+    declared_type(line, ty)?;
+    declare(known, Own::Single(sort_of(ty)))
+}
+
+// Refuses the first fault of a node's expression, or adds its type.
+fn judge_node(alloc: Global, known: &mut Known, line: u64, value: &Expr) -> Result<(), Refusal>
+    ensures answers { Answers (faults_in (roles_seen known.old) (traced_seen known.old) (owned_seen known.old) line value.now) result }
+    ensures own { (name : List ℕ) → AreNext (names_seen known.old) (length known.old.own.items) (name ∷ []) → OnOk result (owned_seen known.new ≡ owned_seen known.old ++ (name, option_map Single (sort_in (roles_seen known.old) (traced_seen known.old) (owned_seen known.old) value.now)) ∷ []) }
+    ensures count { OnOk result (length known.new.own.items ≡ length known.old.own.items + 1) }
+    ensures names { known.new.names.now ≡ known.old.names.now }
+    ensures number { known.new.number ≡ known.old.number }
+    ensures traced { known.new.traced.items ≡ known.old.traced.items }
+{
+    let sort = type_of(alloc, known, line, value)?;
+    declare(known, Own::Single(sort))
+}
+
+// Refuses the first fault of a memory's fields, or adds the type and the number of its words.
+fn judge_memory(known: &mut Known, fields: &[Field]) -> Result<(), Refusal>
+    ensures answers { Answers (memory_type_faults fields.now) result }
+    ensures own { (name : List ℕ) → AreNext (names_seen known.old) (length known.old.own.items) (name ∷ []) → OnOk result (owned_seen known.new ≡ owned_seen known.old ++ (name, Some (memory_own fields.now)) ∷ []) }
+    ensures count { OnOk result (length known.new.own.items ≡ length known.old.own.items + 1) }
+    ensures names { known.new.names.now ≡ known.old.names.now }
+    ensures number { known.new.number ≡ known.old.number }
+    ensures traced { known.new.traced.items ≡ known.old.traced.items }
+{
+    judge_fields(fields)?;
+    declare(known, Own::Memory(word_type(fields), depth_of(fields)))
 }
 
 // Refuses the first fault of a register, or adds its type.
@@ -78,26 +121,28 @@ fn judge_register(
     tick: &Expr,
     reset: &Option<Reset>,
 ) -> Result<(), Refusal>
-    ensures answers { (name : List ℕ) → IsDeclaredNext known.old.scope (length known.old.types.items) ((name, Register) ∷ []) → Answers (register_faults (traced_with known.old.scope known.old.traced.items) (sorts_with known.old.scope known.old.types.items) line name ty tick.now reset.now) result }
-    ensures types { (name : List ℕ) → IsDeclaredNext known.old.scope (length known.old.types.items) ((name, Register) ∷ []) → OnOk result (sorts_with known.new.scope known.new.types.items ≡ sorts_with known.old.scope known.old.types.items ++ (name, register_sort ty) ∷ []) }
-    ensures count { OnOk result (length known.new.types.items ≡ length known.old.types.items + 1) }
-    ensures scope { known.new.scope ≡ known.old.scope }
+    ensures answers { (name : List ℕ) → AreNext (names_seen known.old) (length known.old.own.items) (name ∷ []) → Answers (register_faults (roles_seen known.old) (traced_seen known.old) (owned_seen known.old) line name ty tick.now reset.now) result }
+    ensures own { (name : List ℕ) → AreNext (names_seen known.old) (length known.old.own.items) (name ∷ []) → OnOk result (owned_seen known.new ≡ owned_seen known.old ++ (name, Some (Single (sort_of ty))) ∷ []) }
+    ensures count { OnOk result (length known.new.own.items ≡ length known.old.own.items + 1) }
+    ensures names { known.new.names.now ≡ known.old.names.now }
+    ensures number { known.new.number ≡ known.old.number }
     ensures traced { known.new.traced.items ≡ known.old.traced.items }
 {
-    let typing = register_type(line, ty)?;
+    let sort = sort_of(ty);
+    stored_type(line, Word::Register, ty)?;
     clock(alloc, known, line, Word::Register, tick)?;
-    declare(known, typing)?;
-    judge_reset(alloc, known, typing, reset)
+    declare(known, Own::Single(sort))?;
+    judge_reset(alloc, known, sort, reset)
 }
 
 // Refuses the first fault of a reset of a register of this type.
 fn judge_reset(
     alloc: Global,
     known: &Known,
-    register: Typing,
+    register: Sort,
     reset: &Option<Reset>,
 ) -> Result<(), Refusal>
-    ensures { Answers (reset_faults (traced_with known.now.scope known.now.traced.items) (sorts_with known.now.scope known.now.types.items) (Some (sort register)) reset.now) result }
+    ensures { Answers (reset_faults (roles_seen known.now) (traced_seen known.now) (owned_seen known.now) (Some register) reset.now) result }
 {
     match reset {
         None => Ok(()),
@@ -110,6 +155,7 @@ fn judge_reset(
 }
 
 // Refuses the first fault of a connection.
+#[tactic(auto, using(crate::proofs::FaultLemmas::refused_first))]
 fn judge_connection(
     alloc: Global,
     known: &Known,
@@ -117,7 +163,7 @@ fn judge_connection(
     sink: &Reference,
     source: &Expr,
 ) -> Result<(), Refusal>
-    ensures { Answers (connection_faults (traced_with known.now.scope known.now.traced.items) (sorts_with known.now.scope known.now.types.items) line sink.now source.now) result }
+    ensures { Answers (connection_faults (roles_seen known.now) (traced_seen known.now) (owned_seen known.now) line sink.now source.now) result }
 {
     let wide = named(alloc, known, line, sink)?;
     let narrow = type_of(alloc, known, line, source)?;
@@ -125,12 +171,13 @@ fn judge_connection(
 }
 
 // Refuses a Clock that is invalid.
+#[tactic(auto, using(crate::proofs::FaultLemmas::refused_first))]
 fn judge_invalid(alloc: Global, known: &Known, line: u64, sink: &Reference) -> Result<(), Refusal>
-    ensures { Answers (undeclared (sorts_with known.now.scope known.now.types.items) line sink.now ++ invalid_faults line sink.now (sort_of_reference (sorts_with known.now.scope known.now.types.items) sink.now)) result }
+    ensures { Answers (undeclared (roles_seen known.now) (owned_seen known.now) line sink.now ++ invalid_faults line sink.now (sort_of_reference (roles_seen known.now) (owned_seen known.now) sink.now)) result }
 {
     match named(alloc, known, line, sink)? {
-        Typing::Ground(_) => Ok(()),
-        Typing::Clock => Err(Refusal::F(Fault::WrongClock {
+        Sort::Bits(_, _) => Ok(()),
+        Sort::Clock => Err(Refusal::F(Fault::WrongClock {
             line,
             name: written(alloc, sink)?,
         })),
@@ -138,7 +185,7 @@ fn judge_invalid(alloc: Global, known: &Known, line: u64, sink: &Reference) -> R
 }
 
 // Refuses the first fault of the arguments of `printf` and its like, of which the first is a clock.
-#[tactic(auto, using(crate::proofs::StepLemmas::refused_first))]
+#[tactic(auto, using(crate::proofs::FaultLemmas::refused_first))]
 fn judge_report(
     alloc: Global,
     known: &Known,
@@ -146,7 +193,7 @@ fn judge_report(
     report: Report,
     arguments: &[Argument],
 ) -> Result<(), Refusal>
-    ensures { Answers (report_faults (traced_with known.now.scope known.now.traced.items) (sorts_with known.now.scope known.now.types.items) line (words.Report report) arguments.now) result }
+    ensures { Answers (report_faults (roles_seen known.now) (traced_seen known.now) (owned_seen known.now) line (words.Report report) arguments.now) result }
 {
     let word = Word::Report(report);
     match arguments {
@@ -166,7 +213,7 @@ fn judge_arguments(
     line: u64,
     arguments: &[Argument],
 ) -> Result<(), Refusal>
-    ensures { Answers (argument_faults (traced_with known.now.scope known.now.traced.items) (sorts_with known.now.scope known.now.types.items) line arguments.now) result }
+    ensures { Answers (argument_faults (roles_seen known.now) (traced_seen known.now) (owned_seen known.now) line arguments.now) result }
 {
     for argument in arguments {
         if let Argument::Value(value) = argument {

@@ -22,7 +22,7 @@ places-requires-clause-top c =
 pub bounds-modules-top : goal.bounds-modules-top
 bounds-modules-top c =
     let circuit = c.args.typed.now.circuit in
-    let same : length c.modules-modules.result.now ≡ length circuit.modules = ap (λ (l : List ModuleTree). length l) (c.modules-modules.ensures ∙ ap (λ (k : CircuitTree). k.modules) c.circuit.ensures) in
+    let same : length c.modules-modules.result.now ≡ length circuit.modules = ap (λ (l : List ModuleTree). length l) (c.modules-modules.ensures ∙ ap (λ (k : CircuitTree). k.modules) (c.circuit.ensures.circuit ∙ c.names.ensures.names)) in
     omega (arith, place_of-below circuit.name (module_names circuit) c.args.top c.requires.top, length-map circuit.modules (λ (m : ModuleTree). m.name), same)
 
 pub returns : goal.returns
@@ -45,7 +45,7 @@ returns c =
     subst (λ (l : List Place). HasMemories table.paths (flat_memories modules (map site_of l)) one two) c.as_slice-3.ensures.value c.in_ok-add_all_memories.ensures in
     let below : c.args.top < length modules = omega (arith, place_of-below circuit.name (module_names circuit) c.args.top c.requires.top, length-map modules (λ (m : ModuleTree). m.name)) in
     let body : c.index-modules-top.result ≡ module_at modules c.args.top =
-    c.index-modules-top.is ∙ ap (λ (ms : List ModuleTree). get_or ms c.args.top c.index-modules-top.result) (c.modules-modules.ensures ∙ ap (λ (k : CircuitTree). k.modules) c.circuit.ensures)
+    c.index-modules-top.is ∙ ap (λ (ms : List ModuleTree). get_or ms c.args.top c.index-modules-top.result) (c.modules-modules.ensures ∙ ap (λ (k : CircuitTree). k.modules) (c.circuit.ensures.circuit ∙ c.names.ensures.names))
     ∙ get_or_default modules c.args.top c.index-modules-top.result (empty_module 0 []) below in
     with_top types modules (place_of circuit.name (module_names circuit)) c.args.top (map site_of places) c.ports.result.now three c.requires.top c.in_ok-places.ensures.sites (c.ports.ensures ∙ ap (λ (m : ModuleTree). m.ports) body)
     (whole types all banks c.ports.result.now (table_signals table) table.memories one two three c.in_ok-add_sites.ensures.0 same listed far has c.in_ok-add_ports.ensures.ins c.in_ok-add_ports.ensures.outs c.in_ok-add_ports.ensures.rest)

@@ -1,11 +1,11 @@
-use Rattle.std.proofs.Common.{◌≡◌, take}
-use Rattle.gg_shape.specs.Faults.{along}
-use Rattle.gg_shape.specs.Namespace.{TellsConnected}
-use Rattle.gg_shape.specs.Shape.{second_by}
-use Rattle.gg_shape.proofs.FaultLemmas.{left}
+use Rattle.std.proofs.Common.{◌≡◌}
+use Rattle.gg_shape.specs.Shape.{in_modules, second_connections}
+use Rattle.gg_shape.specs.Told.{TellsFirst}
+use Rattle.gg_shape.proofs.FlatLemmas.{rest}
 use Rattle.gg_shape.proofs.connections.check_second.Given as goal
 
-abbrev pub invariant-loop-statement : goal.invariant-loop-statement
-invariant-loop-statement l =
-    TellsConnected l.scope (take l.statement-index l.statements) l.connected.items
-    × (along (second_by l.scope) l.statements ≡ left (second_by l.scope) l.statements l.statement-index)
+abbrev pub invariant-loop-number : goal.invariant-loop-number
+invariant-loop-number l = record {
+  told : TellsFirst l.names.modules l.number l.all.items;
+  rest_is : in_modules second_connections l.names ≡ rest (second_connections l.names.modules) l.names.modules l.number;
+}

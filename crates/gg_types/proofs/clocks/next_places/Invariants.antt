@@ -3,4 +3,4 @@ use Rattle.gg_types.specs.Places.{TellsNext}
 use Rattle.gg_types.proofs.clocks.next_places.Given as goal
 
 abbrev pub invariant-loop-statement : goal.invariant-loop-statement
-invariant-loop-statement l = TellsNext l.scope (take l.statement-index l.statements) l.next.items
+invariant-loop-statement l = TellsNext l.ways (take l.statement-index l.statements) l.next.items

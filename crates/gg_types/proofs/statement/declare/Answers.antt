@@ -1,9 +1,10 @@
 use Rattle.std.proofs.Common.{ap, ◌∙◌}
-use Rattle.gg_types.specs.Sorts.{sorts_with}
-use Rattle.gg_types.proofs.SortLemmas.{sorts_with-push}
+use Rattle.gg_types.specs.Known.{names_seen}
+use Rattle.gg_types.specs.Named.{owned}
+use Rattle.gg_types.proofs.OwnLemmas.{owned-push}
 use Rattle.gg_types.proofs.statement.declare.Goals as goal
 
-pub returns-in-Ok-clause-types : goal.returns-in-Ok-clause-types
-returns-in-Ok-clause-types c = λ name role next.
-    ap (sorts_with c.args.known.now.scope) c.in-Ok.ensures.items
-    ∙ sorts_with-push c.args.known.now.scope c.args.known.now.types.items c.args.typing name role next
+pub returns-in-Ok-clause-own : goal.returns-in-Ok-clause-own
+returns-in-Ok-clause-own c = λ name next.
+    ap (owned (names_seen c.args.known.now)) c.in-Ok.ensures.items
+    ∙ owned-push (names_seen c.args.known.now) c.args.known.now.own.items c.args.own name next

@@ -1,0 +1,62 @@
+-- What is told of a circuit's shape: Ok exactly where it has none of the faults F1 to F8, and else a fault of the least number,
+-- of F1 to F6 and F8 the first in the text, of F7 any.
+use Rattle.std.specs.Prelude.{◌≡◌, List, [], ◌++◌, Some, Result, Ok, Err, ◌⊎◌}
+use Rattle.gg_ast.specs.Tree.{CircuitTree}
+use Rattle.gg_shape.specs.declared.fault.Fault.{Fault}
+use Rattle.gg_shape.specs.declared.fault.Refusal.{Refusal}
+use Rattle.gg_shape.specs.declared.fault.Refusal.TheVariants.{F, NoMemory}
+use Rattle.gg_shape.specs.Faults.{first}
+use Rattle.gg_shape.specs.Memories.{memory_faults}
+use Rattle.gg_shape.specs.Rings.{HasNoRing, TellsRing}
+use Rattle.gg_shape.specs.Shape.{named_faults, in_modules, unknown_names, second_connections, unconnected_sinks, connected_sources}
+
+-- none of the faults of a list, no ring, and no wrong memory
+pub record IsRight (faults : List Fault) (circuit : CircuitTree) : Type 0 where
+  pub named : faults ≡ []
+  pub ringless : HasNoRing circuit
+  pub memories : memory_faults circuit ≡ []
+
+-- none of F1 to F8
+abbrev pub IsShaped : CircuitTree → Type 0
+IsShaped circuit = IsRight (named_faults circuit) circuit
+
+-- none of the faults of the list, and a ring
+pub record IsInRing (faults : List Fault) (circuit : CircuitTree) (fault : Fault) : Type 0 where
+  pub named : faults ≡ []
+  pub told : TellsRing circuit fault
+
+-- none of the faults of the list, no ring, and a wrong memory
+pub record IsOfMemory (faults : List Fault) (circuit : CircuitTree) (fault : Fault) : Type 0 where
+  pub named : faults ≡ []
+  pub ringless : HasNoRing circuit
+  pub told : first (memory_faults circuit) ≡ Some fault
+
+-- the first of the list, else a ring, else the first wrong memory; want of memory says nothing of the faults
+abbrev pub RefusesFrom : List Fault → CircuitTree → Refusal → Type 0
+RefusesFrom faults circuit (F fault) = (first faults ≡ Some fault) ⊎ (IsInRing faults circuit fault ⊎ IsOfMemory faults circuit fault)
+RefusesFrom faults circuit NoMemory = Unit {0}
+
+abbrev pub AnswersFrom : {A : Type 0} → List Fault → CircuitTree → Result A Refusal → Type 0
+AnswersFrom faults circuit (Ok _) = IsRight faults circuit
+AnswersFrom faults circuit (Err refusal) = RefusesFrom faults circuit refusal
+
+-- all of F1 to F8
+abbrev pub AnswersShape : {A : Type 0} → CircuitTree → Result A Refusal → Type 0
+AnswersShape circuit result = AnswersFrom (named_faults circuit) circuit result
+
+-- F3 to F6
+abbrev pub reference_faults : CircuitTree → List Fault
+reference_faults circuit =
+    in_modules unknown_names circuit
+    ++ (in_modules second_connections circuit
+    ++ (in_modules unconnected_sinks circuit
+    ++ in_modules connected_sources circuit))
+
+-- F7 alone: Ok exactly where there is no ring, else a ring of the circuit
+abbrev pub RefusesRing : CircuitTree → Refusal → Type 0
+RefusesRing circuit (F fault) = TellsRing circuit fault
+RefusesRing circuit NoMemory = Unit {0}
+
+abbrev pub AnswersRing : {A : Type 0} → CircuitTree → Result A Refusal → Type 0
+AnswersRing circuit (Ok _) = HasNoRing circuit
+AnswersRing circuit (Err refusal) = RefusesRing circuit refusal

@@ -1,0 +1,32 @@
+-- Rings of modules, F7: modules that hold each other through their instances.
+-- Source: FIRRTL Specification, "Instances": a module may not hold an instance of itself, directly or through others.
+use Rattle.std.specs.Prelude.{◌≡◌, ℕ, List, [], ◌∷◌, ◌++◌, length, map}
+use Rattle.gg_ast.specs.Tree.{CircuitTree}
+use Rattle.gg_names.specs.Modules.{Holds, module_at}
+use Rattle.gg_shape.specs.declared.fault.Fault.{Fault}
+use Rattle.gg_shape.specs.declared.fault.Fault.TheVariants.{ModuleRing}
+use Rattle.gg_walk.specs.Graph.{IsRing}
+
+-- distinct modules, by their places, each of which holds the next, the last the first
+abbrev pub IsRingOf : CircuitTree → List ℕ → Type 0
+IsRingOf circuit ring = IsRing (Holds circuit.modules) (length circuit.modules) ring
+
+abbrev pub HasNoRing : CircuitTree → Type 0
+HasNoRing circuit = (ring : List ℕ) → ¬ IsRingOf circuit ring
+
+abbrev pub front : List (List ℕ) → List (List ℕ)
+front [] = []
+front (name ∷ _) = name ∷ []
+
+abbrev pub closed : List (List ℕ) → List (List ℕ)
+closed names = names ++ front names
+
+-- the modules' names, the first again at the end
+abbrev pub ring_names : CircuitTree → List ℕ → List (List ℕ)
+ring_names circuit ring = closed (map (λ k. (module_at circuit.modules k).name) ring)
+
+-- any one ring of the circuit may be told
+pub record TellsRing (circuit : CircuitTree) (fault : Fault) : Type 0 where
+  pub ring : List ℕ
+  pub is_ring : IsRingOf circuit ring
+  pub fault_is : fault ≡ ModuleRing (ring_names circuit ring)

@@ -1,0 +1,403 @@
+//! F5: sinks that are not connected.
+ghost use Rattle.std.specs.Prelude.{◌≡◌, ◌<◌, ◌++◌, List, length, flat_map, map, IfOk};
+ghost use Rattle.gg_names.specs.Namespace.{instance_port, instance_ports, module_named, memory_entries};
+ghost use Rattle.gg_shape.specs.Faults.{Answers};
+ghost use Rattle.gg_shape.specs.Shape.{in_modules, unconnected_sinks, unconnected_among, unconnected_entry, unconnected_port, unconnected_by};
+ghost use Rattle.gg_shape.specs.Told.{TellsFirst, is_among, inputs_of, is_in, names_as as names_of_kind, reference_of, unconnected_input, unconnected_of_field, unconnected_of_port, unconnected_in_field};
+
+use crate::connected::{Connected, Key, text_of};
+use crate::fault::{Fault, Refusal};
+use gg_ast::{Circuit, Direction, Field, MemoryField, Module, Port, Stmt, StmtKind};
+use gg_bits::Name;
+use gg_names::{
+    Namespace, PortField, PortKind, Role, field_text, instance_port_role, needs_connection,
+    port_fields, port_role,
+};
+use std::alloc::{AllocError, Global};
+use std::marker::Model;
+
+/// The input ports of a module, in order.
+#[derive(Drop)]
+pub struct Inputs<'a> {
+    ports: Vec<&'a Port>,
+}
+
+impl<'a> Model for Inputs<'a> {
+    ghost use Rattle.std.specs.Prelude.{List, map};
+    ghost use Rattle.gg_ast.specs.declared.module.Port.{Port as Ports};
+
+    ghost Value = { List Ports };
+
+    ghost view = { λ inputs. map (λ port. port.now) inputs.ports.items };
+}
+
+impl<'a> Inputs<'a> {
+    /// Those of a module.
+    pub fn of(alloc: Global, this: &'a Module) -> Result<Inputs<'a>, AllocError>
+        ensures { IfOk result (λ inputs. inputs ≡ inputs_of this.now) }
+    {
+        let mut ports = Vec::new(alloc);
+        for port in this.ports() {
+            if is_input(port.direction) {
+                ports.push(port)?;
+            }
+        }
+        Ok(Inputs { ports })
+    }
+
+    /// The ports.
+    pub fn as_slice(&self) -> &[&'a Port]
+        ensures { map (λ port. port.now) result.now ≡ self.now }
+    {
+        self.ports.as_slice()
+    }
+}
+
+fn is_input(direction: Direction) -> bool
+    ensures { result ≡ is_in direction }
+{
+    match direction {
+        Direction::Input => true,
+        Direction::Output => false,
+    }
+}
+
+/// Refuses the first sink of the circuit, other than a register, that is not connected, by what is connected in each module.
+pub fn check_unconnected(alloc: Global, names: &Namespace, all: &[Connected]) -> Result<(), Refusal>
+    requires { TellsFirst names.now.modules (length names.now.modules) all.now }
+    ensures { Answers (in_modules unconnected_sinks names.now) result }
+{
+    let inputs = all_inputs(alloc, names.circuit())?;
+    check_modules(alloc, names, inputs.as_slice(), all)
+}
+
+// The input ports of all modules. An instance's outputs are so passed over: a module may have many.
+fn all_inputs<'a>(alloc: Global, circuit: &'a Circuit) -> Result<Vec<Inputs<'a>>, AllocError>
+    ensures { IfOk result (λ all. all.items ≡ map inputs_of circuit.now.modules) }
+{
+    let mut all = Vec::new(alloc);
+    for module in circuit.modules() {
+        let inputs = Inputs::of(alloc, module)?;
+        if let Err(refused) = all.push(inputs) {
+            return Err(AllocError::from(refused));
+        }
+    }
+    Ok(all)
+}
+
+// Refuses the first of all modules.
+fn check_modules(
+    alloc: Global,
+    names: &Namespace,
+    inputs: &[Inputs],
+    all: &[Connected],
+) -> Result<(), Refusal>
+    requires connected { TellsFirst names.now.modules (length names.now.modules) all.now }
+    requires inputs { inputs.now ≡ map inputs_of names.now.modules }
+    ensures { Answers (in_modules unconnected_sinks names.now) result }
+{
+    let modules = names.circuit().modules();
+    for number in 0..modules.len() {
+        check_module(alloc, names, inputs, &all[number], &modules[number])?;
+    }
+    Ok(())
+}
+
+// Refuses the first of a module.
+fn check_module(
+    alloc: Global,
+    names: &Namespace,
+    inputs: &[Inputs],
+    connected: &Connected,
+    this: &Module,
+) -> Result<(), Refusal>
+    requires { inputs.now ≡ map inputs_of names.now.modules }
+    ensures { Answers (unconnected_among names.now.modules (is_among connected.now) this.now) result }
+{
+    check_ports(alloc, connected, this.ports())?;
+    check_statements(alloc, names, inputs, connected, this.statements())
+}
+
+// Refuses the first output port that is not connected.
+fn check_ports(alloc: Global, connected: &Connected, ports: &[Port]) -> Result<(), Refusal>
+    ensures { Answers (flat_map (unconnected_port (is_among connected.now)) ports.now) result }
+{
+    for port in ports {
+        check_own(alloc, connected, port)?;
+    }
+    Ok(())
+}
+
+// Refuses an output port of the module that is not connected.
+fn check_own(alloc: Global, connected: &Connected, port: &Port) -> Result<(), Refusal>
+    ensures { Answers (unconnected_port (is_among connected.now) port.now) result }
+{
+    let key = Key::Local(port.name.as_str());
+    connected_or_free(alloc, connected, port.line, key, port_role(port.direction))
+}
+
+// Refuses the first of the statements.
+fn check_statements(
+    alloc: Global,
+    names: &Namespace,
+    inputs: &[Inputs],
+    connected: &Connected,
+    statements: &[Stmt],
+) -> Result<(), Refusal>
+    requires { inputs.now ≡ map inputs_of names.now.modules }
+    ensures { Answers (flat_map (unconnected_by names.now.modules (is_among connected.now)) statements.now) result }
+{
+    for statement in statements {
+        check_statement(alloc, names, inputs, connected, statement)?;
+    }
+    Ok(())
+}
+
+// Refuses the first of what a statement declares.
+fn check_statement(
+    alloc: Global,
+    names: &Namespace,
+    inputs: &[Inputs],
+    connected: &Connected,
+    statement: &Stmt,
+) -> Result<(), Refusal>
+    requires { inputs.now ≡ map inputs_of names.now.modules }
+    ensures { Answers (unconnected_by names.now.modules (is_among connected.now) statement.now) result }
+{
+    let line = statement.line;
+    match &statement.kind {
+        StmtKind::Wire { name, .. } => {
+            connected_or_free(
+                alloc,
+                connected,
+                line,
+                Key::Local(name.as_str()),
+                Role::Wire,
+            )
+        }
+        StmtKind::Instance { name, module } => {
+            check_instance(alloc, names, inputs, connected, line, name, module)
+        }
+        StmtKind::Memory { name, fields } => {
+            check_memory(alloc, connected, line, name, fields.as_slice())
+        }
+        StmtKind::Node { .. }
+        | StmtKind::Register { .. }
+        | StmtKind::Connect { .. }
+        | StmtKind::Invalid { .. }
+        | StmtKind::Skip
+        | StmtKind::Stop { .. }
+        | StmtKind::Report { .. } => Ok(()),
+    }
+}
+
+// Refuses the first input of an instance that is not connected.
+fn check_instance(
+    alloc: Global,
+    names: &Namespace,
+    inputs: &[Inputs],
+    connected: &Connected,
+    line: u64,
+    instance: &Name,
+    held: &Name,
+) -> Result<(), Refusal>
+    requires { inputs.now ≡ map inputs_of names.now.modules }
+    ensures { Answers (flat_map (unconnected_entry (is_among connected.now) line) (instance_ports instance.now (module_named held.now names.now.modules))) result }
+{
+    match names.place_of_module(held) {
+        Some(place) => check_inputs(
+            alloc,
+            connected,
+            line,
+            instance,
+            inputs[place as usize].as_slice(),
+        ),
+        None => Ok(()),
+    }
+}
+
+// Refuses the first of these ports of an instance that is an input and is not connected.
+fn check_inputs(
+    alloc: Global,
+    connected: &Connected,
+    line: u64,
+    instance: &Name,
+    ports: &[&Port],
+) -> Result<(), Refusal>
+    ensures { Answers (flat_map (unconnected_input instance.now (is_among connected.now) line) ports.now) result }
+{
+    for port in ports {
+        check_input(alloc, connected, line, instance, port)?;
+    }
+    Ok(())
+}
+
+// Refuses a port of an instance that is an input and is not connected.
+fn check_input(
+    alloc: Global,
+    connected: &Connected,
+    line: u64,
+    instance: &Name,
+    port: &Port,
+) -> Result<(), Refusal>
+    ensures { Answers (unconnected_entry (is_among connected.now) line (instance_port instance.now port.now)) result }
+{
+    let key = Key::PortOf(instance.as_str(), port.name.as_str());
+    let role = instance_port_role(port.direction, port.ty);
+    connected_or_free(alloc, connected, line, key, role)
+}
+
+// Refuses the first field of a memory that is not connected: of the readers, then of the writers.
+fn check_memory(
+    alloc: Global,
+    connected: &Connected,
+    line: u64,
+    memory: &Name,
+    fields: &[Field],
+) -> Result<(), Refusal>
+    ensures { Answers (flat_map (unconnected_entry (is_among connected.now) line) (memory_entries memory.now fields.now)) result }
+{
+    check_kind(alloc, connected, line, memory, PortKind::Reader, fields)?;
+    check_kind(alloc, connected, line, memory, PortKind::Writer, fields)
+}
+
+// Refuses the first of the ports of one kind.
+fn check_kind(
+    alloc: Global,
+    connected: &Connected,
+    line: u64,
+    memory: &Name,
+    kind: PortKind,
+    fields: &[Field],
+) -> Result<(), Refusal>
+    ensures { Answers (flat_map (unconnected_in_field kind memory.now (is_among connected.now) line) fields.now) result }
+{
+    for field in fields {
+        check_field(alloc, connected, line, memory, kind, field)?;
+    }
+    Ok(())
+}
+
+// Refuses the first of the ports of one kind that a field names.
+fn check_field(
+    alloc: Global,
+    connected: &Connected,
+    line: u64,
+    memory: &Name,
+    kind: PortKind,
+    field: &Field,
+) -> Result<(), Refusal>
+    ensures { Answers (unconnected_in_field kind memory.now (is_among connected.now) line field.now) result }
+{
+    check_names(
+        alloc,
+        connected,
+        line,
+        memory,
+        kind,
+        names_as(kind, &field.kind),
+    )
+}
+
+// The ports of one kind that a field names.
+fn names_as(kind: PortKind, field: &MemoryField) -> &[Name]
+    ensures { result.now ≡ names_of_kind kind field.now }
+{
+    match (kind, field) {
+        (PortKind::Reader, MemoryField::Readers(names)) => names.as_slice(),
+        (PortKind::Writer, MemoryField::Writers(names)) => names.as_slice(),
+        (PortKind::Reader | PortKind::Writer, _) => &[],
+    }
+}
+
+// Refuses the first of the ports of these names.
+fn check_names(
+    alloc: Global,
+    connected: &Connected,
+    line: u64,
+    memory: &Name,
+    kind: PortKind,
+    ports: &[Name],
+) -> Result<(), Refusal>
+    ensures { Answers (flat_map (unconnected_of_port kind memory.now (is_among connected.now) line) ports.now) result }
+{
+    for port in ports {
+        check_port(alloc, connected, line, memory, kind, port)?;
+    }
+    Ok(())
+}
+
+// Refuses the first field of a port that is not connected.
+fn check_port(
+    alloc: Global,
+    connected: &Connected,
+    line: u64,
+    memory: &Name,
+    kind: PortKind,
+    port: &Name,
+) -> Result<(), Refusal>
+    ensures { Answers (unconnected_of_port kind memory.now (is_among connected.now) line port.now) result }
+{
+    check_port_fields(
+        alloc,
+        connected,
+        line,
+        memory,
+        kind,
+        port,
+        port_fields(kind),
+    )
+}
+
+// Refuses the first of these fields of a port.
+fn check_port_fields(
+    alloc: Global,
+    connected: &Connected,
+    line: u64,
+    memory: &Name,
+    kind: PortKind,
+    port: &Name,
+    fields: &[PortField],
+) -> Result<(), Refusal>
+    ensures { Answers (flat_map (unconnected_of_field kind memory.now (is_among connected.now) line port.now) fields.now) result }
+{
+    for field in fields {
+        check_port_field(alloc, connected, line, memory, kind, port, *field)?;
+    }
+    Ok(())
+}
+
+// Refuses a field of a port that needs a connection and has none.
+fn check_port_field(
+    alloc: Global,
+    connected: &Connected,
+    line: u64,
+    memory: &Name,
+    kind: PortKind,
+    port: &Name,
+    field: PortField,
+) -> Result<(), Refusal>
+    ensures { Answers (unconnected_of_field kind memory.now (is_among connected.now) line port.now field) result }
+{
+    let key = Key::FieldOf(memory.as_str(), port.as_str(), field_text(field));
+    connected_or_free(alloc, connected, line, key, Role::MemoryPort(kind, field))
+}
+
+// Refuses what needs a connection and has none.
+fn connected_or_free(
+    alloc: Global,
+    connected: &Connected,
+    line: u64,
+    key: Key,
+    role: Role,
+) -> Result<(), Refusal>
+    ensures { Answers (unconnected_entry (is_among connected.now) line (reference_of key.entry, role)) result }
+{
+    if needs_connection(role) && !connected.contains(key) {
+        return Err(Refusal::F(Fault::Unconnected {
+            line,
+            name: text_of(alloc, key)?,
+        }));
+    }
+    Ok(())
+}

@@ -1,0 +1,29 @@
+-- Lists of names, each with what stands behind it.
+use Rattle.std.specs.Prelude.{◌≡◌, ℕ, ◌+◌, Bool, false, List, [], ◌∷◌, ◌++◌, Option, Some, None, length, take, slice_index_or, if◌then◌else◌}
+use Rattle.std.specs.Str.{bytes_eq}
+use Rattle.gg_ast.specs.Places.{place_of}
+use Rattle.gg_types.specs.declared.sort.Own.{Own}
+
+-- what stands behind the first entry of a name
+abbrev pub find_named : {A : Type 0} → List ℕ → List (List ℕ × A) → Option A
+find_named name [] = None
+find_named name (e ∷ es) = if bytes_eq name e.0 then Some e.1 else find_named name es
+
+-- names, each with what it has of its own, as far as that goes
+abbrev pub owned : List (List ℕ) → List Own → List (List ℕ × Option Own)
+owned [] os = []
+owned (name ∷ names) [] = []
+owned (name ∷ names) (o ∷ os) = (name, Some o) ∷ owned names os
+
+-- the flag at a place, if there is one
+abbrev pub flag_at : List Bool → Option ℕ → Bool
+flag_at flags None = false
+flag_at flags (Some place) = slice_index_or flags place false
+
+-- the flag of a name
+abbrev pub flagged : List (List ℕ) → List Bool → List ℕ → Bool
+flagged names flags name = flag_at flags (place_of name names)
+
+-- these names are the next after the first `count`
+abbrev pub AreNext : List (List ℕ) → ℕ → List (List ℕ) → Type 0
+AreNext names count more = take (count + length more) names ≡ take count names ++ more

@@ -1,0 +1,117 @@
+-- The type of what a reference names. A port, a wire, a register and a node have the type that they are declared with, or that
+-- of their expression; a port of an instance has the type that its module gives it; a field of a memory has its own.
+-- Sources: FIRRTL Specification, "Ground Types", "Instances", "Memories".
+use Rattle.std.specs.Prelude.{ℕ, List, [], ◌∷◌, Option, Some, None, option_map}
+use Rattle.gg_bits.specs.Shape.{uint}
+use Rattle.gg_ast.specs.declared.expression.Reference.{Reference}
+use Rattle.gg_ast.specs.declared.module.GroundType.{GroundType}
+use Rattle.gg_ast.specs.declared.module.Port.{Port}
+use Rattle.gg_ast.specs.declared.statement.Field.{Field}
+use Rattle.gg_ast.specs.declared.statement.MemoryField.{MemoryField}
+use Rattle.gg_ast.specs.declared.statement.MemoryField.TheVariants as field
+use Rattle.gg_flat.specs.Memory.{address_width}
+use Rattle.gg_names.specs.declared.role.Role.{Role}
+use Rattle.gg_names.specs.declared.role.Role.TheVariants as roles
+use Rattle.gg_names.specs.declared.role.PortField.{PortField}
+use Rattle.gg_names.specs.declared.role.PortField.TheVariants.{Addr, En, Clk, Data, Mask}
+use Rattle.gg_types.specs.Named.{find_named}
+use Rattle.gg_names.specs.Scope.{first_name}
+use Rattle.gg_names.specs.Namespace.{meaning_of}
+use Rattle.gg_types.specs.declared.sort.Sort.{Sort}
+use Rattle.gg_types.specs.declared.sort.Sort.TheVariants.{Clock}
+use Rattle.gg_types.specs.declared.sort.Own.{Own}
+use Rattle.gg_types.specs.declared.sort.Own.TheVariants as own
+use Rattle.gg_types.specs.Sorts.{sort_of, bits}
+
+-- ---- memories
+
+-- what a field says counts before what later ones say
+abbrev pub word_type_by : MemoryField → Option GroundType → Option GroundType
+word_type_by (field.DataType ty) later = Some ty
+word_type_by (field.Depth n) later = later
+word_type_by (field.ReadLatency n) later = later
+word_type_by (field.WriteLatency n) later = later
+word_type_by (field.Readers names) later = later
+word_type_by (field.Writers names) later = later
+word_type_by (field.ReadUnderWrite word) later = later
+
+-- the type of the words, `data-type`; none where it is missing (F8)
+abbrev pub word_type : List Field → Option GroundType
+word_type [] = None
+word_type (f ∷ fs) = word_type_by f.kind (word_type fs)
+
+abbrev pub depth_by : MemoryField → Option ℕ → Option ℕ
+depth_by (field.DataType ty) later = later
+depth_by (field.Depth n) later = Some n
+depth_by (field.ReadLatency n) later = later
+depth_by (field.WriteLatency n) later = later
+depth_by (field.Readers names) later = later
+depth_by (field.Writers names) later = later
+depth_by (field.ReadUnderWrite word) later = later
+
+-- how many words there are, `depth`; none where it is missing (F8)
+abbrev pub depth_of : List Field → Option ℕ
+depth_of [] = None
+depth_of (f ∷ fs) = depth_by f.kind (depth_of fs)
+
+-- an address names each word; `en` and `mask` are one bit, `clk` is a Clock, `data` is a word
+abbrev pub field_sort : Option GroundType → Option ℕ → PortField → Option Sort
+field_sort word depth Addr = option_map (λ n. bits (uint (address_width n))) depth
+field_sort word depth En = Some (bits (uint 1))
+field_sort word depth Clk = Some Clock
+field_sort word depth Data = option_map sort_of word
+field_sort word depth Mask = Some (bits (uint 1))
+
+-- ---- what a declared name has of its own
+
+-- a port
+abbrev pub port_own : Port → List ℕ × Option Own
+port_own port = (port.name, Some (own.Single (sort_of port.ty)))
+
+-- a memory
+abbrev pub memory_own : List Field → Own
+memory_own fields = own.Memory (word_type fields) (depth_of fields)
+
+abbrev pub single : Own → Option Sort
+single (own.Single s) = Some s
+single own.Instance = None
+single (own.Memory word depth) = None
+
+abbrev pub field_of : Own → PortField → Option Sort
+field_of (own.Single s) field = None
+field_of own.Instance field = None
+field_of (own.Memory word depth) field = field_sort word depth field
+
+-- ---- references
+
+-- the type of what has this role, by what the first name of its reference has of its own
+abbrev pub typed_by : Own → Role → Option Sort
+typed_by o roles.InputPort = single o
+typed_by o roles.OutputPort = single o
+typed_by o roles.Wire = single o
+typed_by o roles.Register = single o
+typed_by o roles.Node = single o
+typed_by o roles.Instance = None
+typed_by o roles.Memory = None
+typed_by o (roles.InstanceInput ty) = Some (sort_of ty)
+typed_by o (roles.InstanceOutput ty) = Some (sort_of ty)
+typed_by o (roles.MemoryPort kind field) = field_of o field
+
+abbrev pub typed : Option (Option Own) → Option Role → Option (Option Sort)
+typed None role = None
+typed (Some None) role = Some None
+typed (Some (Some o)) None = None
+typed (Some (Some o)) (Some role) = option_map (λ s. Some s) (typed_by o role)
+
+-- What a reference names, by the roles of all that can be written in the module and by what the names that are declared so far
+-- have of their own: nothing, or something with a type, or a node whose expression has a fault and which has none.
+abbrev pub known_entry : List (Reference × Role) → List (List ℕ × Option Own) → Reference → Option (Option Sort)
+known_entry roles known r = typed (find_named (first_name r) known) (meaning_of roles r)
+
+-- the type, where there is one
+abbrev pub known_sort : Option (Option Sort) → Option Sort
+known_sort None = None
+known_sort (Some s) = s
+
+abbrev pub sort_of_reference : List (Reference × Role) → List (List ℕ × Option Own) → Reference → Option Sort
+sort_of_reference roles known r = known_sort (known_entry roles known r)

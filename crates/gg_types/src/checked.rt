@@ -1,0 +1,71 @@
+//! `Typed`: a circuit without faults of shape and types.
+ghost use Rattle.std.specs.Prelude.{◌≡◌, ◌<◌, [], length};
+ghost use Rattle.std.specs.Option.{option_map};
+ghost use Rattle.gg_names.specs.Modules.{module_at, Holds};
+ghost use Rattle.gg_shape.specs.Judged.{IsShaped};
+ghost use Rattle.gg_types.specs.Typed.{sort};
+ghost use Rattle.gg_types.specs.Types.{sort_named, type_faults};
+ghost use Rattle.gg_walk.specs.Graph.{IsOrderOf};
+
+use crate::lookup::sort_of_name;
+use crate::sort::{Own, Sort, Typing};
+use gg_ast::Reference;
+use gg_bits::{Items, Ty};
+use gg_names::Namespace;
+use std::marker::Model;
+
+/// A circuit with none of the faults F1 to F14: its names, what they have of their own, and the order of its modules.
+///
+/// A contract sees the circuit, and the modules' places in that order.
+#[derive(Drop)]
+pub struct Typed<'a> {
+    pub(crate) names: Namespace<'a>,
+    // For each module, by its place.
+    pub(crate) own: Vec<Items<Own>>,
+    pub(crate) order: Vec<u32>,
+}
+
+impl<'a> Model for Typed<'a> {
+    ghost use Rattle.gg_ast.specs.contracts.expression.Expr as expression;
+    ghost use Rattle.std.specs.Coded.{codes};
+    ghost use Rattle.gg_types.specs.Typed.{TypedTree, IsTyped};
+
+    ghost Value = { TypedTree };
+
+    ghost coded = { Prim.hlevel (codes, expression.the_row.coded) };
+
+    ghost view = { λ t. record { circuit = t.names; order = t.order.items } };
+
+    ghost invariant = { λ t. IsTyped t.names t.order.items t.own.items };
+}
+
+impl<'a> Typed<'a> {
+    /// The names of the circuit, and the circuit itself. It has none of the faults F1 to F14.
+    pub fn names(&self) -> &Namespace<'a>
+        ensures names { result.now ≡ self.now.circuit }
+        ensures shaped { IsShaped self.now.circuit }
+        ensures faultless { type_faults self.now.circuit ≡ [] }
+    {
+        &self.names
+    }
+
+    /// The places of the circuit's modules in an order in which each stands behind all that it holds.
+    pub fn order(&self) -> &[u32]
+        ensures order { result.now ≡ self.now.order }
+        ensures ordered { IsOrderOf (Holds self.now.circuit.modules) (length self.now.circuit.modules) self.now.order }
+    {
+        self.order.as_slice()
+    }
+
+    /// The type of what a reference names in the module at this place, or none where it names nothing that has a value.
+    pub fn typing(&self, number: u32, reference: &Reference) -> Option<Typing>
+        requires there { number < length self.now.circuit.modules }
+        ensures { option_map sort result ≡ sort_named self.now.circuit.modules (module_at self.now.circuit.modules number) reference.now }
+    {
+        let own = self.own[number as usize].as_slice();
+        match sort_of_name(&self.names, number, own, reference)? {
+            Sort::Bits(kind, width) => Some(Typing::Ground(Ty::new(kind, width))),
+            Sort::Clock => Some(Typing::Clock),
+        }
+    }
+}

@@ -1,0 +1,95 @@
+//! The types of what references name.
+ghost use Rattle.std.specs.Prelude.{◌≡◌, ◌<◌, Some, length};
+ghost use Rattle.std.specs.Option.{option_map};
+ghost use Rattle.gg_names.specs.Modules.{module_at};
+ghost use Rattle.gg_names.specs.Namespace.{names_in, scope_of};
+ghost use Rattle.gg_types.specs.Known.{roles_seen, traced_seen, owned_seen};
+ghost use Rattle.gg_types.specs.Named.{find_named, owned};
+ghost use Rattle.gg_types.specs.Owned.{known_entry, typed_by, single, field_of};
+
+use crate::known::Known;
+use crate::sort::{Own, Sort, field_sort, sort_of};
+use gg_ast::Reference;
+use gg_bits::Name;
+use gg_names::{Namespace, PortField, Role, first_name};
+
+impl<'b, 'a> Known<'b, 'a> {
+    /// The type of what a reference names, if its first name is among those that are known.
+    pub fn sort(&self, reference: &Reference) -> Option<Sort>
+        ensures { option_map (λ s. Some s) result ≡ known_entry (roles_seen self.now) (owned_seen self.now) reference.now }
+    {
+        sort_of_name(self.names, self.number, self.own.as_slice(), reference)
+    }
+
+    /// Whether a name leads to an input port.
+    pub fn is_traced(&self, name: &Name) -> bool
+        ensures { result ≡ traced_seen self.now name.now }
+    {
+        match self.names.place(self.number, name) {
+            Some(place) if place < self.traced.len() => self.traced[place],
+            Some(_) | None => false,
+        }
+    }
+}
+
+/// The type of what a reference names in a module, by what the first of its declared names have of their own.
+pub fn sort_of_name(
+    names: &Namespace,
+    number: u32,
+    own: &[Own],
+    reference: &Reference,
+) -> Option<Sort>
+    requires there { number < length names.now.modules }
+    ensures { option_map (λ s. Some s) result ≡ known_entry (scope_of names.now.modules (module_at names.now.modules number)) (owned (names_in (module_at names.now.modules number)) own.now) reference.now }
+{
+    let first = own_of(names, number, own, first_name(reference))?;
+    let role = names.role(number, reference)?;
+    typed_by(first, role)
+}
+
+// What a declared name has of its own, if it is among those that are known.
+fn own_of(names: &Namespace, number: u32, own: &[Own], name: &Name) -> Option<Own>
+    requires there { number < length names.now.modules }
+    ensures { option_map (λ o. Some o) result ≡ find_named name.now (owned (names_in (module_at names.now.modules number)) own.now) }
+{
+    let place = names.place(number, name)?;
+    if place < own.len() {
+        Some(own[place])
+    } else {
+        None
+    }
+}
+
+// The type of what has this role, by what the first name of its reference has of its own.
+fn typed_by(own: Own, role: Role) -> Option<Sort>
+    ensures { result ≡ typed_by own role }
+{
+    match role {
+        Role::InputPort | Role::OutputPort | Role::Wire | Role::Register | Role::Node => {
+            single(own)
+        }
+        Role::Instance | Role::Memory => None,
+        Role::InstanceInput(ty) | Role::InstanceOutput(ty) => Some(sort_of(ty)),
+        Role::MemoryPort(_, field) => field_of(own, field),
+    }
+}
+
+// The type that a name has of its own.
+fn single(own: Own) -> Option<Sort>
+    ensures { result ≡ single own }
+{
+    match own {
+        Own::Single(sort) => Some(sort),
+        Own::Instance | Own::Memory(_, _) => None,
+    }
+}
+
+// The type of a field of a memory's ports.
+fn field_of(own: Own, field: PortField) -> Option<Sort>
+    ensures { result ≡ field_of own field }
+{
+    match own {
+        Own::Memory(word, depth) => field_sort(word, depth, field),
+        Own::Single(_) | Own::Instance => None,
+    }
+}

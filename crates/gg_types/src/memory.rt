@@ -1,0 +1,58 @@
+//! The fields of a memory (FIRRTL Specification, "Memories").
+ghost use Rattle.std.specs.Prelude.{◌≡◌};
+ghost use Rattle.gg_shape.specs.Faults.{Answers};
+ghost use Rattle.gg_types.specs.Owned.{word_type, depth_of};
+ghost use Rattle.gg_types.specs.Types.{field_faults, memory_type_faults};
+
+use crate::places::stored_type;
+use gg_ast::{Field, GroundType, MemoryField};
+use gg_shape::{Refusal, Word};
+
+/// Refuses the first type among a memory's fields that is a Clock, or whose width is 0 or above 128.
+pub fn judge_fields(fields: &[Field]) -> Result<(), Refusal>
+    ensures { Answers (memory_type_faults fields.now) result }
+{
+    for field in fields {
+        judge_field(field.line, &field.kind)?;
+    }
+    Ok(())
+}
+
+// Refuses a type in a field.
+fn judge_field(line: u64, kind: &MemoryField) -> Result<(), Refusal>
+    ensures { Answers (field_faults line kind.now) result }
+{
+    match kind {
+        MemoryField::DataType(ty) => stored_type(line, Word::Memory, *ty),
+        MemoryField::Depth(_)
+        | MemoryField::ReadLatency(_)
+        | MemoryField::WriteLatency(_)
+        | MemoryField::Readers(_)
+        | MemoryField::Writers(_)
+        | MemoryField::ReadUnderWrite(_) => Ok(()),
+    }
+}
+
+/// The type of a memory's words, where a field gives it.
+pub fn word_type(fields: &[Field]) -> Option<GroundType>
+    ensures { result ≡ word_type fields.now }
+{
+    for field in fields {
+        if let MemoryField::DataType(ty) = &field.kind {
+            return Some(*ty);
+        }
+    }
+    None
+}
+
+/// How many words a memory has, where a field says it.
+pub fn depth_of(fields: &[Field]) -> Option<u32>
+    ensures { result ≡ depth_of fields.now }
+{
+    for field in fields {
+        if let MemoryField::Depth(depth) = &field.kind {
+            return Some(*depth);
+        }
+    }
+    None
+}
