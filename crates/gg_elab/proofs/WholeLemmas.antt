@@ -25,7 +25,7 @@ whole types all banks ports table memories one two three inputs same listed far 
     let no_ins : two.ins ≡ [] = ap (λ (f : FlatCircuit). f.ins) has.rest ∙ far.no_ins in
     let no_outs : two.outs ≡ [] = ap (λ (f : FlatCircuit). f.outs) has.rest ∙ far.no_outs in
     let is : three ≡ record one { memories = two.memories; ins = three.ins; outs = three.outs } =
-          rest ∙ ap (λ (f : FlatCircuit). record f { ins = three.ins; outs = three.outs }) has.rest in
+    rest ∙ ap (λ (f : FlatCircuit). record f { ins = three.ins; outs = three.outs }) has.rest in
     subst (λ (f : FlatCircuit). IsFlatOf types all banks ports f) (sym is) (record {
       paths = so.paths;
       shapes = so.shapes;

@@ -33,5 +33,4 @@ mod table;
 
 pub use elaborate::flatten;
 pub use fault::ElabFault;
-pub use known::Typed;
 pub use laws::{one_reads, one_run};

@@ -11,7 +11,6 @@ ghost use Rattle.gg_elab.specs.Connection.{Zeroed};
 
 use crate::connections::Source;
 use crate::expression::add_expression;
-use crate::fault::ElabFault;
 use crate::scope::Scope;
 use gg_ast::Expr;
 use gg_bits::{Kind, Ty, Val};
@@ -44,7 +43,7 @@ fn is_bit(ty: Ty) -> bool
 }
 
 // The line, where its value can be taken; else the same with a 0 of this type behind it.
-fn cut(line: Line, taken: bool, sink: Ty) -> Result<Line, ElabFault>
+fn cut(line: Line, taken: bool, sink: Ty) -> Result<Line, AllocError>
     ensures { IfOk result (IsCut taken line (shape sink)) }
 {
     if taken {
@@ -56,12 +55,7 @@ fn cut(line: Line, taken: bool, sink: Ty) -> Result<Line, ElabFault>
 }
 
 /// The line that gives a sink of this type the value of an expression.
-pub(crate) fn value_line(
-    alloc: Global,
-    scope: &Scope,
-    e: &Expr,
-    ty: Ty,
-) -> Result<Line, ElabFault>
+pub(crate) fn value_line(alloc: Global, scope: &Scope, e: &Expr, ty: Ty) -> Result<Line, AllocError>
     ensures stands { IfOk result (IsLineOf (where_of scope.now).types (where_of scope.now).signals (where_of scope.now).scope (shape ty) e.now) }
     ensures fits { IfOk result (IsSource (HasType (where_of scope.now).signals.shapes) (shape ty)) }
 {
@@ -76,7 +70,7 @@ pub(crate) fn source_line(
     scope: &Scope,
     source: Option<Source>,
     ty: Ty,
-) -> Result<Line, ElabFault>
+) -> Result<Line, AllocError>
     ensures stands { IfOk result (IsLineFor (where_of scope.now).types (where_of scope.now).signals (where_of scope.now).scope (shape ty) (seen source.entry)) }
     ensures fits { IfOk result (IsSource (HasType (where_of scope.now).signals.shapes) (shape ty)) }
 {
@@ -87,7 +81,7 @@ pub(crate) fn source_line(
 }
 
 // The line of 0 alone.
-fn zero_line(alloc: Global, scope: &Scope, ty: Ty) -> Result<Line, ElabFault>
+fn zero_line(alloc: Global, scope: &Scope, ty: Ty) -> Result<Line, AllocError>
     ensures none { IfOk result (IsLineFor (where_of scope.now).types (where_of scope.now).signals (where_of scope.now).scope (shape ty) None) }
     ensures zeroed { IfOk result (IsLineFor (where_of scope.now).types (where_of scope.now).signals (where_of scope.now).scope (shape ty) (Some Zeroed)) }
     ensures fits { IfOk result (IsSource (HasType (where_of scope.now).signals.shapes) (shape ty)) }
@@ -99,12 +93,7 @@ fn zero_line(alloc: Global, scope: &Scope, ty: Ty) -> Result<Line, ElabFault>
 }
 
 // The line that gives a sink of this type a connection.
-fn given_line(
-    alloc: Global,
-    scope: &Scope,
-    source: Source,
-    ty: Ty,
-) -> Result<Line, ElabFault>
+fn given_line(alloc: Global, scope: &Scope, source: Source, ty: Ty) -> Result<Line, AllocError>
     ensures stands { IfOk result (IsLineFor (where_of scope.now).types (where_of scope.now).signals (where_of scope.now).scope (shape ty) (Some (connection source.entry))) }
     ensures fits { IfOk result (IsSource (HasType (where_of scope.now).signals.shapes) (shape ty)) }
 {
@@ -115,11 +104,7 @@ fn given_line(
 }
 
 /// The line of a condition.
-pub(crate) fn condition_line(
-    alloc: Global,
-    scope: &Scope,
-    e: &Expr,
-) -> Result<Line, ElabFault>
+pub(crate) fn condition_line(alloc: Global, scope: &Scope, e: &Expr) -> Result<Line, AllocError>
     ensures stands { IfOk result (IsConditionOf (where_of scope.now).types (where_of scope.now).signals (where_of scope.now).scope e.now) }
     ensures fits { IfOk result (IsCondition (HasType (where_of scope.now).signals.shapes)) }
 {

@@ -5,6 +5,7 @@ use Rattle.gg_elab.specs.Flat.{FlatSignal, flat_signal, signals_at}
 use Rattle.gg_elab.specs.Growing.{table_signals}
 use Rattle.gg_elab.specs.Known.{types_of}
 use Rattle.gg_elab.specs.Views.{own_of, site_of}
+use Rattle.gg_elab.specs.declared.digest.Digest.{Digest}
 use Rattle.gg_elab.specs.declared.own.OwnSignal.{OwnSignal}
 use Rattle.gg_elab.proofs.FlatLemmas.{seam, signals-kept, digest-at}
 use Rattle.gg_elab.proofs.build.add_site.Goals as goal
@@ -28,5 +29,5 @@ returns c = λ xs h.
     let f = λ (o : OwnSignal). flat_signal modules (site_of place) (own_of o) in
     let d = digest-at types modules c.args.digests.now place.number digest c.requires.digests c.requires.number c.index-digests-place.is in
     let all : map f (take c.loop-signal.signal-index items) ≡ signals_at types modules (site_of place) =
-          ap (map f) (take_all c.loop-signal.signal-index items (omega arith) ∙ c.as_slice-signals.ensures.value) ∙ sym (signals-kept types modules place digest d) in
+    ap (map f) (take_all c.loop-signal.signal-index items (omega arith) ∙ c.as_slice-signals.ensures.value ∙ ap (λ (x : Digest). x.signals.items) (sym c.index-digests-place.is)) ∙ sym (signals-kept types modules place digest d) in
     subst (λ (l : List FlatSignal). IsSoFar types (table_signals c.args.table.now) c.args.table.now.memories (xs ++ l) c.loop-signal.piece c.loop-signal.inputs) all (c.loop-signal.invariant xs h)

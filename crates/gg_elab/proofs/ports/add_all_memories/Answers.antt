@@ -1,8 +1,9 @@
-use Rattle.std.proofs.Common.{◌≡◌, ℕ, ◌<◌, List, ◌++◌, map, take, length, refl, sym, ap, subst, arith}
+use Rattle.std.proofs.Common.{◌≡◌, ℕ, ◌<◌, List, ◌++◌, map, take, length, refl, sym, ap, ◌∙◌, subst, arith}
 use Rattle.gg_elab.specs.Building.{IsPlaceIn, HasMemories}
 use Rattle.gg_elab.specs.Flat.{FlatMemory, flat_memory, flat_memories}
 use Rattle.gg_elab.specs.Known.{types_of}
 use Rattle.gg_elab.specs.Views.{own_bank_of, site_of}
+use Rattle.gg_elab.specs.declared.digest.Digest.{Digest}
 use Rattle.gg_elab.specs.declared.digest.OwnMemory.{OwnMemory}
 use Rattle.gg_elab.specs.declared.sites.Place.{Place}
 use Rattle.gg_elab.proofs.FlatLemmas.{memories-more, digest-at}
@@ -27,4 +28,4 @@ loop-place-preserved c =
     let own = c.in_ok-add_memories.ensures p said refl (memories-own paths said c.args.piece.now c.loop-place.piece c.loop-place.invariant) in
     let all = memories-on paths said (said ++ map f c.as_slice-memories.result.now) c.args.piece.now c.loop-place.piece new c.loop-place.invariant own in
     subst (λ (l : List FlatMemory). HasMemories paths l c.args.piece.now new) (sym (memories-more types modules places i p digest within c.place-item.is d))
-    (subst (λ (l : List OwnMemory). HasMemories paths (said ++ map f l) c.args.piece.now new) c.as_slice-memories.ensures.value all)
+    (subst (λ (l : List OwnMemory). HasMemories paths (said ++ map f l) c.args.piece.now new) (c.as_slice-memories.ensures.value ∙ ap (λ (x : Digest). x.memories.items) (sym c.index-digests-place.is)) all)

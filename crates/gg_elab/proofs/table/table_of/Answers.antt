@@ -31,9 +31,10 @@ loop-place-preserved c =
     let b = c.in_ok-add_memories.ensures in
     let kept : table_signals two ≡ table_signals one = λ k. record { paths = b.paths k; shapes = map (λ t. shape t) (b.types k).items } in
     let signals = table-more modules xs p digest.signals.items c.loop-place.table one c.loop-place.invariant.0
-          (a.paths ∙ ap (λ (l : List OwnSignal). c.loop-place.table.paths ++ map (λ s. joined p.path s.name) l) c.as_slice.ensures.value)
-          (a.types ∙ ap (λ (l : List OwnSignal). map (λ t. shape t) c.loop-place.table.types.items ++ map (λ s. shape s.ty) l) c.as_slice.ensures.value) in
+    (a.paths ∙ ap (λ (l : List OwnSignal). c.loop-place.table.paths ++ map (λ s. joined p.path s.name) l) c.as_slice.ensures.value)
+    (a.types ∙ ap (λ (l : List OwnSignal). map (λ t. shape t) c.loop-place.table.types.items ++ map (λ s. shape s.ty) l) c.as_slice.ensures.value) in
     let memories = memory_paths-more banks p digest.memories.items one.memories two.memories (a.memories ∙ c.loop-place.invariant.1)
-          (b.memories ∙ ap (λ (l : List OwnMemory). one.memories ++ map (λ m. joined p.path m.name.now) l) c.as_slice-in-loop-place.ensures.value) in
-    (kept ∙ signals ∙ ap signals_of (sym (signals-more types modules places i p digest within c.place-item.is d)),
-     memories ∙ ap memory_paths (sym (memories-more types modules places i p digest within c.place-item.is d)))
+    (b.memories ∙ ap (λ (l : List OwnMemory). one.memories ++ map (λ m. joined p.path m.name.now) l) c.as_slice-in-loop-place.ensures.value) in (
+      kept ∙ signals ∙ ap signals_of (sym (signals-more types modules places i p digest within c.place-item.is d)),
+      memories ∙ ap memory_paths (sym (memories-more types modules places i p digest within c.place-item.is d)),
+    )
