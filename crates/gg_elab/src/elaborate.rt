@@ -4,6 +4,7 @@ ghost use Rattle.gg_ast.specs.Places.{place_of};
 ghost use Rattle.gg_ast.specs.Tree.{module_names};
 ghost use Rattle.gg_elab.specs.Building.{IsPlaceIn};
 ghost use Rattle.gg_elab.specs.IsFlat.{IsFlat, IsFlatWith};
+ghost use Rattle.gg_elab.specs.Fitting.{AreFitting};
 ghost use Rattle.gg_elab.specs.Known.{types_of};
 ghost use Rattle.gg_elab.specs.Limits.{excess_over, IsAnswered};
 ghost use Rattle.gg_elab.specs.Views.{AreDigests, site_of};
@@ -41,7 +42,8 @@ fn build<'a>(
     requires digests { AreDigests (types_of typed.now.circuit) typed.now.circuit.modules digests.now }
     requires few { length typed.now.circuit.modules < 2 ^ 32 }
     requires top { place_of typed.now.circuit.name (module_names typed.now.circuit) ≡ Some top }
-    ensures { IfOk result (IsFlatWith (types_of typed.now.circuit) typed.now.circuit) }
+    ensures flat { IfOk result (IsFlatWith (types_of typed.now.circuit) typed.now.circuit) }
+    ensures fits { IfOk result AreFitting }
 {
     let modules = typed.names().circuit().modules();
     let places = places(alloc, typed, digests, top)?;
@@ -60,6 +62,7 @@ fn build<'a>(
 /// `TooLarge` with the first count that is above its limit, exactly where there is one; `NoMemory`, where memory is refused.
 pub fn flatten(alloc: Global, typed: &Typed) -> Result<Piece, ElabFault>
     ensures flat { IfOk result (IsFlat typed.now.circuit) }
+    ensures fits { IfOk result AreFitting }
     ensures limits { IsAnswered (excess_over (types_of typed.now.circuit) typed.now.circuit.modules (place_of typed.now.circuit.name (module_names typed.now.circuit))) result }
 {
     let circuit = typed.names().circuit();
