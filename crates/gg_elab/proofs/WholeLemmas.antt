@@ -121,7 +121,7 @@ pub fitting_whole : (types : Types) (all : List FlatSignal) (table : Signals) (m
 fitting_whole types all table memories one three inputs same far signals registers =
     let shapes : signal_shapes three ≡ table.shapes = ap (λ (l : List Signal). map (λ x. shape x.ty) l) signals ∙ far.shapes ∙ sym (ap (λ (t : Signals). t.shapes) same) in
     let count : length three.signals ≡ length all =
-          ap (λ (l : List Signal). length l) signals ∙ sym (length-map one.signals (λ (x : Signal). shape x.ty)) ∙ ap (λ (l : List Shape). length l) far.shapes ∙ length-map all (λ (x : FlatSignal). x.shape) in
+    ap (λ (l : List Signal). length l) signals ∙ sym (length-map one.signals (λ (x : Signal). shape x.ty)) ∙ ap (λ (l : List Shape). length l) far.shapes ∙ length-map all (λ (x : FlatSignal). x.shape) in
     let listed : signal_shapes three ≡ map (λ (x : FlatSignal). x.shape) all = shapes ∙ ap (λ (t : Signals). t.shapes) same in
     record {
       drivers = λ s lt.

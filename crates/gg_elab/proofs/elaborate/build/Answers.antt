@@ -64,7 +64,7 @@ returns-clause-fits c =
     let three = c.add_ports.new.piece in
     let same : table_signals table ≡ signals_of all = c.in_ok-table.ensures.signals ∙ ap (λ (l : List Place). signals_of (flat_signals types modules (map site_of l))) c.as_slice.ensures.value in
     let far : IsSoFar types (table_signals table) table.memories all one c.in_ok-add_sites.ensures.0 =
-          subst (λ (l : List Place). IsSoFar types (table_signals table) table.memories (flat_signals types modules (map site_of l)) one c.in_ok-add_sites.ensures.0) c.as_slice-2.ensures.value c.in_ok-add_sites.ensures.1 in
+    subst (λ (l : List Place). IsSoFar types (table_signals table) table.memories (flat_signals types modules (map site_of l)) one c.in_ok-add_sites.ensures.0) c.as_slice-2.ensures.value c.in_ok-add_sites.ensures.1 in
     fitting_whole types all (table_signals table) table.memories one three c.in_ok-add_sites.ensures.0 same far
     (ap (λ (f : FlatCircuit). f.signals) c.in_ok-add_ports.ensures.rest ∙ ap (λ (f : FlatCircuit). f.signals) c.in_ok-add_all_memories.ensures.rest)
     (ap (λ (f : FlatCircuit). f.registers) c.in_ok-add_ports.ensures.rest ∙ ap (λ (f : FlatCircuit). f.registers) c.in_ok-add_all_memories.ensures.rest)
