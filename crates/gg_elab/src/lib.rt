@@ -32,6 +32,6 @@ mod sites;
 mod table;
 
 pub use elaborate::flatten;
-pub use fault::ElabFault;
+pub use fault::{ElabFault, limit_of};
 pub use known::Typed;
 pub use laws::{one_reads, one_run};
