@@ -32,5 +32,5 @@ mod sites;
 mod table;
 
 pub use elaborate::flatten;
-pub use fault::ElabFault;
+pub use fault::{ElabFault, limit_of};
 pub use laws::{one_reads, one_run};
