@@ -7,6 +7,7 @@ use Rattle.gg_read.specs.Text.{HasReadFault}
 use Rattle.gg_read.specs.declared.text.ReadFault.{ReadFault}
 use Rattle.gg_flat.specs.Circuit.{FlatCircuit}
 use Rattle.gg_front.specs.Meaning.{Means}
+use Rattle.gg_front.specs.declared.fault.FrontFault.TheVariants as front
 use Rattle.gg_flat.specs.Ports.{in_ports}
 use Rattle.gg_trace.specs.FaultText.{fault_words}
 use Rattle.gg_trace.specs.Trace.{IsFirstFault}
@@ -23,7 +24,6 @@ use Rattle.golden.specs.Outcome.{Ends, Refused, Done, Unwritten, WantsMemory, Ou
 use Rattle.golden.specs.Words.{Command, Run, Asks, AskForCommand, TellsUnasked, TellsWords, circuit_of, order_of, partition_of, trace_of}
 use Rattle.golden.specs.Promised.{Promised, Tells}
 use Rattle.golden.specs.Run.{IsPlainPartition, IsOnlyText, TellsCircuit, TellsTraceFor, circuit_file, partition_file, partition_order, trace_file_for, trace_order}
-use Rattle.golden.proofs.FrontLemmas.{means-plain}
 use Rattle.golden.proofs.OrderLemmas.{Why, Lost, Cut, Judged, why-stops, stops-due, written-due, stops-accepted, due-behind, due-refused}
 use Rattle.golden.proofs.WritingLemmas.{append_known-nil}
 
@@ -228,7 +228,7 @@ module _ (files : List ℕ → Told) (lost cut unwritten : Type 0) where
 
 -- of a text with a fault of reading just that is said
 abbrev pub OneReading : Type 0
-OneReading = (name bytes : List ℕ) (fault : ReadFault) (said other : Said) → HasReadFault bytes fault → TellsUnread fault said → TellsCircuit name bytes other → other ≡ said
+OneReading = (bytes : List ℕ) (fault : ReadFault) (said other : Said) → HasReadFault bytes fault → TellsUnread fault said → TellsCircuit bytes other → other ≡ said
 
 -- of a partition and a trace one thing is said at most
 abbrev pub UniqueOrders : Type 0
@@ -281,9 +281,9 @@ module _ {words : List (List ℕ)} {files : List ℕ → Told} {lost cut unwritt
           → HasReadFault bytes fault → TellsUnread fault said → Tells err err' trouble status said ⊎ (status ≡ 5)
       tells-unread one (Run circuit partition trace capacity workers mono) bytes fault said asks told short has tells =
           let command : Command = Run circuit partition trace capacity workers mono in
-          let refuses : TellsCircuit circuit bytes said = inl (fault, has, tells) in
+          let refuses : TellsCircuit bytes said = (front.Read fault, (has, tells.0), (λ e. absurd (cc)), tells.1) in
           only-due (order_of command) said
-          (λ other d. one circuit bytes fault said other has tells
+          (λ other d. one bytes fault said other has tells
           (due-refused files (circuit_file circuit) (λ c. partition_order c partition trace) bytes said other (exact command).0 told short refuses d))
           (tells-due command said asks (bytes, told, inl (inr (short, refuses))))
 
@@ -296,7 +296,7 @@ module _ {words : List (List ℕ)} {files : List ℕ → Told} {lost cut unwritt
           let command : Command = Run circuit partition trace capacity workers mono in
           let said : Said = trace_fault (fault_words fault) in
           let refuses : TellsTraceFor c t said = (flat, means, (fault, first, refl)) in
-          let accepted = means-plain c flat means in
+          let accepted = means.text in
           only-due (order_of command) said
           (λ other d.
           let at_partition = due-behind files (circuit_file circuit) (λ b. partition_order b partition trace) c other (exact command).0 hc lc accepted d in

@@ -110,7 +110,7 @@ fn answer<S: Shelf, K: Sink, E: Sink>(
 /// cycle. Statuses:
 ///
 /// - 0: the text was written whole;
-/// - 1: the circuit isn't read, or it or the partition isn't plain, and each file before it was; nothing was written;
+/// - 1: the circuit has a fault, or it has none and the partition isn't plain; nothing was written;
 /// - 2: the words are no command that is there; nothing was written;
 /// - 3: a load failed, which the shelf counts as a fault; nothing was written;
 /// - 4: a put on `out` failed, which it counts as a fault; a front part of the text stands there;

@@ -7,7 +7,7 @@ ghost use Rattle.golden.specs.Order.{IsExact, IsUnique};
 ghost use Rattle.golden.specs.Run.{TellsCircuit, partition_order};
 ghost use Rattle.golden.specs.Words.{Command, order_of};
 
-use gg_front::ports_agree;
+use gg_front::{faults_apart, ports_agree};
 use gg_read::one_fault_line;
 use gg_trace::one_first_fault;
 
@@ -16,9 +16,10 @@ use gg_trace::one_first_fault;
 pub fn refusals_are_exact()
     ensures exact { (command : Command) → IsExact (order_of command) }
     ensures unique { (circuit partition trace : List ℕ) → IsUnique (partition_order circuit partition trace) }
-    ensures unread { (name bytes : List ℕ) (fault : ReadFault) (said other : Said) → HasReadFault bytes fault → TellsUnread fault said → TellsCircuit name bytes other → other ≡ said }
+    ensures unread { (bytes : List ℕ) (fault : ReadFault) (said other : Said) → HasReadFault bytes fault → TellsUnread fault said → TellsCircuit bytes other → other ≡ said }
 {
     one_fault_line();
+    faults_apart();
     ports_agree();
     one_first_fault();
 }

@@ -31,7 +31,6 @@ mod loading;
 mod printing;
 mod reading;
 mod run;
-mod unread;
 mod words;
 mod writing;
 
