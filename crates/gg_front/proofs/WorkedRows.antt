@@ -5,7 +5,7 @@
 --      3  output o : UInt<0>
 --
 -- It has no top (F1), `o` has no connection (F5), and a width of 0 (F10).
-use Rattle.std.proofs.Common.{◌≡◌, ℕ, List, [], ◌∷◌, codes, refl, inl, inr}
+use Rattle.std.proofs.Common.{◌≡◌, [], ◌∷◌, codes, refl, inl, inr}
 use Rattle.gg_ast.specs.declared.module.Direction.TheVariants.{Output}
 use Rattle.gg_ast.specs.declared.module.GroundType.TheVariants.{UInt}
 use Rattle.gg_ast.specs.declared.module.Port.{Port}
