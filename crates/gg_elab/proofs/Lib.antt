@@ -21,3 +21,9 @@ mod WorkedCounter
 mod WorkedText
 mod WorkedHierarchy
 mod WorkedTree
+pub mod PlaceLemmas
+pub mod RangeLemmas
+pub mod InstanceLemmas
+pub mod OwnLemmas
+pub mod HeldMemoryLemmas
+pub mod TreeLemmas

@@ -12,4 +12,5 @@ pub mod Room
 pub mod Along
 pub mod Ports
 pub mod Tree
+pub mod Scoped
 pub mod ErrorText

@@ -1,0 +1,121 @@
+-- Scoping: which signals the driver of a signal, a register and a memory can name, and how signals are named in the tree.
+-- Source: FIRRTL Specification, "Namespaces" (the names of one module are distinct, and those of its declarations and
+-- of its instances' ports are the ones that it sees), "Instances", "Memories" (the fields of a port), "Connects".
+use Rattle.std.specs.Prelude.{◌≡◌, ◌≢◌, ◌⊎◌, ℕ, ◌<◌, List, [], ◌∷◌, ◌++◌, true, not, Some, length, map, flat_map, filter, slice_get, slice_index_or, Contains, AllPairs}
+use Rattle.gg_flat.specs.declared.tree.InstancePort.{InstancePort}
+use Rattle.gg_flat.specs.declared.tree.Instance.{Instance}
+use Rattle.gg_flat.specs.declared.memory.Reader.{Reader}
+use Rattle.gg_flat.specs.declared.memory.Writer.{Writer}
+use Rattle.gg_flat.specs.declared.piece.Register.{Register}
+use Rattle.gg_flat.specs.declared.piece.Driver.TheVariants.{Held}
+use Rattle.gg_flat.specs.Circuit.{FlatCircuit, driver_at, readers_at}
+use Rattle.gg_flat.specs.Reads.{NamesSignal, RegisterNames}
+use Rattle.gg_flat.specs.Tree.{InstanceTree, IsInnermost, IsWithin, IsJustBelow, path_at, instance_at, memory_at}
+
+-- ---- ports and fields
+
+-- the signals of an instance's inputs, in port order
+abbrev pub input_signals : List InstancePort → List ℕ
+input_signals ports = map (λ port. port.signal) (filter (λ port. port.is_input) ports)
+
+-- the signals of an instance's outputs, in port order
+abbrev pub output_signals : List InstancePort → List ℕ
+output_signals ports = map (λ port. port.signal) (filter (λ port. not port.is_input) ports)
+
+-- the fields of a reader: its address, its enable and its data
+abbrev pub reader_fields : Reader → List ℕ
+reader_fields reader = reader.addr ∷ reader.en ∷ reader.word ∷ []
+
+-- the fields of a writer: its address, its enable, its data and its mask
+abbrev pub writer_fields : Writer → List ℕ
+writer_fields writer = writer.addr ∷ writer.en ∷ writer.word ∷ writer.mask ∷ []
+
+-- the writers of the memory at a place; none past the end
+abbrev pub writers_at : FlatCircuit → ℕ → List Writer
+writers_at circuit m = slice_index_or (map (λ memory. memory.writers) circuit.memories) m []
+
+-- the signals that are the fields of a memory: of its readers, then of its writers
+abbrev pub memory_fields : FlatCircuit → ℕ → List ℕ
+memory_fields circuit m = flat_map (λ reader. reader_fields reader) (readers_at circuit m) ++ flat_map (λ writer. writer_fields writer) (writers_at circuit m)
+
+-- signal s is a field of the memory at place j of the tree
+abbrev pub IsFieldOf : FlatCircuit → InstanceTree → ℕ → ℕ → Type 0
+IsFieldOf circuit tree j s = Contains (memory_fields circuit (memory_at tree j).memory) s
+
+-- ---- where a driver is written, and what can be named there
+
+-- Signal s is a port of the instance at place i.
+pub record IsPort (tree : InstanceTree) (i s : ℕ) : Type 0 where
+  pub known : i < length tree.instances
+  pub port : InstancePort
+  pub listed : Contains (instance_at tree i).ports port
+  pub is : port.signal ≡ s
+
+-- Signal s is an input of the instance at place i.
+pub record IsInputOf (tree : InstanceTree) (i s : ℕ) : Type 0 where
+  pub known : i < length tree.instances
+  pub port : InstancePort
+  pub listed : Contains (instance_at tree i).ports port
+  pub is : port.signal ≡ s
+  pub input : port.is_input ≡ true
+
+-- Signal s is an input of an instance that the one at place k holds.
+pub record IsChildsInput (tree : InstanceTree) (k s : ℕ) : Type 0 where
+  pub child : ℕ
+  pub parent : (instance_at tree child).parent ≡ Some k
+  pub input : IsInputOf tree child s
+
+-- Signal s is a port of an instance that the one at place k holds.
+pub record IsChildsPort (tree : InstanceTree) (k s : ℕ) : Type 0 where
+  pub child : ℕ
+  pub parent : (instance_at tree child).parent ≡ Some k
+  pub port : IsPort tree child s
+
+-- Signal s is the own signal of the instance at place k, and no input of it.
+pub record IsOwnSink (tree : InstanceTree) (k s : ℕ) : Type 0 where
+  pub own : IsInnermost tree k s
+  pub inner : ¬ IsInputOf tree k s
+
+-- The driver of signal s is written in the instance at place k: an input of an instance is connected where the instance is
+-- held, every other signal where it is declared. The inputs of the top are connected nowhere.
+abbrev pub IsWritten : InstanceTree → ℕ → ℕ → Type 0
+IsWritten tree k s = IsOwnSink tree k s ⊎ IsChildsInput tree k s
+
+-- In the instance at place k signal s can be named: it is its own, or a port of an instance that it holds.
+abbrev pub IsVisible : InstanceTree → ℕ → ℕ → Type 0
+IsVisible tree k s = IsInnermost tree k s ⊎ IsChildsPort tree k s
+
+-- ---- how signals are named
+
+-- Signal s is a field of a memory that the instance at place k holds.
+pub record IsMemoryField (circuit : FlatCircuit) (tree : InstanceTree) (k s : ℕ) : Type 0 where
+  pub place : ℕ
+  pub known : place < length tree.memories
+  pub holder : (memory_at tree place).instance ≡ k
+  pub field : IsFieldOf circuit tree place s
+
+-- A port is the instance's own signal, with a path just below the instance's.
+pub record IsOwnPort (circuit : FlatCircuit) (tree : InstanceTree) (k s : ℕ) : Type 0 where
+  pub own : IsInnermost tree k s
+  pub path : IsJustBelow (path_at tree.paths k) (path_at circuit.paths s)
+
+-- A field of the memory at place j is the own signal of the instance that holds the memory, with a path below the memory's.
+pub record IsOwnField (circuit : FlatCircuit) (tree : InstanceTree) (j s : ℕ) : Type 0 where
+  pub own : IsInnermost tree (memory_at tree j).instance s
+  pub path : IsWithin (path_at tree.memory_paths j) (path_at circuit.paths s)
+
+-- A circuit keeps to the scopes of its tree. The circuit's in-signals and out-signals are the top's inputs and outputs, in
+-- port order. An instance's ports are its own signals, distinct; so are a memory's fields. An instance's own signals but these
+-- fields have a path just below the instance's, and no memory has an instance's path. What a driver names, and what the register of a
+-- signal names, is visible where the driver is written.
+pub record IsScoped (circuit : FlatCircuit) (tree : InstanceTree) : Type 0 where
+  pub ins : input_signals (instance_at tree 0).ports ≡ circuit.ins
+  pub outs : output_signals (instance_at tree 0).ports ≡ circuit.outs
+  pub ports : (k s : ℕ) → IsPort tree k s → IsOwnPort circuit tree k s
+  pub ports_once : (k : ℕ) → k < length tree.instances → AllPairs (λ a b. a.signal ≢ b.signal) (instance_at tree k).ports
+  pub fields : (j s : ℕ) → j < length tree.memories → IsFieldOf circuit tree j s → IsOwnField circuit tree j s
+  pub fields_once : (j : ℕ) → j < length tree.memories → AllPairs (λ a b. a ≢ b) (memory_fields circuit (memory_at tree j).memory)
+  pub named : (k s : ℕ) → IsInnermost tree k s → IsJustBelow (path_at tree.paths k) (path_at circuit.paths s) ⊎ IsMemoryField circuit tree k s
+  pub apart : (k j : ℕ) → k < length tree.instances → j < length tree.memories → path_at tree.paths k ≢ path_at tree.memory_paths j
+  pub drivers : (k s t : ℕ) → IsWritten tree k s → NamesSignal (driver_at circuit s) t → IsVisible tree k t
+  pub registers : (k s r t : ℕ) (register : Register) → IsWritten tree k s → driver_at circuit s ≡ Held r → slice_get circuit.registers r ≡ Some register → RegisterNames register t → IsVisible tree k t
