@@ -27,3 +27,7 @@ pub mod InstanceLemmas
 pub mod OwnLemmas
 pub mod HeldMemoryLemmas
 pub mod TreeLemmas
+pub mod JoinLemmas
+pub mod FieldLemmas
+pub mod ScopeOfTreeLemmas
+pub mod NamedLemmas

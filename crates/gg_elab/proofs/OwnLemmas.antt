@@ -52,7 +52,7 @@ port-names (p ∷ ps) = go (type_shape p.ty) refl (port-names ps)
     go None e rest = rw e rest
     go (Some s) e rest = rw e (ap (λ l. p.name ∷ l) rest)
 
-front : {A : Type 0} (xs ys : List A) (i : ℕ) (d : A) → i < length xs → get_or (xs ++ ys) i d ≡ get_or xs i d
+pub front : {A : Type 0} (xs ys : List A) (i : ℕ) (d : A) → i < length xs → get_or (xs ++ ys) i d ≡ get_or xs i d
 front [] ys i d lt = absurd (omega (arith, lt))
 front (x ∷ xs) ys zero d lt = refl
 front (x ∷ xs) ys (suc i) d lt = front xs ys i d (omega (arith, lt))
