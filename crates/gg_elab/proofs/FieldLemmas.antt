@@ -1,7 +1,7 @@
 -- The fields of a memory among the own signals of its site.
-use Rattle.std.proofs.Common.{◌≡◌, ◌≢◌, ◌⊎◌, inl, inr, ℕ, zero, suc, ◌+◌, ◌-◌, ◌<◌, ◌≤◌, List, [], ◌∷◌, ◌++◌, Option, Some, None, length, get_or, map, refl, sym, ap, ap₂, ◌∙◌, subst, arith, append_assoc, append-nil, length-append, codes}
+use Rattle.std.proofs.Common.{◌≡◌, ◌≢◌, ◌⊎◌, inl, inr, ℕ, zero, suc, ◌+◌, ◌-◌, ◌<◌, ◌≤◌, List, [], ◌∷◌, ◌++◌, Option, Some, None, length, get_or, map, refl, sym, ap, ap₂, ◌∙◌, subst, arith, append_assoc, append-nil, length-append, codes, Bool, true, false, not, nat_eq}
 use Rattle.std.specs.Prelude.{flat_map, filter_map, Contains, option_map, option_to_list}
-use Rattle.std.specs.List.{cons_option}
+use Rattle.std.specs.List.{cons_option, list_all}
 use Rattle.std.proofs.lemmas.Bool.{cases_lt}
 use Rattle.std.proofs.Math.Seq.{get_or-append_right, get_or-append-add}
 use Rattle.std.proofs.lemmas.List.{length-map, get_or-map, map-append}
@@ -91,12 +91,6 @@ field-numbers paths outer memory bank =
 
 -- ---- what a signal of a module is
 
--- the field of a port of a memory
-pub record IsField (b : OwnBank) (name : List ℕ) : Type 0 where
-  pub port : List ℕ
-  pub field : List ℕ
-  pub is : name ≡ field_name b.name port field
-
 -- A signal of these statements is a field of one of their memories.
 pub record FieldPlace (ss : List Stmt) (o : Own) : Type 0 where
   pub place : ℕ
@@ -105,29 +99,37 @@ pub record FieldPlace (ss : List Stmt) (o : Own) : Type 0 where
   pub is : (d : OwnBank) → get_or (own_banks ss) place d ≡ bank
   pub among : Contains (memory_signals bank.name (Some bank.bank)) o
 
--- each field of a memory is named as one
-reader-field : (memory : List ℕ) (bank : Bank) (place : ℕ) (ports : List (List ℕ)) (i : ℕ) (d : Own) → i < length (readers_signals memory bank place ports) → (port : List ℕ) × (field : List ℕ) × ((get_or (readers_signals memory bank place ports) i d).name ≡ field_name memory port field)
-reader-field memory bank place [] i d lt = absurd (omega (arith, lt))
-reader-field memory bank place (p ∷ ps) zero d lt = (p, codes "addr", refl)
-reader-field memory bank place (p ∷ ps) (suc zero) d lt = (p, codes "en", refl)
-reader-field memory bank place (p ∷ ps) (suc (suc zero)) d lt = (p, codes "data", refl)
-reader-field memory bank place (p ∷ ps) (suc (suc (suc i))) d lt = reader-field memory bank (suc place) ps i d (omega (arith, lt))
+-- A name of a field of a memory: the memory's name, the name of one of its ports and a word.
+pub record FieldName (memory : List ℕ) (bank : Bank) (name : List ℕ) : Type 0 where
+  pub port : List ℕ
+  pub field : List ℕ
+  pub is : name ≡ field_name memory port field
+  pub of_port : Contains bank.readers port ⊎ Contains bank.writers port
+  pub of_word : list_all (λ b. not (nat_eq b 46)) field ≡ true
 
-writer-field : (memory : List ℕ) (bank : Bank) (ports : List (List ℕ)) (i : ℕ) (d : Own) → i < length (flat_map (writer_signals memory bank) ports) → (port : List ℕ) × (field : List ℕ) × ((get_or (flat_map (writer_signals memory bank) ports) i d).name ≡ field_name memory port field)
-writer-field memory bank [] i d lt = absurd (omega (arith, lt))
-writer-field memory bank (p ∷ ps) zero d lt = (p, codes "addr", refl)
-writer-field memory bank (p ∷ ps) (suc zero) d lt = (p, codes "en", refl)
-writer-field memory bank (p ∷ ps) (suc (suc zero)) d lt = (p, codes "data", refl)
-writer-field memory bank (p ∷ ps) (suc (suc (suc zero))) d lt = (p, codes "mask", refl)
-writer-field memory bank (p ∷ ps) (suc (suc (suc (suc i)))) d lt = writer-field memory bank ps i d (omega (arith, lt))
+-- each field of a memory is named so
+reader-field : (memory : List ℕ) (bank : Bank) (place : ℕ) (ports : List (List ℕ)) (i : ℕ) (d : Own) → ((p : List ℕ) → Contains ports p → Contains bank.readers p) → i < length (readers_signals memory bank place ports) → FieldName memory bank (get_or (readers_signals memory bank place ports) i d).name
+reader-field memory bank place [] i d of lt = absurd (omega (arith, lt))
+reader-field memory bank place (p ∷ ps) zero d of lt = record { port = p; field = codes "addr"; is = refl; of_port = inl (of p (0, omega arith, refl)); of_word = refl }
+reader-field memory bank place (p ∷ ps) (suc zero) d of lt = record { port = p; field = codes "en"; is = refl; of_port = inl (of p (0, omega arith, refl)); of_word = refl }
+reader-field memory bank place (p ∷ ps) (suc (suc zero)) d of lt = record { port = p; field = codes "data"; is = refl; of_port = inl (of p (0, omega arith, refl)); of_word = refl }
+reader-field memory bank place (p ∷ ps) (suc (suc (suc i))) d of lt = reader-field memory bank (suc place) ps i d (λ q c. of q (suc c.0, omega (arith, c.1), c.2)) (omega (arith, lt))
 
-pub memory-field : (memory : List ℕ) (bank : Bank) (i : ℕ) (d : Own) → i < length (memory_signals memory (Some bank)) → (port : List ℕ) × (field : List ℕ) × ((get_or (memory_signals memory (Some bank)) i d).name ≡ field_name memory port field)
+writer-field : (memory : List ℕ) (bank : Bank) (ports : List (List ℕ)) (i : ℕ) (d : Own) → ((p : List ℕ) → Contains ports p → Contains bank.writers p) → i < length (flat_map (writer_signals memory bank) ports) → FieldName memory bank (get_or (flat_map (writer_signals memory bank) ports) i d).name
+writer-field memory bank [] i d of lt = absurd (omega (arith, lt))
+writer-field memory bank (p ∷ ps) zero d of lt = record { port = p; field = codes "addr"; is = refl; of_port = inr (of p (0, omega arith, refl)); of_word = refl }
+writer-field memory bank (p ∷ ps) (suc zero) d of lt = record { port = p; field = codes "en"; is = refl; of_port = inr (of p (0, omega arith, refl)); of_word = refl }
+writer-field memory bank (p ∷ ps) (suc (suc zero)) d of lt = record { port = p; field = codes "data"; is = refl; of_port = inr (of p (0, omega arith, refl)); of_word = refl }
+writer-field memory bank (p ∷ ps) (suc (suc (suc zero))) d of lt = record { port = p; field = codes "mask"; is = refl; of_port = inr (of p (0, omega arith, refl)); of_word = refl }
+writer-field memory bank (p ∷ ps) (suc (suc (suc (suc i)))) d of lt = writer-field memory bank ps i d (λ q c. of q (suc c.0, omega (arith, c.1), c.2)) (omega (arith, lt))
+
+pub memory-field : (memory : List ℕ) (bank : Bank) (i : ℕ) (d : Own) → i < length (memory_signals memory (Some bank)) → FieldName memory bank (get_or (memory_signals memory (Some bank)) i d).name
 memory-field memory bank i d lt = go (cases_lt i (length (readers_signals memory bank 0 bank.readers)))
   where
-    go : (i < length (readers_signals memory bank 0 bank.readers)) ⊎ (length (readers_signals memory bank 0 bank.readers) ≤ i) → (port : List ℕ) × (field : List ℕ) × ((get_or (memory_signals memory (Some bank)) i d).name ≡ field_name memory port field)
+    go : (i < length (readers_signals memory bank 0 bank.readers)) ⊎ (length (readers_signals memory bank 0 bank.readers) ≤ i) → FieldName memory bank (get_or (memory_signals memory (Some bank)) i d).name
     go (inl here) =
-        let r = reader-field memory bank 0 bank.readers i d here in
-        (r.0, r.1, ap (λ (o : Own). o.name) (front (readers_signals memory bank 0 bank.readers) (flat_map (writer_signals memory bank) bank.writers) i d here) ∙ r.2)
+        subst (λ (o : Own). FieldName memory bank o.name) (sym (front (readers_signals memory bank 0 bank.readers) (flat_map (writer_signals memory bank) bank.writers) i d here))
+          (reader-field memory bank 0 bank.readers i d (λ p c. c) here)
     go (inr behind) =
-        let r = writer-field memory bank bank.writers (i - length (readers_signals memory bank 0 bank.readers)) d (omega (arith, lt, behind, length-append (readers_signals memory bank 0 bank.readers) (flat_map (writer_signals memory bank) bank.writers))) in
-        (r.0, r.1, ap (λ (o : Own). o.name) (get_or-append_right (readers_signals memory bank 0 bank.readers) (flat_map (writer_signals memory bank) bank.writers) i d behind) ∙ r.2)
+        subst (λ (o : Own). FieldName memory bank o.name) (sym (get_or-append_right (readers_signals memory bank 0 bank.readers) (flat_map (writer_signals memory bank) bank.writers) i d behind))
+          (writer-field memory bank bank.writers (i - length (readers_signals memory bank 0 bank.readers)) d (λ p c. c) (omega (arith, lt, behind, length-append (readers_signals memory bank 0 bank.readers) (flat_map (writer_signals memory bank) bank.writers))))

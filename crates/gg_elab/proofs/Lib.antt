@@ -31,3 +31,4 @@ pub mod JoinLemmas
 pub mod FieldLemmas
 pub mod ScopeOfTreeLemmas
 pub mod NamedLemmas
+pub mod VisibleLemmas

@@ -33,7 +33,7 @@ use Rattle.gg_elab.proofs.OwnLemmas.{own_in, own-count, own-place, placed-known,
 use Rattle.gg_elab.proofs.HeldMemoryLemmas.{banks_in, MemoryPlace, memory-place, memory-count}
 use Rattle.gg_elab.proofs.TreeLemmas.{HasDistinctPaths, HasPlainNames, no_own, no_port, Pairwise-other, instance-count, path-is, port-at, OwnPlace, own-place-of, signal-path, memory-path, holder-is, number-is, memory-is, flat-memory-count}
 use Rattle.gg_elab.proofs.JoinLemmas.{joined-behind, joined-once, joined-some, within-dot}
-use Rattle.gg_elab.proofs.FieldLemmas.{StandTogether, bank-together, number_behind, field-numbers, memory-field, FieldPlace}
+use Rattle.gg_elab.proofs.FieldLemmas.{StandTogether, bank-together, number_behind, field-numbers, FieldName, memory-field, FieldPlace}
 
 -- What is said of the names of a module: those of its ports have no dots; each of its signals has a name without a dot or is a
 -- field of one of its memories; and a memory has a name, which isn't that of an instance.
@@ -274,7 +274,7 @@ module _ (circuit : CircuitTree) (flat : FlatCircuit) (tree : InstanceTree) (top
   pub field-of : (j s : ℕ) → j < length tree.memories → IsFieldOf flat tree j s → IsOwnField flat tree j s
   field-of j s lt has = subst (λ t. IsOwnField flat tree j t) (sym counted) (record {
     own = subst (λ k. IsInnermost tree k (from_site p.holder + (row.start + i))) (sym holder) (own-is-innermost p.holder p.site p.placed (row.start + i) (row.inside i inside));
-    path = subst₂ IsWithin (sym memory) (sym path) (within-dot (joined p.site.path p.own.name) (named.0 ++ 46 ∷ named.1));
+    path = subst₂ IsWithin (sym memory) (sym path) (within-dot (joined p.site.path p.own.name) (named.port ++ 46 ∷ named.field));
   })
     where
       row : FieldsInRow j
@@ -295,18 +295,18 @@ module _ (circuit : CircuitTree) (flat : FlatCircuit) (tree : InstanceTree) (top
       holder : (memory_at tree j).instance ≡ p.holder
       holder = holder-is circuit flat tree top known_top is_flat is_tree distinct plain j p
 
-      named : (port : List ℕ) × (field : List ℕ) × ((get_or (memory_signals p.own.name (Some p.own.bank)) i no_own).name ≡ field_name p.own.name port field)
+      named : FieldName p.own.name p.own.bank (get_or (memory_signals p.own.name (Some p.own.bank)) i no_own).name
       named = memory-field p.own.name p.own.bank i no_own inside
 
       memory : path_at tree.memory_paths j ≡ joined p.site.path p.own.name
       memory = memory-path circuit flat tree top known_top is_flat is_tree distinct plain j lt p
 
-      path : path_at flat.paths (from_site p.holder + (row.start + i)) ≡ joined p.site.path p.own.name ++ 46 ∷ (named.0 ++ 46 ∷ named.1)
+      path : path_at flat.paths (from_site p.holder + (row.start + i)) ≡ joined p.site.path p.own.name ++ 46 ∷ (named.port ++ 46 ∷ named.field)
       path =
           path-there p.holder p.site p.placed (row.start + i) no_own (row.inside i inside)
           ∙ ap (λ (o : Own). joined p.site.path o.name) (row.is i no_own inside)
-          ∙ ap (joined p.site.path) named.2
-          ∙ joined-behind p.site.path p.own.name (named.0 ++ 46 ∷ named.1)
+          ∙ ap (joined p.site.path) named.is
+          ∙ joined-behind p.site.path p.own.name (named.port ++ 46 ∷ named.field)
 
   pub fields_once-of : (j : ℕ) → j < length tree.memories → AllPairs (λ a b. a ≢ b) (memory_fields flat (memory_at tree j).memory)
   fields_once-of j lt a b d before inside same =
