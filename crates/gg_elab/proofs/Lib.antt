@@ -32,3 +32,5 @@ pub mod FieldLemmas
 pub mod ScopeOfTreeLemmas
 pub mod NamedLemmas
 pub mod VisibleLemmas
+pub mod CauseLemmas
+pub mod DriverLemmas

@@ -94,7 +94,7 @@ module _ (circuit : CircuitTree) (k : ℕ) (x : Site) (placed : Placed (length c
       ∙ ap (λ (y : Site). get_or (signals_in circuit y) o d) here
       ∙ get_or-map (flat_signal circuit.modules x) (own_in circuit x) o e d lt
 
-  own-inside : (o : ℕ) → o < length (own_in circuit x) → count_to (signals_in circuit) (sites_of circuit) k + o < length (flat_signals (types_of circuit) circuit.modules (sites_of circuit))
+  pub own-inside : (o : ℕ) → o < length (own_in circuit x) → count_to (signals_in circuit) (sites_of circuit) k + o < length (flat_signals (types_of circuit) circuit.modules (sites_of circuit))
   own-inside o lt =
       let size : length (signals_in circuit (get_or (sites_of circuit) k x)) ≡ length (own_in circuit x) = ap (λ (y : Site). length (signals_in circuit y)) (placed-at (length circuit.modules) circuit.modules (sites_of circuit) k x x placed) ∙ length-map (own_in circuit x) (flat_signal circuit.modules x) in
       let bound = length-flat_map-take (signals_in circuit) (sites_of circuit) k x placed-known in
