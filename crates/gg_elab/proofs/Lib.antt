@@ -34,3 +34,4 @@ pub mod NamedLemmas
 pub mod VisibleLemmas
 pub mod CauseLemmas
 pub mod DriverLemmas
+pub mod DeclaredLemmas
