@@ -19,7 +19,7 @@ cons-tail : (a b : ℕ) (xs ys : List ℕ) → (a ∷ xs) ≡ (b ∷ ys) → xs 
 cons-tail a b xs ys e = ap tail_of e
 
 -- a dot stands in what has one in the middle
-dot-within : (q m : List ℕ) → Contains (q ++ 46 ∷ m) 46
+pub dot-within : (q m : List ℕ) → Contains (q ++ 46 ∷ m) 46
 dot-within q m = (length q, omega (arith, length-append q (46 ∷ m)), get_or-append_seam q 46 m 46)
 
 -- the last dot is one place

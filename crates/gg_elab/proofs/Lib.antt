@@ -35,3 +35,5 @@ pub mod VisibleLemmas
 pub mod CauseLemmas
 pub mod DriverLemmas
 pub mod DeclaredLemmas
+pub mod WordLemmas
+pub mod ChildLemmas
