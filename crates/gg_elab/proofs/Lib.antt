@@ -37,3 +37,4 @@ pub mod DriverLemmas
 pub mod DeclaredLemmas
 pub mod WordLemmas
 pub mod ChildLemmas
+pub mod SoundLemmas
