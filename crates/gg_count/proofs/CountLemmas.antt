@@ -60,7 +60,7 @@ first-below modules kind None rest t is below c = below t c
 first-below modules kind (Some h) rest t is below (zero, lt, same) = subst (λ (n : ℕ). n < length modules) same (held_by_kind-below modules kind h is)
 first-below modules kind (Some h) rest t is below (suc k, lt, same) = below t (k, omega (arith, lt), same)
 
-held_by-below : (modules : List ModuleTree) (ss : List Stmt) (t : ℕ) → Contains (numbers_of (held_by modules ss)) t → t < length modules
+pub held_by-below : (modules : List ModuleTree) (ss : List Stmt) (t : ℕ) → Contains (numbers_of (held_by modules ss)) t → t < length modules
 held_by-below modules [] t c = absurd (omega (arith, c.1))
 held_by-below modules (s ∷ ss) t c =
     first-below modules s.kind (held_by_kind modules s.kind) (held_by modules ss) t refl (held_by-below modules ss) c

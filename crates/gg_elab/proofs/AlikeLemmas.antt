@@ -1,23 +1,21 @@
 -- What is meant by the same part of a circuit does the same.
-use Rattle.std.proofs.Common.{◌≡◌, ℕ, zero, suc, ◌+◌, ◌<◌, ◌≤◌, List, [], ◌∷◌, length, map, take, Bool, true, false, Option, None, Some, refl, sym, ap, ◌∙◌, subst, arith, ◌==◌, if◌then◌else◌}
-use Rattle.std.specs.Prelude.{slice_index_or, count_by, MatchOption}
-use Rattle.gg_bits.specs.Shape.{Shape, shape, uint}
+use Rattle.std.proofs.Common.{◌≡◌, ℕ, List, Option, None, Some, refl, sym, ap, ◌∙◌, subst, ◌==◌, if◌then◌else◌}
+use Rattle.std.specs.Prelude.{slice_index_or}
+use Rattle.gg_bits.specs.Shape.{Shape, shape}
 use Rattle.gg_ast.specs.declared.statement.Reset as given
 use Rattle.gg_flat.specs.declared.line.Node.{Node}
-use Rattle.gg_flat.specs.declared.memory.Latency.TheVariants.{Zero}
 use Rattle.gg_flat.specs.declared.memory.Memory.{Memory}
 use Rattle.gg_flat.specs.declared.piece.Driver.{Driver}
-use Rattle.gg_flat.specs.declared.piece.Driver.TheVariants.{Input, Held, Computed}
 use Rattle.gg_flat.specs.declared.piece.Register.{Register}
 use Rattle.gg_flat.specs.declared.piece.Reset as kept
-use Rattle.gg_flat.specs.Line.{shape_at, line_value, connected_value}
+use Rattle.gg_flat.specs.Line.{line_value, connected_value}
 use Rattle.gg_flat.specs.Memory.{Bank, next_bank, opening_bank}
 use Rattle.gg_flat.specs.Reads.{NamesSignal}
 use Rattle.gg_flat.specs.Settled.{driver_value}
 use Rattle.gg_flat.specs.State.{State, connected_or, reset_or, next_register}
 use Rattle.gg_elab.specs.Connection.{Connection}
 use Rattle.gg_elab.specs.Flat.{Scope, Drive, Outside, Gets, Holds, Answers, FlatMemory}
-use Rattle.gg_elab.specs.IsFlat.{IsLineFor, IsComputed, IsHeld, IsDrivenBy, HasReset, HasNext, IsRegisterOf, IsMemoryOf}
+use Rattle.gg_elab.specs.IsFlat.{IsComputed, IsHeld, IsDrivenBy, HasReset, HasNext, IsRegisterOf, IsMemoryOf}
 use Rattle.gg_elab.specs.Meaning.{Signals}
 use Rattle.gg_elab.specs.Signals.{Types}
 

@@ -1,6 +1,6 @@
 -- A table of connections that gets one more.
-use Rattle.std.proofs.Common.{◌≡◌, ℕ, zero, suc, ◌+◌, ◌<◌, List, [], ◌∷◌, ◌++◌, length, Option, Some, None, Bool, true, false, refl, sym, ap, ◌∙◌, subst, arith}
-use Rattle.std.specs.Prelude.{slice_get, option_map, if◌then◌else◌, Contains}
+use Rattle.std.proofs.Common.{◌≡◌, ℕ, zero, suc, ◌+◌, ◌<◌, List, [], ◌∷◌, ◌++◌, length, Option, Some, None, Bool, true, false, true≢false, refl, sym, ap, ◌∙◌, subst, arith}
+use Rattle.std.specs.Prelude.{slice_get, option_map, if◌then◌else◌, Contains, IfSome, is_some}
 use Rattle.std.specs.Str.{bytes_eq}
 use Rattle.std.specs.Bool.{Decides}
 use Rattle.std.proofs.lemmas.Slice.Eq.{bytes_eq-Decides}
@@ -8,6 +8,7 @@ use Rattle.gg_ast.specs.declared.statement.Stmt.{Stmt}
 use Rattle.gg_ast.specs.Places.{place_of}
 use Rattle.gg_ast.proofs.NamePlaces.{place_after, place_of-append, place_of-below, place_of-lacks}
 use Rattle.gg_elab.specs.declared.connections.Source.{Source}
+use Rattle.gg_elab.proofs.NameLemmas.{slice_get-at}
 use Rattle.gg_elab.specs.Connection.{Connection, connection_by, connection_in}
 use Rattle.gg_elab.specs.Memories.{or_later}
 use Rattle.gg_elab.specs.Views.{connection, source_at, TellsConnections}
@@ -74,3 +75,7 @@ connection_in-push (t ∷ ss) s name =
 pub tells-more : (ss : List Stmt) (s : Stmt) (names more : List (List ℕ)) (sources all : List Source) → TellsConnections ss names sources → ((name : List ℕ) → source_at all (place_of name more) ≡ or_later (source_at sources (place_of name names)) (connection_by name s.kind)) → TellsConnections (ss ++ s ∷ []) more all
 tells-more ss s names more sources all tells step name =
     step name ∙ ap (λ o. or_later o (connection_by name s.kind)) (tells name) ∙ sym (connection_in-push ss s name)
+
+pub found-there : (names : List (List ℕ)) (name : List ℕ) (r : Option ℕ) → IfSome r (λ k. slice_get names k ≡ Some name) → is_some r ≡ true → Contains names name
+found-there names name None h e = absurd (true≢false (sym e))
+found-there names name (Some k) h e = let at = slice_get-at names name k h in (k, at.0, at.1)

@@ -20,7 +20,7 @@ use Rattle.gg_elab.specs.Meaning.{Signals}
 use Rattle.gg_elab.specs.Signals.{Types, Own, OwnBank, own_signals, own_banks}
 use Rattle.gg_elab.specs.Views.{own_of, own_bank_of, site_of, IsDigest, AreDigests}
 
-map-twice : {A B C : Type 0} (f : B → C) (g : A → B) (xs : List A) → map f (map g xs) ≡ map (λ x. f (g x)) xs
+pub map-twice : {A B C : Type 0} (f : B → C) (g : A → B) (xs : List A) → map f (map g xs) ≡ map (λ x. f (g x)) xs
 map-twice f g [] = refl
 map-twice f g (x ∷ xs) = ap (λ l. f (g x) ∷ l) (map-twice f g xs)
 
@@ -61,13 +61,13 @@ pub table-more : (modules : List ModuleTree) (xs : List FlatSignal) (place : Pla
 table-more modules xs place items old new h paths shapes =
     let f = λ (o : OwnSignal). flat_signal modules (site_of place) (own_of o) in
     let a : new.paths ≡ map (λ (x : FlatSignal). x.path) (xs ++ map f items) =
-          paths ∙ ap (λ (s : Signals). s.paths ++ map (λ (o : OwnSignal). joined place.path o.name) items) h
-          ∙ ap (λ l. map (λ (x : FlatSignal). x.path) xs ++ l) (sym (map-twice (λ (x : FlatSignal). x.path) f items))
-          ∙ sym (map-append (λ (x : FlatSignal). x.path) xs (map f items)) in
+    paths ∙ ap (λ (s : Signals). s.paths ++ map (λ (o : OwnSignal). joined place.path o.name) items) h
+    ∙ ap (λ l. map (λ (x : FlatSignal). x.path) xs ++ l) (sym (map-twice (λ (x : FlatSignal). x.path) f items))
+    ∙ sym (map-append (λ (x : FlatSignal). x.path) xs (map f items)) in
     let b : map (λ (t : Ty). shape t) new.types.items ≡ map (λ (x : FlatSignal). x.shape) (xs ++ map f items) =
-          shapes ∙ ap (λ (s : Signals). s.shapes ++ map (λ (o : OwnSignal). shape o.ty) items) h
-          ∙ ap (λ l. map (λ (x : FlatSignal). x.shape) xs ++ l) (sym (map-twice (λ (x : FlatSignal). x.shape) f items))
-          ∙ sym (map-append (λ (x : FlatSignal). x.shape) xs (map f items)) in
+    shapes ∙ ap (λ (s : Signals). s.shapes ++ map (λ (o : OwnSignal). shape o.ty) items) h
+    ∙ ap (λ l. map (λ (x : FlatSignal). x.shape) xs ++ l) (sym (map-twice (λ (x : FlatSignal). x.shape) f items))
+    ∙ sym (map-append (λ (x : FlatSignal). x.shape) xs (map f items)) in
     λ i. record { paths = a i; shapes = b i }
 
 pub memory_paths-more : (banks : List FlatMemory) (place : Place) (items : List OwnMemory) (old new : List (List ℕ)) → old ≡ memory_paths banks → new ≡ old ++ map (λ m. joined place.path m.name.now) items → new ≡ memory_paths (banks ++ map (λ m. flat_memory (site_of place) (own_bank_of m)) items)

@@ -5,6 +5,8 @@ pub mod ConnectionLemmas
 pub mod LineLemmas
 pub mod BuildLemmas
 pub mod PlacedLemmas
+pub mod OrderLemmas
+pub mod LimitLemmas
 pub mod ListLemmas
 pub mod DigestLemmas
 pub mod WholeLemmas

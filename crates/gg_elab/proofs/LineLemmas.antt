@@ -286,7 +286,7 @@ added_operation w old mid n e (Ok ty) op before o is =
     (record {
       node = ap shape is.0 ∙ sym o.shaped;
       has = subst (λ (p : Op). HasShape (HasType w.signals.shapes) (shapes_of mid) (length mid) (shape_of w e) p) (sym is.1)
-            (subst (λ (t : Shape). HasShape (HasType w.signals.shapes) (shapes_of mid) (length mid) t op) (sym o.shaped) (o.has (shape ty) refl));
+          (subst (λ (t : Shape). HasShape (HasType w.signals.shapes) (shapes_of mid) (length mid) t op) (sym o.shaped) (o.has (shape ty) refl));
       value = λ values more. rw is.1 (o.value values (shape n.ty ∷ more) (shape ty) refl);
       named = λ s names. Names-push mid n s (o.named s names);
     })

@@ -61,4 +61,3 @@ place_of-path (n ∷ ns) name k h = go (bytes_eq name n) (bytes_eq-Decides name 
         let further : suc j ≡ k = omega arith in
         let r = rest j refl in
         subst (λ i. (i < length (n ∷ ns)) × (slice_index_or (n ∷ ns) i [] ≡ name)) further (omega (arith, r.0), r.1)
-

@@ -21,7 +21,7 @@ pub finished : {E : Type 0} (r : Result Stand E) (w : Where) (old mid new : List
 finished (Ok s) w old mid new e x P same h f =
     let a : Added w old (mid ++ h.node ∷ []) e (length mid) = f h.node h.is in
     let whole : Added w old new e s.node =
-          subst (λ (l : List Node). Added w old l e s.node) (sym h.added) (subst (λ (k : ℕ). Added w old (mid ++ h.node ∷ []) e k) (sym h.place) a) in
+    subst (λ (l : List Node). Added w old l e s.node) (sym h.added) (subst (λ (k : ℕ). Added w old (mid ++ h.node ∷ []) e k) (sym h.place) a) in
     let typed : shape s.ty ≡ shape_of w e = ap shape h.typed ∙ sym (shape_at-last mid h.node) ∙ a.stands.node in
     subst (λ (t : Term). Stands w old new t s) (sym same) (whole, typed)
 finished (Err e) w old mid new t x P same h f = tt

@@ -1,30 +1,21 @@
 -- All flat circuits of a circuit have the same runs and the same reads.
-use Rattle.std.proofs.Common.{◌≡◌, ℕ, zero, suc, ◌<◌, List, [], ◌∷◌, length, map, take, true, Option, refl, sym, ap, ◌∙◌, subst, arith, ◌≤◌}
+use Rattle.std.proofs.Common.{◌≡◌, ℕ, ◌<◌, List, [], length, map, take, true, sym, ap, ◌∙◌, subst, arith}
 use Rattle.std.specs.Prelude.{slice_index_or, count_by}
 use Rattle.std.proofs.lemmas.List.{take_all, length-map}
 use Rattle.gg_bits.specs.Shape.{Shape, shape, uint}
 use Rattle.gg_ast.specs.declared.module.Port.{Port}
-use Rattle.gg_ast.specs.declared.statement.Reset as given
 use Rattle.gg_flat.specs.declared.memory.Latency.TheVariants.{Zero}
 use Rattle.gg_flat.specs.declared.memory.Memory.{Memory}
 use Rattle.gg_flat.specs.declared.piece.Driver.{Driver}
-use Rattle.gg_flat.specs.declared.piece.Register.{Register}
-use Rattle.gg_flat.specs.declared.piece.Signal.{Signal}
 use Rattle.gg_flat.specs.Circuit.{FlatCircuit, signal_shapes, driver_at}
-use Rattle.gg_flat.specs.Line.{shape_at, value_at, AreTyped}
-use Rattle.gg_flat.specs.Memory.{Bank, next_bank, next_banks, opening_bank}
-use Rattle.gg_flat.specs.Reads.{Reads, ReadsInTurn, IsLoop}
-use Rattle.gg_flat.specs.Run.{row_at, inputs_at, opening_start, state_at, IsRun}
-use Rattle.gg_flat.specs.Settled.{driver_value, Settled}
-use Rattle.gg_flat.specs.State.{State, opening, next_register, next_registers, next_state}
-use Rattle.gg_elab.specs.Connection.{Connection}
-use Rattle.gg_elab.specs.Flat.{Scope, Drive, Outside, Gets, Holds, Answers, FlatSignal, FlatMemory}
+use Rattle.gg_flat.specs.Line.{shape_at}
+use Rattle.gg_elab.specs.Flat.{Drive, Outside, Gets, Holds, Answers, FlatSignal, FlatMemory}
 use Rattle.gg_elab.specs.IsFlat.{IsDrivenBy, IsFlatOf, is_register, is_outside, count_before, drive_at, signals_of, memory_paths}
 use Rattle.gg_elab.specs.IsTreeOf.{Pairwise}
 use Rattle.gg_elab.specs.Signals.{Types}
 use Rattle.gg_elab.proofs.AlikeLemmas.{AlikeDrivers, AlikeRegisters, AlikeAt, AlikeMemories, drivers_alike, held_alike, memories_alike}
-use Rattle.gg_elab.proofs.HeldLemmas.{HoldsRegister, held_by}
-use Rattle.gg_elab.proofs.PairwiseLemmas.{Pairwise-length, Pairwise-each}
+use Rattle.gg_elab.proofs.HeldLemmas.{held_by}
+use Rattle.gg_elab.proofs.PairwiseLemmas.{Pairwise-each}
 
 -- Two flat circuits do the same, part by part.
 pub record AlikeCircuits (f g : FlatCircuit) : Type 0 where
@@ -60,7 +51,7 @@ module _ (types : Types) (all : List FlatSignal) (banks : List FlatMemory) (port
   registers_at r lt =
       let drives : List Drive = map (λ x. x.drive) all in
       let total : count_by is_register (take (length all) drives) ≡ count_by is_register drives =
-          ap (λ (ds : List Drive). count_by is_register ds) (take_all (length all) drives (omega (arith, length-map all (λ (x : FlatSignal). x.drive)))) in
+      ap (λ (ds : List Drive). count_by is_register ds) (take_all (length all) drives (omega (arith, length-map all (λ (x : FlatSignal). x.drive)))) in
       let few : r < count_by is_register drives = let e = one.register_count in omega (arith, lt, e, total) in
       let held = held_by drives r few in
       let within : held.place < length all = let p = held.within in omega (arith, p, length-map all (λ (x : FlatSignal). x.drive)) in

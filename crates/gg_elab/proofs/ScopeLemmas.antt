@@ -7,7 +7,7 @@ use Rattle.gg_ast.specs.declared.expression.Reference.{Reference}
 use Rattle.gg_ast.specs.Places.{place_of}
 use Rattle.gg_ast.proofs.NamePlaces.{place_of-below}
 use Rattle.gg_flat.specs.Tree.{joined}
-use Rattle.gg_shape.specs.Namespace.{written}
+use Rattle.gg_names.specs.Scope.{written}
 use Rattle.gg_elab.specs.Flat.{Scope}
 use Rattle.gg_elab.specs.Meaning.{Signals, named, named_if}
 use Rattle.gg_elab.specs.Signals.{Types}

@@ -1,16 +1,21 @@
 -- The whole flat circuit: its signals, then its memories, then its ports.
-use Rattle.std.proofs.Common.{◌≡◌, ℕ, ◌<◌, List, [], ◌∷◌, ◌++◌, length, map, Option, Some, None, refl, sym, ap, ◌∙◌, subst, arith}
+use Rattle.std.proofs.Common.{◌≡◌, ℕ, ◌<◌, List, [], ◌∷◌, ◌++◌, length, map, take, get_or, ◌+◌, append_assoc, Option, Some, None, refl, sym, ap, ◌∙◌, subst, arith}
 use Rattle.std.specs.Prelude.{slice_index_or}
-use Rattle.std.proofs.lemmas.List.{append-nil, get_or_append_left, get_or_push, length-append}
+use Rattle.std.proofs.lemmas.List.{append-nil, get_or_append_left, get_or_push, length-append, map-append, take_more}
 use Rattle.std.proofs.Common.{below_more}
 use Rattle.gg_ast.specs.declared.module.Direction.TheVariants as direction
+use Rattle.std.proofs.lemmas.List.Elements.{filter_map-append}
+use Rattle.gg_ast.specs.declared.module.Direction.{Direction}
 use Rattle.gg_ast.specs.declared.module.Port.{Port}
+use Rattle.gg_ast.specs.Tree.{ModuleTree}
+use Rattle.gg_count.specs.Sites.{Site, module_at, all_sites, sites_from}
 use Rattle.gg_flat.specs.declared.memory.Memory.{Memory}
 use Rattle.gg_flat.specs.Circuit.{FlatCircuit}
 use Rattle.gg_elab.specs.Building.{IsSoFar, HasMemories}
-use Rattle.gg_elab.specs.Flat.{FlatSignal, FlatMemory}
-use Rattle.gg_elab.specs.IsFlat.{IsFlatOf, IsMemoryOf, signals_of, memory_paths, number_of, port_names}
+use Rattle.gg_elab.specs.Flat.{FlatSignal, FlatMemory, flat_signals, flat_memories}
+use Rattle.gg_elab.specs.IsFlat.{IsFlatOf, IsMemoryOf, signals_of, memory_paths, number_of, port_name, port_names, top_ports}
 use Rattle.gg_elab.specs.Meaning.{Signals}
+use Rattle.gg_elab.proofs.FlatLemmas.{map-twice}
 use Rattle.gg_elab.specs.Signals.{Types}
 
 pub whole : (types : Types) (all : List FlatSignal) (banks : List FlatMemory) (ports : List Port) (table : Signals) (memories : List (List ℕ)) (one two three : FlatCircuit) (inputs : ℕ) → table ≡ signals_of all → memories ≡ memory_paths banks → IsSoFar types table memories all one inputs → HasMemories table.paths banks one two → three.ins ≡ two.ins ++ map (number_of table.paths) (port_names direction.Input ports) → three.outs ≡ two.outs ++ map (number_of table.paths) (port_names direction.Output ports) → three ≡ record two { ins = three.ins; outs = three.outs } → IsFlatOf types all banks ports three
@@ -20,7 +25,7 @@ whole types all banks ports table memories one two three inputs same listed far 
     let no_ins : two.ins ≡ [] = ap (λ (f : FlatCircuit). f.ins) has.rest ∙ far.no_ins in
     let no_outs : two.outs ≡ [] = ap (λ (f : FlatCircuit). f.outs) has.rest ∙ far.no_outs in
     let is : three ≡ record one { memories = two.memories; ins = three.ins; outs = three.outs } =
-          rest ∙ ap (λ (f : FlatCircuit). record f { ins = three.ins; outs = three.outs }) has.rest in
+    rest ∙ ap (λ (f : FlatCircuit). record f { ins = three.ins; outs = three.outs }) has.rest in
     subst (λ (f : FlatCircuit). IsFlatOf types all banks ports f) (sym is) (record {
       paths = so.paths;
       shapes = so.shapes;
@@ -76,3 +81,29 @@ memories-push paths said x base old new memory h is of = record {
     last other any =
         place (length said) other any x memory (get_or_push said x other (length said) refl)
         (ap (λ (l : List Memory). slice_index_or l (length said) any) items ∙ get_or_push old.memories memory any (length said) h.count) of
+
+-- ---- the top
+
+pub with_top : (types : Types) (modules : List ModuleTree) (o : Option ℕ) (top : ℕ) (sites : List Site) (ports : List Port) (flat : FlatCircuit) → o ≡ Some top → sites ≡ all_sites modules top → ports ≡ (module_at modules top).ports → IsFlatOf types (flat_signals types modules sites) (flat_memories modules sites) ports flat → IsFlatOf types (flat_signals types modules (sites_from modules o)) (flat_memories modules (sites_from modules o)) (top_ports modules o) flat
+with_top types modules o top sites ports flat is same own h =
+    subst (λ (x : Option ℕ). IsFlatOf types (flat_signals types modules (sites_from modules x)) (flat_memories modules (sites_from modules x)) (top_ports modules x) flat) (sym is)
+    (subst (λ (l : List Site). IsFlatOf types (flat_signals types modules l) (flat_memories modules l) (module_at modules top).ports flat) same
+    (subst (λ (l : List Port). IsFlatOf types (flat_signals types modules sites) (flat_memories modules sites) l flat) own h))
+
+-- ---- ports
+
+-- one port more
+pub names-more : (paths : List (List ℕ)) (way : Direction) (before now after : List ℕ) (ports : List Port) (i : ℕ) (p : Port) → i < length ports → p ≡ get_or ports i p → now ≡ before ++ map (number_of paths) (port_names way (take i ports)) → after ≡ now ++ map (number_of paths) (port_names way (p ∷ [])) → after ≡ before ++ map (number_of paths) (port_names way (take (i + 1) ports))
+names-more paths way before now after ports i p lt is so step =
+    let one = map (number_of paths) (port_names way (p ∷ [])) in
+    step
+    ∙ ap (λ l. l ++ one) so
+    ∙ append_assoc before (map (number_of paths) (port_names way (take i ports))) one
+    ∙ ap (λ l. before ++ l) (sym (map-append (number_of paths) (port_names way (take i ports)) (port_names way (p ∷ []))))
+    ∙ ap (λ l. before ++ map (number_of paths) l) (sym (filter_map-append (port_name way) (take i ports) (p ∷ [])))
+    ∙ ap (λ l. before ++ map (number_of paths) (port_names way l)) (ap (λ y. take i ports ++ y ∷ []) is ∙ sym (take_more ports i p lt))
+
+-- what is made of names that are lent
+pub ports-named : {A R : Type 0} (items lent : List A) (now : A → List ℕ) (of : List ℕ → List ℕ → R) (made : List R) (path other : List ℕ) → made ≡ map (λ a. of path (now a)) lent → lent ≡ items → path ≡ other → made ≡ map (of other) (map now items)
+ports-named items lent now of made path other is same at =
+    is ∙ ap (map (λ a. of path (now a))) same ∙ ap (λ p. map (λ a. of p (now a)) items) at ∙ sym (map-twice (of other) now items)

@@ -183,6 +183,7 @@ own_instance h = other (Names-of h.line h.computed ((h.stands.names 7).1 refl))
   where
     Names-of : (line : List Node) → Computed (record { ty = four; op = Ref 2 } ∷ []) ≡ Computed line → Names line 7 → Contains (Ref 2 ∷ []) (Ref 7)
     Names-of line e n = let same : (record { ty = four; op = Ref 2 } ∷ []) ≡ line = cc in subst (λ (l : List Node). Names l 7) (sym same) n
+
     other : Contains (Ref 2 ∷ []) (Ref 7) → ⊥
     other (zero, lt, is) = cc
     other (suc k, lt, is) = omega arith

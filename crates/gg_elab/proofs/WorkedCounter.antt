@@ -165,9 +165,10 @@ sum_is : IsLineFor (types_of circuit) listed here (shape five) (Some (ConnectedT
 unfolding types_of digit
 sum_is = record {
   value = λ values. refl;
-  names = λ s.
-      (λ h. inl (ap Some (sum_names s h.0 h.1 h.2)),
-      λ h. elim h [ inl found ↦ (zero, lit≤ tt, ap does.Ref (cc)) | inr none ↦ absurd none ]);
+  names = λ s. (
+    λ h. inl (ap Some (sum_names s h.0 h.1 h.2)),
+    λ h. elim h [ inl found ↦ (zero, lit≤ tt, ap does.Ref (cc)) | inr none ↦ absurd none ],
+  );
 }
 
 next_is : IsLineFor (types_of circuit) listed here (shape four) (Some (ConnectedTo next)) next_line
@@ -188,9 +189,10 @@ condition_is : IsConditionOf (types_of circuit) listed here (name_of (codes "res
 unfolding types_of
 condition_is = record {
   value = λ values. refl;
-  names = λ s.
-      (λ h. ap Some ((names_one (node one (does.Ref 0)) 0 s refl).0 h),
-      λ h. (names_one (node one (does.Ref 0)) 0 s refl).1 (cc));
+  names = λ s. (
+    λ h. ap Some ((names_one (node one (does.Ref 0)) 0 s refl).0 h),
+    λ h. (names_one (node one (does.Ref 0)) 0 s refl).1 (cc),
+  );
 }
 
 register_is : IsRegisterOf (types_of circuit) listed here (shape four) (Some reset) (Some (ConnectedTo next)) register
@@ -204,11 +206,16 @@ IsDrivenAt s =
 
 all_driven : AllBelow 4 IsDrivenAt
 unfolding types_of digit
-all_driven =
-    (refl,
-    (gets_name (types_of circuit) listed here (shape eight) (Local (codes "count")) (node four (does.Ref 2)) 2 (record { does = refl; names = refl; typed = refl; fits = refl }),
-    (record { held = refl; within = lit≤ tt; register = λ any. register_is },
-    (record { line = sum_line; computed = refl; stands = sum_is }, tt))))
+all_driven = (
+  refl,
+  (
+    gets_name (types_of circuit) listed here (shape eight) (Local (codes "count")) (node four (does.Ref 2)) 2 (record { does = refl; names = refl; typed = refl; fits = refl }),
+    (
+      record { held = refl; within = lit≤ tt; register = λ any. register_is },
+      (record { line = sum_line; computed = refl; stands = sum_is }, tt),
+    ),
+  ),
+)
 
 -- it is a flat circuit of the circuit
 right : IsFlat circuit flat

@@ -1,5 +1,5 @@
 -- The flat circuit of the circuit in WorkedText, and what is none.
-use Rattle.std.proofs.Common.{◌≡◌, ℕ, zero, suc, ◌<◌, List, [], ◌∷◌, ◌++◌, length, map, take, drop, true, Bool, Some, None, codes, refl, ap, ◌∙◌, arith, lit≤}
+use Rattle.std.proofs.Common.{◌≡◌, ℕ, zero, suc, ◌<◌, List, [], ◌∷◌, ◌++◌, length, take, drop, true, Bool, Some, None, codes, refl, ap, ◌∙◌, arith, lit≤}
 use Rattle.std.specs.Prelude.{slice_index_or, is_some}
 use Rattle.gg_bits.specs.declared.types.Kind.TheVariants as kinds
 use Rattle.gg_bits.specs.declared.types.Ty.{Ty}
@@ -12,8 +12,7 @@ use Rattle.gg_flat.specs.declared.line.Op.TheVariants as does
 use Rattle.gg_flat.specs.declared.memory.Latency.TheVariants.{Zero, One}
 use Rattle.gg_flat.specs.declared.memory.Memory.{Memory}
 use Rattle.gg_flat.specs.declared.memory.UnderWrite.TheVariants.{New}
-use Rattle.gg_flat.specs.declared.piece.Driver.{Driver}
-use Rattle.gg_flat.specs.declared.piece.Driver.TheVariants.{Input, Held, MemoryWord, ReadRegister, Computed}
+use Rattle.gg_flat.specs.declared.piece.Driver.TheVariants.{Held, MemoryWord, ReadRegister, Computed}
 use Rattle.gg_flat.specs.declared.piece.Register.{Register}
 use Rattle.gg_flat.specs.declared.piece.Signal.{Signal}
 use Rattle.gg_flat.specs.Circuit.{FlatCircuit, driver_at}
@@ -21,13 +20,13 @@ use Rattle.gg_flat.specs.Line.{shape_at}
 use Rattle.gg_flat.specs.Tree.{joined}
 use Rattle.gg_count.specs.Sites.{sites_of}
 use Rattle.gg_names.specs.Scope.{written}
-use Rattle.gg_elab.specs.Connection.{Connection, ConnectedTo, Zeroed}
-use Rattle.gg_elab.specs.Flat.{Scope, Drive, FlatSignal, FlatMemory, flat_signals, flat_memories}
+use Rattle.gg_elab.specs.Connection.{ConnectedTo, Zeroed}
+use Rattle.gg_elab.specs.Flat.{Scope, FlatSignal, FlatMemory, flat_signals, flat_memories}
 use Rattle.gg_elab.specs.IsFlat.{IsComputed, IsHeld, IsRegisterOf, IsDrivenBy, IsMemoryOf, IsFlat, is_outside, is_register, drive_at, count_before, signals_of, memory_paths}
 use Rattle.gg_elab.specs.Known.{types_of}
 use Rattle.gg_elab.specs.Meaning.{Signals, named, named_if, takes}
 use Rattle.gg_elab.specs.Memories.{Bank}
-use Rattle.gg_elab.proofs.WorkedParts.{ty_of, node, value, signal, follows, AllBelow, each_below, IsNamed, line_of_name, gets_name, named_other}
+use Rattle.gg_elab.proofs.WorkedParts.{ty_of, node, value, signal, follows, AllBelow, each_below, line_of_name, gets_name, named_other}
 use Rattle.gg_elab.proofs.WorkedText.{m, k, circuit}
 
 -- ---- the flat circuit
@@ -208,32 +207,79 @@ IsDrivenAt s =
 
 all_driven : AllBelow 24 IsDrivenAt
 unfolding types_of
-all_driven =
-    (gets top three three (k (codes "data")) 3 refl refl refl refl,
-    (gets top one two (PortOf (codes "a") (codes "o")) 5 refl refl refl refl,
-    (gets top one one (PortOf (codes "b") (codes "o")) 15 refl refl refl refl,
-    (refl,
-    (gets top one one (PortOf (codes "b") (codes "o")) 15 refl refl refl refl,
-    (gets a one one (m (codes "r") (codes "data")) 8 refl refl refl refl,
-    (gets a one one (Local (codes "q")) 13 refl refl refl refl,
-    (gets a one one (Local (codes "q")) 13 refl refl refl refl,
-    (refl,
-    (gets a one one (Local (codes "q")) 13 refl refl refl refl,
-    (gets a one one (Local (codes "i")) 4 refl refl refl refl,
-    (gets a one one (Local (codes "i")) 4 refl refl refl refl,
-    (gets_zero a,
-    (held_by_a,
-    (gets top one one (PortOf (codes "a") (codes "o")) 5 refl refl refl refl,
-    (gets b one one (m (codes "r") (codes "data")) 18 refl refl refl refl,
-    (gets b one one (Local (codes "q")) 23 refl refl refl refl,
-    (gets b one one (Local (codes "q")) 23 refl refl refl refl,
-    (refl,
-    (gets b one one (Local (codes "q")) 23 refl refl refl refl,
-    (gets b one one (Local (codes "i")) 14 refl refl refl refl,
-    (gets b one one (Local (codes "i")) 14 refl refl refl refl,
-    (gets_zero b,
-    (held_by_b,
-    tt))))))))))))))))))))))))
+all_driven = (
+  gets top three three (k (codes "data")) 3 refl refl refl refl,
+  (
+    gets top one two (PortOf (codes "a") (codes "o")) 5 refl refl refl refl,
+    (
+      gets top one one (PortOf (codes "b") (codes "o")) 15 refl refl refl refl,
+      (
+        refl,
+        (
+          gets top one one (PortOf (codes "b") (codes "o")) 15 refl refl refl refl,
+          (
+            gets a one one (m (codes "r") (codes "data")) 8 refl refl refl refl,
+            (
+              gets a one one (Local (codes "q")) 13 refl refl refl refl,
+              (
+                gets a one one (Local (codes "q")) 13 refl refl refl refl,
+                (
+                  refl,
+                  (
+                    gets a one one (Local (codes "q")) 13 refl refl refl refl,
+                    (
+                      gets a one one (Local (codes "i")) 4 refl refl refl refl,
+                      (
+                        gets a one one (Local (codes "i")) 4 refl refl refl refl,
+                        (
+                          gets_zero a,
+                          (
+                            held_by_a,
+                            (
+                              gets top one one (PortOf (codes "a") (codes "o")) 5 refl refl refl refl,
+                              (
+                                gets b one one (m (codes "r") (codes "data")) 18 refl refl refl refl,
+                                (
+                                  gets b one one (Local (codes "q")) 23 refl refl refl refl,
+                                  (
+                                    gets b one one (Local (codes "q")) 23 refl refl refl refl,
+                                    (
+                                      refl,
+                                      (
+                                        gets b one one (Local (codes "q")) 23 refl refl refl refl,
+                                        (
+                                          gets b one one (Local (codes "i")) 14 refl refl refl refl,
+                                          (
+                                            gets b one one (Local (codes "i")) 14 refl refl refl refl,
+                                            (
+                                              gets_zero b,
+                                              (
+                                                held_by_b,
+                                                tt,
+                                              ),
+                                            ),
+                                          ),
+                                        ),
+                                      ),
+                                    ),
+                                  ),
+                                ),
+                              ),
+                            ),
+                          ),
+                        ),
+                      ),
+                    ),
+                  ),
+                ),
+              ),
+            ),
+          ),
+        ),
+      ),
+    ),
+  ),
+)
 
 memories_are : (n : ℕ) (said : FlatMemory) (any : Memory) → n < 3 → IsMemoryOf paths (slice_index_or banks n said) (slice_index_or flat.memories n any)
 memories_are zero said any lt = record { word = refl; depth = refl; latency = refl; readers = refl; writers = refl }

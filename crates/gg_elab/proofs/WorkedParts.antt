@@ -92,9 +92,10 @@ line_of_name types signals scope sink r n p h = record {
       ∙ sym (ap (λ (b : Bool). if b then extended (shape n.ty) sink.width (value_at values p) else 0) h.fits)
       ∙ sym (ap (λ (s : Shape). if takes sink s then extended s sink.width (value_at values p) else 0) h.typed)
       ∙ sym (ap (λ (o : Option ℕ). if takes sink (shape_named signals o) then extended (shape_named signals o) sink.width (value_named values o) else 0) h.names);
-  names = λ s.
-      (λ k. h.names ∙ ap Some ((names_one n p s h.does).0 k),
-      λ k. (names_one n p s h.does).1 (let a = h.names in cc));
+  names = λ s. (
+    λ k. h.names ∙ ap Some ((names_one n p s h.does).0 k),
+    λ k. (names_one n p s h.does).1 (let a = h.names in cc),
+  );
 }
 
 -- a signal that gets what the name names
@@ -106,5 +107,5 @@ pub named_other : (types : Types) (signals : Signals) (scope : Scope) (sink : Sh
 named_other types signals scope sink r n p q does names h =
     let same : n ∷ [] ≡ h.line = let e = h.computed in cc in
     let found : named types signals scope r ≡ Some p =
-        (h.stands.names p).0 (subst (λ (l : List Node). Names l p) same ((names_one n p p does).1 refl)) in
+    (h.stands.names p).0 (subst (λ (l : List Node). Names l p) same ((names_one n p p does).1 refl)) in
     cc

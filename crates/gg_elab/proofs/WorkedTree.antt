@@ -45,16 +45,17 @@ right : IsTreeOf circuit tree
 unfolding types_of
 right = record {
   paths = refl;
-  instances =
-      (record {
-        parent = tt;
-        number = refl;
-        begins = refl;
-        ends = refl;
-        ports = (record { signal = record { is = refl }; goes = refl }, tt);
-        memories = (record { number = record { is = refl } }, tt);
-      },
-      (record {
+  instances = (
+    record {
+      parent = tt;
+      number = refl;
+      begins = refl;
+      ends = refl;
+      ports = (record { signal = record { is = refl }; goes = refl }, tt);
+      memories = (record { number = record { is = refl } }, tt);
+    },
+    (
+      record {
         parent = record { is = refl };
         number = refl;
         begins = refl;
@@ -62,19 +63,27 @@ right = record {
         ports = (record { signal = record { is = refl }; goes = refl }, (record { signal = record { is = refl }; goes = refl }, tt));
         memories = (record { number = record { is = refl } }, tt);
       },
-      (record {
-        parent = record { is = refl };
-        number = refl;
-        begins = refl;
-        ends = refl;
-        ports = (record { signal = record { is = refl }; goes = refl }, (record { signal = record { is = refl }; goes = refl }, tt));
-        memories = (record { number = record { is = refl } }, tt);
-      }, tt)));
+      (
+        record {
+          parent = record { is = refl };
+          number = refl;
+          begins = refl;
+          ends = refl;
+          ports = (record { signal = record { is = refl }; goes = refl }, (record { signal = record { is = refl }; goes = refl }, tt));
+          memories = (record { number = record { is = refl } }, tt);
+        },
+        tt,
+      ),
+    ),
+  );
   memory_names = refl;
-  memories =
-      (record { holder = record { is = refl }; number = record { is = refl }; ports = refl },
-      (record { holder = record { is = refl }; number = record { is = refl }; ports = refl },
-      (record { holder = record { is = refl }; number = record { is = refl }; ports = refl }, tt)));
+  memories = (
+    record { holder = record { is = refl }; number = record { is = refl }; ports = refl },
+    (
+      record { holder = record { is = refl }; number = record { is = refl }; ports = refl },
+      (record { holder = record { is = refl }; number = record { is = refl }; ports = refl }, tt),
+    ),
+  );
 }
 
 -- where an instance lies in its sister, it is none

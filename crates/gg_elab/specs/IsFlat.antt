@@ -196,10 +196,10 @@ pub record IsFlatOf (types : Types) (all : List FlatSignal) (banks : List FlatMe
 abbrev pub IsFlatWith : Types → CircuitTree → FlatCircuit → Type 0
 IsFlatWith types circuit flat =
     IsFlatOf types
-      (flat_signals types circuit.modules (sites_of circuit))
-      (flat_memories circuit.modules (sites_of circuit))
-      (top_ports circuit.modules (place_of circuit.name (module_names circuit)))
-      flat
+    (flat_signals types circuit.modules (sites_of circuit))
+    (flat_memories circuit.modules (sites_of circuit))
+    (top_ports circuit.modules (place_of circuit.name (module_names circuit)))
+    flat
 
 -- The flat circuit of a circuit.
 abbrev pub IsFlat : CircuitTree → FlatCircuit → Type 0

@@ -14,8 +14,7 @@ use Rattle.gg_count.specs.Sites.{Site, Outer, module_at, sites, sites_of}
 use Rattle.gg_elab.specs.Flat.{FlatMemory, signals_at, flat_signals, memories_at, flat_memories}
 use Rattle.gg_elab.specs.IsFlat.{memory_paths}
 use Rattle.gg_elab.specs.Known.{types_of}
-use Rattle.gg_elab.specs.Memories.{Bank, type_shape}
-use Rattle.gg_elab.specs.Signals.{Types}
+use Rattle.gg_elab.specs.Memories.{type_shape}
 
 -- ---- places by paths
 

@@ -1,6 +1,6 @@
 -- What the type checks say of the names of a circuit.
 -- Source: FIRRTL Specification, "Ground Types", "Expressions" (references).
-use Rattle.std.specs.Prelude.{ℕ, List, Option, Some, None}
+use Rattle.std.specs.Prelude.{Option, Some, None}
 use Rattle.gg_bits.specs.Shape.{Shape, of_kind}
 use Rattle.gg_ast.specs.declared.expression.Reference.{Reference}
 use Rattle.gg_ast.specs.Tree.{CircuitTree}
@@ -9,11 +9,6 @@ use Rattle.gg_types.specs.declared.sort.Sort.{Sort}
 use Rattle.gg_types.specs.declared.sort.Sort.TheVariants.{Bits, Clock}
 use Rattle.gg_types.specs.Types.{sort_named}
 use Rattle.gg_elab.specs.Signals.{Types}
-
--- a circuit, and an order of its modules
-pub record TypedTree : Type 0 where
-  pub circuit : CircuitTree
-  pub order : List ℕ
 
 -- the shape of a type that is there and no Clock
 abbrev pub value_shape : Option Sort → Option Shape

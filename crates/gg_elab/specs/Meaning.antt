@@ -77,12 +77,12 @@ term_value types signals scope values (UnaryTerm op a) =
     value_if (type1 op (term_shape types signals scope a)) (value1 op (term_shape types signals scope a) (term_value types signals scope values a))
 term_value types signals scope values (BinaryTerm op a b) =
     value_if (type2 op (term_shape types signals scope a) (term_shape types signals scope b))
-      (value2 op (term_shape types signals scope a) (term_value types signals scope values a) (term_shape types signals scope b) (term_value types signals scope values b))
+    (value2 op (term_shape types signals scope a) (term_value types signals scope values a) (term_shape types signals scope b) (term_value types signals scope values b))
 term_value types signals scope values (FixedTerm op a n m) =
     value_if (type_const op (term_shape types signals scope a) n m) (value_const op (term_shape types signals scope a) (term_value types signals scope values a) n m)
 term_value types signals scope values (MuxTerm c a b) =
     value_if (type_mux (term_shape types signals scope c) (term_shape types signals scope a) (term_shape types signals scope b))
-      (value_mux (term_value types signals scope values c) (term_shape types signals scope a) (term_value types signals scope values a) (term_shape types signals scope b) (term_value types signals scope values b))
+    (value_mux (term_value types signals scope values c) (term_shape types signals scope a) (term_value types signals scope values a) (term_shape types signals scope b) (term_value types signals scope values b))
 
 -- the expression names signal s
 abbrev pub TermNames : Types → Signals → Scope → ℕ → Term → Type 0

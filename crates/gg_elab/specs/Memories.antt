@@ -126,8 +126,8 @@ bank_with (Some word) depth (Some latency) readers writers =
 abbrev pub bank_of : List Field → Option Bank
 bank_of fields =
     bank_with
-      (option_and_then type_shape (first_said type_said fields))
-      (unwrap_or (first_said depth_said fields) 0)
-      (option_and_then (latency_of (unwrap_or (first_said under_said fields) Undefined)) (first_said latency_said fields))
-      (flat_map (λ (f : Field). readers_said f.kind) fields)
-      (flat_map (λ (f : Field). writers_said f.kind) fields)
+    (option_and_then type_shape (first_said type_said fields))
+    (unwrap_or (first_said depth_said fields) 0)
+    (option_and_then (latency_of (unwrap_or (first_said under_said fields) Undefined)) (first_said latency_said fields))
+    (flat_map (λ (f : Field). readers_said f.kind) fields)
+    (flat_map (λ (f : Field). writers_said f.kind) fields)

@@ -13,8 +13,6 @@ ghost use Rattle.gg_elab.specs.Building.{IsMade, with_made, is_input_driver, IsP
 
 use crate::connections::Source;
 use crate::digest::Digest;
-use crate::fault::ElabFault;
-use crate::known::Typed;
 use crate::lines::{condition_line, source_line, value_line};
 use crate::names::{dotted, field_name, joined};
 use crate::own::{Origin, OwnSignal};
@@ -24,7 +22,8 @@ use crate::table::{Table, number};
 use gg_ast::Reset;
 use gg_bits::{Name, Ty};
 use gg_flat::{AddError, Driver, Latency, Line, Piece, Register, Signal};
-use std::alloc::Global;
+use gg_types::Typed;
+use std::alloc::{AllocError, Global};
 
 /// A signal's driver, and the register that it holds, if it holds one.
 #[derive(Drop)]
@@ -40,7 +39,7 @@ fn register(
     reset: Option<&Reset>,
     next: Option<Source>,
     ty: Ty,
-) -> Result<Register, ElabFault>
+) -> Result<Register, AllocError>
     ensures { IfOk result (IsRegisterOf (where_of scope.now).types (where_of scope.now).signals (where_of scope.now).scope (shape ty) (option_copied reset.entry) (seen next.entry)) }
 {
     Ok(Register {
@@ -56,7 +55,7 @@ fn reset_lines(
     scope: &Scope,
     reset: Option<&Reset>,
     ty: Ty,
-) -> Result<Option<gg_flat::Reset>, ElabFault>
+) -> Result<Option<gg_flat::Reset>, AllocError>
     ensures { IfOk result (HasReset (where_of scope.now).types (where_of scope.now).signals (where_of scope.now).scope (shape ty) (option_copied reset.entry)) }
 {
     match reset {
@@ -75,7 +74,7 @@ fn next_line(
     scope: &Scope,
     next: Option<Source>,
     ty: Ty,
-) -> Result<Option<Line>, ElabFault>
+) -> Result<Option<Line>, AllocError>
     ensures { IfOk result (HasNext (where_of scope.now).types (where_of scope.now).signals (where_of scope.now).scope (shape ty) (seen next.entry)) }
 {
     match next {
@@ -92,7 +91,7 @@ fn computed(
     ty: Ty,
     inputs: u32,
     states: u32,
-) -> Result<Made, ElabFault>
+) -> Result<Made, AllocError>
     ensures { IfOk result (λ made. IsMade (where_of scope.now).types (where_of scope.now).signals scope.now.table.now.memories inputs states (shape ty) (Gets (where_of scope.now).scope (seen source.entry)) made.driver made.register) }
 {
     let _ = (inputs, states);
@@ -111,7 +110,7 @@ fn answer(
     port: &Name,
     reader: u32,
     latency: Latency,
-) -> Result<Driver, ElabFault>
+) -> Result<Driver, AllocError>
     ensures { IfOk result (λ driver. driver ≡ answer_of latency (number_of table.now.memories (joined_text path.now memory.now)) reader (number_of table.now.paths (joined_text path.now (field_text memory.now port.now (codes "addr")))) (number_of table.now.paths (joined_text path.now (field_text memory.now port.now (codes "en"))))) }
 {
     let memory_number = number(&table.memories, &joined(alloc, path, memory)?);
@@ -138,7 +137,7 @@ fn input<'a>(
     ty: Ty,
     inputs: u32,
     states: u32,
-) -> Result<Made, ElabFault>
+) -> Result<Made, AllocError>
     requires even { length table.now.types.items ≡ length table.now.paths }
     requires digests { AreDigests (types_of typed.now.circuit) typed.now.circuit.modules digests.now }
     requires around { IfSome place.now.outer (λ around. around.number < length typed.now.circuit.modules) }
@@ -173,7 +172,7 @@ fn make<'a>(
     signal: &OwnSignal<'a>,
     inputs: u32,
     states: u32,
-) -> Result<Made, ElabFault>
+) -> Result<Made, AllocError>
     requires even { length table.now.types.items ≡ length table.now.paths }
     requires digests { AreDigests (types_of typed.now.circuit) typed.now.circuit.modules digests.now }
     requires number { place.now.number < length typed.now.circuit.modules }
@@ -190,7 +189,9 @@ fn make<'a>(
     match signal.origin {
         Origin::FromOutside => {
             let name = &signal.name;
-            input(alloc, typed, table, digests, place, name, signal.ty, inputs, states)
+            input(
+                alloc, typed, table, digests, place, name, signal.ty, inputs, states,
+            )
         }
         Origin::Connected => {
             let source = sinks.source(&signal.name);
@@ -215,7 +216,7 @@ fn make<'a>(
 }
 
 // Adds a signal that is made, and the register that it holds.
-fn add_made(piece: &mut Piece, path: Name, ty: Ty, made: Made) -> Result<(), ElabFault>
+fn add_made(piece: &mut Piece, path: Name, ty: Ty, made: Made) -> Result<(), AllocError>
     requires { length piece.old.signals < 2 ^ 32 - 1 }
     ensures { OnOk result (piece.new ≡ with_made piece.old path ty made.driver made.register) }
 {
@@ -225,7 +226,7 @@ fn add_made(piece: &mut Piece, path: Name, ty: Ty, made: Made) -> Result<(), Ela
     }
     match piece.add_signal(path, Signal { ty, driver }) {
         Ok(()) => Ok(()),
-        Err(_) => Err(ElabFault::NoMemory),
+        Err(_) => Err(AllocError),
     }
 }
 
@@ -250,7 +251,7 @@ fn add_signal<'a>(
     signal: &OwnSignal<'a>,
     inputs: u32,
     piece: &mut Piece,
-) -> Result<u32, ElabFault>
+) -> Result<u32, AllocError>
     requires even { length table.now.types.items ≡ length table.now.paths }
     requires digests { AreDigests (types_of typed.now.circuit) typed.now.circuit.modules digests.now }
     requires number { place.now.number < length typed.now.circuit.modules }
@@ -259,10 +260,10 @@ fn add_signal<'a>(
 {
     let states = match u32::try_from(piece.registers().len()) {
         Ok(states) => states,
-        Err(_) => return Err(ElabFault::NoMemory),
+        Err(_) => return Err(AllocError),
     };
     if inputs == u32::MAX || piece.signal_count() >= u32::MAX as usize {
-        return Err(ElabFault::NoMemory);
+        return Err(AllocError);
     }
     let made = make(alloc, typed, table, digests, place, signal, inputs, states)?;
     let more = with_input(inputs, &made.driver);
@@ -280,7 +281,7 @@ fn add_site<'a>(
     place: &Place<'a>,
     inputs: u32,
     piece: &mut Piece,
-) -> Result<u32, ElabFault>
+) -> Result<u32, AllocError>
     requires even { length table.now.types.items ≡ length table.now.paths }
     requires digests { AreDigests (types_of typed.now.circuit) typed.now.circuit.modules digests.now }
     requires number { place.now.number < length typed.now.circuit.modules }
@@ -303,7 +304,7 @@ pub(crate) fn add_sites<'a>(
     digests: &[Digest<'a>],
     places: &[Place<'a>],
     piece: &mut Piece,
-) -> Result<(), ElabFault>
+) -> Result<(), AllocError>
     requires even { length table.now.types.items ≡ length table.now.paths }
     requires digests { AreDigests (types_of typed.now.circuit) typed.now.circuit.modules digests.now }
     requires places { All (IsPlaceIn (length typed.now.circuit.modules)) places.now }

@@ -8,12 +8,11 @@ ghost use Rattle.gg_elab.specs.Memories.{or_later};
 ghost use Rattle.gg_elab.specs.Connection.{connection_in, connection_by};
 ghost use Rattle.gg_elab.specs.Views.{connection, seen, source_at, TellsConnections};
 
-use crate::fault::ElabFault;
 use crate::names::written;
 use gg_ast::{Expr, Reference, Stmt, StmtKind};
 use gg_bits::Name;
-use gg_flat::{AddError, Paths};
-use std::alloc::Global;
+use gg_flat::Paths;
+use std::alloc::{AllocError, Global};
 
 /// What a sink is connected to.
 #[derive(Clone, Copy)]
@@ -35,7 +34,7 @@ pub(crate) struct Sinks<'a> {
 pub(crate) fn connections<'a>(
     alloc: Global,
     statements: &'a [Stmt],
-) -> Result<Sinks<'a>, ElabFault>
+) -> Result<Sinks<'a>, AllocError>
     ensures tells { IfOk result (λ sinks. TellsConnections statements.now sinks.names sinks.sources.items) }
     ensures count { IfOk result (λ sinks. length sinks.sources.items ≡ length sinks.names) }
 {
@@ -50,7 +49,7 @@ pub(crate) fn connections<'a>(
 }
 
 // Notes the connection of a statement, if it makes one, unless its sink is noted.
-fn note<'a>(alloc: Global, sinks: &mut Sinks<'a>, kind: &'a StmtKind) -> Result<(), ElabFault>
+fn note<'a>(alloc: Global, sinks: &mut Sinks<'a>, kind: &'a StmtKind) -> Result<(), AllocError>
     requires { length sinks.old.sources.items ≡ length sinks.old.names }
     ensures noted { OnOk result ((name : List ℕ) → source_at sinks.new.sources.items (place_of name sinks.new.names) ≡ or_later (source_at sinks.old.sources.items (place_of name sinks.old.names)) (connection_by name kind.now)) }
     ensures count { OnOk result (length sinks.new.sources.items ≡ length sinks.new.names) }
@@ -68,14 +67,17 @@ fn note_sink<'a>(
     sinks: &mut Sinks<'a>,
     sink: &Reference,
     source: Source<'a>,
-) -> Result<(), ElabFault>
+) -> Result<(), AllocError>
     requires { length sinks.old.sources.items ≡ length sinks.old.names }
     ensures noted { OnOk result ((name : List ℕ) → source_at sinks.new.sources.items (place_of name sinks.new.names) ≡ or_later (source_at sinks.old.sources.items (place_of name sinks.old.names)) (if bytes_eq name (written_text sink.now) then Some (connection source.entry) else None)) }
     ensures count { OnOk result (length sinks.new.sources.items ≡ length sinks.new.names) }
 {
     let name = written(alloc, sink)?;
+    if sinks.names.find(&name).is_some() {
+        return Ok(());
+    }
     if sinks.names.len() >= u32::MAX as usize {
-        return Err(ElabFault::NoMemory);
+        return Err(AllocError);
     }
     sinks.sources.reserve(1)?;
     match sinks.names.add(name) {
@@ -83,8 +85,7 @@ fn note_sink<'a>(
             sinks.sources.push_reserved(source);
             Ok(())
         }
-        Err(AddError::Doubled) => Ok(()),
-        Err(AddError::NoMemory) => Err(ElabFault::NoMemory),
+        Err(_) => Err(AllocError),
     }
 }
 

@@ -6,13 +6,12 @@ ghost use Rattle.gg_elab.specs.Signals.{own_bank, own_banks, bank_of_kind};
 ghost use Rattle.gg_elab.specs.Views.{held_of, own_bank_of, bank_seen, IsDigest, AreDigests};
 
 use crate::connections::{Sinks, connections};
-use crate::fault::ElabFault;
-use crate::known::Typed;
 use crate::memories::{Bank, bank_of};
 use crate::own::{OwnSignal, own_signals};
 use gg_ast::{Circuit, Module, Stmt, StmtKind};
 use gg_bits::Name;
-use std::alloc::Global;
+use gg_types::Typed;
+use std::alloc::{AllocError, Global};
 
 /// An instance that a module holds.
 #[derive(Clone, Copy)]
@@ -46,7 +45,7 @@ fn instances<'a>(
     alloc: Global,
     circuit: &Circuit,
     statements: &'a [Stmt],
-) -> Result<Vec<Instance<'a>>, ElabFault>
+) -> Result<Vec<Instance<'a>>, AllocError>
     requires { length circuit.now.modules < 2 ^ 32 }
     ensures { IfOk result (λ instances. map held_of instances.items ≡ held_by circuit.now.modules statements.now) }
 {
@@ -61,7 +60,7 @@ fn instances<'a>(
 fn add_instance<'a>(
     instances: &mut Vec<Instance<'a>>,
     instance: Option<Instance<'a>>,
-) -> Result<(), ElabFault>
+) -> Result<(), AllocError>
     ensures { OnOk result (map held_of instances.new.items ≡ map held_of instances.old.items ++ option_to_list (option_map held_of instance.entry)) }
 {
     match instance {
@@ -89,10 +88,7 @@ fn instance_of<'a>(circuit: &Circuit, kind: &'a StmtKind) -> Option<Instance<'a>
 }
 
 // The memories that statements make.
-fn memories<'a>(
-    alloc: Global,
-    statements: &'a [Stmt],
-) -> Result<Vec<OwnMemory<'a>>, ElabFault>
+fn memories<'a>(alloc: Global, statements: &'a [Stmt]) -> Result<Vec<OwnMemory<'a>>, AllocError>
     ensures { IfOk result (λ memories. map own_bank_of memories.items ≡ own_banks statements.now) }
 {
     let mut memories = Vec::new(alloc);
@@ -107,7 +103,7 @@ fn add_statement_memory<'a>(
     alloc: Global,
     memories: &mut Vec<OwnMemory<'a>>,
     kind: &'a StmtKind,
-) -> Result<(), ElabFault>
+) -> Result<(), AllocError>
     ensures { OnOk result (map own_bank_of memories.new.items ≡ map own_bank_of memories.old.items ++ option_to_list (bank_of_kind kind.now)) }
 {
     match kind {
@@ -124,7 +120,7 @@ fn add_memory<'a>(
     memories: &mut Vec<OwnMemory<'a>>,
     name: &'a Name,
     bank: Option<Bank<'a>>,
-) -> Result<(), ElabFault>
+) -> Result<(), AllocError>
     ensures { OnOk result (map own_bank_of memories.new.items ≡ map own_bank_of memories.old.items ++ option_to_list (option_map (own_bank name.now) (option_map bank_seen bank.entry))) }
 {
     match bank {
@@ -144,9 +140,10 @@ fn digest_of<'a>(
     circuit: &Circuit,
     number: u32,
     body: &'a Module,
-) -> Result<Digest<'a>, ElabFault>
+) -> Result<Digest<'a>, AllocError>
     requires few { length circuit.now.modules < 2 ^ 32 }
     requires same { circuit.now ≡ typed.now.circuit }
+    requires there { number < length typed.now.circuit.modules }
     requires body { body.now ≡ module_at circuit.now.modules number }
     ensures { IfOk result (IsDigest (types_of typed.now.circuit) typed.now.circuit.modules number) }
 {
@@ -160,14 +157,11 @@ fn digest_of<'a>(
 }
 
 /// What each module of a circuit says, by the modules' places.
-pub(crate) fn digests<'a>(
-    alloc: Global,
-    typed: &Typed<'a>,
-) -> Result<Vec<Digest<'a>>, ElabFault>
+pub(crate) fn digests<'a>(alloc: Global, typed: &Typed<'a>) -> Result<Vec<Digest<'a>>, AllocError>
     requires { length typed.now.circuit.modules < 2 ^ 32 }
     ensures { IfOk result (λ digests. AreDigests (types_of typed.now.circuit) typed.now.circuit.modules digests.items) }
 {
-    let circuit = typed.circuit();
+    let circuit = typed.names().circuit();
     let modules = circuit.modules();
     let mut digests = Vec::new(alloc);
     for body in modules {

@@ -3,26 +3,24 @@ ghost use Rattle.std.specs.Prelude.{◌≡◌, ◌<◌, ◌^◌, [], length, map
 ghost use Rattle.gg_ast.specs.Places.{place_of};
 ghost use Rattle.gg_ast.specs.Tree.{module_names};
 ghost use Rattle.gg_elab.specs.Building.{IsPlaceIn};
-ghost use Rattle.gg_elab.specs.IsFlat.{IsFlatWith};
+ghost use Rattle.gg_elab.specs.IsFlat.{IsFlat, IsFlatWith};
 ghost use Rattle.gg_elab.specs.Known.{types_of};
 ghost use Rattle.gg_elab.specs.Limits.{excess_over, IsAnswered};
-ghost use Rattle.gg_walk.specs.Graph.{IsOrderOf};
 ghost use Rattle.gg_elab.specs.Views.{AreDigests, site_of};
-ghost use Rattle.gg_count.specs.Sites.{HoldsModule};
 
 use crate::build::add_sites;
 use crate::digest::{Digest, digests};
 use crate::fault::ElabFault;
-use crate::known::Typed;
 use crate::ports::{add_all_memories, add_ports};
 use crate::sites::{Place, places};
 use crate::table::table_of;
 use gg_count::count;
 use gg_flat::Piece;
-use std::alloc::Global;
+use gg_types::Typed;
+use std::alloc::{AllocError, Global};
 
 // How many signals each module has of its own.
-fn own_counts(alloc: Global, digests: &[Digest]) -> Result<Vec<u64>, ElabFault>
+fn own_counts(alloc: Global, digests: &[Digest]) -> Result<Vec<u64>, AllocError>
     ensures { IfOk result (λ counts. counts.items ≡ map (λ d. length d.signals.items) digests.now) }
 {
     let mut counts = Vec::new(alloc);
@@ -39,13 +37,13 @@ fn build<'a>(
     typed: &Typed<'a>,
     digests: &[Digest<'a>],
     top: u32,
-) -> Result<Piece, ElabFault>
+) -> Result<Piece, AllocError>
     requires digests { AreDigests (types_of typed.now.circuit) typed.now.circuit.modules digests.now }
     requires few { length typed.now.circuit.modules < 2 ^ 32 }
     requires top { place_of typed.now.circuit.name (module_names typed.now.circuit) ≡ Some top }
     ensures { IfOk result (IsFlatWith (types_of typed.now.circuit) typed.now.circuit) }
 {
-    let modules = typed.circuit().modules();
+    let modules = typed.names().circuit().modules();
     let places = places(alloc, typed, digests, top)?;
     let table = table_of(alloc, typed, digests, places.as_slice())?;
     let mut piece = Piece::new(alloc);
@@ -61,20 +59,18 @@ fn build<'a>(
 ///
 /// `TooLarge` with the first count that is above its limit, exactly where there is one; `NoMemory`, where memory is refused.
 pub fn flatten(alloc: Global, typed: &Typed) -> Result<Piece, ElabFault>
-    requires few { length typed.now.circuit.modules < 2 ^ 32 }
-    requires order { IsOrderOf (HoldsModule typed.now.circuit.modules) (length typed.now.circuit.modules) typed.now.order }
-    ensures flat { IfOk result (IsFlatWith (types_of typed.now.circuit) typed.now.circuit) }
+    ensures flat { IfOk result (IsFlat typed.now.circuit) }
     ensures limits { IsAnswered (excess_over (types_of typed.now.circuit) typed.now.circuit.modules (place_of typed.now.circuit.name (module_names typed.now.circuit))) result }
 {
-    let circuit = typed.circuit();
+    let circuit = typed.names().circuit();
     let Some(top) = circuit.module(circuit.name().as_str()) else {
         return Ok(Piece::new(alloc));
     };
     let digests = digests(alloc, typed)?;
     let own = own_counts(alloc, digests.as_slice())?;
     let counts = count(alloc, circuit, typed.order(), top, own.as_slice())?;
-    if let Some(excess) = counts.excess() {
-        return Err(ElabFault::TooLarge(excess));
+    match counts.excess() {
+        Some(excess) => Err(ElabFault::TooLarge(excess)),
+        None => Ok(build(alloc, typed, digests.as_slice(), top)?),
     }
-    build(alloc, typed, digests.as_slice(), top)
 }

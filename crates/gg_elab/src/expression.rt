@@ -4,14 +4,13 @@ ghost use Rattle.gg_bits.specs.Shape.{shape};
 ghost use Rattle.gg_ast.specs.Term.{NamedTerm, ConstantTerm};
 ghost use Rattle.gg_elab.specs.Growing.{where_of, shape_of, IsZeroNode, IsResultNode, IsPlaced, Added};
 
-use crate::fault::ElabFault;
 use crate::lookup::find;
 use crate::scope::Scope;
 use gg_ast::{Expr, ExprKind, Literal, Reference};
 use gg_bits::{Bad, Kind, Ty, Val, result_const, result_mux, result1, result2};
 use gg_flat::{Line, Node, Op};
 use gg_types::literal;
-use std::alloc::Global;
+use std::alloc::{AllocError, Global};
 
 /// The node of a line that stands for an expression.
 #[derive(Clone, Copy)]
@@ -23,26 +22,26 @@ pub(crate) struct Stand {
 }
 
 // Adds a node at the end. A line of 4,294,967,296 nodes is refused as want of memory.
-fn add_node(line: &mut Line, ty: Ty, op: Op) -> Result<Stand, ElabFault>
+fn add_node(line: &mut Line, ty: Ty, op: Op) -> Result<Stand, AllocError>
     ensures { IfOk result (λ stand. IsPlaced (λ n. (n.ty ≡ ty) × (n.op ≡ op)) line.old line.new stand) }
 {
     let node = match u32::try_from(line.len()) {
         Ok(node) => node,
-        Err(_) => return Err(ElabFault::NoMemory),
+        Err(_) => return Err(AllocError),
     };
     line.push(Node { ty, op })?;
     Ok(Stand { node, ty })
 }
 
 // Adds the node of the UInt<1> 0.
-fn add_zero(line: &mut Line) -> Result<Stand, ElabFault>
+fn add_zero(line: &mut Line) -> Result<Stand, AllocError>
     ensures { IfOk result (λ stand. IsPlaced IsZeroNode line.old line.new stand) }
 {
     add_node(line, Ty::new(Kind::UInt, 1), Op::Literal(Val(0)))
 }
 
 // Adds the node of an operation with this result, or of 0 where it has none.
-fn add_result(line: &mut Line, found: Result<Ty, Bad>, op: Op) -> Result<Stand, ElabFault>
+fn add_result(line: &mut Line, found: Result<Ty, Bad>, op: Op) -> Result<Stand, AllocError>
     ensures { IfOk result (λ stand. IsPlaced (IsResultNode found op) line.old line.new stand) }
 {
     match found {
@@ -57,7 +56,7 @@ fn add_reference(
     scope: &Scope,
     line: &mut Line,
     reference: &Reference,
-) -> Result<Stand, ElabFault>
+) -> Result<Stand, AllocError>
     ensures { IfOk result (λ stand. Added (where_of scope.now) line.old line.new (NamedTerm reference.now) stand.node × (shape stand.ty ≡ shape_of (where_of scope.now) (NamedTerm reference.now))) }
 {
     match find(alloc, scope, reference)? {
@@ -70,7 +69,7 @@ fn add_reference(
 }
 
 // Adds the node of a literal.
-fn add_literal(scope: &Scope, line: &mut Line, constant: &Literal) -> Result<Stand, ElabFault>
+fn add_literal(scope: &Scope, line: &mut Line, constant: &Literal) -> Result<Stand, AllocError>
     ensures { IfOk result (λ stand. Added (where_of scope.now) line.old line.new (ConstantTerm constant.now) stand.node × (shape stand.ty ≡ shape_of (where_of scope.now) (ConstantTerm constant.now))) }
 {
     let _ = scope;
@@ -86,7 +85,7 @@ pub(crate) fn add_expression(
     scope: &Scope,
     line: &mut Line,
     e: &Expr,
-) -> Result<Stand, ElabFault>
+) -> Result<Stand, AllocError>
     ensures { IfOk result (λ stand. Added (where_of scope.now) line.old line.new e.now stand.node × (shape stand.ty ≡ shape_of (where_of scope.now) e.now)) }
 {
     match &e.kind {
@@ -103,13 +102,21 @@ pub(crate) fn add_expression(
         }
         ExprKind::Fixed(op, a, n, m) => {
             let a = add_expression(alloc, scope, line, a)?;
-            add_result(line, result_const(*op, a.ty, *n, *m), Op::Fix(*op, a.node, *n, *m))
+            add_result(
+                line,
+                result_const(*op, a.ty, *n, *m),
+                Op::Fix(*op, a.node, *n, *m),
+            )
         }
         ExprKind::Mux(c, a, b) => {
             let c = add_expression(alloc, scope, line, c)?;
             let a = add_expression(alloc, scope, line, a)?;
             let b = add_expression(alloc, scope, line, b)?;
-            add_result(line, result_mux(c.ty, a.ty, b.ty), Op::Mux(c.node, a.node, b.node))
+            add_result(
+                line,
+                result_mux(c.ty, a.ty, b.ty),
+                Op::Mux(c.node, a.node, b.node),
+            )
         }
     }
 }

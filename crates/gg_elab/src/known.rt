@@ -1,51 +1,27 @@
 //! What the type checks say of the names of a circuit.
-ghost use Rattle.std.specs.Prelude.{◌≡◌, option_map};
+ghost use Rattle.std.specs.Prelude.{◌≡◌, ◌<◌, length, option_map};
 ghost use Rattle.gg_bits.specs.Shape.{shape};
-ghost use Rattle.gg_elab.specs.Known.{types_of};
+ghost use Rattle.gg_types.specs.Typed.{sort};
+ghost use Rattle.gg_elab.specs.Known.{types_of, value_shape};
 
-use gg_ast::{Circuit, Reference};
+use gg_ast::Reference;
 use gg_bits::Ty;
-use std::marker::Model;
+use gg_types::{Typed, Typing};
 
-/// A circuit that the checks passed, with an order of its modules.
-#[derive(Drop)]
-pub struct Typed<'a> {
-    circuit: &'a Circuit,
-    order: Vec<u32>,
+// The type, where there is one and it is no Clock.
+fn ground(typing: Option<Typing>) -> Option<Ty>
+    ensures { option_map (λ ty. shape ty) result ≡ value_shape (option_map sort typing) }
+{
+    match typing? {
+        Typing::Ground(ty) => Some(ty),
+        Typing::Clock => None,
+    }
 }
 
-impl<'a> Model for Typed<'a> {
-    ghost use Rattle.gg_elab.specs.Known.{TypedTree};
-    ghost use Rattle.gg_ast.specs.contracts.expression.Expr as expression;
-    ghost use Rattle.std.specs.Coded.{codes};
-
-    ghost Value = { TypedTree };
-
-    ghost coded = { Prim.hlevel (codes, expression.the_row.coded) };
-
-    ghost view = { λ typed. record { circuit = typed.circuit.now; order = typed.order.items } };
-}
-
-impl<'a> Typed<'a> {
-    /// The circuit.
-    pub fn circuit(&self) -> &'a Circuit
-        ensures { result.now ≡ self.now.circuit }
-    {
-        self.circuit
-    }
-
-    /// The modules, each behind all that it holds.
-    pub fn order(&self) -> &[u32]
-        ensures { result.now ≡ self.now.order }
-    {
-        self.order.as_slice()
-    }
-
-    /// The type of what a reference names in a module, where that is a value and no Clock.
-    pub(crate) fn value_type(&self, number: u32, reference: &Reference) -> Option<Ty>
-        ensures { option_map (λ ty. shape ty) result ≡ types_of self.now.circuit number reference.now }
-    {
-        let _ = self.order.len();
-        None
-    }
+/// The type of what a reference names in a module, where that is a value and no Clock.
+pub(crate) fn value_type(typed: &Typed, number: u32, reference: &Reference) -> Option<Ty>
+    requires { number < length typed.now.circuit.modules }
+    ensures { option_map (λ ty. shape ty) result ≡ types_of typed.now.circuit number reference.now }
+{
+    ground(typed.typing(number, reference))
 }

@@ -1,4 +1,16 @@
 //! The elaboration: from a circuit to its flat circuit.
+//!
+//! The signals of a circuit are those of its top and of every instance below it, by their paths (`flat_signals`); so are its
+//! memories (`flat_memories`). A name that is written at a site stands for the signal whose path is the site's with the
+//! name behind it (`named`); an instance's input is connected where the instance is held. The crate promises:
+//!
+//! - what `flatten` gives is the flat circuit of the circuit (`IsFlatWith`): just these signals, each with its type and a driver
+//!   that means what its connection, expression, register or memory says and names what that names; the registers in the
+//!   order of the signals; these memories, a module's before those of its instances; and the ports of the top;
+//! - it refuses a circuit exactly where a count is above its limit, with the first that is (`IsAnswered`).
+//!
+//! The definitions are total: what isn't known, or doesn't fit, is 0. In a circuit that the checks pass there is none of it. How a
+//! line is laid out is left open.
 #![tactic(auto)]
 
 mod build;
@@ -21,5 +33,4 @@ mod table;
 
 pub use elaborate::flatten;
 pub use fault::ElabFault;
-pub use known::Typed;
 pub use laws::{one_reads, one_run};

@@ -1,16 +1,16 @@
 //! The lines of the flat circuit.
-ghost use Rattle.std.specs.Prelude.{◌≡◌, ◌∷◌, [], IfOk, OnOk};
+ghost use Rattle.std.specs.Prelude.{◌≡◌, ◌∷◌, [], Some, None, IfOk, OnOk};
 ghost use Rattle.gg_bits.specs.Shape.{shape};
 ghost use Rattle.gg_flat.specs.Line.{HasType, IsSource, IsCondition};
 ghost use Rattle.gg_elab.specs.Growing.{where_of, shape_of, Added, IsCut, IsZeroOf};
 ghost use Rattle.gg_elab.specs.IsFlat.{IsLineFor, IsLineOf, IsConditionOf};
 ghost use Rattle.gg_bits.specs.ResultType.{is_condition};
 ghost use Rattle.gg_elab.specs.Meaning.{takes as takes_shape};
-ghost use Rattle.gg_elab.specs.Views.{seen};
+ghost use Rattle.gg_elab.specs.Views.{seen, connection};
+ghost use Rattle.gg_elab.specs.Connection.{Zeroed};
 
 use crate::connections::Source;
 use crate::expression::add_expression;
-use crate::fault::ElabFault;
 use crate::scope::Scope;
 use gg_ast::Expr;
 use gg_bits::{Kind, Ty, Val};
@@ -43,7 +43,7 @@ fn is_bit(ty: Ty) -> bool
 }
 
 // The line, where its value can be taken; else the same with a 0 of this type behind it.
-fn cut(line: Line, taken: bool, sink: Ty) -> Result<Line, ElabFault>
+fn cut(line: Line, taken: bool, sink: Ty) -> Result<Line, AllocError>
     ensures { IfOk result (IsCut taken line (shape sink)) }
 {
     if taken {
@@ -55,12 +55,7 @@ fn cut(line: Line, taken: bool, sink: Ty) -> Result<Line, ElabFault>
 }
 
 /// The line that gives a sink of this type the value of an expression.
-pub(crate) fn value_line(
-    alloc: Global,
-    scope: &Scope,
-    e: &Expr,
-    ty: Ty,
-) -> Result<Line, ElabFault>
+pub(crate) fn value_line(alloc: Global, scope: &Scope, e: &Expr, ty: Ty) -> Result<Line, AllocError>
     ensures stands { IfOk result (IsLineOf (where_of scope.now).types (where_of scope.now).signals (where_of scope.now).scope (shape ty) e.now) }
     ensures fits { IfOk result (IsSource (HasType (where_of scope.now).signals.shapes) (shape ty)) }
 {
@@ -75,26 +70,41 @@ pub(crate) fn source_line(
     scope: &Scope,
     source: Option<Source>,
     ty: Ty,
-) -> Result<Line, ElabFault>
+) -> Result<Line, AllocError>
     ensures stands { IfOk result (IsLineFor (where_of scope.now).types (where_of scope.now).signals (where_of scope.now).scope (shape ty) (seen source.entry)) }
     ensures fits { IfOk result (IsSource (HasType (where_of scope.now).signals.shapes) (shape ty)) }
 {
     match source {
-        Some(Source::Of(e)) => value_line(alloc, scope, e, ty),
-        Some(Source::Zero) | None => {
-            let mut line = Line::new(alloc);
-            add_zero_of(&mut line, ty)?;
-            Ok(line)
-        }
+        Some(source) => given_line(alloc, scope, source, ty),
+        None => zero_line(alloc, scope, ty),
+    }
+}
+
+// The line of 0 alone.
+fn zero_line(alloc: Global, scope: &Scope, ty: Ty) -> Result<Line, AllocError>
+    ensures none { IfOk result (IsLineFor (where_of scope.now).types (where_of scope.now).signals (where_of scope.now).scope (shape ty) None) }
+    ensures zeroed { IfOk result (IsLineFor (where_of scope.now).types (where_of scope.now).signals (where_of scope.now).scope (shape ty) (Some Zeroed)) }
+    ensures fits { IfOk result (IsSource (HasType (where_of scope.now).signals.shapes) (shape ty)) }
+{
+    let _ = scope.number;
+    let mut line = Line::new(alloc);
+    add_zero_of(&mut line, ty)?;
+    Ok(line)
+}
+
+// The line that gives a sink of this type a connection.
+fn given_line(alloc: Global, scope: &Scope, source: Source, ty: Ty) -> Result<Line, AllocError>
+    ensures stands { IfOk result (IsLineFor (where_of scope.now).types (where_of scope.now).signals (where_of scope.now).scope (shape ty) (Some (connection source.entry))) }
+    ensures fits { IfOk result (IsSource (HasType (where_of scope.now).signals.shapes) (shape ty)) }
+{
+    match source {
+        Source::Of(e) => value_line(alloc, scope, e, ty),
+        Source::Zero => zero_line(alloc, scope, ty),
     }
 }
 
 /// The line of a condition.
-pub(crate) fn condition_line(
-    alloc: Global,
-    scope: &Scope,
-    e: &Expr,
-) -> Result<Line, ElabFault>
+pub(crate) fn condition_line(alloc: Global, scope: &Scope, e: &Expr) -> Result<Line, AllocError>
     ensures stands { IfOk result (IsConditionOf (where_of scope.now).types (where_of scope.now).signals (where_of scope.now).scope e.now) }
     ensures fits { IfOk result (IsCondition (HasType (where_of scope.now).signals.shapes)) }
 {

@@ -3,21 +3,21 @@ ghost use Rattle.std.specs.Prelude.{◌≡◌, IfOk};
 ghost use Rattle.gg_elab.specs.Meaning.{named};
 ghost use Rattle.gg_elab.specs.Growing.{where_of};
 
-use crate::fault::ElabFault;
+use crate::known::value_type;
 use crate::names::{joined, written};
 use crate::scope::Scope;
 use gg_ast::Reference;
-use std::alloc::Global;
+use std::alloc::{AllocError, Global};
 
 /// The signal that a reference names, by its number.
 pub(crate) fn find(
     alloc: Global,
     scope: &Scope,
     reference: &Reference,
-) -> Result<Option<u32>, ElabFault>
+) -> Result<Option<u32>, AllocError>
     ensures { IfOk result (λ found. found ≡ named (where_of scope.now).types (where_of scope.now).signals (where_of scope.now).scope reference.now) }
 {
-    if scope.typed.value_type(scope.number, reference).is_none() {
+    if value_type(scope.typed, scope.number, reference).is_none() {
         return Ok(None);
     }
     let name = written(alloc, reference)?;

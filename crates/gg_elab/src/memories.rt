@@ -5,11 +5,10 @@ ghost use Rattle.gg_ast.specs.declared.statement.Field.{Field};
 ghost use Rattle.gg_elab.specs.Memories.{type_shape, sized as sized_shape, first_said, type_said, depth_said, latency_said, under_said, under_write, readers_said, writers_said, latency_of, bank_of, bank_with};
 ghost use Rattle.gg_elab.specs.Views.{bank_seen};
 
-use crate::fault::ElabFault;
 use gg_ast::{Field, GroundType, MemoryField, ReadUnderWrite};
 use gg_bits::{Kind, Name, Ty};
 use gg_flat::{Latency, UnderWrite};
-use std::alloc::Global;
+use std::alloc::{AllocError, Global};
 
 /// A memory: its words, how many there are, its latency, and the names of its ports in the order of the file.
 #[derive(Drop)]
@@ -22,7 +21,7 @@ pub(crate) struct Bank<'a> {
 }
 
 /// The type of a signal; none of a Clock, and none of a width that is 0 or above 128.
-pub(crate) fn value_type(ty: GroundType) -> Option<Ty>
+pub(crate) fn ground_type(ty: GroundType) -> Option<Ty>
     ensures { option_map (λ t. shape t) result ≡ type_shape ty }
 {
     match ty {
@@ -113,7 +112,7 @@ fn latency_of(under: UnderWrite, cycles: u32) -> Option<Latency>
 }
 
 // The names behind others.
-fn add_names<'a>(names: &mut Vec<&'a Name>, more: &'a [Name]) -> Result<(), ElabFault>
+fn add_names<'a>(names: &mut Vec<&'a Name>, more: &'a [Name]) -> Result<(), AllocError>
     ensures { OnOk result (map (λ n. n.now) names.new.items ≡ map (λ n. n.now) names.old.items ++ more.now) }
 {
     for name in more {
@@ -124,7 +123,7 @@ fn add_names<'a>(names: &mut Vec<&'a Name>, more: &'a [Name]) -> Result<(), Elab
 }
 
 // The names of the readers.
-fn readers<'a>(alloc: Global, fields: &'a [Field]) -> Result<Vec<&'a Name>, ElabFault>
+fn readers<'a>(alloc: Global, fields: &'a [Field]) -> Result<Vec<&'a Name>, AllocError>
     ensures { IfOk result (λ names. map (λ n. n.now) names.items ≡ flat_map (λ (f : Field). readers_said f.kind) fields.now) }
 {
     let mut names = Vec::new(alloc);
@@ -137,7 +136,7 @@ fn readers<'a>(alloc: Global, fields: &'a [Field]) -> Result<Vec<&'a Name>, Elab
 }
 
 // The names of the writers.
-fn writers<'a>(alloc: Global, fields: &'a [Field]) -> Result<Vec<&'a Name>, ElabFault>
+fn writers<'a>(alloc: Global, fields: &'a [Field]) -> Result<Vec<&'a Name>, AllocError>
     ensures { IfOk result (λ names. map (λ n. n.now) names.items ≡ flat_map (λ (f : Field). writers_said f.kind) fields.now) }
 {
     let mut names = Vec::new(alloc);
@@ -175,11 +174,11 @@ fn bank_with<'a>(
 pub(crate) fn bank_of<'a>(
     alloc: Global,
     fields: &'a [Field],
-) -> Result<Option<Bank<'a>>, ElabFault>
+) -> Result<Option<Bank<'a>>, AllocError>
     ensures { IfOk result (λ bank. option_map bank_seen bank ≡ bank_of fields.now) }
 {
     let word = match said_type(fields) {
-        Some(ty) => value_type(ty),
+        Some(ty) => ground_type(ty),
         None => None,
     };
     let under = said_under(fields).unwrap_or(UnderWrite::Undefined);

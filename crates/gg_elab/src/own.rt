@@ -6,14 +6,14 @@ ghost use Rattle.gg_elab.specs.Known.{types_of};
 ghost use Rattle.gg_elab.specs.Signals.{own, own_of_port, own_of_kind, own_signals as signals_of_module, memory_signals, reader_signals, readers_signals, writer_signals};
 ghost use Rattle.gg_elab.specs.Views.{own_of, cause_of, bank_seen};
 
-use crate::fault::ElabFault;
-use crate::known::Typed;
-use crate::memories::{Bank, bank_of, value_type};
+use crate::known::value_type;
+use crate::memories::{Bank, bank_of, ground_type};
 use crate::names::field_name;
 use gg_ast::{Direction, Expr, Module, Port, Reference, Reset, Stmt, StmtKind};
 use gg_bits::{Kind, Name, Ty};
 use gg_flat::{Latency, address_width};
-use std::alloc::Global;
+use gg_types::Typed;
+use std::alloc::{AllocError, Global};
 
 /// What gives a signal its value, as its module says it.
 #[derive(Clone, Copy)]
@@ -44,7 +44,7 @@ fn add<'a>(
     name: Name,
     ty: Ty,
     origin: Origin<'a>,
-) -> Result<(), ElabFault>
+) -> Result<(), AllocError>
     ensures { OnOk result (map own_of signals.new.items ≡ map own_of signals.old.items ++ (record { name = name; shape = shape ty; cause = cause_of origin.entry }) ∷ []) }
 {
     signals.reserve(1)?;
@@ -53,10 +53,10 @@ fn add<'a>(
 }
 
 // Adds the signal of a port, unless it is a Clock.
-fn add_port<'a>(signals: &mut Vec<OwnSignal<'a>>, port: &'a Port) -> Result<(), ElabFault>
+fn add_port<'a>(signals: &mut Vec<OwnSignal<'a>>, port: &'a Port) -> Result<(), AllocError>
     ensures { OnOk result (map own_of signals.new.items ≡ map own_of signals.old.items ++ option_to_list (own_of_port port.now)) }
 {
-    let Some(ty) = value_type(port.ty) else {
+    let Some(ty) = ground_type(port.ty) else {
         return Ok(());
     };
     let origin = match port.direction {
@@ -67,7 +67,7 @@ fn add_port<'a>(signals: &mut Vec<OwnSignal<'a>>, port: &'a Port) -> Result<(), 
 }
 
 // Adds the signals of ports.
-fn add_ports<'a>(signals: &mut Vec<OwnSignal<'a>>, ports: &'a [Port]) -> Result<(), ElabFault>
+fn add_ports<'a>(signals: &mut Vec<OwnSignal<'a>>, ports: &'a [Port]) -> Result<(), AllocError>
     ensures { OnOk result (map own_of signals.new.items ≡ map own_of signals.old.items ++ filter_map own_of_port ports.now) }
 {
     for port in ports {
@@ -84,7 +84,7 @@ fn add_reader<'a>(
     bank: &Bank<'a>,
     place: u32,
     port: &'a Name,
-) -> Result<(), ElabFault>
+) -> Result<(), AllocError>
     ensures { OnOk result (map own_of signals.new.items ≡ map own_of signals.old.items ++ reader_signals memory.now (bank_seen bank.now) place port.now) }
 {
     let address = Ty::new(Kind::UInt, address_width(bank.depth));
@@ -94,7 +94,12 @@ fn add_reader<'a>(
     let en = field_name(alloc, memory, port, "en")?;
     add(signals, en, bit, Origin::Connected)?;
     let word = field_name(alloc, memory, port, "data")?;
-    add(signals, word, bank.word, Origin::Answered(memory, port, place, bank.latency))
+    add(
+        signals,
+        word,
+        bank.word,
+        Origin::Answered(memory, port, place, bank.latency),
+    )
 }
 
 // Adds the fields of a writer.
@@ -104,7 +109,7 @@ fn add_writer<'a>(
     memory: &'a Name,
     bank: &Bank<'a>,
     port: &'a Name,
-) -> Result<(), ElabFault>
+) -> Result<(), AllocError>
     ensures { OnOk result (map own_of signals.new.items ≡ map own_of signals.old.items ++ writer_signals memory.now (bank_seen bank.now) port.now) }
 {
     let address = Ty::new(Kind::UInt, address_width(bank.depth));
@@ -125,7 +130,7 @@ fn add_readers<'a>(
     signals: &mut Vec<OwnSignal<'a>>,
     memory: &'a Name,
     bank: &Bank<'a>,
-) -> Result<(), ElabFault>
+) -> Result<(), AllocError>
     ensures { OnOk result (map own_of signals.new.items ≡ map own_of signals.old.items ++ readers_signals memory.now (bank_seen bank.now) 0 (bank_seen bank.now).readers) }
 {
     let ports = bank.readers.as_slice();
@@ -133,7 +138,7 @@ fn add_readers<'a>(
     for port in ports {
         add_reader(alloc, signals, memory, bank, place, port)?;
         if place == u32::MAX {
-            return Err(ElabFault::NoMemory);
+            return Err(AllocError);
         }
         place += 1;
     }
@@ -146,7 +151,7 @@ fn add_writers<'a>(
     signals: &mut Vec<OwnSignal<'a>>,
     memory: &'a Name,
     bank: &Bank<'a>,
-) -> Result<(), ElabFault>
+) -> Result<(), AllocError>
     ensures { OnOk result (map own_of signals.new.items ≡ map own_of signals.old.items ++ flat_map (writer_signals memory.now (bank_seen bank.now)) (bank_seen bank.now).writers) }
 {
     let ports = bank.writers.as_slice();
@@ -162,7 +167,7 @@ fn add_memory<'a>(
     signals: &mut Vec<OwnSignal<'a>>,
     memory: &'a Name,
     bank: &Option<Bank<'a>>,
-) -> Result<(), ElabFault>
+) -> Result<(), AllocError>
     ensures { OnOk result (map own_of signals.new.items ≡ map own_of signals.old.items ++ memory_signals memory.now (option_map bank_seen bank.now)) }
 {
     match bank {
@@ -180,7 +185,7 @@ fn add_typed<'a>(
     name: &Name,
     ty: Option<Ty>,
     origin: Origin<'a>,
-) -> Result<(), ElabFault>
+) -> Result<(), AllocError>
     ensures { OnOk result (map own_of signals.new.items ≡ map own_of signals.old.items ++ option_to_list (option_map (own name.now (cause_of origin.entry)) (option_map (λ t. shape t) ty))) }
 {
     match ty {
@@ -196,20 +201,29 @@ fn add_statement<'a>(
     number: u32,
     signals: &mut Vec<OwnSignal<'a>>,
     kind: &'a StmtKind,
-) -> Result<(), ElabFault>
+) -> Result<(), AllocError>
+    requires { number < length typed.now.circuit.modules }
     ensures { OnOk result (map own_of signals.new.items ≡ map own_of signals.old.items ++ own_of_kind (types_of typed.now.circuit) number kind.now) }
 {
     match kind {
         StmtKind::Wire { name, ty } => {
-            add_typed(signals, name, value_type(*ty), Origin::Connected)
+            add_typed(signals, name, ground_type(*ty), Origin::Connected)
         }
         StmtKind::Node { name, value } => {
-            let ty = typed.value_type(number, &Reference::Local(name.clone()?));
+            let ty = value_type(typed, number, &Reference::Local(name.clone()?));
             add_typed(signals, name, ty, Origin::Expressed(value))
         }
         StmtKind::Register {
-            name, ty, reset, ..
-        } => add_typed(signals, name, value_type(*ty), Origin::Kept(reset.as_ref())),
+            name,
+            ty,
+            reset,
+            ..
+        } => add_typed(
+            signals,
+            name,
+            ground_type(*ty),
+            Origin::Kept(reset.as_ref()),
+        ),
         StmtKind::Memory { name, fields } => {
             let bank = bank_of(alloc, fields.as_slice())?;
             add_memory(alloc, signals, name, &bank)
@@ -225,7 +239,8 @@ fn add_statements<'a>(
     number: u32,
     signals: &mut Vec<OwnSignal<'a>>,
     statements: &'a [Stmt],
-) -> Result<(), ElabFault>
+) -> Result<(), AllocError>
+    requires { number < length typed.now.circuit.modules }
     ensures { OnOk result (map own_of signals.new.items ≡ map own_of signals.old.items ++ flat_map (λ (s : Stmt). own_of_kind (types_of typed.now.circuit) number s.kind) statements.now) }
 {
     for statement in statements {
@@ -240,7 +255,8 @@ pub(crate) fn own_signals<'a>(
     typed: &Typed,
     number: u32,
     body: &'a Module,
-) -> Result<Vec<OwnSignal<'a>>, ElabFault>
+) -> Result<Vec<OwnSignal<'a>>, AllocError>
+    requires { number < length typed.now.circuit.modules }
     ensures { IfOk result (λ signals. map own_of signals.items ≡ signals_of_module (types_of typed.now.circuit) number body.now) }
 {
     let mut signals = Vec::new(alloc);

@@ -9,16 +9,15 @@ ghost use Rattle.gg_elab.specs.Known.{types_of};
 ghost use Rattle.gg_elab.specs.Views.{own_bank_of, site_of, AreDigests};
 
 use crate::digest::{Digest, OwnMemory};
-use crate::fault::ElabFault;
-use crate::known::Typed;
-use crate::memories::value_type;
+use crate::memories::ground_type;
 use crate::names::{field_name, joined};
 use crate::sites::Place;
 use crate::table::{Table, number};
 use gg_ast::{Direction, Port};
 use gg_bits::Name;
 use gg_flat::{Memory, Paths, Piece, Reader, Readers, Writer, Writers};
-use std::alloc::Global;
+use gg_types::Typed;
+use std::alloc::{AllocError, Global};
 
 // The field of a port of the memory of this path, as a signal.
 fn field(
@@ -27,7 +26,7 @@ fn field(
     memory: &Name,
     port: &Name,
     name: &str,
-) -> Result<u32, ElabFault>
+) -> Result<u32, AllocError>
     ensures { IfOk result (λ signal. signal ≡ field_number paths.now memory.now port.now name.now) }
 {
     let path = field_name(alloc, memory, port, name)?;
@@ -35,7 +34,7 @@ fn field(
 }
 
 // A reader.
-fn reader(alloc: Global, paths: &Paths, memory: &Name, port: &Name) -> Result<Reader, ElabFault>
+fn reader(alloc: Global, paths: &Paths, memory: &Name, port: &Name) -> Result<Reader, AllocError>
     ensures { IfOk result (λ reader. reader ≡ reader_of paths.now memory.now port.now) }
 {
     Ok(Reader {
@@ -46,7 +45,7 @@ fn reader(alloc: Global, paths: &Paths, memory: &Name, port: &Name) -> Result<Re
 }
 
 // A writer.
-fn writer(alloc: Global, paths: &Paths, memory: &Name, port: &Name) -> Result<Writer, ElabFault>
+fn writer(alloc: Global, paths: &Paths, memory: &Name, port: &Name) -> Result<Writer, AllocError>
     ensures { IfOk result (λ writer. writer ≡ writer_of paths.now memory.now port.now) }
 {
     Ok(Writer {
@@ -63,7 +62,7 @@ fn readers(
     paths: &Paths,
     memory: &Name,
     ports: &[&Name],
-) -> Result<Vec<Reader>, ElabFault>
+) -> Result<Vec<Reader>, AllocError>
     ensures { IfOk result (λ readers. readers.items ≡ map (λ port. reader_of paths.now memory.now port.now) ports.now) }
 {
     let mut readers = Vec::new(alloc);
@@ -81,7 +80,7 @@ fn writers(
     paths: &Paths,
     memory: &Name,
     ports: &[&Name],
-) -> Result<Vec<Writer>, ElabFault>
+) -> Result<Vec<Writer>, AllocError>
     ensures { IfOk result (λ writers. writers.items ≡ map (λ port. writer_of paths.now memory.now port.now) ports.now) }
 {
     let mut writers = Vec::new(alloc);
@@ -94,12 +93,7 @@ fn writers(
 }
 
 // The memory of a site's module, at the site.
-fn memory(
-    alloc: Global,
-    paths: &Paths,
-    path: &Name,
-    own: &OwnMemory,
-) -> Result<Memory, ElabFault>
+fn memory(alloc: Global, paths: &Paths, path: &Name, own: &OwnMemory) -> Result<Memory, AllocError>
     ensures { IfOk result (λ memory. (place : Place) → place.path ≡ path.now → IsMemoryOf paths.now (flat_memory (site_of place) (own_bank_of own.now)) memory) }
 {
     let path = joined(alloc, path, own.name)?;
@@ -120,7 +114,7 @@ fn add_memories(
     path: &Name,
     memories: &[OwnMemory],
     piece: &mut Piece,
-) -> Result<(), ElabFault>
+) -> Result<(), AllocError>
     ensures { OnOk result ((place : Place) (said : List FlatMemory) → place.path ≡ path.now → HasMemories paths.now said piece.old piece.old → HasMemories paths.now (said ++ map (λ m. flat_memory (site_of place) (own_bank_of m)) memories.now) piece.old piece.new) }
 {
     for own in memories {
@@ -138,7 +132,7 @@ pub(crate) fn add_all_memories(
     digests: &[Digest],
     places: &[Place],
     piece: &mut Piece,
-) -> Result<(), ElabFault>
+) -> Result<(), AllocError>
     requires digests { AreDigests (types_of typed.now.circuit) typed.now.circuit.modules digests.now }
     requires places { All (IsPlaceIn (length typed.now.circuit.modules)) places.now }
     requires none { piece.old.memories ≡ [] }
@@ -152,12 +146,12 @@ pub(crate) fn add_all_memories(
 }
 
 // Adds a port of the top, unless it is a Clock.
-fn add_port(paths: &Paths, port: &Port, piece: &mut Piece) -> Result<(), ElabFault>
+fn add_port(paths: &Paths, port: &Port, piece: &mut Piece) -> Result<(), AllocError>
     ensures ins { OnOk result (piece.new.ins ≡ piece.old.ins ++ map (number_of paths.now) (port_names direction.Input (port.now ∷ []))) }
     ensures outs { OnOk result (piece.new.outs ≡ piece.old.outs ++ map (number_of paths.now) (port_names direction.Output (port.now ∷ []))) }
     ensures rest { OnOk result (piece.new ≡ record piece.old { ins = piece.new.ins; outs = piece.new.outs }) }
 {
-    if value_type(port.ty).is_none() {
+    if ground_type(port.ty).is_none() {
         return Ok(());
     }
     let signal = number(paths, &port.name);
@@ -168,7 +162,7 @@ fn add_port(paths: &Paths, port: &Port, piece: &mut Piece) -> Result<(), ElabFau
 }
 
 /// Adds the ports of the top.
-pub(crate) fn add_ports(paths: &Paths, ports: &[Port], piece: &mut Piece) -> Result<(), ElabFault>
+pub(crate) fn add_ports(paths: &Paths, ports: &[Port], piece: &mut Piece) -> Result<(), AllocError>
     ensures ins { OnOk result (piece.new.ins ≡ piece.old.ins ++ map (number_of paths.now) (port_names direction.Input ports.now)) }
     ensures outs { OnOk result (piece.new.outs ≡ piece.old.outs ++ map (number_of paths.now) (port_names direction.Output ports.now)) }
     ensures rest { OnOk result (piece.new ≡ record piece.old { ins = piece.new.ins; outs = piece.new.outs }) }

@@ -1,9 +1,9 @@
 //! `Scope`: where names stand.
-ghost use Rattle.std.specs.Prelude.{◌≡◌, length};
+ghost use Rattle.std.specs.Prelude.{◌≡◌, ◌<◌, length};
 
-use crate::known::Typed;
 use crate::table::Table;
 use gg_bits::Name;
+use gg_types::Typed;
 
 /// What an expression is read by: what the type checks say, the circuit's signals, the site's path, and the place of its module.
 #[derive(Clone, Copy)]
@@ -12,5 +12,6 @@ pub(crate) struct Scope<'a> {
     pub(crate) table: &'a Table,
     pub(crate) path: &'a Name,
     pub(crate) number: u32,
+    ghost there: { number < length typed.now.circuit.modules },
     ghost even: { length table.now.types.items ≡ length table.now.paths },
 }

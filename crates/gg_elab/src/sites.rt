@@ -1,5 +1,5 @@
 //! The sites of a circuit: its top and all instances below it.
-ghost use Rattle.std.specs.Prelude.{◌≡◌, ◌+◌, ◌<◌, ◌^◌, ◌++◌, map, length, Some, OnOk, IfOk, All};
+ghost use Rattle.std.specs.Prelude.{◌≡◌, ◌+◌, ◌<◌, ◌^◌, ◌++◌, map, length, Some, OnOk, IfOk, IfSome, All};
 ghost use Rattle.gg_count.specs.Sites.{sites as sites_below, site_below, top_site, all_sites};
 ghost use Rattle.gg_elab.specs.Known.{types_of};
 ghost use Rattle.gg_flat.specs.Tree.{joined as joined_text};
@@ -7,11 +7,10 @@ ghost use Rattle.gg_elab.specs.Building.{IsPlaceIn};
 ghost use Rattle.gg_elab.specs.Views.{site_of, held_of, AreDigests};
 
 use crate::digest::{Digest, Instance};
-use crate::fault::ElabFault;
-use crate::known::Typed;
 use crate::names::joined;
 use gg_bits::Name;
-use std::alloc::Global;
+use gg_types::Typed;
+use std::alloc::{AllocError, Global};
 
 /// What holds an instance: its path, its module's place, and the name that the instance has there.
 #[derive(Drop)]
@@ -40,9 +39,12 @@ fn below<'a>(
     depth: u32,
     parent: u32,
     instance: Instance<'a>,
-) -> Result<Place<'a>, ElabFault>
+) -> Result<Place<'a>, AllocError>
     requires { depth + 1 < 2 ^ 32 }
-    ensures { IfOk result (λ place. site_of place ≡ record { path = joined_text path.now instance.entry.name.now; number = instance.entry.number; depth = depth + 1; outer = Some (record { path = path.now; number = number; name = instance.entry.name.now }) }) }
+    ensures number { IfOk result (λ place. place.number ≡ instance.entry.number) }
+    ensures depth { IfOk result (λ place. place.depth ≡ depth + 1) }
+    ensures around { IfOk result (λ place. IfSome place.outer (λ a. a.number ≡ number)) }
+    ensures site { IfOk result (λ place. site_of place ≡ record { path = joined_text path.now instance.entry.name.now; number = instance.entry.number; depth = depth + 1; outer = Some (record { path = path.now; number = number; name = instance.entry.name.now }) }) }
 {
     Ok(Place {
         path: joined(alloc, path, instance.name)?,
@@ -65,15 +67,15 @@ fn add_site<'a>(
     levels: usize,
     here: Place<'a>,
     places: &mut Vec<Place<'a>>,
-) -> Result<(), ElabFault>
+) -> Result<(), AllocError>
     requires digests { AreDigests (types_of typed.now.circuit) typed.now.circuit.modules digests.now }
     requires number { IsPlaceIn (length typed.now.circuit.modules) here }
     requires depth { here.depth + levels < 2 ^ 32 }
     ensures within { OnOk result (All (IsPlaceIn (length typed.now.circuit.modules)) places.old.items → All (IsPlaceIn (length typed.now.circuit.modules)) places.new.items) }
-    ensures sites { OnOk result (map site_of places.new.items ≡ map site_of places.old.items ++ sites_below levels typed.now.circuit.modules (site_of here)) }
+    ensures sites { OnOk result (map site_of places.new.items ≡ map site_of places.old.items ++ sites_below levels typed.now.circuit.modules (site_of here.entry)) }
 {
     if places.len() >= u32::MAX as usize {
-        return Err(ElabFault::NoMemory);
+        return Err(AllocError);
     }
     let parent = places.len() as u32;
     let path = here.path.clone()?;
@@ -98,7 +100,7 @@ pub(crate) fn places<'a>(
     typed: &Typed,
     digests: &[Digest<'a>],
     top: u32,
-) -> Result<Vec<Place<'a>>, ElabFault>
+) -> Result<Vec<Place<'a>>, AllocError>
     requires few { length typed.now.circuit.modules < 2 ^ 32 }
     requires digests { AreDigests (types_of typed.now.circuit) typed.now.circuit.modules digests.now }
     requires top { top < length typed.now.circuit.modules }

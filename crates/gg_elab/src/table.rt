@@ -9,14 +9,13 @@ ghost use Rattle.gg_elab.specs.Views.{site_of, AreDigests};
 ghost use Rattle.gg_elab.specs.Growing.{table_signals};
 
 use crate::digest::{Digest, OwnMemory};
-use crate::fault::ElabFault;
-use crate::known::Typed;
 use crate::names::joined;
 use crate::own::OwnSignal;
 use crate::sites::Place;
 use gg_bits::{Name, Ty};
 use gg_flat::{AddError, Paths};
-use std::alloc::Global;
+use gg_types::Typed;
+use std::alloc::{AllocError, Global};
 
 /// The paths and types of all signals, and the paths of all memories, in order.
 #[derive(Drop)]
@@ -27,15 +26,15 @@ pub(crate) struct Table {
 }
 
 // Adds a path. No path comes twice; more than 4,294,967,295 are refused as want of memory.
-fn add_path(paths: &mut Paths, path: Name) -> Result<(), ElabFault>
+fn add_path(paths: &mut Paths, path: Name) -> Result<(), AllocError>
     ensures { OnOk result (paths.new ≡ paths.old ++ path ∷ []) }
 {
     if paths.len() >= u32::MAX as usize {
-        return Err(ElabFault::NoMemory);
+        return Err(AllocError);
     }
     match paths.add(path) {
         Ok(()) => Ok(()),
-        Err(AddError::Doubled | AddError::NoMemory) => Err(ElabFault::NoMemory),
+        Err(AddError::Doubled | AddError::NoMemory) => Err(AllocError),
     }
 }
 
@@ -45,7 +44,7 @@ fn add_signals(
     table: &mut Table,
     path: &Name,
     signals: &[OwnSignal],
-) -> Result<(), ElabFault>
+) -> Result<(), AllocError>
     ensures paths { OnOk result (table.new.paths ≡ table.old.paths ++ map (λ s. joined_text path.now s.name) signals.now) }
     ensures types { OnOk result (map (λ t. shape t) table.new.types.items ≡ map (λ t. shape t) table.old.types.items ++ map (λ s. shape s.ty) signals.now) }
     ensures memories { OnOk result (table.new.memories ≡ table.old.memories) }
@@ -64,7 +63,7 @@ fn add_memories(
     table: &mut Table,
     path: &Name,
     memories: &[OwnMemory],
-) -> Result<(), ElabFault>
+) -> Result<(), AllocError>
     ensures memories { OnOk result (table.new.memories ≡ table.old.memories ++ map (λ m. joined_text path.now m.name.now) memories.now) }
     ensures paths { OnOk result (table.new.paths ≡ table.old.paths) }
     ensures types { OnOk result (table.new.types ≡ table.old.types) }
@@ -81,7 +80,7 @@ pub(crate) fn table_of(
     typed: &Typed,
     digests: &[Digest],
     places: &[Place],
-) -> Result<Table, ElabFault>
+) -> Result<Table, AllocError>
     requires digests { AreDigests (types_of typed.now.circuit) typed.now.circuit.modules digests.now }
     requires numbers { All (λ place. place.number < length typed.now.circuit.modules) places.now }
     ensures signals { IfOk result (λ table. table_signals table ≡ signals_of (flat_signals (types_of typed.now.circuit) typed.now.circuit.modules (map site_of places.now))) }

@@ -1,4 +1,4 @@
--- Where no expression names an output port or a wire, the order by places is one.
+-- Where no expression names an output port or a wire, no signal that is read reads one that doesn't stand before it.
 use Rattle.std.proofs.Common.{◌≡◌, ℕ, suc, ◌<◌, ◌≤◌, ◌⊎◌, inl, inr, List, [], ◌∷◌, ◌++◌, length, Bool, true, false, not, ◌&&◌, ◌||◌, refl, sym, ap, ◌∙◌, subst, arith, Option, None, Some, get_or, append_assoc, map, fold, if◌then◌else◌}
 use Rattle.std.specs.Prelude.{is_some, All}
 use Rattle.std.specs.List.{list_any, list_all, flat_map}
@@ -31,10 +31,9 @@ use Rattle.gg_flat.specs.declared.line.Node.{Node}
 use Rattle.gg_flat.specs.declared.piece.Driver.{Driver}
 use Rattle.gg_flat.specs.declared.piece.Driver.TheVariants as drives
 use Rattle.gg_flat.specs.Circuit.{FlatCircuit, driver_at}
-use Rattle.gg_flat.specs.Reads.{Names, NamesSignal}
+use Rattle.gg_flat.specs.Reads.{Names, NamesSignal, Reads}
 use Rattle.gg_flat.specs.WellFormed.{IsWellFormed, MayDrive, IsDataOf}
 use Rattle.gg_flat.proofs.TypedLemmas.{within-readers}
-use Rattle.gg_order.specs.Places.{IsTangled}
 use Rattle.gg_elab.specs.Expression.{Signals, TermNames}
 use Rattle.gg_elab.specs.Signals.{signals_of, no_signals, declare_port, declare_statement, type_shape, goes, port_names, is_clock, same_direction}
 use Rattle.gg_elab.specs.FlatModule.{IsFlatModule, IsTrueOf, HasLine, path_at}
@@ -54,10 +53,19 @@ pub record Judged (m : ModuleTree) (flat : FlatCircuit) : Type 0 where
   pub alone : list_all (λ (s : Stmt). is_flat s.kind) m.statements ≡ true
   pub plain : plain_module m ≡ true
 
+-- a signal that is read reads a signal that doesn't stand before it
+pub record IsTangled (circuit : FlatCircuit) : Type 0 where
+  pub reader : ℕ
+  pub middle : ℕ
+  pub last : ℕ
+  pub first_reads : Reads circuit reader middle
+  pub then_reads : Reads circuit middle last
+  pub late : middle ≤ last
+
 -- ---- lists
 
-all-at : (P : Stmt → Type 0) (before : List Stmt) (s : Stmt) (after : List Stmt) → All P (before ++ s ∷ after) → P s
-all-at P before s after h = subst P (get_or-append_seam before s after s) (h (length before) s (omega (arith, length-append {A = Stmt})))
+pub all-at : {A : Type 0} (P : A → Type 0) (before : List A) (x : A) (after : List A) → All P (before ++ x ∷ after) → P x
+all-at {A} P before x after h = subst P (get_or-append_seam before x after x) (h (length before) x (omega (arith, length-append {A = A})))
 
 list_all-at : (f : Stmt → Bool) (before : List Stmt) (s : Stmt) (after : List Stmt) → list_all f (before ++ s ∷ after) ≡ true → f s ≡ true
 list_all-at f [] s after e = go (f s) e
@@ -281,7 +289,7 @@ module _ (m : ModuleTree) (flat : FlatCircuit) (j : Judged m flat) where
       elim (has-append n p.more q.more (subst P whole h)) [ inl a ↦ inl (p.each n a) | inr b ↦ inr (q.each n b) ]
 
   -- where a signal is declared
-  origin : (s : ℕ) → s < length flat.signals → IsPortNamed (path_at flat s) m.ports ⊎ Declared (path_at flat s) m.statements
+  pub origin : (s : ℕ) → s < length flat.signals → IsPortNamed (path_at flat s) m.ports ⊎ Declared (path_at flat s) m.statements
   origin s within =
       let counted = j.formed.named in
       let lt : s < length (front_of m.statements).paths = (let P : List (List ℕ) → Type 0 = λ xs. s < length xs in subst P j.is_module.paths (omega arith)) in
@@ -291,7 +299,7 @@ module _ (m : ModuleTree) (flat : FlatCircuit) (j : Judged m flat) where
       let R : List (List ℕ) → Type 0 = λ xs. Has (get_or xs s []) (front_of m.statements).paths in
       subst Q (sym j.is_module.paths) (front-names m.statements (get_or (front_of m.statements).paths s []) (subst R (append-nil (front_of m.statements).paths) here))
 
-  placed : (s : ℕ) → s < length flat.signals → place_of (path_at flat s) flat.paths ≡ Some s
+  pub placed : (s : ℕ) → s < length flat.signals → place_of (path_at flat s) flat.paths ≡ Some s
   placed s within = let counted = j.formed.named in place-at flat.paths s (omega arith) j.formed.distinct
 
   -- a signal that is read is named by an expression

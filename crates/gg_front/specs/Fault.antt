@@ -6,13 +6,13 @@ use Rattle.gg_front.specs.Plain.{IsPlain, IsUnplain}
 use Rattle.gg_front.specs.declared.front_end.FrontFault.{FrontFault}
 use Rattle.gg_front.specs.declared.front_end.FrontFault.TheVariants.{Read, Plain, NoMemory}
 
--- the text spells a circuit, but is no plain one
+-- a circuit is read from the text, but that is no plain one
 pub record IsReadUnplain (text : List ℕ) : Type 0 where
   pub unplain : IsUnplain text
   pub none : ¬ IsPlain text
 
--- The text has the fault of reading, which isn't want of memory; or it spells a circuit and is no plain one. Want of memory
--- has no cause in the bytes.
+-- The text has the fault of reading, which isn't want of memory; or a circuit is read from it that is no plain one. Want of
+-- memory has no cause in the bytes.
 abbrev pub HasFrontFault : List ℕ → FrontFault → Type 0
 HasFrontFault bytes (Read fault) = HasReadFault bytes fault × (fault ≢ unread.NoMemory)
 HasFrontFault bytes Plain = IsReadUnplain bytes

@@ -1,9 +1,10 @@
--- Which texts are plain: those that spell a circuit of one module without instances and memories, without a static fault,
--- within the limit of signals, and with no expression that names an output port or a wire.
+-- Which texts are plain: those of which no line is at fault and that spell a circuit of one module without instances and
+-- memories, without a static fault, within the limit of signals, and with no expression that names an output port or a
+-- wire.
 -- Source: FIRRTL Specification, for each fault as it is named in the crates that have it.
 use Rattle.std.specs.Prelude.{◌≡◌, ℕ, ◌+◌, ◌≤◌, List, [], ◌∷◌, length, true}
 use Rattle.gg_ast.specs.Tree.{ModuleTree, CircuitTree}
-use Rattle.gg_read.specs.Text.{Spells}
+use Rattle.gg_read.specs.Text.{Spells, HasNoFaultLine}
 use Rattle.gg_shape.specs.Namespace.{IsSingleModule}
 use Rattle.gg_shape.specs.Shape.{shape_faults}
 use Rattle.gg_shape.specs.Plain.{plain_modules}
@@ -28,9 +29,10 @@ pub record IsPlainTree (circuit : CircuitTree) : Type 0 where
   pub sound : IsSound circuit
   pub few : signal_count circuit.modules ≤ 200000
 
--- the text spells the circuit, and that is plain
+-- the text spells the circuit, no line of it is at fault, and the circuit is plain
 pub record IsPlainCircuit (text : List ℕ) (circuit : CircuitTree) : Type 0 where
   pub spelt : Spells text circuit
+  pub faultless : HasNoFaultLine text
   pub plain : IsPlainTree circuit
 
 -- the text is a plain circuit
@@ -38,8 +40,9 @@ pub record IsPlain (text : List ℕ) : Type 0 where
   pub circuit : CircuitTree
   pub plain : IsPlainCircuit text circuit
 
--- the text spells a circuit, and that isn't plain
+-- the text spells a circuit, no line of it is at fault, and the circuit isn't plain
 pub record IsUnplain (text : List ℕ) : Type 0 where
   pub circuit : CircuitTree
   pub spelt : Spells text circuit
+  pub faultless : HasNoFaultLine text
   pub faulty : ¬ IsPlainTree circuit

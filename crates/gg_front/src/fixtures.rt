@@ -65,16 +65,7 @@ pub(crate) fn is_faultless(alloc: Global, circuit: &Circuit) -> bool
     types(alloc, circuit).is_ok()
 }
 
-/// What names a fault of reading.
+/// A fault of reading as it is printed.
 pub(crate) fn told_unread(alloc: Global, fault: ReadFault) -> Result<String, AllocError> {
-    match fault {
-        ReadFault::NotText => String::from_str(alloc, "not text"),
-        ReadFault::Syntax { line } => format!(in alloc; "syntax line {line}"),
-        ReadFault::Outside { line, word } => {
-            let word = word.as_str();
-            format!(in alloc; "outside line {line} {word}")
-        }
-        ReadFault::TooDeep { line } => format!(in alloc; "too deep line {line}"),
-        ReadFault::NoMemory => Err(AllocError),
-    }
+    format!(in alloc; "{fault}")
 }

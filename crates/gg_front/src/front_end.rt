@@ -2,7 +2,7 @@
 ghost use Rattle.std.specs.Prelude.{◌≡◌, ◌<◌, ◌≤◌, ◌^◌, [], true, length, IfOk, IfErr};
 ghost use Rattle.gg_ast.specs.Tree.{CircuitTree};
 ghost use Rattle.gg_flat.specs.WellFormed.{IsWellFormed};
-ghost use Rattle.gg_read.specs.Text.{Spells};
+ghost use Rattle.gg_read.specs.Text.{Spells, HasNoFaultLine};
 ghost use Rattle.gg_shape.specs.Namespace.{IsSingleModule};
 ghost use Rattle.gg_shape.specs.Plain.{plain_modules};
 ghost use Rattle.gg_shape.specs.Shape.{shape_faults};
@@ -13,10 +13,11 @@ ghost use Rattle.gg_front.specs.Meaning.{Means};
 ghost use Rattle.gg_front.specs.Plain.{IsSound, IsPlainTree, signal_count};
 
 use crate::laws::plainness_agrees;
+use crate::top_tree::top_tree;
 use gg_ast::Circuit;
 use gg_elab::{ElabFault, flatten};
 use gg_flat::Piece;
-use gg_order::{Design, order_by_places};
+use gg_order::{Design, OrderFault, order};
 use gg_read::{ReadFault, read_circuit};
 use gg_shape::{Refusal, is_single_module, names_only_plain, shape};
 use gg_types::types;
@@ -49,8 +50,8 @@ impl From<AllocError> for FrontFault {
 ///
 /// # Errors
 ///
-/// `Read` where the text spells no circuit, with the fault of reading; `Plain` where it spells one that isn't plain;
-/// `NoMemory` where memory is refused.
+/// `Read` where the bytes are no text or a line is at fault, with the fault of reading; `Plain` where the text spells a
+/// circuit that isn't plain and no line is at fault; `NoMemory` where memory is refused.
 pub fn front(alloc: Global, bytes: &[u8]) -> Result<Design, FrontFault>
     requires { length bytes.now < 2 ^ 32 }
     ensures ok { IfOk result (λ design. Means bytes.now design.circuit) }
@@ -72,10 +73,11 @@ fn design_of(alloc: Global, bytes: &[u8]) -> Result<Design, FrontFault>
     design(alloc, &circuit, piece)
 }
 
-// The circuit that a text spells.
+// The circuit that a text spells, where no line of it is at fault.
 fn read(alloc: Global, bytes: &[u8]) -> Result<Circuit, FrontFault>
     requires { length bytes.now < 2 ^ 32 }
     ensures spelt { IfOk result (λ circuit. Spells bytes.now circuit) }
+    ensures faultless { IfOk result (λ _. HasNoFaultLine bytes.now) }
     ensures unread { IfErr result (IsRefusedBy bytes.now) }
 {
     match read_circuit(alloc, bytes) {
@@ -143,7 +145,7 @@ fn flat_circuit(alloc: Global, circuit: &Circuit) -> Result<Piece, FrontFault>
     }
 }
 
-// The flat circuit with an order: no expression names an output port or a wire, so there is one.
+// The flat circuit with an order: no expression names an output port or a wire, so there is no loop.
 fn design(alloc: Global, circuit: &Circuit, piece: Piece) -> Result<Design, FrontFault>
     requires sound { IsSound circuit.now }
     requires flat { IsFlat circuit.now piece }
@@ -151,8 +153,10 @@ fn design(alloc: Global, circuit: &Circuit, piece: Piece) -> Result<Design, Fron
     ensures circuit { IfOk result (λ design. design.circuit ≡ piece) }
     ensures memory { IfErr result (λ fault. fault ≡ FrontFault.NoMemory) }
 {
-    match order_by_places(alloc, &piece)? {
-        Some(order) => Ok(Design::new(piece, order)),
-        None => unreachable!(),
+    let tree = top_tree(alloc, circuit, &piece)?;
+    match order(alloc, &piece) {
+        Ok(order) => Ok(Design::new(piece, tree, order)),
+        Err(OrderFault::Loop(_)) => unreachable!(),
+        Err(OrderFault::NoMemory) => Err(FrontFault::NoMemory),
     }
 }

@@ -1,6 +1,6 @@
 pub mod PortLemmas
-pub mod FillLemmas
 pub mod UnitLemmas
 pub mod ThroughLemmas
 pub mod WorkedRows
+pub mod WorkedCycles
 pub mod WorkedPiece

@@ -1,6 +1,6 @@
 -- Which port stands at a place of the order in which ports are served.
-use Rattle.std.proofs.Common.{◌≡◌, ℕ, zero, suc, ◌+◌, ◌-◌, ◌<◌, ◌≤◌, List, [], ◌∷◌, ◌++◌, Option, Some, None, length, map, refl, sym, ap, ◌∙◌, subst, inl, inr, ◌⊎◌, arith}
-use Rattle.std.specs.Prelude.{slice_get, slice_index_or, if◌then◌else◌, MatchOption, ⊤}
+use Rattle.std.proofs.Common.{◌≡◌, ℕ, zero, suc, ◌+◌, ◌-◌, ◌<◌, ◌≤◌, List, [], ◌∷◌, ◌++◌, Option, Some, None, Bool, true, false, length, map, refl, sym, ap, ◌∙◌, subst, inl, inr, ◌⊎◌, arith}
+use Rattle.std.specs.Prelude.{slice_get, nat_lt, if◌then◌else◌, MatchOption, ⊤}
 use Rattle.std.specs.Option.{option_map}
 use Rattle.std.proofs.lemmas.Option.{slice_get-map}
 use Rattle.std.proofs.lemmas.Bool.{cases_lt, lt-ltb, le-ltb}
@@ -14,11 +14,7 @@ use Rattle.gg_flat.specs.Circuit.{reader_at}
 use Rattle.gg_flat.specs.Memory.{read_count}
 use Rattle.gg_flat.specs.Served.{Access, ByReader, ByWriter, by_readers, by_writers, due_of}
 use Rattle.gg_node.specs.Machine.{Port, port_number, latched_value}
-use Rattle.gg_memunit.specs.MemoryUnit.{port_of, ports_by, count_by, number_by}
-
--- the writer at a place
-abbrev pub writer_at : List Writer → ℕ → Writer
-writer_at writers w = slice_index_or writers w (record { addr = 0; en = 0; word = 0; mask = 0 })
+use Rattle.gg_memunit.specs.MemoryUnit.{port_of, ports_by, count_by, number_by, writer_at, access_of}
 
 -- ---- lists
 
@@ -108,6 +104,14 @@ module _ (readers : List Reader) (writers : List Writer) (j : ℕ) where
       (right (by_writers 0 writers) (by_readers 0 readers) j (omega (arith, above, length-by_writers 0 writers))
       ∙ ap (λ n. slice_get (by_readers 0 readers) (j - n)) (length-by_writers 0 writers)
       ∙ reader-here readers (j - length writers) (omega arith))
+
+-- ---- the access of a number
+
+pub writer-access : (rs readers : List Reader) (ws writers : List Writer) (p : ℕ) → rs ≡ readers → ws ≡ writers → length readers ≤ p → ByWriter (p - length readers) (writer_at ws (p - length rs)) ≡ access_of readers writers p
+writer-access rs readers ws writers p same others above =
+    ap (λ (rs : List Reader). ByWriter (p - length readers) (writer_at ws (p - length rs))) same
+    ∙ ap (λ (ws : List Writer). ByWriter (p - length readers) (writer_at ws (p - length readers))) others
+    ∙ sym (ap (λ b. if b then ByReader p (reader_at readers p) else ByWriter (p - length readers) (writer_at writers (p - length readers))) (le-ltb p (length readers) above))
 
 -- ---- how many there are
 
@@ -205,4 +209,23 @@ module _ (latency : Latency) (readers : List Reader) (writers : List Writer) (j 
     | inr w ↦
         let same : w.0 ≡ p - length readers = omega (arith, number-is (writer-port (length readers) w.0 (writer_at writers w.0)) w.2) in
         (omega (arith, same, w.1), w.2 ∙ ap (λ k. Some (writer-port (length readers) k (writer_at writers k))) same)
+  ]
+
+  -- the port that is due has the access of its number
+  pub port-due : slice_get (ports_by latency readers writers) j ≡ Some (record { number = p; access = access_of readers writers p })
+  port-due = elim (cases_lt p (length readers)) [
+    | inl lt ↦ (reader-due lt).1 ∙ sym (chosen true (lt-ltb p (length readers) lt))
+    | inr ge ↦
+        (writer-due ge).1
+        ∙ ap (λ n. Some (record { number = n; access = ByWriter (p - length readers) (writer_at writers (p - length readers)) })) (let same : length readers + (p - length readers) ≡ p = omega (arith, ge) in same)
+        ∙ sym (chosen false (le-ltb p (length readers) ge))
+  ]
+    where
+      chosen : (b : Bool) → nat_lt p (length readers) ≡ b → ◌≡◌ {A = Option Port} (Some (record { number = p; access = access_of readers writers p })) (Some (record { number = p; access = if b then ByReader p (reader_at readers p) else ByWriter (p - length readers) (writer_at writers (p - length readers)) }))
+      chosen b is = ap (λ b. Some (record { number = p; access = if b then ByReader p (reader_at readers p) else ByWriter (p - length readers) (writer_at writers (p - length readers)) })) is
+
+  pub port-below : p < length readers + length writers
+  port-below = elim (cases_lt p (length readers)) [
+    | inl lt ↦ omega (arith, lt)
+    | inr ge ↦ omega (arith, ge, (writer-due ge).0)
   ]

@@ -1,7 +1,7 @@
 -- The tokens, the accesses and the next state of a memory unit.
-use Rattle.std.proofs.Common.{◌≡◌, ℕ, zero, suc, ◌+◌, ◌-◌, ◌<◌, ◌≤◌, ◌^◌, List, [], ◌∷◌, Option, None, Some, Bool, length, map, refl, sym, ap, subst, ◌∙◌, arith}
-use Rattle.std.specs.Prelude.{All, slice_get, slice_index_or, slice_set, MatchOption, ⊤}
-use Rattle.std.proofs.lemmas.List.{get_or-map, length-map}
+use Rattle.std.proofs.Common.{◌≡◌, ℕ, zero, suc, ◌+◌, ◌<◌, ◌^◌, List, [], ◌∷◌, Option, None, Some, Bool, length, map, refl, sym, ap, subst, ◌∙◌, arith}
+use Rattle.std.specs.Prelude.{All, replicate, slice_get, slice_index_or, slice_set, MatchOption, ⊤}
+use Rattle.std.proofs.lemmas.List.{get_or-map, length-map, map-set}
 use Rattle.gg_flat.specs.declared.memory.Latency.{Latency}
 use Rattle.gg_flat.specs.declared.memory.Latency.TheVariants.{Zero, One}
 use Rattle.gg_flat.specs.declared.memory.UnderWrite.{UnderWrite}
@@ -11,16 +11,16 @@ use Rattle.gg_flat.specs.declared.memory.Memory.{Memory}
 use Rattle.gg_flat.specs.declared.piece.Driver.TheVariants.{Input}
 use Rattle.gg_flat.specs.Line.{shape_at, value_at}
 use Rattle.gg_flat.specs.Circuit.{FlatCircuit, signal_shapes, driver_at, readers_at, latency_at, reader_at}
-use Rattle.gg_flat.specs.State.{State, next_registers}
+use Rattle.gg_flat.specs.State.{next_registers, State}
 use Rattle.gg_flat.specs.Settled.{Settled, driver_value}
 use Rattle.gg_flat.specs.WellFormed.{AreDriven, reader_driver}
-use Rattle.gg_flat.specs.Memory.{Bank, found_word, read_word, next_words_from, next_reads, next_banks, read_count, LooksAmong, WritesAmong}
-use Rattle.gg_flat.specs.Served.{written}
+use Rattle.gg_flat.specs.Memory.{Bank, found_word, read_word, next_words_from, next_reads, next_banks, read_count, LooksAmong}
+use Rattle.gg_flat.specs.Served.{after_access}
 use Rattle.gg_node.specs.Machine.{RunsPiece, Port, Machine, latch_at, latched_value, latched_values, first_empty, empty_or, needs_at, port_number}
 use Rattle.gg_node.specs.Token.{AgreesOn, IsTokenOf, IsNextOf, accessed}
 use Rattle.gg_node.specs.Step.{with_served}
-use Rattle.gg_memunit.specs.MemoryUnit.{IsMemoryPiece, outs_of, ports_of, ports_by, count_by, needs_by, needs_of, state_of, memory_machine}
-use Rattle.gg_memunit.proofs.PortLemmas.{count_ports, due-below, reader-due, writer-due, writer_at}
+use Rattle.gg_memunit.specs.MemoryUnit.{IsMemoryPiece, outs_of, ports_of, ports_by, count_by, needs_by, needs_of, state_of, memory_machine, access_of}
+use Rattle.gg_memunit.proofs.PortLemmas.{count_ports, due-below, reader-due, port-due, port-below}
 
 -- ---- latches
 
@@ -85,18 +85,18 @@ module _ (piece : FlatCircuit) (memory : Memory) (is : IsMemoryPiece piece) (onl
 
   -- ---- tokens
 
-  module _ (limit cycle served : ℕ) (words reads : List ℕ) (latches : List (Option ℕ)) (flags : List Bool) (o : ℕ) (below : o < length memory.readers) where
+  module _ (limit cycle served : ℕ) (bank : Bank) (latches : List (Option ℕ)) (flags : List Bool) (o : ℕ) (below : o < length memory.readers) where
     unit : Machine
-    unit = memory_machine piece limit cycle (state_of words reads) served latches flags
+    unit = memory_machine piece limit cycle (state_of bank) served latches flags
 
-    pub late-token : (under : UnderWrite) → memory.latency ≡ One under → IsTokenOf (RunsPiece piece) (memory_machine piece limit cycle (state_of words reads) served latches flags) o (value_at reads o)
+    pub late-token : (under : UnderWrite) → memory.latency ≡ One under → IsTokenOf (RunsPiece piece) (memory_machine piece limit cycle (state_of bank) served latches flags) o (value_at bank.reads o)
     late-token under late inputs signals settled agrees =
-        out-value (state_of words reads) inputs signals settled o below
-        ∙ ap (λ latency. driver_value (state_of words reads) inputs signals (shape_at (signal_shapes piece) (reader_at memory.readers o).word) (reader_driver latency 0 o (reader_at memory.readers o))) late
+        out-value (state_of bank) inputs signals settled o below
+        ∙ ap (λ latency. driver_value (state_of bank) inputs signals (shape_at (signal_shapes piece) (reader_at memory.readers o).word) (reader_driver latency 0 o (reader_at memory.readers o))) late
 
     pub same-token : memory.latency ≡ Zero → (reader_at memory.readers o).addr < length piece.ins → (reader_at memory.readers o).en < length piece.ins
         → first_empty latches (needs_at (needs_of piece.memories) o) ≡ None
-        → IsTokenOf (RunsPiece piece) (memory_machine piece limit cycle (state_of words reads) served latches flags) o (found_word (latched_values latches) words (reader_at memory.readers o))
+        → IsTokenOf (RunsPiece piece) (memory_machine piece limit cycle (state_of bank) served latches flags) o (found_word (latched_values latches) bank.words (reader_at memory.readers o))
     same-token zero-late addr-in en-in missing inputs signals settled agrees =
         let reader = reader_at memory.readers o in
         let needs : needs_at (needs_of piece.memories) o ≡ reader.addr ∷ reader.en ∷ [] = needs-are o below ∙ ap (λ latency. needs_by latency reader) zero-late in
@@ -104,13 +104,13 @@ module _ (piece : FlatCircuit) (memory : Memory) (is : IsMemoryPiece piece) (onl
         let second = there (latch_at latches reader.en) reader.en None first.1 in
         let agreed : AgreesOn (reader.addr ∷ reader.en ∷ []) latches inputs = subst (λ ins. AgreesOn ins latches inputs) needs agrees in
         let addr : value_at signals reader.addr ≡ value_at (latched_values latches) reader.addr =
-        in-value (state_of words reads) inputs signals settled reader.addr addr-in ∙ agreed reader.addr (latched_value (latch_at latches reader.addr)) (0, omega arith, refl) first.0 ∙ token-at latches reader.addr in
+        in-value (state_of bank) inputs signals settled reader.addr addr-in ∙ agreed reader.addr (latched_value (latch_at latches reader.addr)) (0, omega arith, refl) first.0 ∙ token-at latches reader.addr in
         let en : value_at signals reader.en ≡ value_at (latched_values latches) reader.en =
-        in-value (state_of words reads) inputs signals settled reader.en en-in ∙ agreed reader.en (latched_value (latch_at latches reader.en)) (1, omega arith, refl) second.0 ∙ token-at latches reader.en in
-        out-value (state_of words reads) inputs signals settled o below
-        ∙ ap (λ latency. driver_value (state_of words reads) inputs signals (shape_at (signal_shapes piece) reader.word) (reader_driver latency 0 o reader)) zero-late
-        ∙ ap (λ a. read_word words a (value_at signals reader.en)) addr
-        ∙ ap (read_word words (value_at (latched_values latches) reader.addr)) en
+        in-value (state_of bank) inputs signals settled reader.en en-in ∙ agreed reader.en (latched_value (latch_at latches reader.en)) (1, omega arith, refl) second.0 ∙ token-at latches reader.en in
+        out-value (state_of bank) inputs signals settled o below
+        ∙ ap (λ latency. driver_value (state_of bank) inputs signals (shape_at (signal_shapes piece) reader.word) (reader_driver latency 0 o reader)) zero-late
+        ∙ ap (λ a. read_word bank.words a (value_at signals reader.en)) addr
+        ∙ ap (read_word bank.words (value_at (latched_values latches) reader.addr)) en
 
 -- ---- a memory whose ports are none that are served
 
@@ -132,16 +132,16 @@ bank-stays signals words reads (One under) [] [] none held =
 bank-stays signals words reads (One under) (reader ∷ readers) writers none held = absurd (omega arith)
 bank-stays signals words reads (One under) [] (writer ∷ writers) none held = absurd (omega arith)
 
-pub next-is : (piece : FlatCircuit) (memory : Memory) → IsMemoryPiece piece → piece.memories ≡ memory ∷ [] → (limit cycle served : ℕ) (words reads : List ℕ) (latches : List (Option ℕ)) (flags : List Bool) → length reads ≡ read_count memory.latency memory.readers
-    → IsNextOf (RunsPiece piece) (ports_of piece.memories) (memory_machine piece limit cycle (state_of words reads) served latches flags) (state_of words reads)
-next-is piece memory is only limit cycle served words reads latches flags held = by (ports_of piece.memories) refl
+pub next-is : (piece : FlatCircuit) (memory : Memory) → IsMemoryPiece piece → piece.memories ≡ memory ∷ [] → (limit cycle served : ℕ) (bank : Bank) (latches : List (Option ℕ)) (flags : List Bool) → length bank.reads ≡ read_count memory.latency memory.readers
+    → IsNextOf (RunsPiece piece) (ports_of piece.memories) (memory_machine piece limit cycle (state_of bank) served latches flags) (state_of bank)
+next-is piece memory is only limit cycle served bank latches flags held = by (ports_of piece.memories) refl
   where
-    by : (ports : List Port) → ports_of piece.memories ≡ ports → IsNextOf (RunsPiece piece) ports (memory_machine piece limit cycle (state_of words reads) served latches flags) (state_of words reads)
+    by : (ports : List Port) → ports_of piece.memories ≡ ports → IsNextOf (RunsPiece piece) ports (memory_machine piece limit cycle (state_of bank) served latches flags) (state_of bank)
     by [] none = λ signals settled.
         let count : count_by memory.latency (length memory.readers) (length memory.writers) ≡ 0 = sym (count_ports memory.latency memory.readers memory.writers) ∙ ap length (sym (ap ports_of only) ∙ none) in
-        ap (λ (bank : Bank). record { registers = []; banks = bank ∷ [] }) (bank-stays signals words reads memory.latency memory.readers memory.writers count held)
-        ∙ ap (λ (memories : List Memory). record { registers = []; banks = next_banks signals memories (record { words = words; reads = reads } ∷ []) }) (sym only)
-        ∙ ap (λ registers. record { registers = next_registers signals registers []; banks = next_banks signals piece.memories (record { words = words; reads = reads } ∷ []) }) (sym is.alone)
+        ap (λ (bank : Bank). record { registers = []; banks = bank ∷ [] }) (bank-stays signals bank.words bank.reads memory.latency memory.readers memory.writers count held)
+        ∙ ap (λ (memories : List Memory). record { registers = []; banks = next_banks signals memories (bank ∷ []) }) (sym only)
+        ∙ ap (λ registers. record { registers = next_registers signals registers []; banks = next_banks signals piece.memories (bank ∷ []) }) (sym is.alone)
     by (port ∷ ports) some = refl
 
 -- ---- one access
@@ -161,41 +161,38 @@ module _ (piece : FlatCircuit) (memory : Memory) (is : IsMemoryPiece piece) (onl
   pub late-reader : p < length memory.readers → read_count memory.latency memory.readers ≡ length memory.readers
   late-reader below = (reader-due memory.latency memory.readers memory.writers served p due-here below).0
 
-  pub writer-below : length memory.readers ≤ p → p - length memory.readers < length memory.writers
-  writer-below above = (writer-due memory.latency memory.readers memory.writers served p due-here above).0
+  pub among-ports : p < length memory.readers + length memory.writers
+  among-ports = port-below memory.latency memory.readers memory.writers served p due-here
 
-  module _ (limit cycle : ℕ) (words reads : List ℕ) (latches : List (Option ℕ)) (flags : List Bool) where
-    pub read-step : p < length memory.readers → memory_machine piece limit cycle (state_of words (slice_set reads p (found_word (latched_values latches) words (reader_at memory.readers p)))) (served + 1) latches flags ≡ with_served (memory_machine piece limit cycle (state_of words reads) served latches flags)
-    read-step below =
-        ap (λ n. memory_machine piece limit cycle (state_of words (slice_set reads p (found_word (latched_values latches) words (reader_at memory.readers p)))) n latches flags) (let same : served + 1 ≡ suc served = omega arith in same)
-        ∙ ap (λ port. memory_machine piece limit cycle (accessed latches (state_of words reads) port) (suc served) latches flags)
-        (sym (ap (λ memories. slice_get (ports_of memories) served) only ∙ (reader-due memory.latency memory.readers memory.writers served p due-here below).1))
+  -- the access of the port that is due
+  pub serve-step : (limit cycle : ℕ) (bank : Bank) (latches : List (Option ℕ)) (flags : List Bool)
+      → memory_machine piece limit cycle (state_of (after_access (latched_values latches) bank (access_of memory.readers memory.writers p))) (served + 1) latches flags ≡ with_served (memory_machine piece limit cycle (state_of bank) served latches flags)
+  serve-step limit cycle bank latches flags =
+      ap (λ n. memory_machine piece limit cycle (state_of (after_access (latched_values latches) bank (access_of memory.readers memory.writers p))) n latches flags) (let same : served + 1 ≡ suc served = omega arith in same)
+      ∙ ap (λ port. memory_machine piece limit cycle (accessed latches (state_of bank) port) (suc served) latches flags)
+      (sym (ap (λ memories. slice_get (ports_of memories) served) only ∙ port-due memory.latency memory.readers memory.writers served p due-here))
 
-    pub write-step : length memory.readers ≤ p → memory_machine piece limit cycle (state_of (written (latched_values latches) words (writer_at memory.writers (p - length memory.readers))) reads) (served + 1) latches flags ≡ with_served (memory_machine piece limit cycle (state_of words reads) served latches flags)
-    write-step above =
-        ap (λ n. memory_machine piece limit cycle (state_of (written (latched_values latches) words (writer_at memory.writers (p - length memory.readers))) reads) n latches flags) (let same : served + 1 ≡ suc served = omega arith in same)
-        ∙ ap (λ port. memory_machine piece limit cycle (accessed latches (state_of words reads) port) (suc served) latches flags)
-        (sym (ap (λ memories. slice_get (ports_of memories) served) only ∙ (writer-due memory.latency memory.readers memory.writers served p due-here above).1))
+-- ---- what a unit holds
 
--- ---- the fields of a port
+pub of-only : (P : Memory → Type 0) (memories : List Memory) (memory : Memory) → memories ≡ memory ∷ [] → P memory → All P memories
+of-only P memories memory only is = subst (All P) (sym only) one
+  where
+    one : All P (memory ∷ [])
+    one zero d below = is
+    one (suc k) d below = absurd (omega arith)
 
-pub looks-among : (piece : FlatCircuit) (memory : Memory) → IsMemoryPiece piece → piece.memories ≡ memory ∷ [] → (readers : List Reader) (p : ℕ) → readers ≡ memory.readers → p < length memory.readers → LooksAmong (length piece.ins) (reader_at readers p)
-looks-among piece memory is only readers p same below =
-    subst (λ readers. LooksAmong (length piece.ins) (reader_at readers p)) (sym same)
-    (of-sole (λ memory. All (LooksAmong (length piece.ins)) memory.readers) piece.memories memory only is.readers p (record { addr = 0; en = 0; word = 0 }) below)
+-- empty latches have no tokens
+pub tokens-none : (count : ℕ) → replicate count 0 ≡ latched_values (replicate count None)
+tokens-none zero = refl
+tokens-none (suc count) = ap (λ tokens. 0 ∷ tokens) (tokens-none count)
 
-pub writes-among : (piece : FlatCircuit) (memory : Memory) → IsMemoryPiece piece → piece.memories ≡ memory ∷ [] → (readers : List Reader) (writers : List Writer) (p : ℕ) → readers ≡ memory.readers → writers ≡ memory.writers → p - length memory.readers < length memory.writers
-    → WritesAmong (length piece.ins) (writer_at writers (p - length readers))
-writes-among piece memory is only readers writers p same others below =
-    subst (λ (writers : List Writer). WritesAmong (length piece.ins) (writer_at writers (p - length readers))) (sym others)
-    (subst (λ (readers : List Reader). WritesAmong (length piece.ins) (writer_at memory.writers (p - length readers))) (sym same)
-    (of-sole (λ memory. All (WritesAmong (length piece.ins)) memory.writers) piece.memories memory only is.writers (p - length memory.readers) (record { addr = 0; en = 0; word = 0; mask = 0 }) below))
+pub tokens-cleared : (inputs zeros : List ℕ) (latches empty : List (Option ℕ)) → inputs ≡ latched_values latches → zeros ≡ replicate (length inputs) 0 → empty ≡ replicate (length latches) None → zeros ≡ latched_values empty
+tokens-cleared inputs zeros latches empty same are none =
+    are ∙ ap (λ inputs. replicate (length inputs) 0) same ∙ ap (λ n. replicate n 0) (length-map latches latched_value) ∙ tokens-none (length latches) ∙ sym (ap latched_values none)
 
-pub written-same : (l k : List (Option ℕ)) (v w : List ℕ) (rs qs : List Reader) (ws us : List Writer) (p : ℕ) → l ≡ k → v ≡ w → rs ≡ qs → ws ≡ us → written (latched_values l) v (writer_at ws (p - length rs)) ≡ written (latched_values k) w (writer_at us (p - length qs))
-written-same l k v w rs qs ws us p latches words readers writers =
-    ap (λ l. written (latched_values l) v (writer_at ws (p - length rs))) latches ∙ ap (λ v. written (latched_values k) v (writer_at ws (p - length rs))) words
-    ∙ ap (λ (rs : List Reader). written (latched_values k) w (writer_at ws (p - length rs))) readers ∙ ap (λ (ws : List Writer). written (latched_values k) w (writer_at ws (p - length qs))) writers
+pub tokens-set : (inputs : List ℕ) (latches : List (Option ℕ)) (place token : ℕ) → inputs ≡ latched_values latches → slice_set inputs place token ≡ latched_values (slice_set latches place (Some token))
+tokens-set inputs latches place token same = ap (λ inputs. slice_set inputs place token) same ∙ sym (map-set latched_value latches place (Some token))
 
-pub found-same : (l k : List (Option ℕ)) (v w : List ℕ) (rs qs : List Reader) (p : ℕ) → l ≡ k → v ≡ w → rs ≡ qs → found_word (latched_values l) v (reader_at rs p) ≡ found_word (latched_values k) w (reader_at qs p)
-found-same l k v w rs qs p latches words readers =
-    ap (λ l. found_word (latched_values l) v (reader_at rs p)) latches ∙ ap (λ v. found_word (latched_values k) v (reader_at rs p)) words ∙ ap (λ (rs : List Reader). found_word (latched_values k) w (reader_at rs p)) readers
+-- the fields of a memory's readers have tokens
+pub looks-among : (piece : FlatCircuit) (memory : Memory) → IsMemoryPiece piece → piece.memories ≡ memory ∷ [] → (n : ℕ) → n ≡ length piece.ins → All (LooksAmong n) memory.readers
+looks-among piece memory is only n same = subst (λ n. All (LooksAmong n) memory.readers) (sym same) (of-sole (λ memory. All (LooksAmong (length piece.ins)) memory.readers) piece.memories memory only is.readers)

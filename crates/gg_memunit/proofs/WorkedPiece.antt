@@ -1,10 +1,12 @@
 -- A piece that is one memory: two words of eight bits, and one reader of latency 0.
-use Rattle.std.proofs.Common.{◌≡◌, ◌≢◌, ◌+◌, ◌<◌, ◌^◌, [], ◌∷◌, length, refl, arith}
+use Rattle.std.proofs.Common.{◌≡◌, ◌≢◌, ℕ, ◌<◌, List, [], ◌∷◌, length, map, refl, sym, ap, subst, ◌∙◌, arith}
 use Rattle.std.specs.Prelude.{All, AllPairs, slice_index_or}
+use Rattle.std.proofs.lemmas.List.{get_or-map, length-map}
 use Rattle.std.proofs.lemmas.List.Kept.{AllPairs-cons}
 use Rattle.gg_bits.specs.Shape.{shape}
 use Rattle.gg_flat.specs.declared.memory.Latency.TheVariants.{Zero}
 use Rattle.gg_flat.specs.declared.memory.Reader.{Reader}
+use Rattle.gg_flat.specs.declared.memory.Writer.{Writer}
 use Rattle.gg_flat.specs.declared.memory.Memory.{Memory}
 use Rattle.gg_flat.specs.declared.piece.Driver.TheVariants.{Input, MemoryWord}
 use Rattle.gg_flat.specs.Line.{value_at, HasType}
@@ -13,7 +15,7 @@ use Rattle.gg_flat.specs.Memory.{LooksAmong, WritesAmong}
 use Rattle.gg_flat.specs.WellFormed.{MayDrive, IsReader, IsWriter, IsMemory, AreDriven, reader_driver, IsRegister, IsWellFormed}
 use Rattle.gg_flat.proofs.WorkedCircuits.{one, eight}
 use Rattle.gg_flat.proofs.WorkedForms.{only, both, three, pair, differ}
-use Rattle.gg_memunit.specs.MemoryUnit.{IsMemoryPiece}
+use Rattle.gg_memunit.specs.MemoryUnit.{IsMemoryPiece, outs_of}
 
 abbrev reader : Reader
 reader = record { addr = 0; en = 1; word = 2 }
@@ -65,15 +67,41 @@ formed =
       reads = only (λ m. AreDriven (driver_at piece) m (latency_at piece m) (readers_at piece m)) (only (λ r. driver_at piece (reader_at (reader ∷ []) r).word ≡ reader_driver Zero 0 r (reader_at (reader ∷ []) r)) refl);
     }
 
-is-memory-piece : IsMemoryPiece piece
-is-memory-piece =
+abbrev no-writers : List (List Writer)
+no-writers = [] ∷ []
+
+-- a well-formed piece of this form is one memory
+pub read-alone : (p : FlatCircuit) → IsWellFormed p → p.registers ≡ [] → p.ins ≡ 0 ∷ 1 ∷ [] → p.outs ≡ 2 ∷ [] → map (λ (memory : Memory). memory.readers) p.memories ≡ (reader ∷ []) ∷ [] → map (λ (memory : Memory). memory.writers) p.memories ≡ [] ∷ [] → IsMemoryPiece p
+read-alone p well registers ins outs readers writers =
     record {
-      formed = formed;
-      one = refl;
-      alone = refl;
-      first = both (λ i. value_at piece.ins i ≡ i) refl refl;
-      readers = one-of (λ (memory : Memory). All (LooksAmong 2) memory.readers) memory (one-of (LooksAmong 2) reader (omega arith, omega arith));
-      writers = one-of (λ (memory : Memory). All (WritesAmong 2) memory.writers) memory (none-of (WritesAmong 2));
-      few = one-of (λ (memory : Memory). length memory.readers + length memory.writers < 2 ^ 32) memory (omega arith);
-      outs = refl;
+      formed = well;
+      one = one;
+      alone = registers;
+      first = subst (λ ins. (i : ℕ) → i < length ins → value_at ins i ≡ i) (sym ins) (both (λ i. value_at (0 ∷ 1 ∷ []) i ≡ i) refl refl);
+      readers = λ k d below. subst (λ ins. All (LooksAmong (length ins)) (slice_index_or p.memories k d).readers) (sym ins) (subst (All (LooksAmong 2)) (sym (readers-at k d below)) (one-of (LooksAmong 2) reader (omega arith, omega arith)));
+      writers = λ k d below. subst (All (WritesAmong (length p.ins))) (sym (writers-at k d below)) (none-of (WritesAmong (length p.ins)));
+      few = λ k d below. omega (arith, ap length (readers-at k d below), ap length (writers-at k d below));
+      outs = outs ∙ sym (outs-are p.memories readers);
     }
+  where
+    one : length p.memories ≡ 1
+    one = sym (length-map p.memories (λ (memory : Memory). memory.readers)) ∙ ap length readers
+
+    readers-at : (k : ℕ) (d : Memory) → k < length p.memories → (slice_index_or p.memories k d).readers ≡ reader ∷ []
+    readers-at k d below =
+        sym (get_or-map (λ (memory : Memory). memory.readers) p.memories k d [] below)
+        ∙ ap (λ (lists : List (List Reader)). slice_index_or lists k []) readers
+        ∙ only (λ k. slice_index_or ((reader ∷ []) ∷ []) k [] ≡ reader ∷ []) refl k (omega (arith, below, one))
+
+    writers-at : (k : ℕ) (d : Memory) → k < length p.memories → (slice_index_or p.memories k d).writers ≡ []
+    writers-at k d below =
+        sym (get_or-map (λ (memory : Memory). memory.writers) p.memories k d [] below)
+        ∙ ap (λ (lists : List (List Writer)). slice_index_or lists k []) writers
+        ∙ only (λ k. slice_index_or no-writers k [] ≡ []) refl k (omega (arith, below, one))
+
+    outs-are : (memories : List Memory) → map (λ (memory : Memory). memory.readers) memories ≡ (reader ∷ []) ∷ [] → outs_of memories ≡ 2 ∷ []
+    outs-are [] is = absurd (omega (arith, ap length is))
+    outs-are (first ∷ memories) is = ap (λ (lists : List (List Reader)). map (λ (reader : Reader). reader.word) (slice_index_or lists 0 [])) is
+
+is-memory-piece : IsMemoryPiece piece
+is-memory-piece = read-alone piece formed refl refl refl refl refl

@@ -5,6 +5,7 @@ use Rattle.gg_flat.specs.declared.memory.Latency.{Latency}
 use Rattle.gg_flat.specs.declared.memory.Latency.TheVariants.{Zero, One}
 use Rattle.gg_flat.specs.declared.memory.Reader.{Reader}
 use Rattle.gg_flat.specs.declared.memory.Writer.{Writer}
+use Rattle.gg_flat.specs.State.{State}
 use Rattle.gg_node.specs.Machine.{Port}
 use Rattle.gg_memunit.specs.MemoryUnit.{ports_by, needs_by, state_of, accessed_by}
 
@@ -38,21 +39,25 @@ needs-same = refl
 needs-late : needs_by (One New) r ≡ []
 needs-late = refl
 
+-- a state of these words and read registers
+abbrev holds : List ℕ → List ℕ → State
+holds words reads = state_of (record { words = words; reads = reads })
+
 -- ---- the reader reads word 1, and both writers write it: `w` 7, `x` 8
 
 abbrev both : List (Option ℕ)
 both = Some 1 ∷ Some 1 ∷ Some 1 ∷ Some 1 ∷ Some 7 ∷ Some 1 ∷ Some 1 ∷ Some 1 ∷ Some 8 ∷ Some 1 ∷ []
 
-served-zero : accessed_by both (state_of (3 ∷ 4 ∷ []) []) (ports Zero) ≡ state_of (3 ∷ 8 ∷ []) []
+served-zero : accessed_by both (holds (3 ∷ 4 ∷ []) []) (ports Zero) ≡ holds (3 ∷ 8 ∷ []) []
 served-zero = refl
 
-served-old : accessed_by both (state_of (3 ∷ 4 ∷ []) (0 ∷ [])) (ports (One Old)) ≡ state_of (3 ∷ 8 ∷ []) (4 ∷ [])
+served-old : accessed_by both (holds (3 ∷ 4 ∷ []) (0 ∷ [])) (ports (One Old)) ≡ holds (3 ∷ 8 ∷ []) (4 ∷ [])
 served-old = refl
 
-served-undefined : accessed_by both (state_of (3 ∷ 4 ∷ []) (0 ∷ [])) (ports (One Undefined)) ≡ state_of (3 ∷ 8 ∷ []) (4 ∷ [])
+served-undefined : accessed_by both (holds (3 ∷ 4 ∷ []) (0 ∷ [])) (ports (One Undefined)) ≡ holds (3 ∷ 8 ∷ []) (4 ∷ [])
 served-undefined = refl
 
-served-new : accessed_by both (state_of (3 ∷ 4 ∷ []) (0 ∷ [])) (ports (One New)) ≡ state_of (3 ∷ 8 ∷ []) (8 ∷ [])
+served-new : accessed_by both (holds (3 ∷ 4 ∷ []) (0 ∷ [])) (ports (One New)) ≡ holds (3 ∷ 8 ∷ []) (8 ∷ [])
 served-new = refl
 
 -- ---- `x` is masked, and `w` isn't enabled; the reader reads past the depth
@@ -60,5 +65,5 @@ served-new = refl
 abbrev neither : List (Option ℕ)
 neither = Some 2 ∷ Some 1 ∷ Some 1 ∷ Some 0 ∷ Some 7 ∷ Some 1 ∷ Some 1 ∷ Some 1 ∷ Some 8 ∷ Some 0 ∷ []
 
-served-neither : accessed_by neither (state_of (3 ∷ 4 ∷ []) (5 ∷ [])) (ports (One New)) ≡ state_of (3 ∷ 4 ∷ []) (0 ∷ [])
+served-neither : accessed_by neither (holds (3 ∷ 4 ∷ []) (5 ∷ [])) (ports (One New)) ≡ holds (3 ∷ 4 ∷ []) (0 ∷ [])
 served-neither = refl

@@ -1,7 +1,7 @@
 -- A memory as a machine of its own, which is served port by port.
 -- Source: ICCAD 2019 (a target memory that its host simulates by serving its ports one after another); FIRRTL
 -- Specification, "Memories".
-use Rattle.std.specs.Prelude.{◌≡◌, ℕ, ◌+◌, ◌-◌, ◌<◌, ◌^◌, List, [], ◌∷◌, Option, Some, None, Bool, false, replicate, All, length, map, fold, nat_lt, if◌then◌else◌}
+use Rattle.std.specs.Prelude.{◌≡◌, ℕ, ◌+◌, ◌-◌, ◌<◌, ◌^◌, List, [], ◌∷◌, Option, Some, None, Bool, false, replicate, All, length, map, fold, nat_lt, slice_index_or, if◌then◌else◌}
 use Rattle.gg_flat.specs.declared.memory.UnderWrite.TheVariants.{Old, New, Undefined}
 use Rattle.gg_flat.specs.declared.memory.Latency.{Latency}
 use Rattle.gg_flat.specs.declared.memory.Latency.TheVariants.{Zero, One}
@@ -9,12 +9,12 @@ use Rattle.gg_flat.specs.declared.memory.Reader.{Reader}
 use Rattle.gg_flat.specs.declared.memory.Writer.{Writer}
 use Rattle.gg_flat.specs.declared.memory.Memory.{Memory}
 use Rattle.gg_flat.specs.Line.{value_at}
-use Rattle.gg_flat.specs.Circuit.{FlatCircuit}
+use Rattle.gg_flat.specs.Circuit.{FlatCircuit, reader_at}
 use Rattle.gg_flat.specs.State.{State, opening}
-use Rattle.gg_flat.specs.Memory.{LooksAmong, WritesAmong, read_count}
+use Rattle.gg_flat.specs.Memory.{Bank, LooksAmong, WritesAmong, read_count}
 use Rattle.gg_flat.specs.Served.{Access, ByReader, ByWriter, due_of}
 use Rattle.gg_flat.specs.WellFormed.{IsWellFormed}
-use Rattle.gg_node.specs.Machine.{RunsPiece, Port, Machine}
+use Rattle.gg_node.specs.Machine.{RunsPiece, Port, Machine, latched_values, cycle_limit}
 use Rattle.gg_node.specs.Token.{accessed}
 
 -- the signals that readers give
@@ -43,6 +43,14 @@ port_of readers (ByWriter w writer) = record { number = readers + w; access = By
 abbrev pub ports_by : Latency → List Reader → List Writer → List Port
 ports_by latency readers writers = map (port_of (length readers)) (due_of latency readers writers)
 
+-- the writer at a place
+abbrev pub writer_at : List Writer → ℕ → Writer
+writer_at writers w = slice_index_or writers w (record { addr = 0; en = 0; word = 0; mask = 0 })
+
+-- the access of the port of a number
+abbrev pub access_of : List Reader → List Writer → ℕ → Access
+access_of readers writers p = if nat_lt p (length readers) then ByReader p (reader_at readers p) else ByWriter (p - length readers) (writer_at writers (p - length readers))
+
 -- how many ports are served in a cycle, of so many readers and writers
 abbrev pub count_by : Latency → ℕ → ℕ → ℕ
 count_by Zero readers writers = writers
@@ -70,9 +78,9 @@ abbrev pub needs_of : List Memory → List (List ℕ)
 needs_of [] = []
 needs_of (memory ∷ memories) = map (needs_by memory.latency) memory.readers
 
--- a state of words and read registers
-abbrev pub state_of : List ℕ → List ℕ → State
-state_of words reads = record { registers = []; banks = record { words = words; reads = reads } ∷ [] }
+-- the state of a memory that stands alone
+abbrev pub state_of : Bank → State
+state_of bank = record { registers = []; banks = bank ∷ [] }
 
 -- a memory unit with this piece, that can do so many cycles
 abbrev pub memory_machine : FlatCircuit → ℕ → ℕ → State → ℕ → List (Option ℕ) → List Bool → Machine
@@ -94,18 +102,15 @@ memory_machine piece limit cycle state served latches flags =
 abbrev pub accessed_by : List (Option ℕ) → State → List Port → State
 accessed_by latches state ports = fold (λ state port. accessed latches state (Some port)) state ports
 
--- how many cycles a memory unit can do
-abbrev pub cycle_limit : ℕ
-cycle_limit = 1000000
-
 -- a memory unit before its first cycle
 abbrev pub opening_unit : FlatCircuit → Machine
 opening_unit piece = memory_machine piece cycle_limit 0 (opening piece) 0 (replicate (length piece.ins) None) (replicate (length piece.outs) false)
 
--- What a unit holds is of its piece: there is a read register for each late reader, a latch for each in-signal and a flag for
--- each out-signal.
-pub record IsOfPiece (piece : FlatCircuit) (reads : List ℕ) (latches : List (Option ℕ)) (flags : List Bool) : Type 0 where
+-- What a unit holds is of its piece: there is a read register for each late reader, a latch for each in-signal and a flag
+-- for each out-signal; and the inputs are the tokens in the latches.
+pub record IsOfPiece (piece : FlatCircuit) (bank : Bank) (inputs : List ℕ) (latches : List (Option ℕ)) (flags : List Bool) : Type 0 where
   pub memory : IsMemoryPiece piece
-  pub held : All (λ memory. length reads ≡ read_count memory.latency memory.readers) piece.memories
+  pub held : All (λ memory. length bank.reads ≡ read_count memory.latency memory.readers) piece.memories
   pub ins : length latches ≡ length piece.ins
   pub outs : length flags ≡ length piece.outs
+  pub tokens : inputs ≡ latched_values latches

@@ -17,3 +17,6 @@ mod unit;
 
 pub use laws::served_through;
 pub use unit::MemUnit;
+
+#[cfg(test)]
+mod tests;

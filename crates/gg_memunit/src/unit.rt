@@ -1,12 +1,12 @@
 //! `MemUnit`: a memory that is served port by port.
-ghost use Rattle.std.specs.Prelude.{◌≡◌, ℕ, ◌<◌, ◌≤◌, List, [], ◌∷◌, length, is_some, slice_set, IfOk};
+ghost use Rattle.std.specs.Prelude.{◌≡◌, ℕ, ◌<◌, List, [], ◌∷◌, length, is_some, slice_set, IfOk};
 ghost use Rattle.gg_node.specs.Machine.{Machine, machine_at, latch_at, flag_at, missing, due};
 ghost use Rattle.gg_node.specs.Token.{IsToken, IsNextState};
 ghost use Rattle.gg_node.specs.Step.{MayLatch, MayFire, MayServe, MayFinish, with_latch, with_flag, with_served, finished};
 ghost use Rattle.gg_memunit.specs.MemoryUnit.{IsMemoryPiece, opening_unit};
 
 use crate::{access, ports};
-use gg_flat::{Latency, Memory, Piece};
+use gg_flat::{Bank, Latency, Memory, Piece};
 use gg_node::Host;
 use std::alloc::{AllocError, Global};
 use std::marker::Model;
@@ -16,8 +16,9 @@ use std::marker::Model;
 #[derive(Drop)]
 pub struct MemUnit {
     piece: Piece,
-    words: Vec<u128>,
-    reads: Vec<u128>,
+    bank: Bank,
+    // The token in each latch; 0 where it is empty.
+    inputs: Vec<u128>,
     latches: Vec<Option<u128>>,
     flags: Vec<bool>,
     cycle: u64,
@@ -25,14 +26,14 @@ pub struct MemUnit {
 }
 
 impl Model for MemUnit {
-    ghost use Rattle.gg_node.specs.Machine.{Machine};
-    ghost use Rattle.gg_memunit.specs.MemoryUnit.{memory_machine, state_of, cycle_limit, IsOfPiece};
+    ghost use Rattle.gg_node.specs.Machine.{Machine, cycle_limit};
+    ghost use Rattle.gg_memunit.specs.MemoryUnit.{memory_machine, state_of, IsOfPiece};
 
     ghost Value = { Machine };
 
-    ghost view = { λ unit. memory_machine unit.piece cycle_limit unit.cycle (state_of unit.words.items unit.reads.items) unit.served unit.latches.items unit.flags.items };
+    ghost view = { λ unit. memory_machine unit.piece cycle_limit unit.cycle (state_of unit.bank) unit.served unit.latches.items unit.flags.items };
 
-    ghost invariant = { λ unit. IsOfPiece unit.piece unit.reads.items unit.latches.items unit.flags.items };
+    ghost invariant = { λ unit. IsOfPiece unit.piece unit.bank unit.inputs.items unit.latches.items unit.flags.items };
 }
 
 // The only memory of a piece.
@@ -53,15 +54,14 @@ impl MemUnit {
         requires { IsMemoryPiece piece }
         ensures { IfOk result (λ unit. unit ≡ opening_unit piece) }
     {
-        let memory = memory_of(&piece);
-        let words = vec![in alloc; 0; memory.depth as usize]?;
-        let reads = vec![in alloc; 0; memory.read_count()]?;
+        let bank = Bank::new(alloc, memory_of(&piece))?;
+        let inputs = vec![in alloc; 0; piece.ins().len()]?;
         let latches = vec![in alloc; None; piece.ins().len()]?;
         let flags = vec![in alloc; false; piece.outs().len()]?;
         Ok(MemUnit {
             piece,
-            words,
-            reads,
+            bank,
+            inputs,
             latches,
             flags,
             cycle: 0,
@@ -103,36 +103,31 @@ impl MemUnit {
         ensures { IsToken self.now place result }
     {
         let memory = memory_of(&self.piece);
-        let reader = memory.readers.as_slice()[place as usize];
         match memory.latency {
-            Latency::Zero => access::find(self.words.as_slice(), self.latches.as_slice(), reader),
-            Latency::One(_) => self.reads[place as usize],
+            Latency::Zero => {
+                let reader = &memory.readers.as_slice()[place as usize];
+                access::find(&self.bank, reader, &self.inputs)
+            }
+            Latency::One(_) => self.bank.reads()[place as usize],
         }
     }
 
-    // Makes the access of a reader's port.
-    fn read_port(&mut self, port: u32)
-        requires may { MayServe self.old port }
-        requires reader { port < length self.old.flags }
-        ensures { self.new ≡ with_served self.old }
+    // Puts a token into the latch of an in.
+    fn put(&mut self, place: u32, token: u128)
+        requires { MayLatch self.old place token }
+        ensures { self.new ≡ with_latch self.old place token }
     {
-        let memory = memory_of(&self.piece);
-        let reader = memory.readers.as_slice()[port as usize];
-        let found = access::find(self.words.as_slice(), self.latches.as_slice(), reader);
-        self.reads[port as usize] = found;
-        self.served += 1;
+        self.inputs[place as usize] = token;
+        self.latches[place as usize] = Some(token);
     }
 
-    // Makes the access of a writer's port.
-    fn write_port(&mut self, port: u32)
-        requires may { MayServe self.old port }
-        requires writer { length self.old.flags ≤ port }
+    // Makes the access of the port that is due.
+    fn serve_port(&mut self, port: u32)
+        requires { MayServe self.old port }
         ensures { self.new ≡ with_served self.old }
     {
         let memory = memory_of(&self.piece);
-        let count = memory.readers.as_slice().len() as u32;
-        let writer = memory.writers.as_slice()[(port - count) as usize];
-        access::write(&mut self.words, self.latches.as_slice(), writer);
+        access::serve(&mut self.bank, memory, port, &self.inputs);
         self.served += 1;
     }
 
@@ -142,8 +137,9 @@ impl MemUnit {
         ensures next { IsNextState self.old self.new.state }
         ensures step { self.new ≡ finished self.old self.new.state }
     {
-        access::empty(&mut self.latches);
-        access::clear(&mut self.flags);
+        self.inputs.fill(0);
+        self.latches.fill(None);
+        self.flags.fill(false);
         self.cycle += 1;
         self.served = 0;
     }
@@ -190,7 +186,7 @@ impl Host for MemUnit {
     }
 
     fn latch(&mut self, thread: u32, place: u32, value: u128) {
-        self.latches[place as usize] = Some(value);
+        self.put(place, value);
     }
 
     fn fire(&mut self, thread: u32, place: u32) -> u128 {
@@ -200,11 +196,7 @@ impl Host for MemUnit {
     }
 
     fn serve(&mut self, thread: u32, port: u32) {
-        if (port as usize) < self.flags.len() {
-            self.read_port(port);
-        } else {
-            self.write_port(port);
-        }
+        self.serve_port(port);
     }
 
     fn finish(&mut self, thread: u32) {

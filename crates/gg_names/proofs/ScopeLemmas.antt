@@ -96,12 +96,12 @@ placed-push : (modules : List ModuleTree) (table : List (List ℕ × Declared)) 
 placed-push modules [] e all here = (here, tt)
 placed-push modules (t ∷ ts) e all here = (all.0, placed-push modules ts e all.1 here)
 
-names_after-push : (ports : List Port) (before : List Stmt) (s : Stmt) → names_after ports (before ++ s ∷ []) ≡ names_after ports before ++ name_by s
+pub names_after-push : (ports : List Port) (before : List Stmt) (s : Stmt) → names_after ports (before ++ s ∷ []) ≡ names_after ports before ++ name_by s
 names_after-push ports before s =
     ap (λ l. port_names ports ++ l) (flat_map-append name_by before (s ∷ []) ∙ ap (λ l. flat_map name_by before ++ l) (append-nil (name_by s)))
     ∙ sym (append_assoc (port_names ports) (flat_map name_by before) (name_by s))
 
-scope_after-push : (modules : List ModuleTree) (ports : List Port) (before : List Stmt) (s : Stmt) → scope_after modules ports (before ++ s ∷ []) ≡ scope_after modules ports before ++ entries_by modules s
+pub scope_after-push : (modules : List ModuleTree) (ports : List Port) (before : List Stmt) (s : Stmt) → scope_after modules ports (before ++ s ∷ []) ≡ scope_after modules ports before ++ entries_by modules s
 scope_after-push modules ports before s =
     ap (λ l. map entry_by_port ports ++ l) (flat_map-append (entries_by modules) before (s ∷ []) ∙ ap (λ l. flat_map (entries_by modules) before ++ l) (append-nil (entries_by modules s)))
     ∙ sym (append_assoc (map entry_by_port ports) (flat_map (entries_by modules) before) (entries_by modules s))
@@ -189,7 +189,7 @@ whole modules ports before table told =
 pub scope-found : (modules : List ModuleTree) (ports : List Port) (statements : List Stmt) (table : List (List ℕ × Declared)) → TellsScope modules ports statements table → (r : Reference) → entry_of r (scope_after modules ports statements) ≡ found modules table r
 scope-found modules ports statements table told r = (whole modules ports statements table told).tells r
 
-names-front : (ports : List Port) (before : List Stmt) (n : ℕ) → length (names_after ports (take n before)) ≤ length (names_after ports before)
+pub names-front : (ports : List Port) (before : List Stmt) (n : ℕ) → length (names_after ports (take n before)) ≤ length (names_after ports before)
 names-front ports before n =
     let parts : names_after ports before ≡ names_after ports (take n before) ++ flat_map name_by (drop n before) =
     ap (names_after ports) (sym (take-append-drop n before))

@@ -36,6 +36,10 @@ pub record Machine : Type 0 where
   pub flags : List Bool
   pub kept : List ℕ
 
+-- how many cycles a machine with a piece can do: this program's limit
+abbrev pub cycle_limit : ℕ
+cycle_limit = 1000000
+
 -- the state of a machine that has no piece
 abbrev pub no_state : State
 no_state = record { registers = []; banks = [] }

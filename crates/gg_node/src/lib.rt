@@ -19,3 +19,6 @@ mod tray;
 pub use host::Host;
 pub use source::Source;
 pub use tray::Tray;
+
+#[cfg(test)]
+mod tests;

@@ -1,3 +1,5 @@
 pub mod MarkLemmas
 pub mod ReadLemmas
-pub mod OrderLemmas
+pub mod TopLemmas
+pub mod LoopLemmas
+mod WorkedLoops

@@ -1,34 +1,29 @@
 -- What signals read, in a circuit that is well formed.
-use Rattle.std.proofs.Common.{◌≡◌, ℕ, zero, suc, ◌<◌, List, [], ◌∷◌, ◌++◌, length, map, take, drop, replicate, Bool, true, false, true≢false, ◌↔◌, inl, inr, refl, sym, ap, ◌∙◌, subst, arith}
-use Rattle.std.specs.Prelude.{slice_index_or}
-use Rattle.std.proofs.lemmas.List.{length-map, take-append-le, take_all}
-use Rattle.gg_order.specs.Marks.{is_marked, driver_of, Marks, IsRead, IsReadBelow}
-use Rattle.gg_order.proofs.MarkLemmas.{unmarked}
+use Rattle.std.proofs.Common.{◌≡◌, ℕ, ◌<◌, List, length, map, inl, inr, refl, sym, ◌∙◌, subst, arith}
+use Rattle.std.specs.Prelude.{Option, Some, None, MatchOption, slice_get, ⊤}
+use Rattle.std.proofs.lemmas.List.{length-map, get_or_default}
+use Rattle.std.proofs.lemmas.Option.{get_or_from_slice_get, slice_get_within}
 use Rattle.gg_bits.specs.Shape.{Shape, shape}
 use Rattle.gg_flat.specs.declared.line.Node.{Node}
 use Rattle.gg_flat.specs.declared.line.Op.{Op}
 use Rattle.gg_flat.specs.declared.line.Op.TheVariants.{Ref}
 use Rattle.gg_flat.specs.declared.piece.Driver.{Driver}
 use Rattle.gg_flat.specs.declared.piece.Driver.TheVariants.{Input, Held, MemoryWord, ReadRegister, Computed}
+use Rattle.gg_flat.specs.declared.piece.Register.{Register}
+use Rattle.gg_flat.specs.declared.piece.Reset.{Reset}
 use Rattle.gg_flat.specs.declared.piece.Signal.{Signal}
-use Rattle.gg_flat.specs.Line.{shape_at, shapes_of, op_at, HasShape, HasType, IsLine}
+use Rattle.gg_flat.specs.Line.{shape_at, shapes_of, op_at, HasShape, HasType, IsLine, IsSource}
 use Rattle.gg_flat.specs.Circuit.{FlatCircuit, driver_at, signal_shapes}
-use Rattle.gg_flat.specs.WellFormed.{IsWellFormed, MayDrive}
-use Rattle.gg_flat.specs.Reads.{Names, NamesSignal}
+use Rattle.gg_flat.specs.WellFormed.{IsWellFormed, IsRegister, IsReset, MayDrive}
+use Rattle.gg_flat.specs.Reads.{Names, NamesSignal, ResetNames, NextNames, RegisterNames}
 use Rattle.gg_flat.proofs.TypedLemmas.{has-reader, word-names}
-
--- within a list the default is of no account
-get_or-default : {A : Type 0} (xs : List A) (k : ℕ) (d e : A) → k < length xs → slice_index_or xs k d ≡ slice_index_or xs k e
-get_or-default [] k d e lt = absurd (omega arith)
-get_or-default (x ∷ xs) zero d e lt = refl
-get_or-default (x ∷ xs) (suc k) d e lt = get_or-default xs k d e (omega arith)
 
 -- a line over signals names one of them
 line_within : (shapes : List Shape) (nodes : List Node) (s : ℕ) → IsLine (HasType shapes) nodes → Names nodes s → s < length shapes
 line_within shapes nodes s line h =
     let ops = map (λ (m : Node). m.op) nodes in
     let within : h.0 < length nodes = omega (arith, h.1, length-map nodes (λ (m : Node). m.op)) in
-    let is : op_at nodes h.0 ≡ Ref s = get_or-default ops h.0 (Ref 0) (Ref s) h.1 ∙ h.2 in
+    let is : op_at nodes h.0 ≡ Ref s = get_or_default ops h.0 (Ref 0) (Ref s) h.1 ∙ h.2 in
     let at : HasShape (HasType shapes) (shapes_of nodes) h.0 (shape_at (shapes_of nodes) h.0) (Ref s) =
     subst (λ (op : Op). HasShape (HasType shapes) (shapes_of nodes) h.0 (shape_at (shapes_of nodes) h.0) op) is (line.typed h.0 within) in
     at.0
@@ -54,32 +49,29 @@ driver_within circuit a s (Computed line) formed is may h =
 pub names_within : (circuit : FlatCircuit) (a s : ℕ) → IsWellFormed circuit → a < length circuit.signals → NamesSignal (driver_at circuit a) s → s < length circuit.signals
 names_within circuit a s formed within h = driver_within circuit a s (driver_at circuit a) formed refl (formed.drivers a within) h
 
--- ---- marks of all that is read
+-- ---- what registers name
 
--- what a list is after a slice of all of it was written
-pub written_whole : {A : Type 0} (n : ℕ) (new old : List A) → length new ≡ length old → n ≡ length new → take n (new ++ drop (length new) old) ≡ new
-written_whole n new old same count =
-    take-append-le n new (drop (length new) old) (omega arith) ∙ take_all n new (omega arith)
+source_within : (circuit : FlatCircuit) (sink : Shape) (line : List Node) (s : ℕ) → IsSource (HasType (signal_shapes circuit)) sink line → Names line s → s < length circuit.signals
+source_within circuit sink line s source h =
+    omega (arith, line_within (signal_shapes circuit) line s source.line h, length-map circuit.signals (λ (signal : Signal). shape signal.ty))
 
--- the marks are on just the signals that are read
-pub marks_exact : (circuit : FlatCircuit) (signals : List Signal) (marks : List Bool) → signals ≡ circuit.signals → Marks (IsReadBelow signals (length signals)) (replicate (length signals) false) marks → (s : ℕ) → (is_marked marks s ≡ true) ↔ IsRead circuit s
-marks_exact circuit signals marks are h s = (to, from)
+reset_within : (circuit : FlatCircuit) (sink : Shape) (reset : Option Reset) (s : ℕ) → MatchOption reset ⊤ (IsReset (HasType (signal_shapes circuit)) sink) → ResetNames reset s → s < length circuit.signals
+reset_within circuit sink None s is h = absurd h
+reset_within circuit sink (Some reset) s is (inl h) =
+    omega (arith, line_within (signal_shapes circuit) reset.condition s is.condition.line h, length-map circuit.signals (λ (signal : Signal). shape signal.ty))
+reset_within circuit sink (Some reset) s is (inr h) = source_within circuit sink reset.init s is.init h
+
+next_within : (circuit : FlatCircuit) (sink : Shape) (next : Option (List Node)) (s : ℕ) → MatchOption next ⊤ (IsSource (HasType (signal_shapes circuit)) sink) → NextNames next s → s < length circuit.signals
+next_within circuit sink None s is h = absurd h
+next_within circuit sink (Some line) s is h = source_within circuit sink line s is h
+
+-- what a register names is a signal of the circuit
+pub register-names_within : (circuit : FlatCircuit) (r s : ℕ) (register : Register) → IsWellFormed circuit → slice_get circuit.registers r ≡ Some register → RegisterNames register s → s < length circuit.signals
+register-names_within circuit r s register formed is names =
+    elim names [
+      | inl h ↦ reset_within circuit (shape register.ty) register.reset s known.reset h
+      | inr h ↦ next_within circuit (shape register.ty) register.next s known.next h
+    ]
   where
-    read_by : IsReadBelow signals (length signals) s → IsRead circuit s
-    read_by b = record {
-      reader = b.reader;
-      reads = record {
-        signal = omega (arith, b.below, ap length are);
-        names = subst (λ (l : List Signal). NamesSignal (driver_of l b.reader) s) are b.names;
-      };
-    }
-
-    to : is_marked marks s ≡ true → IsRead circuit s
-    to m = elim (h.only s m) [ inl before ↦ absurd (true≢false (sym before ∙ unmarked (length signals) s)) | inr b ↦ read_by b ]
-
-    from : IsRead circuit s → is_marked marks s ≡ true
-    from r = h.marked s (record {
-      reader = r.reader;
-      below = omega (arith, r.reads.signal, ap length are);
-      names = subst (λ (l : List Signal). NamesSignal (driver_of l r.reader) s) (sym are) r.reads.names;
-    })
+    known : IsRegister (HasType (signal_shapes circuit)) register
+    known = subst (IsRegister (HasType (signal_shapes circuit))) (get_or_from_slice_get circuit.registers r register register is) (formed.registers r register (slice_get_within circuit.registers r register is))

@@ -1,3 +1,5 @@
 pub mod Design
+pub mod Fault
+pub mod Loop
 pub mod Marks
 pub mod Places

@@ -1,7 +1,5 @@
 -- Marks on signals.
-use Rattle.std.specs.Prelude.{◌≡◌, ℕ, ◌<◌, List, map, Bool, true, false, slice_index_or, ◌⊎◌}
-use Rattle.gg_flat.specs.Circuit.{FlatCircuit}
-use Rattle.gg_flat.specs.Reads.{Reads, NamesSignal}
+use Rattle.std.specs.Prelude.{◌≡◌, ℕ, List, map, Bool, true, false, slice_index_or, ◌⊎◌}
 use Rattle.gg_flat.specs.declared.piece.Driver.{Driver}
 use Rattle.gg_flat.specs.declared.piece.Driver.TheVariants.{Input}
 use Rattle.gg_flat.specs.declared.piece.Signal.{Signal}
@@ -16,17 +14,6 @@ pub record Marks (Named : ℕ → Type 0) (before after : List Bool) : Type 0 wh
   pub marked : (s : ℕ) → Named s → is_marked after s ≡ true
   pub only : (s : ℕ) → is_marked after s ≡ true → is_marked before s ≡ true ⊎ Named s
 
--- some signal reads this one
-pub record IsRead (circuit : FlatCircuit) (s : ℕ) : Type 0 where
-  pub reader : ℕ
-  pub reads : Reads circuit reader s
-
 -- the driver of one of these signals
 abbrev pub driver_of : List Signal → ℕ → Driver
 driver_of signals s = slice_index_or (map (λ signal. signal.driver) signals) s (Input 0)
-
--- one of the first k signals reads this one
-pub record IsReadBelow (signals : List Signal) (k s : ℕ) : Type 0 where
-  pub reader : ℕ
-  pub below : reader < k
-  pub names : NamesSignal (driver_of signals reader) s

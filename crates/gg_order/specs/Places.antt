@@ -1,38 +1,33 @@
--- The order by places: first the signals that others read, then the rest, both in the order of their places.
-use Rattle.std.specs.Prelude.{◌≢◌, ℕ, ◌<◌, ◌≤◌, List, length, take, Contains, AllPairs, ◌⊎◌}
-use Rattle.gg_flat.specs.Line.{value_at}
-use Rattle.gg_flat.specs.Circuit.{FlatCircuit}
-use Rattle.gg_flat.specs.Reads.{Reads}
-use Rattle.gg_order.specs.Marks.{IsRead}
+-- The signals that a driver names, place by place: a line has a place for each node, a read of latency 0 one for its
+-- address and one for its enable.
+use Rattle.std.proofs.Common.{inl, inr}
+use Rattle.std.proofs.Math.Nat.{not-suc-le-zero}
+use Rattle.std.specs.Prelude.{◌≡◌, ◌⊎◌, ℕ, ◌<◌, take}
+use Rattle.gg_flat.specs.declared.piece.Driver.{Driver}
+use Rattle.gg_flat.specs.declared.piece.Driver.TheVariants.{Input, Held, MemoryWord, ReadRegister, Computed}
+use Rattle.gg_flat.specs.Circuit.{FlatCircuit, driver_at}
+use Rattle.gg_flat.specs.Reads.{Names}
 
--- Why the order by places is none: a signal that is read reads a signal that doesn't stand before it.
-pub record IsTangled (circuit : FlatCircuit) : Type 0 where
-  pub reader : ℕ
-  pub middle : ℕ
-  pub last : ℕ
-  pub first_reads : Reads circuit reader middle
-  pub then_reads : Reads circuit middle last
-  pub late : middle ≤ last
+-- a driver names this signal at one of its first k places
+abbrev pub NamesBelow : Driver → ℕ → ℕ → Type 0
+NamesBelow (Input place) k s = ⊥
+NamesBelow (Held register) k s = ⊥
+NamesBelow (MemoryWord memory reader addr en) k s = ((0 < k) × (addr ≡ s)) ⊎ ((1 < k) × (en ≡ s))
+NamesBelow (ReadRegister memory reader) k s = ⊥
+NamesBelow (Computed line) k s = Names (take k line) s
 
--- ---- the order while it grows
+-- signal a reads signal b at one of the first k places of its driver
+abbrev pub ReadsBelow : FlatCircuit → ℕ → ℕ → ℕ → Type 0
+ReadsBelow circuit a k b = NamesBelow (driver_at circuit a) k b
 
--- each signal stands after all that it reads
-abbrev pub StandsAfter : FlatCircuit → List ℕ → Type 0
-StandsAfter circuit order = (i s : ℕ) → i < length order → Reads circuit (value_at order i) s → Contains (take i order) s
+-- no signal is named below the first place
+none_named_first : (driver : Driver) (s : ℕ) → NamesBelow driver 0 s → ⊥
+none_named_first (Input place) s h = h
+none_named_first (Held register) s h = h
+none_named_first (MemoryWord memory reader addr en) s (inl h) = not-suc-le-zero h.0
+none_named_first (MemoryWord memory reader addr en) s (inr h) = not-suc-le-zero h.0
+none_named_first (ReadRegister memory reader) s h = h
+none_named_first (Computed line) s h = not-suc-le-zero h.1
 
--- the signals below k that are read
-pub record IsBegun (circuit : FlatCircuit) (k : ℕ) (order : List ℕ) : Type 0 where
-  pub below : (i : ℕ) → i < length order → value_at order i < k
-  pub once : AllPairs (λ a b. a ≢ b) order
-  pub every : (s : ℕ) → s < k → IsRead circuit s → Contains order s
-  pub read : (i : ℕ) → i < length order → IsRead circuit (value_at order i)
-  pub after : StandsAfter circuit order
-
--- all signals that are read, and then the others below k
-pub record IsEnded (circuit : FlatCircuit) (k : ℕ) (order : List ℕ) : Type 0 where
-  pub signals : (i : ℕ) → i < length order → value_at order i < length circuit.signals
-  pub once : AllPairs (λ a b. a ≢ b) order
-  pub read : (s : ℕ) → s < length circuit.signals → IsRead circuit s → Contains order s
-  pub every : (s : ℕ) → s < k → Contains order s
-  pub known : (i : ℕ) → i < length order → IsRead circuit (value_at order i) ⊎ (value_at order i < k)
-  pub after : StandsAfter circuit order
+pub none_below_first : (circuit : FlatCircuit) (a b : ℕ) → ReadsBelow circuit a 0 b → ⊥
+none_below_first circuit a b h = none_named_first (driver_at circuit a) b h

@@ -1,16 +1,21 @@
-//! `Design`: a flat circuit with an order of evaluation.
+//! `Design`: a flat circuit with the tree of its instances and an order of evaluation.
 ghost use Rattle.std.specs.Prelude.{◌≡◌};
 ghost use Rattle.gg_flat.specs.WellFormed.{IsWellFormed};
+ghost use Rattle.gg_flat.specs.Tree.{IsTree};
+ghost use Rattle.gg_flat.specs.Scoped.{IsScoped};
 ghost use Rattle.gg_flat.specs.Order.{IsOrder};
 
-use gg_flat::Piece;
+use crate::ordering::Order;
+use gg_flat::{Piece, Tree};
 use std::marker::Model;
 
-/// A flat circuit that is well formed, with an order of evaluation. A contract sees the circuit and the order.
+/// A flat circuit that is well formed, with the tree of its instances and an order of evaluation. A contract sees these
+/// three.
 #[derive(Drop)]
 pub struct Design {
     piece: Piece,
-    order: Vec<u32>,
+    tree: Tree,
+    order: Order,
 }
 
 impl Model for Design {
@@ -18,21 +23,25 @@ impl Model for Design {
 
     ghost Value = { Ordered };
 
-    ghost view = { λ design. record { circuit = design.piece; order = design.order.items } };
+    ghost view = { λ design. record { circuit = design.piece; tree = design.tree; order = design.order } };
 
-    ghost invariant = { λ design. IsDesign (record { circuit = design.piece; order = design.order.items }) };
+    ghost invariant = { λ design. IsDesign (record { circuit = design.piece; tree = design.tree; order = design.order }) };
 }
 
 impl Design {
-    /// The design of a circuit and an order of it. The circuit is well formed (`Piece::check` tells), and the order has
-    /// each of its signals once, behind all signals that it reads.
-    pub fn new(piece: Piece, order: Vec<u32>) -> Design
+    /// The design of a circuit, the tree of its instances and an order of it. The circuit is well formed (`Piece::check`
+    /// tells), the tree is its tree, to whose scopes it keeps, and the order has each of its signals once, behind all
+    /// signals that it reads.
+    pub fn new(piece: Piece, tree: Tree, order: Order) -> Design
         requires formed { IsWellFormed piece }
-        requires ordered { IsOrder piece order.items }
+        requires fitting { IsTree piece tree }
+        requires scoped { IsScoped piece tree }
+        requires ordered { IsOrder piece order }
         ensures circuit { result.circuit ≡ piece }
-        ensures order { result.order ≡ order.items }
+        ensures tree { result.tree ≡ tree }
+        ensures order { result.order ≡ order }
     {
-        Design { piece, order }
+        Design { piece, tree, order }
     }
 
     /// The circuit.
@@ -41,6 +50,15 @@ impl Design {
         ensures formed { IsWellFormed self.now.circuit }
     {
         &self.piece
+    }
+
+    /// The tree of the circuit's instances.
+    pub fn tree(&self) -> &Tree
+        ensures tree { result.now ≡ self.now.tree }
+        ensures fitting { IsTree self.now.circuit self.now.tree }
+        ensures scoped { IsScoped self.now.circuit self.now.tree }
+    {
+        &self.tree
     }
 
     /// The order.

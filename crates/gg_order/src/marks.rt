@@ -1,43 +1,12 @@
-//! Which signals are read by others.
-ghost use Rattle.std.specs.Prelude.{◌≡◌, ℕ, ◌<◌, ◌↔◌, length, replicate, true, false, IfOk};
+//! Marks on the signals that a driver names.
+ghost use Rattle.std.specs.Prelude.{◌≡◌, ℕ, ◌<◌, length};
 ghost use Rattle.gg_flat.specs.Reads.{Names, NamesSignal};
-ghost use Rattle.gg_flat.specs.WellFormed.{IsWellFormed};
-ghost use Rattle.gg_order.specs.Marks.{is_marked, driver_of, Marks, IsRead, IsReadBelow};
+ghost use Rattle.gg_order.specs.Marks.{Marks};
 
-use gg_flat::{Driver, Node, Op, Piece, Signal};
-use std::alloc::{AllocError, Global};
+use gg_flat::{Driver, Node, Op};
 
-/// Which signals some signal reads.
-pub(crate) fn read_signals(alloc: Global, piece: &Piece) -> Result<Vec<bool>, AllocError>
-    requires { IsWellFormed piece.now }
-    ensures count { IfOk result (λ marks. length marks.items ≡ length piece.now.signals) }
-    ensures exact { IfOk result (λ marks. (s : ℕ) → (is_marked marks.items s ≡ true) ↔ IsRead piece.now s) }
-{
-    let signals = piece.signals();
-    let mut marks = unmarked(alloc, signals.len())?;
-    mark_signals(&mut marks, signals);
-    Ok(marks)
-}
-
-// No mark.
-fn unmarked(alloc: Global, count: usize) -> Result<Vec<bool>, AllocError>
-    ensures { IfOk result (λ marks. marks.items ≡ replicate count false) }
-{
-    vec![in alloc; false; count]
-}
-
-// Marks the signals that these signals read.
-fn mark_signals(marks: &mut [bool], signals: &[Signal])
-    requires { (reader s : ℕ) → reader < length signals.now → NamesSignal (driver_of signals.now reader) s → s < length marks.old }
-    ensures { Marks (IsReadBelow signals.now (length signals.now)) marks.old marks.new }
-{
-    for s in 0..signals.len() {
-        mark_driver(marks, &signals[s].driver);
-    }
-}
-
-// Marks the signals that a driver names.
-fn mark_driver(marks: &mut [bool], driver: &Driver)
+/// Marks the signals that a driver names, and leaves all other marks. There is a mark for each of them.
+pub fn mark_driver(marks: &mut [bool], driver: &Driver)
     requires { (s : ℕ) → NamesSignal driver.now s → s < length marks.old }
     ensures { Marks (NamesSignal driver.now) marks.old marks.new }
 {

@@ -4,4 +4,5 @@ pub mod PickLemmas
 pub mod StepLemmas
 pub mod SlotLemmas
 pub mod LawLemmas
+pub mod SeenLemmas
 pub mod WorkedUnits

@@ -14,10 +14,9 @@ use Rattle.gg_flat.specs.Order.{IsOrder}
 use Rattle.gg_flat.proofs.NameLemmas.{Contains-one}
 use Rattle.gg_flat.proofs.OrderLemmas.{stands-before}
 use Rattle.gg_order.specs.Marks.{is_marked}
-use Rattle.gg_order.specs.Places.{StandsAfter}
 use Rattle.gg_program.specs.declared.cone.Cone.{Cone}
 use Rattle.gg_program.specs.Cone.{Reaches, IsCone, AreNeeds, IsConeOf, AreConesOf}
-use Rattle.gg_program.specs.Walk.{MarksReached, IsClosed, ArePicked, AreMarkedIns}
+use Rattle.gg_program.specs.Walk.{MarksReached, IsClosed, StandsAfter, ArePicked, AreMarkedIns}
 use Rattle.gg_program.proofs.ReachLemmas.{Reaches-within}
 
 -- ---- a list that grows by an element

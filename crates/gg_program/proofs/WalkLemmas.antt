@@ -1,5 +1,5 @@
 -- A walk from the back of an order to its front marks just what a signal reaches.
-use Rattle.std.proofs.Common.{◌≡◌, ◌≢◌, ℕ, ◌+◌, ◌<◌, ◌≤◌, List, length, set, replicate, Bool, true, false, true≢false, refl, sym, ◌∙◌, ap, subst, inl, inr, arith, nat_eq}
+use Rattle.std.proofs.Common.{◌≡◌, ◌≢◌, ℕ, zero, suc, ◌+◌, ◌<◌, ◌≤◌, List, length, set, replicate, Bool, true, false, true≢false, refl, sym, ◌∙◌, ap, subst, inl, inr, arith, nat_eq}
 use Rattle.std.proofs.lemmas.List.{get_or-set_same, get_or-set_other, length-set, length-replicate}
 use Rattle.std.proofs.lemmas.Bool.{cases_lt}
 use Rattle.std.proofs.lemmas.Bool.Decides.{Decides-eqb}
@@ -9,10 +9,15 @@ use Rattle.gg_flat.specs.Reads.{Reads, NamesSignal}
 use Rattle.gg_flat.specs.Order.{IsOrder}
 use Rattle.gg_flat.proofs.OrderLemmas.{read-before, place-of}
 use Rattle.gg_order.specs.Marks.{is_marked, Marks}
-use Rattle.gg_order.proofs.MarkLemmas.{unmarked}
 use Rattle.gg_program.specs.Cone.{Reaches}
 use Rattle.gg_program.specs.Walk.{MarksReached, IsClosed, IsWalk, ReadsMarked}
 use Rattle.gg_program.proofs.ReachLemmas.{Reaches-itself, Reaches-on, along-reaches}
+
+-- no mark
+unmarked : (n s : ℕ) → is_marked (replicate n false) s ≡ false
+unmarked zero s = refl
+unmarked (suc n) zero = refl
+unmarked (suc n) (suc s) = unmarked n s
 
 -- at first the signal itself is marked
 pub IsWalk-start : (circuit : FlatCircuit) (order : List ℕ) (out k : ℕ) (marks : List Bool) → marks ≡ replicate (length circuit.signals) false → out < length circuit.signals → length order ≤ k → IsWalk circuit order out k (set marks out true)

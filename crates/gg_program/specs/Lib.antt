@@ -3,3 +3,4 @@ pub mod Slots
 pub mod ConeValue
 pub mod Steps
 pub mod Walk
+pub mod Programmed

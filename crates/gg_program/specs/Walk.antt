@@ -4,7 +4,6 @@ use Rattle.gg_flat.specs.Line.{value_at}
 use Rattle.gg_flat.specs.Circuit.{FlatCircuit}
 use Rattle.gg_flat.specs.Reads.{Reads}
 use Rattle.gg_order.specs.Marks.{is_marked}
-use Rattle.gg_order.specs.Places.{StandsAfter}
 use Rattle.gg_program.specs.Cone.{Reaches}
 
 -- just the signals that a signal reaches are marked
@@ -27,6 +26,10 @@ pub record ReadsMarked (circuit : FlatCircuit) (signal : ℕ) (before after : Li
   pub kept : (s : ℕ) → is_marked before s ≡ true → is_marked after s ≡ true
   pub read : (s : ℕ) → is_marked before signal ≡ true → Reads circuit signal s → is_marked after s ≡ true
   pub only : (s : ℕ) → is_marked after s ≡ true → is_marked before s ≡ true ⊎ ((is_marked before signal ≡ true) × Reads circuit signal s)
+
+-- each signal of a list stands after all that it reads
+abbrev pub StandsAfter : FlatCircuit → List ℕ → Type 0
+StandsAfter circuit order = (i s : ℕ) → i < length order → Reads circuit (value_at order i) s → Contains (take i order) s
 
 -- the marked signals among the first k of an order
 pub record ArePicked (circuit : FlatCircuit) (marks : List Bool) (order : List ℕ) (k : ℕ) (cone : List ℕ) : Type 0 where

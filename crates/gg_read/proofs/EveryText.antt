@@ -1,4 +1,4 @@
--- Each text spells a circuit or has a fault line: each line is blank, a row of its place or neither.
+-- Each text spells a circuit or has a fault line: each line is blank, a row of its place or at fault.
 use Rattle.std.proofs.Common.{◌≡◌, ℕ, zero, suc, ◌+◌, ◌<◌, ◌≤◌, ◌⊎◌, inl, inr, List, [], ◌∷◌, ◌++◌, length, take, Option, Some, None, refl, sym, ap, ◌∙◌, subst, arith, append_assoc, length-append}
 use Rattle.std.proofs.lemmas.List.{append-nil}
 use Rattle.std.specs.Prelude.{slice_get}
@@ -14,9 +14,9 @@ use Rattle.gg_row.proofs.RowLaws.{row_at-spelt, spelt-row_at}
 use Rattle.gg_read.specs.declared.stage.Stage.{Stage}
 use Rattle.gg_read.specs.declared.stage.Stage.TheVariants.{Start, Version, Header, Ports, Statements, Fields, Open}
 use Rattle.gg_read.specs.Stages.{stage_place, HasRead}
-use Rattle.gg_read.specs.Text.{LinePlace, LineTokens, IsBlank, IsForm, IsNoForm, IsTooDeep, IsFaultLine, Spells, opened, closed, place_after}
+use Rattle.gg_read.specs.Text.{LinePlace, LineTokens, IsBlank, IsForm, IsAtFault, IsTooDeep, IsFaultLine, HasNoFaultLine, Spells, opened, closed, place_after}
 use Rattle.gg_read.proofs.FaultLines.{same_row}
-use Rattle.gg_read.proofs.LineSteps.{HasRead-row, HasRead-blank, HasRead-fault, HasRead-incomplete, HasRead-whole}
+use Rattle.gg_read.proofs.LineSteps.{HasRead-row, HasRead-blank, HasRead-fault, HasRead-incomplete, HasRead-whole, HasRead-faultless}
 use Rattle.gg_read.proofs.NextStages.{GoesOn, goes_later, next-stage}
 use Rattle.gg_read.proofs.TokenCounts.{opened-cons, closed-cons}
 
@@ -54,14 +54,14 @@ deep_or_not (t ∷ ts) o c = by (less_or_not (256 + c) o) (deep_or_not ts (o + o
 -- what a line is at its place
 data Judged (place : LinePlace) (line : LineTokens) : Type 0 where
   Blank : (blank : IsBlank line) → Judged place line
-  Formed : (row : Row) (next : LinePlace) (form : IsForm place line row next) → Judged place line
-  Faulty : (none : IsNoForm place line) → Judged place line
+  Formed : (row : Row) (next : LinePlace) (form : IsForm place line row next) (shallow : IsTooDeep line.tokens → ⊥) → Judged place line
+  Faulty : (fault : IsAtFault place line) → Judged place line
 
 abbrev holding : List Tok → Option ℕ → LineTokens
 holding ts bad = record { tokens = ts; bad = bad }
 
 bad-judged : (place : LinePlace) (ts : List Tok) (x : ℕ) → Judged place (holding ts (Some x))
-bad-judged place ts x = Faulty (blank, form)
+bad-judged place ts x = Faulty (inr (blank, form))
   where
     blank : IsBlank (holding ts (Some x)) → ⊥
     blank h = let none : Some x ≡ None = h.1 in cc
@@ -70,8 +70,8 @@ bad-judged place ts x = Faulty (blank, form)
     form row next h = let none : Some x ≡ None = h.whole in cc
 
 placed-judged : (place : LinePlace) (t : Tok) (ts : List Tok) (row : Row) (o : Option LinePlace) → (IsTooDeep (t ∷ ts) → ⊥) → row_at (t ∷ ts) ≡ Some row → place_after place row ≡ o → Judged place (holding (t ∷ ts) None)
-placed-judged place t ts row (Some next) shallow found there = Formed row next (record { whole = refl; shallow = shallow; spelt = row_at-spelt (t ∷ ts) row found; there = there })
-placed-judged place t ts row None shallow found there = Faulty (blank, form)
+placed-judged place t ts row (Some next) shallow found there = Formed row next (record { whole = refl; spelt = row_at-spelt (t ∷ ts) row found; there = there }) shallow
+placed-judged place t ts row None shallow found there = Faulty (inr (blank, form))
   where
     blank : IsBlank (holding (t ∷ ts) None) → ⊥
     blank h = let none : t ∷ ts ≡ [] = h.0 in cc
@@ -84,7 +84,7 @@ placed-judged place t ts row None shallow found there = Faulty (blank, form)
 
 row-judged : (place : LinePlace) (t : Tok) (ts : List Tok) (o : Option Row) → (IsTooDeep (t ∷ ts) → ⊥) → row_at (t ∷ ts) ≡ o → Judged place (holding (t ∷ ts) None)
 row-judged place t ts (Some row) shallow found = placed-judged place t ts row (place_after place row) shallow found refl
-row-judged place t ts None shallow found = Faulty (blank, form)
+row-judged place t ts None shallow found = Faulty (inr (blank, form))
   where
     blank : IsBlank (holding (t ∷ ts) None) → ⊥
     blank h = let none : t ∷ ts ≡ [] = h.0 in cc
@@ -93,13 +93,7 @@ row-judged place t ts None shallow found = Faulty (blank, form)
     form r next h = let here = spelt-row_at (t ∷ ts) r h.spelt in cc
 
 deep-judged : (place : LinePlace) (t : Tok) (ts : List Tok) → DeepBehind 0 0 (t ∷ ts) ⊎ (DeepBehind 0 0 (t ∷ ts) → ⊥) → Judged place (holding (t ∷ ts) None)
-deep-judged place t ts (inl (k, deep)) = Faulty (blank, form)
-  where
-    blank : IsBlank (holding (t ∷ ts) None) → ⊥
-    blank h = let none : t ∷ ts ≡ [] = h.0 in cc
-
-    form : (r : Row) (next : LinePlace) → IsForm place (holding (t ∷ ts) None) r next → ⊥
-    form r next h = h.shallow (k, omega (arith, deep))
+deep-judged place t ts (inl (k, deep)) = Faulty (inl (k, omega (arith, deep)))
 deep-judged place t ts (inr none) = row-judged place t ts (row_at (t ∷ ts)) shallow refl
   where
     shallow : IsTooDeep (t ∷ ts) → ⊥
@@ -112,9 +106,9 @@ judge place (t ∷ ts) None = deep-judged place t ts (deep_or_not (t ∷ ts) 0 0
 
 -- ---- line by line
 
--- the text spells a circuit or has a fault line
+-- the text spells a circuit and no line of it is at fault, or it has a fault line
 abbrev IsAnswered : List ℕ → Type 0
-IsAnswered text = ((circuit : CircuitTree) × Spells text circuit) ⊎ ((n : ℕ) × (line : LineTokens) × IsFaultLine text n line)
+IsAnswered text = ((circuit : CircuitTree) × Spells text circuit × HasNoFaultLine text) ⊎ ((n : ℕ) × (line : LineTokens) × IsFaultLine text n line)
 
 -- from these lines on, where those before them were read
 abbrev GoesThrough : List ℕ → List (List ℕ) → Type 0
@@ -133,24 +127,24 @@ one_line : (text : List ℕ) (l : List ℕ) (more done : List (List ℕ)) (n : �
 one_line text l more done n stage line through all number goes read lexed (Blank blank) =
     let size : length (done ++ l ∷ []) ≡ length done + 1 = length-append done (l ∷ []) in
     through (done ++ l ∷ []) (n + 1) stage (append_assoc done (l ∷ []) more ∙ all) (omega (arith, number, size)) (goes_later stage n goes) (HasRead-blank done stage l line read lexed blank)
-one_line text l more done n stage line through all number goes read lexed (Formed row place form) =
+one_line text l more done n stage line through all number goes read lexed (Formed row place form shallow) =
     let size : length (done ++ l ∷ []) ≡ length done + 1 = length-append done (l ∷ []) in
     let behind = next-stage stage n row place goes form.there in
     through (done ++ l ∷ []) (n + 1) behind.next (append_assoc done (l ∷ []) more ∙ all) (omega (arith, number, size)) behind.goes
-    (HasRead-row done stage behind.next l line row n read lexed (subst (λ (p : LinePlace). IsForm (stage_place stage) line row p) (sym behind.there) form) behind.built number)
-one_line text l more done n stage line through all number goes read lexed (Faulty none) =
+    (HasRead-row done stage behind.next l line row n read lexed (subst (λ (p : LinePlace). IsForm (stage_place stage) line row p) (sym behind.there) form) shallow behind.built number)
+one_line text l more done n stage line through all number goes read lexed (Faulty fault) =
     let before : take (length done) (lines text) ≡ done = ap (λ (x : List (List ℕ)). take (length done) x) (sym all) ∙ taken done (l ∷ more) in
     let there : slice_get (lines text) (length done) ≡ Some l = ap (λ (x : List (List ℕ)). slice_get x (length done)) (sym all) ∙ next_there done more l in
     let size : length (lines text) ≡ length done + length (l ∷ more) = ap length (sym all) ∙ length-append done (l ∷ more) in
-    inr (n, line, HasRead-fault text (length done) n stage l line (subst (λ (x : List (List ℕ)). HasRead x stage) (sym before) read) (omega (arith, size)) there lexed none number)
+    inr (n, line, HasRead-fault text (length done) n stage l line (subst (λ (x : List (List ℕ)). HasRead x stage) (sym before) read) (omega (arith, size)) there lexed fault number)
 
 at_end : (text : List ℕ) (stage : Stage) → IsUtf8 text → HasRead (lines text) stage → IsAnswered text
 at_end text Start utf8 read = inr (length (lines text) + 1, record { tokens = []; bad = None }, HasRead-incomplete text (length (lines text) + 1) Start read (λ h. h) refl)
 at_end text Version utf8 read = inr (length (lines text) + 1, record { tokens = []; bad = None }, HasRead-incomplete text (length (lines text) + 1) Version read (λ h. h) refl)
-at_end text (Header c) utf8 read = inl (c, HasRead-whole text (Header c) c utf8 read tt (λ before b. b))
-at_end text (Ports c) utf8 read = inl (c, HasRead-whole text (Ports c) c utf8 read tt (λ before b. b))
-at_end text (Statements c) utf8 read = inl (c, HasRead-whole text (Statements c) c utf8 read tt (λ before b. b))
-at_end text (Fields c) utf8 read = inl (c, HasRead-whole text (Fields c) c utf8 read tt (λ before b. b))
+at_end text (Header c) utf8 read = inl (c, HasRead-whole text (Header c) c utf8 read tt (λ before b. b), HasRead-faultless text (Header c) read tt)
+at_end text (Ports c) utf8 read = inl (c, HasRead-whole text (Ports c) c utf8 read tt (λ before b. b), HasRead-faultless text (Ports c) read tt)
+at_end text (Statements c) utf8 read = inl (c, HasRead-whole text (Statements c) c utf8 read tt (λ before b. b), HasRead-faultless text (Statements c) read tt)
+at_end text (Fields c) utf8 read = inl (c, HasRead-whole text (Fields c) c utf8 read tt (λ before b. b), HasRead-faultless text (Fields c) read tt)
 at_end text (Open c register) utf8 read =
     inr (length (lines text) + 1, record { tokens = []; bad = None }, HasRead-incomplete text (length (lines text) + 1) (Open c register) read (λ h. h) refl)
 
@@ -163,4 +157,4 @@ goes_through text utf8 (l ∷ ls) done n stage all number goes read =
 
 pub every_text-law : (text : List ℕ) → IsUtf8 text → IsAnswered text
 every_text-law text utf8 =
-    goes_through text utf8 (lines text) [] 1 Start refl refl tt (record { held = []; tokens = tt; rows = []; read = (refl, refl); built = refl })
+    goes_through text utf8 (lines text) [] 1 Start refl refl tt (record { held = []; tokens = tt; rows = []; read = (refl, refl); shallow = tt; built = refl })

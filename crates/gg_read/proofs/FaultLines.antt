@@ -1,4 +1,4 @@
--- A text spells at most one circuit, or has one fault line.
+-- A text spells one circuit at most, and has one fault line at most; where it has both, the line is too deep.
 use Rattle.std.proofs.Common.{◌≡◌, ℕ, zero, suc, ◌+◌, ◌<◌, ◌≤◌, ◌⊎◌, inl, inr, List, [], ◌∷◌, length, take, Option, Some, None, refl, sym, ap, ◌∙◌, subst, arith}
 use Rattle.std.specs.Prelude.{slice_get, unwrap_or}
 use Rattle.std.specs.Str.Lines.{lines}
@@ -10,7 +10,7 @@ use Rattle.gg_ast.specs.Tree.{CircuitTree}
 use Rattle.gg_ast.proofs.TreeOf.{one_tree-law}
 use Rattle.gg_row.specs.Reading.{row_at}
 use Rattle.gg_row.specs.Forms.{SpellsRow}
-use Rattle.gg_read.specs.Text.{LinePlace, AtStart, LineTokens, AreLineTokens, AreRows, IsBlank, IsForm, IsNoForm, IsEndPlace, IsFaultLine, Spells, place_after, without_version}
+use Rattle.gg_read.specs.Text.{LinePlace, AtStart, LineTokens, AreLineTokens, AreRows, IsBlank, IsForm, IsNoForm, IsAtFault, IsTooDeep, AreShallow, IsEndPlace, IsFaultLine, HasNoFaultLine, Spells, place_after, without_version}
 use Rattle.gg_row.proofs.RowLaws.{spelt-row_at, row_at-nothing}
 
 pub some_same : {A : Type 0} (x y : A) → Some x ≡ Some y → x ≡ y
@@ -64,7 +64,7 @@ AreLineTokens-same (l ∷ ls) (t ∷ ts) [] tokens again = absurd again
 AreLineTokens-same (l ∷ ls) (t ∷ ts) (u ∷ us) tokens again =
     ap (λ (x : LineTokens). x ∷ ts) (same_line l t u tokens.0 again.0) ∙ ap (λ (x : List LineTokens). u ∷ x) (AreLineTokens-same ls ts us tokens.1 again.1)
 
--- a line at fault is not among lines that are rows
+-- a line that is no form of its place is not among lines that are rows
 among_rows : (place : LinePlace) (n : ℕ) (ls : List (List ℕ)) (before held : List LineTokens) (rows others : List Numbered) (mid last : LinePlace) (l : List ℕ) (line : LineTokens) → AreLineTokens (take (length before) ls) before → AreLineTokens (take (length held) ls) held → length before < length held → AreRows place n before rows mid → AreRows place n held others last → slice_get ls (length before) ≡ Some l → Lexes l line.tokens line.bad → IsNoForm mid line → ⊥
 among_rows place n ls before [] rows others mid last l line tokens again less read other there lexed none = omega (arith, less)
 among_rows place n [] before (h ∷ hs) rows others mid last l line tokens again less read other there lexed none = absurd again
@@ -89,6 +89,17 @@ among_rows place n (k ∷ ks) (b ∷ bs) (h ∷ hs) rows others mid last l line 
     let next : p ≡ q = same_next place h r s p q (subst (λ (x : LineTokens). IsForm place x r p) equal form) second in
     among_rows q (n + 1) ks bs hs rs ss mid last l line tokens.1 again.1 (omega (arith, less)) (subst (λ (x : LinePlace). AreRows x (n + 1) bs rs mid) next more) rest there lexed none
 
+-- a line that is too deep is not among lines of which none is
+deep_among : (ls : List (List ℕ)) (held : List LineTokens) (i : ℕ) (l : List ℕ) (line : LineTokens) → AreLineTokens (take (length held) ls) held → AreShallow held → i < length held → slice_get ls i ≡ Some l → Lexes l line.tokens line.bad → IsTooDeep line.tokens → ⊥
+deep_among ls [] i l line tokens shallow less there lexed deep = omega (arith, less)
+deep_among [] (h ∷ hs) i l line tokens shallow less there lexed deep = absurd tokens
+deep_among (k ∷ ks) (h ∷ hs) zero l line tokens shallow less there lexed deep =
+    let same : k ≡ l = some_same k l there in
+    let equal : h ≡ line = same_line k h line tokens.0 (subst (λ (x : List ℕ). Lexes x line.tokens line.bad) (sym same) lexed) in
+    shallow.0 (subst (λ (x : LineTokens). IsTooDeep x.tokens) (sym equal) deep)
+deep_among (k ∷ ks) (h ∷ hs) (suc i) l line tokens shallow less there lexed deep =
+    deep_among ks hs i l line tokens.1 shallow.1 (omega (arith, less)) there lexed deep
+
 -- as many lines as are read are there
 within : (ls : List (List ℕ)) (held : List LineTokens) → AreLineTokens (take (length held) ls) held → length held ≤ length ls
 within ls [] tokens = omega arith
@@ -105,9 +116,10 @@ inside (k ∷ ks) (suc i) l there = omega (arith, inside ks i l there)
 no_earlier : (text : List ℕ) (n m : ℕ) (line other : LineTokens) (a : IsFaultLine text n line) (b : IsFaultLine text m other) → length a.before < length b.before → ⊥
 no_earlier text n m line other a b less = by_fault a.fault
   where
-    by_fault : ((l : List ℕ) × (slice_get (lines text) (length a.before) ≡ Some l) × Lexes l line.tokens line.bad × IsNoForm a.place line)
+    by_fault : ((l : List ℕ) × (slice_get (lines text) (length a.before) ≡ Some l) × Lexes l line.tokens line.bad × IsAtFault a.place line)
         ⊎ ((length (lines text) ≡ length a.before) × (line ≡ record { tokens = []; bad = None }) × (IsEndPlace a.place → ⊥)) → ⊥
-    by_fault (inl (l, there, lexed, none)) =
+    by_fault (inl (l, there, lexed, inl deep)) = deep_among (lines text) b.before (length a.before) l line b.tokens b.shallow less there lexed deep
+    by_fault (inl (l, there, lexed, inr none)) =
         among_rows AtStart 1 (lines text) a.before b.before a.rows b.rows a.place b.place l line a.tokens b.tokens less a.read b.read there lexed none
     by_fault (inr (end, empty, incomplete)) = omega (arith, end, less, within (lines text) b.before b.tokens)
 
@@ -124,9 +136,9 @@ one_fault_line-law text n m line other a b = (omega (arith, a.number, b.number, 
     size : length a.before ≡ length b.before
     size = same_size text n m line other a b
 
-    by_faults : ((l : List ℕ) × (slice_get (lines text) (length a.before) ≡ Some l) × Lexes l line.tokens line.bad × IsNoForm a.place line)
+    by_faults : ((l : List ℕ) × (slice_get (lines text) (length a.before) ≡ Some l) × Lexes l line.tokens line.bad × IsAtFault a.place line)
         ⊎ ((length (lines text) ≡ length a.before) × (line ≡ record { tokens = []; bad = None }) × (IsEndPlace a.place → ⊥))
-        → ((l : List ℕ) × (slice_get (lines text) (length b.before) ≡ Some l) × Lexes l other.tokens other.bad × IsNoForm b.place other)
+        → ((l : List ℕ) × (slice_get (lines text) (length b.before) ≡ Some l) × Lexes l other.tokens other.bad × IsAtFault b.place other)
         ⊎ ((length (lines text) ≡ length b.before) × (other ≡ record { tokens = []; bad = None }) × (IsEndPlace b.place → ⊥)) → line ≡ other
     by_faults (inl (l, there, lexed, none)) (inl (k, here, again, none_too)) =
         let same : l ≡ k = some_same l k (sym there ∙ ap (λ (i : ℕ). slice_get (lines text) i) size ∙ here) in
@@ -143,22 +155,43 @@ lines_held [] (t ∷ ts) tokens = absurd tokens
 lines_held (l ∷ ls) [] tokens = absurd tokens
 lines_held (l ∷ ls) (t ∷ ts) tokens = let more = lines_held ls ts tokens.1 in (ap suc more.0, (tokens.0, more.1))
 
--- a text with a fault line spells no circuit
-pub no_circuit-law : (text : List ℕ) (n : ℕ) (line : LineTokens) (circuit : CircuitTree) → IsFaultLine text n line → Spells text circuit → ⊥
-no_circuit-law text n line circuit a spells = by_fault a.fault
-  where
-    whole : (length (lines text) ≡ length spells.held) × AreLineTokens (take (length spells.held) (lines text)) spells.held
-    whole = lines_held (lines text) spells.held spells.tokens
+-- a line that is too deep stands in the text
+record IsDeepThere (text : List ℕ) (i : ℕ) (line : LineTokens) : Type 0 where
+  pub deep : IsTooDeep line.tokens
+  pub l : List ℕ
+  pub there : slice_get (lines text) i ≡ Some l
+  pub lexed : Lexes l line.tokens line.bad
 
-    by_fault : ((l : List ℕ) × (slice_get (lines text) (length a.before) ≡ Some l) × Lexes l line.tokens line.bad × IsNoForm a.place line)
-        ⊎ ((length (lines text) ≡ length a.before) × (line ≡ record { tokens = []; bad = None }) × (IsEndPlace a.place → ⊥)) → ⊥
-    by_fault (inl (l, there, lexed, none)) =
-        among_rows AtStart 1 (lines text) a.before spells.held a.rows spells.rows a.place spells.last l line a.tokens whole.1 (omega (arith, whole.0, inside (lines text) (length a.before) l there)) a.read spells.read there lexed none
+-- where all lines are rows, and the text may end behind them, a fault line is too deep
+deep_there : (text : List ℕ) (n : ℕ) (line : LineTokens) (held : List LineTokens) (rows : List Numbered) (last : LinePlace) (a : IsFaultLine text n line) → AreLineTokens (lines text) held → AreRows AtStart 1 held rows last → IsEndPlace last → IsDeepThere text (length a.before) line
+deep_there text n line held rows last a tokens read end_place = by_fault a.fault
+  where
+    whole : (length (lines text) ≡ length held) × AreLineTokens (take (length held) (lines text)) held
+    whole = lines_held (lines text) held tokens
+
+    by_fault : ((l : List ℕ) × (slice_get (lines text) (length a.before) ≡ Some l) × Lexes l line.tokens line.bad × IsAtFault a.place line)
+        ⊎ ((length (lines text) ≡ length a.before) × (line ≡ record { tokens = []; bad = None }) × (IsEndPlace a.place → ⊥)) → IsDeepThere text (length a.before) line
+    by_fault (inl (l, there, lexed, inl deep)) = record { deep = deep; l = l; there = there; lexed = lexed }
+    by_fault (inl (l, there, lexed, inr none)) =
+        absurd (among_rows AtStart 1 (lines text) a.before held a.rows rows a.place last l line a.tokens whole.1 (omega (arith, whole.0, inside (lines text) (length a.before) l there)) a.read read there lexed none)
     by_fault (inr (end, empty, incomplete)) =
-        let size : length a.before ≡ length spells.held = sym end ∙ whole.0 in
-        let same : a.before ≡ spells.held = AreLineTokens-same (take (length spells.held) (lines text)) a.before spells.held (subst (λ (i : ℕ). AreLineTokens (take i (lines text)) a.before) size a.tokens) whole.1 in
-        let rows = AreRows-same AtStart 1 spells.held a.rows spells.rows a.place spells.last (subst (λ (h : List LineTokens). AreRows AtStart 1 h a.rows a.place) same a.read) spells.read in
-        incomplete (subst (λ (p : LinePlace). IsEndPlace p) (sym rows.1) spells.whole)
+        let size : length a.before ≡ length held = sym end ∙ whole.0 in
+        let same : a.before ≡ held = AreLineTokens-same (take (length held) (lines text)) a.before held (subst (λ (i : ℕ). AreLineTokens (take i (lines text)) a.before) size a.tokens) whole.1 in
+        let both = AreRows-same AtStart 1 held a.rows rows a.place last (subst (λ (h : List LineTokens). AreRows AtStart 1 h a.rows a.place) same a.read) read in
+        absurd (incomplete (subst (λ (p : LinePlace). IsEndPlace p) (sym both.1) end_place))
+
+-- the fault line of a text that spells a circuit is too deep
+pub spelt_but_too_deep-law : (text : List ℕ) (n : ℕ) (line : LineTokens) (circuit : CircuitTree) → Spells text circuit → IsFaultLine text n line → IsTooDeep line.tokens
+spelt_but_too_deep-law text n line circuit spells a =
+    let found = deep_there text n line spells.held spells.rows spells.last a spells.tokens spells.read spells.whole in
+    found.deep
+
+-- where all lines are rows and none is too deep, and the text may end behind them, no line is at fault
+pub no_fault_line : (text : List ℕ) (held : List LineTokens) (rows : List Numbered) (last : LinePlace) → AreLineTokens (lines text) held → AreRows AtStart 1 held rows last → IsEndPlace last → AreShallow held → HasNoFaultLine text
+no_fault_line text held rows last tokens read end_place shallow = λ n line a.
+    let whole = lines_held (lines text) held tokens in
+    let found = deep_there text n line held rows last a tokens read end_place in
+    deep_among (lines text) held (length a.before) found.l line whole.1 shallow (omega (arith, whole.0, inside (lines text) (length a.before) found.l found.there)) found.there found.lexed found.deep
 
 -- a text spells one circuit at most
 pub one_circuit-law : (text : List ℕ) (c d : CircuitTree) → Spells text c → Spells text d → c ≡ d

@@ -1,11 +1,13 @@
 pub mod Builds
 pub mod EveryText
 pub mod FaultLines
-pub mod GrammarLaws
 pub mod LineSteps
 pub mod NextStages
 pub mod TextSteps
 pub mod TokenCounts
+mod WorkedDepth
 mod WorkedFaults
+mod WorkedForms
+mod WorkedMemories
 mod WorkedPlaces
 mod WorkedText

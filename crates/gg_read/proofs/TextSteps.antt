@@ -1,5 +1,5 @@
 -- One line of a text, and its end.
-use Rattle.std.proofs.Common.{◌≡◌, ℕ, zero, suc, ◌+◌, ◌<◌, List, [], ◌∷◌, ◌++◌, length, take, get_or, false, Option, Some, None, Result, Ok, Err, refl, sym, ap, ◌∙◌, subst, arith}
+use Rattle.std.proofs.Common.{◌≡◌, ℕ, ◌+◌, ◌<◌, List, [], ◌∷◌, ◌++◌, length, take, get_or, false, Option, Some, None, Result, Ok, Err, inl, inr, refl, sym, ap, ◌∙◌, subst, arith}
 use Rattle.std.specs.Prelude.{is_some, IfOk, IfErr, IfSome, MatchOption, MatchResult}
 use Rattle.std.specs.Str.{IsUtf8}
 use Rattle.std.specs.Str.Lines.{lines}
@@ -20,9 +20,9 @@ use Rattle.gg_read.specs.Causes.{IsFaultOf}
 use Rattle.gg_row.specs.LineRows.{row_of, TellsRow}
 use Rattle.gg_row.specs.Forms.{SpellsRow}
 use Rattle.gg_read.specs.Stages.{stage_place, IsStage, Advances, Ends, HasRead, IsWholeRow, IsRowOf, IsRowStep, IsPlaced, IsMissed, IsFaulty, IsStep}
-use Rattle.gg_read.specs.Text.{LineTokens, IsTooDeep, IsBlank, IsFaultLine, Spells, HasReadFault, place_after}
-use Rattle.gg_read.proofs.LineSteps.{HasRead-row, HasRead-blank, HasRead-fault, HasRead-incomplete, HasRead-whole}
-use Rattle.gg_read.proofs.FaultLines.{same_row, one_circuit-law, one_fault_line-law, no_circuit-law}
+use Rattle.gg_read.specs.Text.{LineTokens, IsTooDeep, IsBlank, IsFaultLine, HasNoFaultLine, Spells, HasReadFault, place_after}
+use Rattle.gg_read.proofs.LineSteps.{HasRead-row, HasRead-blank, HasRead-fault, HasRead-incomplete, HasRead-whole, HasRead-faultless, empty_shallow}
+use Rattle.gg_read.proofs.FaultLines.{same_row, one_circuit-law, one_fault_line-law}
 
 pub none_there : (o : Option ℕ) → is_some o ≡ false → o ≡ None
 none_there (Some x) e = absurd (cc)
@@ -43,11 +43,12 @@ placed_row : (stage : Stage) (n : ℕ) (line : LineTokens) (row : Row) (result :
 placed_row stage n line row (Ok next) whole after =
     record {
       row = row;
-      form = record { whole = whole.whole; shallow = whole.shallow; spelt = whole.spelt; there = after.there };
+      form = record { whole = whole.whole; spelt = whole.spelt; there = after.there };
+      shallow = whole.shallow;
       stays = after.stays;
       built = after.built;
     }
-placed_row stage n line row (Err NoForm) whole none = λ r p form.
+placed_row stage n line row (Err NoForm) whole none = λ r p form shallow.
     let same : row ≡ r = same_row line.tokens row r whole.spelt form.spelt in
     let there : place_after (stage_place stage) row ≡ Some p = ap (λ (x : Row). place_after (stage_place stage) x) same ∙ form.there in
     cc
@@ -72,14 +73,14 @@ blank_step stage n l line stays lexed blank = (later stage n stays, λ ls number
 
 -- a line that is a row of its place
 pub row_step : (stage : Stage) (n : ℕ) (l : List ℕ) (line : LineTokens) (next : Stage) → Lexes l line.tokens line.bad → IsRowStep stage n line next → IsStep stage n l (Ok next)
-row_step stage n l line next lexed step = (step.stays, λ ls number read. HasRead-row ls stage next l line step.row n read lexed step.form step.built number)
+row_step stage n l line next lexed step = (step.stays, λ ls number read. HasRead-row ls stage next l line step.row n read lexed step.form step.shallow step.built number)
 
 -- a line that is none
 pub miss_step : (stage : Stage) (n : ℕ) (l : List ℕ) (line : LineTokens) (miss : Miss) (answer : ReadFault) → Lexes l line.tokens line.bad → (IsBlank line → ⊥) → IsPlaced stage n line (Err miss) → IsMissed miss n line.tokens answer → IsStep stage n l (Err answer)
 miss_step stage n l line NoForm because.NotText lexed some none cause = absurd cause
-miss_step stage n l line NoForm (because.Syntax m) lexed some none cause = record { line = line; lexed = lexed; none = (some, none); cause = cause }
-miss_step stage n l line NoForm (because.Outside m word) lexed some none cause = record { line = line; lexed = lexed; none = (some, none); cause = cause }
-miss_step stage n l line NoForm (because.TooDeep m) lexed some none cause = record { line = line; lexed = lexed; none = (some, none); cause = cause }
+miss_step stage n l line NoForm (because.Syntax m) lexed some none cause = record { line = line; lexed = lexed; fault = inr (some, λ r p form. none r p form cause.1); cause = cause }
+miss_step stage n l line NoForm (because.Outside m word) lexed some none cause = record { line = line; lexed = lexed; fault = inr (some, λ r p form. none r p form cause.1); cause = cause }
+miss_step stage n l line NoForm (because.TooDeep m) lexed some none cause = record { line = line; lexed = lexed; fault = inl cause.1; cause = cause }
 miss_step stage n l line NoForm because.NoMemory lexed some none cause = tt
 miss_step stage n l line NoMemory answer lexed some none cause = subst (λ (a : ReadFault). IsStep stage n l (Err a)) (sym cause) tt
 
@@ -92,7 +93,7 @@ line_turn text k m n l stage next turn number size read step =
 
 faulty : (text : List ℕ) (k n : ℕ) (l : List ℕ) (stage : Stage) (answer : ReadFault) → (k < length (lines text)) × (l ≡ get_or (lines text) k l) → n ≡ k + 1 → HasRead (take k (lines text)) stage → (f : IsFaulty stage n l answer) → IsFaultLine text n f.line
 faulty text k n l stage answer turn number read f =
-    HasRead-fault text k n stage l f.line read turn.0 (slice_get_read (lines text) (length (lines text)) k l refl turn.0 turn.1) f.lexed f.none number
+    HasRead-fault text k n stage l f.line read turn.0 (slice_get_read (lines text) (length (lines text)) k l refl turn.0 turn.1) f.lexed f.fault number
 
 -- the line at which the reading stops
 pub fault_turn : (text : List ℕ) (k n : ℕ) (l : List ℕ) (stage : Stage) (answer : ReadFault) → IsUtf8 text → (k < length (lines text)) × (l ≡ get_or (lines text) k l) → n ≡ k + 1 → HasRead (take k (lines text)) stage → IsStep stage n l (Err answer) → HasReadFault text answer
@@ -114,32 +115,32 @@ pub end_circuit : (text : List ℕ) (k n : ℕ) (stage : Stage) (result : Result
 end_circuit text k n stage (Ok circuit) utf8 size read ends = HasRead-whole text stage circuit utf8 (all_read text k stage size read) ends.0 ends.1
 end_circuit text k n stage (Err answer) utf8 size read ends = tt
 
-not_deep : IsTooDeep [] → ⊥
-not_deep (zero, h) = omega (arith, h)
-not_deep (suc k, h) = omega (arith, h)
+pub end_faultless : (text : List ℕ) (k n : ℕ) (stage : Stage) (result : Result CircuitTree ReadFault) → k ≡ length (lines text) → HasRead (take k (lines text)) stage → Ends stage n result → IfOk result (λ c. HasNoFaultLine text)
+end_faultless text k n stage (Ok circuit) size read ends = HasRead-faultless text stage (all_read text k stage size read) ends.0
+end_faultless text k n stage (Err answer) size read ends = tt
 
 -- the end of a text that is not
 pub end_fault : (text : List ℕ) (k n : ℕ) (stage : Stage) (result : Result CircuitTree ReadFault) → IsUtf8 text → k ≡ length (lines text) → n ≡ k + 1 → HasRead (take k (lines text)) stage → Ends stage n result → IfErr result (λ f. HasReadFault text f)
 end_fault text k n stage (Ok circuit) utf8 size number read ends = tt
 end_fault text k n stage (Err because.NotText) utf8 size number read ends = absurd ends
 end_fault text k n stage (Err (because.Syntax m)) utf8 size number read ends =
-    (utf8, (record { tokens = []; bad = None }, HasRead-incomplete text m stage (all_read text k stage size read) ends.1 (omega (arith, ends.0, number, size)), not_deep, refl))
+    (utf8, (record { tokens = []; bad = None }, HasRead-incomplete text m stage (all_read text k stage size read) ends.1 (omega (arith, ends.0, number, size)), empty_shallow, refl))
 end_fault text k n stage (Err (because.Outside m word)) utf8 size number read ends = absurd ends
 end_fault text k n stage (Err (because.TooDeep m)) utf8 size number read ends = absurd ends
 end_fault text k n stage (Err because.NoMemory) utf8 size number read ends = absurd ends
 
--- a text that spells a circuit has no other answer
-pub only_circuit : (text : List ℕ) (result : Result CircuitTree ReadFault) → IfOk result (λ d. Spells text d) → IfErr result (λ f. HasReadFault text f) → (c : CircuitTree) → Spells text c → MatchResult result (λ d. d ≡ c) (λ f. f ≡ because.NoMemory)
-only_circuit text (Ok d) ok err c spells = one_circuit-law text d c ok spells
-only_circuit text (Err because.NotText) ok err c spells = absurd (err spells.utf8)
-only_circuit text (Err (because.Syntax m)) ok err c spells = absurd (no_circuit-law text m err.1.0 c err.1.1 spells)
-only_circuit text (Err (because.Outside m word)) ok err c spells = absurd (no_circuit-law text m err.1.0 c err.1.1 spells)
-only_circuit text (Err (because.TooDeep m)) ok err c spells = absurd (no_circuit-law text m err.1.0 c err.1.1 spells)
-only_circuit text (Err because.NoMemory) ok err c spells = refl
+-- a text that spells a circuit, and of which no line is at fault, has no other answer
+pub only_circuit : (text : List ℕ) (result : Result CircuitTree ReadFault) → IfOk result (λ d. Spells text d) → IfErr result (λ f. HasReadFault text f) → (c : CircuitTree) → Spells text c → HasNoFaultLine text → MatchResult result (λ d. d ≡ c) (λ f. f ≡ because.NoMemory)
+only_circuit text (Ok d) ok err c spells none = one_circuit-law text d c ok spells
+only_circuit text (Err because.NotText) ok err c spells none = absurd (err spells.utf8)
+only_circuit text (Err (because.Syntax m)) ok err c spells none = absurd (none m err.1.0 err.1.1)
+only_circuit text (Err (because.Outside m word)) ok err c spells none = absurd (none m err.1.0 err.1.1)
+only_circuit text (Err (because.TooDeep m)) ok err c spells none = absurd (none m err.1.0 err.1.1)
+only_circuit text (Err because.NoMemory) ok err c spells none = refl
 
 -- nor has a text with a fault line
-pub only_fault : (text : List ℕ) (result : Result CircuitTree ReadFault) → IfOk result (λ d. Spells text d) → IfErr result (λ f. HasReadFault text f) → (n : ℕ) (line : LineTokens) → IsUtf8 text → IsFaultLine text n line → MatchResult result (λ d. ⊥) (λ f. IsFaultOf n line.tokens f)
-only_fault text (Ok d) ok err n line utf8 fault = no_circuit-law text n line d fault ok
+pub only_fault : (text : List ℕ) (result : Result CircuitTree ReadFault) → IfOk result (λ d. HasNoFaultLine text) → IfErr result (λ f. HasReadFault text f) → (n : ℕ) (line : LineTokens) → IsUtf8 text → IsFaultLine text n line → MatchResult result (λ d. ⊥) (λ f. IsFaultOf n line.tokens f)
+only_fault text (Ok d) ok err n line utf8 fault = ok n line fault
 only_fault text (Err because.NotText) ok err n line utf8 fault = absurd (err utf8)
 only_fault text (Err (because.Syntax m)) ok err n line utf8 fault =
     let same = one_fault_line-law text m n err.1.0 line err.1.1 fault in

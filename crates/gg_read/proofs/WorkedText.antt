@@ -6,25 +6,19 @@
 --      4
 --      5      ; nothing drives it
 --      6      o is invalid
-use Rattle.std.proofs.Common.{◌≡◌, ℕ, ◌+◌, ◌≤◌, inl, inr, List, [], ◌∷◌, ◌++◌, length, take, drop, None, Some, codes, refl, sym, ap, ◌∙◌, arith, lit≤, length-append, take-append-drop}
+use Rattle.std.proofs.Common.{ℕ, inl, inr, List, [], ◌∷◌, codes, refl}
 use Rattle.gg_lex.specs.declared.token.Tok.{Tok}
-use Rattle.gg_lex.specs.declared.token.Tok.TheVariants.{Word, Number, Text, Symbol}
+use Rattle.gg_lex.specs.declared.token.Tok.TheVariants.{Word, Number, Symbol}
 use Rattle.gg_lex.specs.declared.token.Symbol.TheVariants as mark
 use Rattle.gg_lex.proofs.WorkedLines.{word, one, number, ended}
 use Rattle.gg_ast.specs.declared.expression.Reference.TheVariants.{Local}
 use Rattle.gg_ast.specs.declared.module.Direction.TheVariants.{Output}
 use Rattle.gg_ast.specs.declared.module.GroundType.TheVariants.{UInt}
 use Rattle.gg_ast.specs.declared.statement.StmtKind.TheVariants.{Invalid}
-use Rattle.gg_ast.specs.Row.{Row, numbered, CircuitRow, ModuleRow, PortRow, InvalidRow}
+use Rattle.gg_ast.specs.Row.{numbered, CircuitRow, ModuleRow, PortRow, InvalidRow}
 use Rattle.gg_ast.specs.Tree.{CircuitTree}
-use Rattle.gg_row.specs.Reading.{row_at}
-use Rattle.gg_read.specs.Text.{LineTokens, LinePlace, AfterCircuit, InPorts, InStatements, place_after, opened, IsTooDeep, IsForm, Spells}
-use Rattle.gg_row.proofs.RowLaws.{row_at-spelt}
-
--- lines, each with its line feed
-abbrev text_of : List (List ℕ) → List ℕ
-text_of [] = []
-text_of (line ∷ more) = line ++ 10 ∷ text_of more
+use Rattle.gg_read.specs.Text.{AfterCircuit, InPorts, InStatements, Spells}
+use Rattle.gg_read.proofs.WorkedForms.{text_of, holding, form}
 
 abbrev text : List ℕ
 text = text_of (codes "circuit T :" ∷ codes "  module T :" ∷ codes "    output o : UInt<8>" ∷ codes "" ∷ codes "    ; nothing drives it" ∷ codes "    o is invalid" ∷ [])
@@ -54,26 +48,6 @@ port = Word (codes "output") ∷ Word (codes "o") ∷ Symbol mark.Colon ∷ Word
 abbrev driven : List Tok
 driven = Word (codes "o") ∷ Word (codes "is") ∷ Word (codes "invalid") ∷ []
 
-abbrev holding : List Tok → LineTokens
-holding tokens = record { tokens = tokens; bad = None }
-
--- a line of at most 256 tokens is not too deep
-opened-length : (ts : List Tok) → opened ts ≤ length ts
-opened-length [] = omega arith
-opened-length (Word w ∷ ts) = omega (arith, opened-length ts)
-opened-length (Number w ∷ ts) = omega (arith, opened-length ts)
-opened-length (Text w ∷ ts) = omega (arith, opened-length ts)
-opened-length (Symbol mark.OpenParen ∷ ts) = omega (arith, opened-length ts)
-opened-length (Symbol _ ∷ ts) = omega (arith, opened-length ts)
-
-shallow : (ts : List Tok) → length ts ≤ 256 → IsTooDeep ts → ⊥
-shallow ts short (k, deep) =
-    let parts : length (take k ts) + length (drop k ts) ≡ length ts = sym (length-append (take k ts) (drop k ts)) ∙ ap length (take-append-drop k ts) in
-    omega (arith, deep, short, parts, opened-length (take k ts))
-
-form : {place next : LinePlace} {row : Row} {ts : List Tok} → length ts ≤ 256 → row_at ts ≡ Some row → place_after place row ≡ Some next → IsForm place (holding ts) row next
-form {place} {next} {row} {ts} short found there = record { whole = refl; shallow = shallow ts short; spelt = row_at-spelt ts row found; there = there }
-
 text_spells : Spells text circuit
 unfolding lib.Utf8.encode
 text_spells = record {
@@ -97,25 +71,25 @@ text_spells = record {
         CircuitRow (codes "T"),
         AfterCircuit,
         _,
-        form (lit≤ tt) refl refl,
+        form refl refl,
         refl,
         inr (
           ModuleRow (codes "T"),
           InPorts,
           _,
-          form (lit≤ tt) refl refl,
+          form refl refl,
           refl,
           inr (
             PortRow Output (codes "o") (UInt 8),
             InPorts,
             _,
-            form (lit≤ tt) refl refl,
+            form refl refl,
             refl,
             inl (
               (refl, refl),
               inl (
                 (refl, refl),
-                inr (InvalidRow (Local (codes "o")), InStatements, _, form (lit≤ tt) refl refl, refl, (refl, refl)),
+                inr (InvalidRow (Local (codes "o")), InStatements, _, form refl refl, refl, (refl, refl)),
               ),
             ),
           ),

@@ -2,4 +2,3 @@ pub mod Text
 pub mod Causes
 pub mod Stages
 pub mod FaultText
-pub mod Grammar

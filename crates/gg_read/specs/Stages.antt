@@ -19,7 +19,7 @@ use Rattle.gg_read.specs.declared.text.ReadFault.TheVariants as because
 use Rattle.gg_read.specs.Causes.{IsFaultOf}
 use Rattle.gg_row.specs.Forms.{SpellsRow}
 use Rattle.gg_row.specs.LineRows.{row_of}
-use Rattle.gg_read.specs.Text.{IsBlank, IsForm, IsNoForm, IsTooDeep, LinePlace, AtStart, AfterVersion, AfterCircuit, InPorts, InStatements, InFields, AwaitsReset, LineTokens, AreLineTokens, AreRows, IsEndPlace, without_version, after_version, after_circuit, after_module, after_port, after_statement, after_open, after_memory, after_field, after_reset}
+use Rattle.gg_read.specs.Text.{IsBlank, IsForm, IsAtFault, IsTooDeep, AreShallow, LinePlace, AtStart, AfterVersion, AfterCircuit, InPorts, InStatements, InFields, AwaitsReset, LineTokens, AreLineTokens, AreRows, IsEndPlace, without_version, after_version, after_circuit, after_module, after_port, after_statement, after_open, after_memory, after_field, after_reset}
 
 -- what a line holds that was lexed
 abbrev pub line_of : LexedLine → LineTokens
@@ -141,33 +141,36 @@ pub record HasRead (ls : List (List ℕ)) (stage : Stage) : Type 0 where
   pub tokens : AreLineTokens ls held
   pub rows : List Numbered
   pub read : AreRows AtStart 1 held rows (stage_place stage)
+  pub shallow : AreShallow held
   pub built : IsBuilt stage rows
 
--- a line is this row, whatever its place
+-- a line is this row, whatever its place, and is not too deep
 pub record IsWholeRow (line : LineTokens) (row : Row) : Type 0 where
   pub whole : line.bad ≡ None
   pub shallow : IsTooDeep line.tokens → ⊥
   pub spelt : SpellsRow row line.tokens
 
--- the row of a line, or that it is none
+-- the row of a line, or that it is none or too deep
 abbrev pub IsRowOf : LineTokens → Result LineRow Miss → Type 0
 IsRowOf line (Ok held) = MatchOption (row_of held) ⊥ (IsWholeRow line)
 IsRowOf line (Err NoForm) = (row : Row) → IsWholeRow line row → ⊥
 IsRowOf line (Err NoMemory) = Unit {0}
 
--- the stage behind a line that is a row of its place
+-- the stage behind a line that is a row of its place, and is not too deep
 pub record IsRowStep (stage : Stage) (n : ℕ) (line : LineTokens) (next : Stage) : Type 0 where
   pub row : Row
   pub form : IsForm (stage_place stage) line row (stage_place next)
+  pub shallow : IsTooDeep line.tokens → ⊥
   pub stays : IsStage next (n + 1)
   pub built : (before : List Numbered) → IsBuilt stage before → IsBuilt next (before ++ numbered n row ∷ [])
 
+-- that stage, or that the line is no such row
 abbrev pub IsPlaced : Stage → ℕ → LineTokens → Result Stage Miss → Type 0
 IsPlaced stage n line (Ok next) = IsRowStep stage n line next
-IsPlaced stage n line (Err NoForm) = (row : Row) (next : LinePlace) → IsForm (stage_place stage) line row next → ⊥
+IsPlaced stage n line (Err NoForm) = (row : Row) (next : LinePlace) → IsForm (stage_place stage) line row next → (IsTooDeep line.tokens → ⊥) → ⊥
 IsPlaced stage n line (Err NoMemory) = Unit {0}
 
--- the answer for a line that is no row of its place
+-- the answer for a line that is at fault
 abbrev pub IsMissed : Miss → ℕ → List Tok → ReadFault → Type 0
 IsMissed NoForm n ts answer = IsFaultOf n ts answer
 IsMissed NoMemory n ts answer = answer ≡ because.NoMemory
@@ -181,7 +184,7 @@ TellsBlank line false = IsBlank line → ⊥
 pub record IsFaulty (stage : Stage) (n : ℕ) (l : List ℕ) (answer : ReadFault) : Type 0 where
   pub line : LineTokens
   pub lexed : Lexes l line.tokens line.bad
-  pub none : IsNoForm (stage_place stage) line
+  pub fault : IsAtFault (stage_place stage) line
   pub cause : IsFaultOf n line.tokens answer
 
 -- one more line: the lines were read up to the next stage, or the line is at fault

@@ -1,4 +1,5 @@
--- Which circuit a text spells, and which line is at fault: cases on whole lines (FIRRTL Specification, "Grammar").
+-- Which circuit a text spells, and which line is at fault: cases on whole lines (FIRRTL Specification, "Grammar"). A
+-- circuit is read from a text that spells it and of which no line is at fault.
 use Rattle.std.specs.Prelude.{◌≡◌, ℕ, ◌+◌, ◌<◌, ◌⊎◌, List, [], ◌∷◌, length, take, slice_get, Option, None, Some, Bool, true, false, codes, if◌then◌else◌}
 use Rattle.std.specs.Option.{option_or}
 use Rattle.std.specs.List.{list_any}
@@ -180,11 +181,9 @@ IsTooDeep ts = (k : ℕ) × (256 + closed (take k ts) < opened (take k ts))
 abbrev pub IsBlank : LineTokens → Type 0
 IsBlank line = (line.tokens ≡ []) × (line.bad ≡ None)
 
--- A line is this row, and one of the forms of its place; the next line's place is `next`. A line that is too deep is
--- none, even where its tokens spell a row: the first such line is a fault line.
+-- a line is this row, and one of the forms of its place, however many brackets are open; the next line's place is `next`
 pub record IsForm (place : LinePlace) (line : LineTokens) (row : Row) (next : LinePlace) : Type 0 where
   pub whole : line.bad ≡ None
-  pub shallow : IsTooDeep line.tokens → ⊥
   pub spelt : SpellsRow row line.tokens
   pub there : place_after place row ≡ Some next
 
@@ -204,7 +203,8 @@ abbrev pub without_version : List Numbered → List Numbered
 without_version [] = []
 without_version (r ∷ rows) = if is_version r.row then rows else r ∷ rows
 
--- the text spells the circuit: it is UTF-8, and its lines are the circuit's rows, maybe below a version line
+-- The text spells the circuit by the grammar: it is UTF-8, and its lines are the circuit's rows, maybe below a version
+-- line. A line of it may be too deep; then the text has a fault line too, and no circuit is read.
 pub record Spells (text : List ℕ) (circuit : CircuitTree) : Type 0 where
   pub utf8 : IsUtf8 text
   pub held : List LineTokens
@@ -219,17 +219,31 @@ pub record Spells (text : List ℕ) (circuit : CircuitTree) : Type 0 where
 abbrev pub IsNoForm : LinePlace → LineTokens → Type 0
 IsNoForm place line = (IsBlank line → ⊥) × ((row : Row) (next : LinePlace) → IsForm place line row next → ⊥)
 
--- the fault line of a text: the first that is none of the forms of its place; else, where the text is incomplete, the
--- one behind the last, which holds nothing
+-- a line is at fault at its place: it is too deep, even where its tokens spell a row, or it is none of the forms
+abbrev pub IsAtFault : LinePlace → LineTokens → Type 0
+IsAtFault place line = IsTooDeep line.tokens ⊎ IsNoForm place line
+
+-- none of the lines is too deep
+abbrev pub AreShallow : List LineTokens → Type 0
+AreShallow [] = Unit {0}
+AreShallow (line ∷ more) = (IsTooDeep line.tokens → ⊥) × AreShallow more
+
+-- the fault line of a text: the first that is at fault at its place; else, where the text is incomplete, the one behind
+-- the last, which holds nothing
 pub record IsFaultLine (text : List ℕ) (n : ℕ) (line : LineTokens) : Type 0 where
   pub before : List LineTokens
   pub tokens : AreLineTokens (take (length before) (lines text)) before
   pub rows : List Numbered
   pub place : LinePlace
   pub read : AreRows AtStart 1 before rows place
+  pub shallow : AreShallow before
   pub number : n ≡ length before + 1
-  pub fault : ((l : List ℕ) × (slice_get (lines text) (length before) ≡ Some l) × Lexes l line.tokens line.bad × IsNoForm place line)
+  pub fault : ((l : List ℕ) × (slice_get (lines text) (length before) ≡ Some l) × Lexes l line.tokens line.bad × IsAtFault place line)
       ⊎ ((length (lines text) ≡ length before) × (line ≡ record { tokens = []; bad = None }) × (IsEndPlace place → ⊥))
+
+-- no line of the text is at fault
+abbrev pub HasNoFaultLine : List ℕ → Type 0
+HasNoFaultLine text = (n : ℕ) (line : LineTokens) → IsFaultLine text n line → ⊥
 
 -- the words and symbols of what is left out
 abbrev pub is_outside_word : List ℕ → Bool

@@ -5,7 +5,7 @@ ghost use Rattle.gg_ast.specs.Tree.{CircuitTree};
 ghost use Rattle.gg_read.specs.Causes.{IsFaultOf};
 ghost use Rattle.gg_row.specs.LineRows.{AreNamesOfLine};
 ghost use Rattle.gg_read.specs.Stages.{line_of, IsStage, IsRowOf, IsPlaced, IsStep, IsMissed, TellsBlank};
-ghost use Rattle.gg_read.specs.Text.{LineTokens, IsFaultLine, Spells, HasReadFault};
+ghost use Rattle.gg_read.specs.Text.{LineTokens, IsFaultLine, HasNoFaultLine, Spells, HasReadFault};
 
 use crate::fault::{is_too_deep, line_fault};
 use crate::stage::{Stage, advance, finish};
@@ -31,23 +31,25 @@ pub enum ReadFault {
     NoMemory,
 }
 
-/// The circuit that a text spells (FIRRTL Specification, "Grammar"), or why it spells none.
+/// The circuit that a text spells (FIRRTL Specification, "Grammar") where no line of it is at fault, or why none is read.
 ///
 /// The bytes are fewer than 2 ^ 32, so that lines and modules can be counted. The text is passed over once.
 ///
 /// # Errors
 ///
-/// `NotText` exactly where the bytes are not UTF-8. Else the first line that is none of the forms of its place is at
-/// fault, or the one behind the last where the text is incomplete: `TooDeep` where at some token of it the count of `(`
-/// less that of `)` is above 256 (which no form allows, even where the tokens spell a row), else `Outside` with its first
+/// `NotText` exactly where the bytes are not UTF-8. Else the first line is at fault that is none of the forms of its place
+/// or too deep, even where it spells a row, or the one behind the last where the text is incomplete: `TooDeep` where at some token of it the count of `(`
+/// less that of `)` is above 256, else `Outside` with its first
 /// word of what is left out, else `Syntax`. `NoMemory` where memory is refused: the text says nothing of this.
 pub fn read_circuit(alloc: Global, bytes: &[u8]) -> Result<Circuit, ReadFault>
     requires { length bytes.now < 2 ^ 32 }
     ensures circuit { IfOk result (Spells bytes.now) }
+    ensures faultless { IfOk result (λ _. HasNoFaultLine bytes.now) }
     ensures fault { IfErr result (HasReadFault bytes.now) }
 
-    // a text that spells a circuit has no other answer, nor one with a fault line, nor bytes that are no text
-    ensures only_circuit { (c : CircuitTree) → Spells bytes.now c → MatchResult result (λ d. d ≡ c) (λ fault. fault ≡ ReadFault.NoMemory) }
+    // a text that spells a circuit and has no fault line has no other answer, nor one with a fault line, nor bytes that
+    // are no text
+    ensures only_circuit { (c : CircuitTree) → Spells bytes.now c → HasNoFaultLine bytes.now → MatchResult result (λ d. d ≡ c) (λ fault. fault ≡ ReadFault.NoMemory) }
     ensures only_fault { (n : ℕ) (line : LineTokens) → IsUtf8 bytes.now → IsFaultLine bytes.now n line → MatchResult result (λ _. ⊥) (IsFaultOf n line.tokens) }
     ensures only_not_text { (IsUtf8 bytes.now → ⊥) → result ≡ Err ReadFault.NotText }
 {
@@ -61,6 +63,7 @@ pub fn read_circuit(alloc: Global, bytes: &[u8]) -> Result<Circuit, ReadFault>
 fn read_text(alloc: Global, text: &str) -> Result<Circuit, ReadFault>
     requires { length text.now < 2 ^ 32 }
     ensures circuit { IfOk result (Spells text.now) }
+    ensures faultless { IfOk result (λ _. HasNoFaultLine text.now) }
     ensures fault { IfErr result (HasReadFault text.now) }
 {
     let mut stage = Stage::Start;
@@ -90,7 +93,7 @@ fn next_stage(alloc: Global, stage: Stage, number: u64, line: &str) -> Result<St
     }
 }
 
-/// What is answered for a line of this number that is no row of its place.
+/// What is answered for a line of this number that is at fault.
 fn missed(alloc: Global, number: u64, tokens: &[Tok], miss: Miss) -> ReadFault
     ensures { IsMissed miss number tokens.now result }
 {
@@ -107,7 +110,7 @@ fn is_blank(lexed: &LexedLine) -> bool
     lexed.tokens.is_empty() && lexed.bad.is_none()
 }
 
-/// The stage behind a line that is a row of its place.
+/// The stage behind a line that is a row of its place, and is not too deep.
 fn placed(alloc: Global, stage: Stage, number: u64, lexed: &LexedLine) -> Result<Stage, Miss>
     requires stage { IsStage stage number }
     ensures { IsPlaced stage number (line_of lexed.now) result }

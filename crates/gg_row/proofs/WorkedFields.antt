@@ -41,6 +41,10 @@ memory = read refl
 data_type : IsRow (FieldRow (field.DataType (plain_type.UInt 8))) (line (codes "data-type") (Word (codes "UInt") ∷ (Symbol Less ∷ (Number (codes "8") ∷ (Symbol Greater ∷ [])))))
 data_type = read refl
 
+-- data-type => SInt<4>
+data_type_signed : IsRow (FieldRow (field.DataType (plain_type.SInt 4))) (line (codes "data-type") (Word (codes "SInt") ∷ (Symbol Less ∷ (Number (codes "4") ∷ (Symbol Greater ∷ [])))))
+data_type_signed = read refl
+
 -- data-type => Clock
 data_type_clock : IsRow (FieldRow (field.DataType plain_type.Clock)) (line (codes "data-type") (Word (codes "Clock") ∷ []))
 data_type_clock = read refl
@@ -64,6 +68,10 @@ readers = read refl
 -- writer => w
 writer : IsRow (FieldRow (field.Writers (codes "w" ∷ []))) (line (codes "writer") (Word (codes "w") ∷ []))
 writer = read refl
+
+-- writer => w v
+writers : IsRow (FieldRow (field.Writers (codes "w" ∷ (codes "v" ∷ [])))) (line (codes "writer") (Word (codes "w") ∷ (Word (codes "v") ∷ [])))
+writers = read refl
 
 -- read-under-write => old, new, undefined
 under_write_old : IsRow (FieldRow (field.ReadUnderWrite Old)) (line (codes "read-under-write") (Word (codes "old") ∷ []))
@@ -101,6 +109,14 @@ memory_with_a_dash row h = none refl h
 more_than_a_type : (row : Row) → IsRow row (line (codes "data-type") (Word (codes "UInt") ∷ (Symbol Less ∷ (Number (codes "8") ∷ (Symbol Greater ∷ (Number (codes "3") ∷ [])))))) → ⊥
 more_than_a_type row h = none refl h
 
+-- data-type =>
+no_type : (row : Row) → IsRow row (line (codes "data-type") []) → ⊥
+no_type row h = none refl h
+
+-- depth =>
+no_depth : (row : Row) → IsRow row (line (codes "depth") []) → ⊥
+no_depth row h = none refl h
+
 -- depth => -1
 depth_with_a_sign : (row : Row) → IsRow row (line (codes "depth") (Number (codes "-1") ∷ [])) → ⊥
 depth_with_a_sign row h = none refl h
@@ -116,6 +132,10 @@ depth_equals row h = none refl h
 -- read-latency => 1 1
 two_latencies : (row : Row) → IsRow row (line (codes "read-latency") (Number (codes "1") ∷ (Number (codes "1") ∷ []))) → ⊥
 two_latencies row h = none refl h
+
+-- read-latency => -1
+latency_with_a_sign : (row : Row) → IsRow row (line (codes "read-latency") (Number (codes "-1") ∷ [])) → ⊥
+latency_with_a_sign row h = none refl h
 
 -- write-latency => w
 latency_is_no_name : (row : Row) → IsRow row (line (codes "write-latency") (Word (codes "w") ∷ [])) → ⊥
@@ -133,9 +153,17 @@ readers_with_a_comma row h = none refl h
 writer_with_a_dash : (row : Row) → IsRow row (line (codes "writer") (Word (codes "w") ∷ (Word (codes "w-a") ∷ []))) → ⊥
 writer_with_a_dash row h = none refl h
 
+-- writer =>
+no_writer : (row : Row) → IsRow row (line (codes "writer") []) → ⊥
+no_writer row h = none refl h
+
 -- readwriter => r
 both_at_once : (row : Row) → IsRow row (line (codes "readwriter") (Word (codes "r") ∷ [])) → ⊥
 both_at_once row h = none refl h
+
+-- read-under-write =>
+no_under_write : (row : Row) → IsRow row (line (codes "read-under-write") []) → ⊥
+no_under_write row h = none refl h
 
 -- read-under-write => later
 under_write_misspelt : (row : Row) → IsRow row (line (codes "read-under-write") (Word (codes "later") ∷ [])) → ⊥

@@ -1,1 +1,5 @@
 pub mod FaultRows
+pub mod ConnectedLemmas
+pub mod FlatLemmas
+pub mod PlaceLemmas
+pub mod UnconnectedLemmas

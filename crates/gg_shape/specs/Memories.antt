@@ -50,14 +50,12 @@ is_right ReadUnderWrite ns = is_one_at_most ns
 abbrev pub wrong_field : ℕ → List Field → MemoryKey → List Fault
 wrong_field line fs key = fault_if (not (is_right key (given key fs))) (MemoryField line key)
 
--- the fields in this order
+-- the fields in this order: data-type, depth, read-latency, write-latency, read-under-write
+abbrev pub wrong_times : ℕ → List Field → List Fault
+wrong_times line fs = wrong_field line fs ReadLatency ++ (wrong_field line fs WriteLatency ++ wrong_field line fs ReadUnderWrite)
+
 abbrev pub wrong_fields : ℕ → List Field → List Fault
-wrong_fields line fs =
-    wrong_field line fs DataType
-    ++ (wrong_field line fs Depth
-    ++ (wrong_field line fs ReadLatency
-    ++ (wrong_field line fs WriteLatency
-    ++ wrong_field line fs ReadUnderWrite)))
+wrong_fields line fs = wrong_field line fs DataType ++ (wrong_field line fs Depth ++ wrong_times line fs)
 
 abbrev pub wrong_in_kind : ℕ → statements.StmtKind → List Fault
 wrong_in_kind line (kinds.Memory name fs) = wrong_fields line fs

@@ -1,7 +1,7 @@
 -- Rings of modules, F7: modules that hold each other through their instances.
 -- Source: FIRRTL Specification, "Instances": a module may not hold an instance of itself, directly or through others.
 use Rattle.std.specs.Prelude.{◌≡◌, ℕ, List, [], ◌∷◌, ◌++◌, length, map}
-use Rattle.gg_ast.specs.Tree.{ModuleTree, CircuitTree}
+use Rattle.gg_ast.specs.Tree.{CircuitTree}
 use Rattle.gg_names.specs.Modules.{Holds, module_at}
 use Rattle.gg_shape.specs.declared.fault.Fault.{Fault}
 use Rattle.gg_shape.specs.declared.fault.Fault.TheVariants.{ModuleRing}

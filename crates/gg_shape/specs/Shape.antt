@@ -1,7 +1,7 @@
 -- The faults of names and connections, F1 to F6: for each number the list of the faults of that number, in the order of the text.
 -- Sources: FIRRTL Specification, "Circuits and Modules" (F1), "Namespaces" (F2, F3), "Instances" (F3), "Connects" and "Flows" (F4
 -- to F6).
-use Rattle.std.specs.Prelude.{ℕ, Bool, true, false, not, ◌&&◌, List, [], ◌∷◌, ◌++◌, Option, Some, None, is_some, map, flat_map}
+use Rattle.std.specs.Prelude.{ℕ, Bool, not, ◌&&◌, List, [], ◌∷◌, ◌++◌, Option, Some, None, is_some, map, flat_map}
 use Rattle.std.specs.List.{list_any}
 use Rattle.std.specs.Str.{bytes_eq}
 use Rattle.gg_ast.specs.declared.expression.Reference.{Reference}

@@ -1,5 +1,6 @@
 -- What the parts of the check know of a module.
-use Rattle.std.specs.Prelude.{◌≡◌, ℕ, ◌<◌, Bool, List, [], ◌∷◌, map, flat_map, filter, length, take, get_or, slice_index_or, true, false}
+use denote.Ref.{Bor}
+use Rattle.std.specs.Prelude.{◌≡◌, ℕ, ◌<◌, Bool, List, [], flat_map, filter, length, take, slice_index_or, true, false}
 use Rattle.std.specs.List.{list_any}
 use Rattle.gg_ast.specs.declared.expression.Reference.{Reference}
 use Rattle.gg_ast.specs.declared.expression.Reference.TheVariants as references
@@ -13,9 +14,10 @@ use Rattle.gg_ast.specs.Tree.{ModuleTree, CircuitTree}
 use Rattle.gg_names.specs.declared.role.Role.{Role}
 use Rattle.gg_names.specs.declared.role.PortKind.{PortKind}
 use Rattle.gg_names.specs.declared.role.PortKind.TheVariants.{Reader, Writer}
+use Rattle.gg_names.specs.declared.role.PortField.{PortField}
 use Rattle.gg_names.specs.Memory.{readers_in, writers_in, port_fields}
 use Rattle.gg_names.specs.Modules.{module_at}
-use Rattle.gg_names.specs.Namespace.{names_after, scope_after, port_field}
+use Rattle.gg_names.specs.Namespace.{names_after, scope_after, instance_port, port_field}
 use Rattle.gg_names.specs.Scope.{same_reference}
 use Rattle.gg_shape.specs.declared.connected.Key.{Key}
 use Rattle.gg_shape.specs.declared.connected.Key.TheVariants.{Local, PortOf, FieldOf}
@@ -77,15 +79,16 @@ abbrev pub names_as : PortKind → fields.MemoryField → List (List ℕ)
 names_as Reader field = readers_in field
 names_as Writer field = writers_in field
 
+abbrev pub unconnected_input : List ℕ → (Reference → Bool) → ℕ → Bor Port → List Fault
+unconnected_input instance connected line port = unconnected_entry connected line (instance_port instance port.now)
+
+abbrev pub unconnected_of_field : PortKind → List ℕ → (Reference → Bool) → ℕ → List ℕ → PortField → List Fault
+unconnected_of_field kind memory connected line port field = unconnected_entry connected line (port_field memory port kind field)
+
 abbrev pub unconnected_of_port : PortKind → List ℕ → (Reference → Bool) → ℕ → List ℕ → List Fault
 unconnected_of_port kind memory connected line port =
-    flat_map (λ f. unconnected_entry connected line (port_field memory port kind f)) (port_fields kind)
+    flat_map (unconnected_of_field kind memory connected line port) (port_fields kind)
 
 abbrev pub unconnected_in_field : PortKind → List ℕ → (Reference → Bool) → ℕ → Field → List Fault
 unconnected_in_field kind memory connected line field =
     flat_map (unconnected_of_port kind memory connected line) (names_as kind field.kind)
-
--- a statement that stands at a place
-pub record StandsAt (circuit : CircuitTree) (before : Before) (s : Stmt) : Type 0 where
-  pub within : before.statements < length (module_of circuit before.number).statements
-  pub stands : s ≡ get_or (module_of circuit before.number).statements before.statements s

@@ -6,7 +6,6 @@ ghost use Rattle.gg_shape.specs.Faults.{Answers};
 ghost use Rattle.gg_shape.specs.Judged.{AnswersShape, AnswersFrom, reference_faults};
 ghost use Rattle.gg_shape.specs.Shape.{in_modules, missing_top, repeated_names, unknown_names, second_connections, unconnected_sinks, connected_sources};
 
-
 use crate::connections::{check_second, check_sources};
 use crate::fault::{Fault, Refusal};
 use crate::memories::check_memories;
@@ -14,7 +13,7 @@ use crate::references::check_references;
 use crate::rings::check_rings;
 use crate::unconnected::check_unconnected;
 use gg_ast::Circuit;
-use gg_names::{Namespace, NamesFault};
+use gg_names::{NamesFault, Namespace};
 use std::alloc::Global;
 
 /// What `shape` answers in place of Ok.

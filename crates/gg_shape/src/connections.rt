@@ -1,8 +1,8 @@
 //! F4, F6: sinks that are connected twice, and sources that are connected.
-ghost use Rattle.std.specs.Prelude.{◌≡◌, ◌<◌, ◌∷◌, [], ◌++◌, length, IfOk, OnOk, List, Option};
+ghost use Rattle.std.specs.Prelude.{◌≡◌, ◌<◌, ◌∷◌, [], ◌++◌, length, IfOk, OnOk, List, flat_map};
 ghost use Rattle.gg_ast.specs.declared.statement.Stmt.{Stmt as AStatement};
-ghost use Rattle.gg_names.specs.Namespace.{connected_by, scope_of};
-ghost use Rattle.gg_shape.specs.Faults.{Answers};
+ghost use Rattle.gg_names.specs.Namespace.{scope_of};
+ghost use Rattle.gg_shape.specs.Faults.{Answers, along};
 ghost use Rattle.gg_shape.specs.Shape.{in_modules, second_connections, second_by, connected_sources, source_by};
 ghost use Rattle.gg_shape.specs.Told.{TellsConnected, TellsFirst, module_of};
 
@@ -14,10 +14,7 @@ use std::alloc::{AllocError, Global};
 
 /// Refuses the first connection of the circuit whose sink is connected already; else tells for each module what is
 /// connected in it.
-pub fn check_second<'a>(
-    alloc: Global,
-    names: &Namespace<'a>,
-) -> Result<Vec<Connected<'a>>, Refusal>
+pub fn check_second<'a>(alloc: Global, names: &Namespace<'a>) -> Result<Vec<Connected<'a>>, Refusal>
     ensures answers { Answers (in_modules second_connections names.now) result }
     ensures connected { IfOk result (λ all. TellsFirst names.now.modules (length names.now.modules) all.items) }
 {
@@ -41,8 +38,23 @@ fn connected_in<'a>(
     ensures answers { Answers (second_connections names.now.modules (module_of names.now number)) result }
     ensures connected { IfOk result (λ connected. TellsConnected (module_of names.now number).statements connected) }
 {
+    let this = &names.circuit().modules()[number as usize];
+    connected_by(alloc, names, number, this.statements())
+}
+
+// The same for the statements of a module.
+fn connected_by<'a>(
+    alloc: Global,
+    names: &Namespace<'a>,
+    number: u32,
+    statements: &'a [Stmt],
+) -> Result<Connected<'a>, Refusal>
+    requires { number < length names.now.modules }
+    ensures answers { Answers (along (second_by (scope_of names.now.modules (module_of names.now number))) statements.now) result }
+    ensures connected { IfOk result (λ connected. TellsConnected statements.now connected) }
+{
     let mut connected = Connected::new(alloc);
-    for statement in names.circuit().modules()[number as usize].statements() {
+    for statement in statements {
         connected_once(alloc, names, number, &connected, statement)?;
         mark(&mut connected, statement)?;
     }
@@ -97,19 +109,28 @@ fn sources_in(alloc: Global, names: &Namespace, number: u32) -> Result<(), Refus
     requires { number < length names.now.modules }
     ensures { Answers (connected_sources names.now.modules (module_of names.now number)) result }
 {
-    for statement in names.circuit().modules()[number as usize].statements() {
+    let this = &names.circuit().modules()[number as usize];
+    sources_by(alloc, names, number, this.statements())
+}
+
+// Refuses the first of these statements of a module.
+fn sources_by(
+    alloc: Global,
+    names: &Namespace,
+    number: u32,
+    statements: &[Stmt],
+) -> Result<(), Refusal>
+    requires { number < length names.now.modules }
+    ensures { Answers (flat_map (source_by (scope_of names.now.modules (module_of names.now number))) statements.now) result }
+{
+    for statement in statements {
         no_source(alloc, names, number, statement)?;
     }
     Ok(())
 }
 
 // Refuses a connection to a source.
-fn no_source(
-    alloc: Global,
-    names: &Namespace,
-    number: u32,
-    statement: &Stmt,
-) -> Result<(), Refusal>
+fn no_source(alloc: Global, names: &Namespace, number: u32, statement: &Stmt) -> Result<(), Refusal>
     requires { number < length names.now.modules }
     ensures { Answers (source_by (scope_of names.now.modules (module_of names.now number)) statement.now) result }
 {

@@ -1,7 +1,7 @@
 //! F8: memories' fields that are missing, stand twice or are out of range.
-ghost use Rattle.std.specs.Prelude.{◌≡◌, ℕ, List, option_to_list};
+ghost use Rattle.std.specs.Prelude.{◌≡◌, ℕ, List, flat_map, option_to_list};
 ghost use Rattle.gg_shape.specs.Faults.{Answers};
-ghost use Rattle.gg_shape.specs.Memories.{given_by, given, is_right as stands_right, wrong_field, wrong_fields, wrong_by, wrong_in_module, memory_faults};
+ghost use Rattle.gg_shape.specs.Memories.{given_by, given, is_right as stands_right, wrong_field, wrong_fields, wrong_times, wrong_by, wrong_in_module, memory_faults};
 ghost use Rattle.gg_shape.specs.Counted.{count_of, with_value};
 
 use crate::fault::{Fault, MemoryKey, Refusal};
@@ -11,7 +11,14 @@ use gg_ast::{Circuit, Field, MemoryField, Module, Stmt, StmtKind};
 pub fn check_memories(circuit: &Circuit) -> Result<(), Refusal>
     ensures { Answers (memory_faults circuit.now) result }
 {
-    for module in circuit.modules() {
+    check_modules(circuit.modules())
+}
+
+// Refuses the first of these modules.
+fn check_modules(modules: &[Module]) -> Result<(), Refusal>
+    ensures { Answers (flat_map wrong_in_module modules.now) result }
+{
+    for module in modules {
         check_module(module)?;
     }
     Ok(())
@@ -21,7 +28,14 @@ pub fn check_memories(circuit: &Circuit) -> Result<(), Refusal>
 fn check_module(this: &Module) -> Result<(), Refusal>
     ensures { Answers (wrong_in_module this.now) result }
 {
-    for statement in this.statements() {
+    check_statements(this.statements())
+}
+
+// Refuses the first of these statements.
+fn check_statements(statements: &[Stmt]) -> Result<(), Refusal>
+    ensures { Answers (flat_map wrong_by statements.now) result }
+{
+    for statement in statements {
         check_statement(statement)?;
     }
     Ok(())
@@ -51,6 +65,13 @@ fn check_fields(line: u64, fields: &[Field]) -> Result<(), Refusal>
 {
     check_key(line, fields, MemoryKey::DataType)?;
     check_key(line, fields, MemoryKey::Depth)?;
+    check_times(line, fields)
+}
+
+// Refuses the first wrong latency, then a wrong read-under-write.
+fn check_times(line: u64, fields: &[Field]) -> Result<(), Refusal>
+    ensures { Answers (wrong_times line fields.now) result }
+{
     check_key(line, fields, MemoryKey::ReadLatency)?;
     check_key(line, fields, MemoryKey::WriteLatency)?;
     check_key(line, fields, MemoryKey::ReadUnderWrite)

@@ -1,8 +1,9 @@
 //! F3: references that name nothing that has a value, and modules that aren't there.
-ghost use Rattle.std.specs.Prelude.{◌≡◌, ◌++◌, ◌+◌, ◌<◌, ◌^◌, length};
+ghost use Rattle.std.specs.Prelude.{◌≡◌, ◌++◌, ◌<◌, length};
+ghost use Rattle.gg_names.specs.Namespace.{entries_by, name_by};
 ghost use Rattle.gg_shape.specs.Faults.{Answers};
 ghost use Rattle.gg_shape.specs.Shape.{in_modules, unknown_names, unknown_module, unknown_reference, unknown_in, unknown_in_reset, unknown_in_arguments, unknown_in_kind};
-ghost use Rattle.gg_shape.specs.Told.{IsBefore, StandsAt, module_of, scope_before};
+ghost use Rattle.gg_shape.specs.Told.{IsBefore, module_of, scope_before};
 
 use crate::fault::{Fault, Refusal};
 use gg_ast::{Argument, Expr, ExprKind, Reference, Reset, Stmt, StmtKind};
@@ -37,33 +38,66 @@ fn check_module(alloc: Global, names: &Namespace, number: u32) -> Result<(), Ref
     requires { number < length names.now.modules }
     ensures { Answers (unknown_names names.now.modules (module_of names.now number)) result }
 {
+    let this = &names.circuit().modules()[number as usize];
+    check_statements(alloc, names, number, this.ports().len(), this.statements())
+}
+
+// Refuses the first of a module's statements.
+fn check_statements(
+    alloc: Global,
+    names: &Namespace,
+    number: u32,
+    ports: usize,
+    statements: &[Stmt],
+) -> Result<(), Refusal>
+    requires within { number < length names.now.modules }
+    requires ports { ports ≡ length (module_of names.now number).ports }
+    requires statements { statements.now ≡ (module_of names.now number).statements }
+    ensures { Answers (unknown_names names.now.modules (module_of names.now number)) result }
+{
     let total = names.len(number);
-    let module = &names.circuit().modules()[number as usize];
-    let mut count = module.ports().len();
-    for (place, statement) in module.statements().iter().enumerate() {
+    let mut count = ports;
+    for place in 0..statements.len() {
+        let statement = &statements[place];
+        let next = count + declared_count(statement);
         let before = Before {
             number,
             statements: place,
             names: count,
         };
-        known_by(alloc, names, before, statement)?;
-        if declared_name(statement).is_some() {
-            count += 1;
-        }
+        let behind = Before {
+            number,
+            statements: place + 1,
+            names: next,
+        };
+        known_by(alloc, names, before, behind, statement)?;
+        count = next;
     }
     prove!(count <= total);
     Ok(())
 }
 
-// Refuses the first of a statement.
+// How many names the statement declares.
+fn declared_count(statement: &Stmt) -> usize
+    ensures { result ≡ length (name_by statement.now) }
+{
+    match declared_name(statement) {
+        Some(_) => 1,
+        None => 0,
+    }
+}
+
+// Refuses the first of a statement; a register's reset stands behind its name.
 fn known_by(
     alloc: Global,
     names: &Namespace,
     before: Before,
+    behind: Before,
     statement: &Stmt,
 ) -> Result<(), Refusal>
     requires before { IsBefore names.now before }
-    requires stands { StandsAt names.now before statement.now }
+    requires behind { IsBefore names.now behind }
+    requires next { scope_before names.now behind ≡ scope_before names.now before ++ entries_by names.now.modules statement.now }
     ensures { Answers (unknown_in_kind names.now.modules (scope_before names.now before) statement.now.line statement.now.kind) result }
 {
     let line = statement.line;
@@ -73,7 +107,7 @@ fn known_by(
         StmtKind::Node { value, .. } => known_in(alloc, names, before, line, value),
         StmtKind::Register { clock, reset, .. } => {
             known_in(alloc, names, before, line, clock)?;
-            known_in_reset(alloc, names, behind(before), reset)
+            known_in_reset(alloc, names, behind, reset)
         }
         StmtKind::Connect { sink, source } => {
             known(alloc, names, before, line, sink)?;
@@ -94,29 +128,17 @@ fn known_by(
     }
 }
 
-// The place behind a statement that declares a name.
-fn behind(before: Before) -> Before
-    requires { (before.statements < 2 ^ 63) × (before.names < 2 ^ 63) }
-    ensures { result ≡ record { number = before.number; statements = before.statements + 1; names = before.names + 1 } }
-{
-    Before {
-        number: before.number,
-        statements: before.statements + 1,
-        names: before.names + 1,
-    }
-}
-
 // Refuses the module of an instance that isn't there.
 fn known_module(names: &Namespace, line: u64, name: &Name) -> Result<(), Refusal>
     ensures { Answers (unknown_module names.now.modules line name.now) result }
 {
-    if names.place_of_module(name).is_some() {
-        return Ok(());
+    match names.place_of_module(name) {
+        Some(_) => Ok(()),
+        None => Err(Refusal::F(Fault::UnknownName {
+            line,
+            name: name.clone()?,
+        })),
     }
-    Err(Refusal::F(Fault::UnknownName {
-        line,
-        name: name.clone()?,
-    }))
 }
 
 // Refuses the first unknown reference of a reset.

@@ -1,18 +1,17 @@
 //! F5: sinks that are not connected.
 ghost use Rattle.std.specs.Prelude.{◌≡◌, ◌<◌, ◌++◌, List, length, flat_map, map, IfOk};
 ghost use Rattle.gg_names.specs.Namespace.{instance_port, instance_ports, module_named, memory_entries};
-ghost use Rattle.gg_names.specs.Scope.{written};
 ghost use Rattle.gg_shape.specs.Faults.{Answers};
 ghost use Rattle.gg_shape.specs.Shape.{in_modules, unconnected_sinks, unconnected_among, unconnected_entry, unconnected_port, unconnected_by};
-ghost use Rattle.gg_shape.specs.Told.{TellsFirst, is_among, inputs_of, is_in, names_as as names_of_kind, reference_of, unconnected_of_port, unconnected_in_field};
+ghost use Rattle.gg_shape.specs.Told.{TellsFirst, is_among, inputs_of, is_in, names_as as names_of_kind, reference_of, unconnected_input, unconnected_of_field, unconnected_of_port, unconnected_in_field};
 
 use crate::connected::{Connected, Key, text_of};
 use crate::fault::{Fault, Refusal};
 use gg_ast::{Circuit, Direction, Field, MemoryField, Module, Port, Stmt, StmtKind};
 use gg_bits::Name;
 use gg_names::{
-    Namespace, PortKind, Role, field_text, instance_port_role, needs_connection, port_fields,
-    port_role,
+    Namespace, PortField, PortKind, Role, field_text, instance_port_role, needs_connection,
+    port_fields, port_role,
 };
 use std::alloc::{AllocError, Global};
 use std::marker::Model;
@@ -64,11 +63,7 @@ fn is_input(direction: Direction) -> bool
 }
 
 /// Refuses the first sink of the circuit, other than a register, that is not connected, by what is connected in each module.
-pub fn check_unconnected(
-    alloc: Global,
-    names: &Namespace,
-    all: &[Connected],
-) -> Result<(), Refusal>
+pub fn check_unconnected(alloc: Global, names: &Namespace, all: &[Connected]) -> Result<(), Refusal>
     requires { TellsFirst names.now.modules (length names.now.modules) all.now }
     ensures { Answers (in_modules unconnected_sinks names.now) result }
 {
@@ -128,10 +123,17 @@ fn check_ports(alloc: Global, connected: &Connected, ports: &[Port]) -> Result<(
     ensures { Answers (flat_map (unconnected_port (is_among connected.now)) ports.now) result }
 {
     for port in ports {
-        let key = Key::Local(port.name.as_str());
-        connected_or_free(alloc, connected, port.line, key, port_role(port.direction))?;
+        check_own(alloc, connected, port)?;
     }
     Ok(())
+}
+
+// Refuses an output port of the module that is not connected.
+fn check_own(alloc: Global, connected: &Connected, port: &Port) -> Result<(), Refusal>
+    ensures { Answers (unconnected_port (is_among connected.now) port.now) result }
+{
+    let key = Key::Local(port.name.as_str());
+    connected_or_free(alloc, connected, port.line, key, port_role(port.direction))
 }
 
 // Refuses the first of the statements.
@@ -165,7 +167,13 @@ fn check_statement(
     let line = statement.line;
     match &statement.kind {
         StmtKind::Wire { name, .. } => {
-            connected_or_free(alloc, connected, line, Key::Local(name.as_str()), Role::Wire)
+            connected_or_free(
+                alloc,
+                connected,
+                line,
+                Key::Local(name.as_str()),
+                Role::Wire,
+            )
         }
         StmtKind::Instance { name, module } => {
             check_instance(alloc, names, inputs, connected, line, name, module)
@@ -216,14 +224,27 @@ fn check_inputs(
     instance: &Name,
     ports: &[&Port],
 ) -> Result<(), Refusal>
-    ensures { Answers (flat_map (unconnected_entry (is_among connected.now) line) (map (instance_port instance.now) (map (λ port. port.now) ports.now))) result }
+    ensures { Answers (flat_map (unconnected_input instance.now (is_among connected.now) line) ports.now) result }
 {
     for port in ports {
-        let key = Key::PortOf(instance.as_str(), port.name.as_str());
-        let role = instance_port_role(port.direction, port.ty);
-        connected_or_free(alloc, connected, line, key, role)?;
+        check_input(alloc, connected, line, instance, port)?;
     }
     Ok(())
+}
+
+// Refuses a port of an instance that is an input and is not connected.
+fn check_input(
+    alloc: Global,
+    connected: &Connected,
+    line: u64,
+    instance: &Name,
+    port: &Port,
+) -> Result<(), Refusal>
+    ensures { Answers (unconnected_entry (is_among connected.now) line (instance_port instance.now port.now)) result }
+{
+    let key = Key::PortOf(instance.as_str(), port.name.as_str());
+    let role = instance_port_role(port.direction, port.ty);
+    connected_or_free(alloc, connected, line, key, role)
 }
 
 // Refuses the first field of a memory that is not connected: of the readers, then of the writers.
@@ -252,9 +273,30 @@ fn check_kind(
     ensures { Answers (flat_map (unconnected_in_field kind memory.now (is_among connected.now) line) fields.now) result }
 {
     for field in fields {
-        check_names(alloc, connected, line, memory, kind, names_as(kind, &field.kind))?;
+        check_field(alloc, connected, line, memory, kind, field)?;
     }
     Ok(())
+}
+
+// Refuses the first of the ports of one kind that a field names.
+fn check_field(
+    alloc: Global,
+    connected: &Connected,
+    line: u64,
+    memory: &Name,
+    kind: PortKind,
+    field: &Field,
+) -> Result<(), Refusal>
+    ensures { Answers (unconnected_in_field kind memory.now (is_among connected.now) line field.now) result }
+{
+    check_names(
+        alloc,
+        connected,
+        line,
+        memory,
+        kind,
+        names_as(kind, &field.kind),
+    )
 }
 
 // The ports of one kind that a field names.
@@ -296,11 +338,49 @@ fn check_port(
 ) -> Result<(), Refusal>
     ensures { Answers (unconnected_of_port kind memory.now (is_among connected.now) line port.now) result }
 {
-    for field in port_fields(kind) {
-        let key = Key::FieldOf(memory.as_str(), port.as_str(), field_text(*field));
-        connected_or_free(alloc, connected, line, key, Role::MemoryPort(kind, *field))?;
+    check_port_fields(
+        alloc,
+        connected,
+        line,
+        memory,
+        kind,
+        port,
+        port_fields(kind),
+    )
+}
+
+// Refuses the first of these fields of a port.
+fn check_port_fields(
+    alloc: Global,
+    connected: &Connected,
+    line: u64,
+    memory: &Name,
+    kind: PortKind,
+    port: &Name,
+    fields: &[PortField],
+) -> Result<(), Refusal>
+    ensures { Answers (flat_map (unconnected_of_field kind memory.now (is_among connected.now) line port.now) fields.now) result }
+{
+    for field in fields {
+        check_port_field(alloc, connected, line, memory, kind, port, *field)?;
     }
     Ok(())
+}
+
+// Refuses a field of a port that needs a connection and has none.
+fn check_port_field(
+    alloc: Global,
+    connected: &Connected,
+    line: u64,
+    memory: &Name,
+    kind: PortKind,
+    port: &Name,
+    field: PortField,
+) -> Result<(), Refusal>
+    ensures { Answers (unconnected_of_field kind memory.now (is_among connected.now) line port.now field) result }
+{
+    let key = Key::FieldOf(memory.as_str(), port.as_str(), field_text(field));
+    connected_or_free(alloc, connected, line, key, Role::MemoryPort(kind, field))
 }
 
 // Refuses what needs a connection and has none.

@@ -1,11 +1,11 @@
 -- In a circuit without faults of types each type has a width of 1 to 128, or is a Clock.
 use Rattle.std.proofs.Common.{◌≡◌, ℕ, zero, suc, ◌+◌, ◌≤◌, ◌<◌, ◌^◌, Bool, true, false, ◌&&◌, not, List, [], ◌∷◌, ◌++◌, length, map, nat_le, Option, Some, None, option_map, Result, Ok, Err, IfSome, refl, sym, ap, subst, ◌∙◌, if◌then◌else◌, append_assoc, get_or, arith}
 use Rattle.std.proofs.lemmas.Bool.Decides.{nat_tests}
-use Rattle.std.specs.List.{flat_map, list_any}
+use Rattle.std.specs.List.{flat_map}
 use Rattle.std.specs.Str.{bytes_eq}
 use Rattle.gg_bits.specs.declared.types.Bad.{Bad}
 use Rattle.gg_bits.specs.Shape.{Shape, of_kind}
-use Rattle.gg_bits.specs.ResultType.{answer, within, type1, type2, type_const, type_mux, shape1, shape2, shape_const, shape_mux, kinds2, params_const, is_condition, same_kind}
+use Rattle.gg_bits.specs.ResultType.{answer, type1, type2, type_const, type_mux, shape1, shape2, shape_const, shape_mux, kinds2, params_const, is_condition, same_kind}
 use Rattle.gg_ast.specs.declared.expression.Literal.{Literal}
 use Rattle.gg_ast.specs.declared.expression.Reference.{Reference}
 use Rattle.gg_ast.specs.declared.module.Direction.{Direction}
@@ -26,16 +26,15 @@ use Rattle.gg_names.specs.declared.role.Role.{Role}
 use Rattle.gg_names.specs.declared.role.Role.TheVariants as roles
 use Rattle.gg_names.specs.declared.role.PortField.{PortField}
 use Rattle.gg_names.specs.declared.role.PortField.TheVariants.{Addr, En, Clk, Data, Mask}
-use Rattle.gg_names.specs.declared.role.PortKind.{PortKind}
 use Rattle.gg_names.specs.Memory.{memory_ports, port_fields}
 use Rattle.gg_names.specs.Modules.{module_at}
-use Rattle.gg_names.specs.Namespace.{module_named, entry_by_port, entries_by, entries_by_kind, instance_ports, instance_port, memory_entries, port_entries, port_field, scope_after, scope_of, meaning_of, names_in, role_of_port, role_of_instance_port}
+use Rattle.gg_names.specs.Namespace.{module_named, entry_by_port, entries_by, entries_by_kind, instance_ports, instance_port, port_entries, port_field, scope_of, meaning_of, names_in, role_of_port, role_of_instance_port}
 use Rattle.gg_names.specs.Scope.{entry_of, first_name, same_reference}
 use Rattle.gg_shape.specs.declared.fault.Fault.{Fault}
 use Rattle.gg_shape.specs.declared.fault.Word.{Word}
 use Rattle.gg_shape.specs.declared.fault.Word.TheVariants as words
 use Rattle.gg_names.specs.Along.{along, along_from}
-use Rattle.gg_shape.specs.Shape.{fault_if}
+use Rattle.gg_shape.specs.Faults.{fault_if}
 use Rattle.gg_types.specs.declared.sort.Own.{Own}
 use Rattle.gg_types.specs.declared.sort.Own.TheVariants as own
 use Rattle.gg_types.specs.declared.sort.Sort.{Sort}
@@ -43,10 +42,10 @@ use Rattle.gg_types.specs.declared.sort.Sort.TheVariants.{Bits, Clock}
 use Rattle.gg_types.specs.Clocks.{leads_to_input}
 use Rattle.gg_types.specs.Literal.{literal_fits}
 use Rattle.gg_types.specs.Named.{find_named, owned}
-use Rattle.gg_types.specs.Owned.{port_own, memory_own, word_type, word_type_by, single, field_of, field_sort, typed_by, typed, known_entry, known_sort, sort_of_reference}
+use Rattle.gg_types.specs.Owned.{port_own, word_type, word_type_by, single, field_of, field_sort, typed_by, typed, known_entry, known_sort, sort_of_reference}
 use Rattle.gg_types.specs.Sorts.{sort_of, bits}
 use Rattle.gg_types.specs.Typed.{IsTyped}
-use Rattle.gg_types.specs.Types.{is_width, width_faults, stored_type_faults, field_faults, memory_type_faults, literal_sort, read_sort, is_traced, result1, result2, result3, result_sort, sort_in, faults_of_kind, clock_faults_in, reset_faults, own_by, known_after, faults_of, port_faults, port_judged, is_clock, is_input, is_clock_input, module_type_faults, faults_of_module, type_faults, known_in, sort_named}
+use Rattle.gg_types.specs.Types.{is_width, width_faults, stored_type_faults, field_faults, memory_type_faults, literal_sort, read_sort, is_traced, result1, result2, result3, result_sort, sort_in, faults_of_kind, own_by, known_after, faults_of, port_faults, is_clock, faults_of_module, type_faults, known_in, sort_named}
 use Rattle.gg_types.proofs.StepLemmas.{known_after-push}
 
 abbrev pub IsWide : Sort → Type 0

@@ -1,11 +1,10 @@
 -- The definitions of the faults of types on circuits with instances and memories, and on their near misses.
-use Rattle.std.proofs.Common.{◌≡◌, ℕ, true, false, List, [], ◌∷◌, ◌++◌, None, Some, Option, codes, refl}
+use Rattle.std.proofs.Common.{◌≡◌, ℕ, false, List, [], ◌∷◌, ◌++◌, None, Some, codes, refl}
 use Rattle.gg_bits.specs.declared.ops.Op1.TheVariants.{AsSInt, Not, Andr}
 use Rattle.gg_bits.specs.declared.ops.Op2.TheVariants.{Add, Cat, Xor}
 use Rattle.gg_bits.specs.declared.ops.OpN.TheVariants as fixed
 use Rattle.gg_bits.specs.declared.types.Kind.TheVariants as kind
 use Rattle.gg_ast.specs.declared.expression.Radix.TheVariants.{Hexadecimal}
-use Rattle.gg_ast.specs.declared.expression.Reference.{Reference}
 use Rattle.gg_ast.specs.declared.expression.Reference.TheVariants.{Local, PortOf, FieldOf}
 use Rattle.gg_ast.specs.declared.module.Direction.TheVariants.{Input, Output}
 use Rattle.gg_ast.specs.declared.module.GroundType.{GroundType}

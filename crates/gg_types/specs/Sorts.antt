@@ -1,5 +1,4 @@
 -- Types as they are written (FIRRTL Specification, "Ground Types").
-use Rattle.std.specs.Prelude.{ℕ}
 use Rattle.gg_bits.specs.declared.types.Kind.TheVariants as kind
 use Rattle.gg_bits.specs.Shape.{Shape}
 use Rattle.gg_ast.specs.declared.module.GroundType.{GroundType}

@@ -1,10 +1,11 @@
 -- What `types` answers: a circuit without faults, with the order of its modules.
 -- Sources: FIRRTL Specification, "Ground Types", "Instances".
-use Rattle.std.specs.Prelude.{◌≡◌, ℕ, ◌<◌, List, [], ◌∷◌, length, slice_index_or}
+use Rattle.std.specs.Prelude.{◌≡◌, ℕ, ◌<◌, List, [], length, slice_index_or}
 use Rattle.gg_bits.specs.Shape.{shape}
 use Rattle.gg_ast.specs.Tree.{CircuitTree, ModuleTree}
 use Rattle.gg_names.specs.Modules.{module_at, Holds}
 use Rattle.gg_names.specs.Namespace.{names_in}
+use Rattle.gg_shape.specs.Judged.{IsShaped}
 use Rattle.gg_walk.specs.Graph.{IsOrderOf}
 use Rattle.gg_types.specs.declared.sort.Own.{Own}
 use Rattle.gg_types.specs.declared.sort.Sort.{Sort}
@@ -35,9 +36,10 @@ pub record TellModules (modules : List ModuleTree) (n : ℕ) (lists : List (List
   pub count : length lists ≡ n
   pub each : (k : ℕ) → k < n → TellsOwn modules (module_at modules k) (slice_index_or lists k [])
 
--- The circuit has no fault of types; its modules stand in the order each behind all that it holds; the lists tell what its names
+-- The circuit has none of the faults F1 to F14; its modules stand in the order each behind all that it holds; the lists tell what its names
 -- have of their own.
 pub record IsTyped (circuit : CircuitTree) (order : List ℕ) (lists : List (List Own)) : Type 0 where
+  pub shaped : IsShaped circuit
   pub faultless : type_faults circuit ≡ []
   pub ordered : IsOrderOf (Holds circuit.modules) (length circuit.modules) order
   pub tells : TellModules circuit.modules (length circuit.modules) lists

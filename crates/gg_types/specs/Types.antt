@@ -36,7 +36,7 @@ use Rattle.gg_names.specs.Along.{along}
 use Rattle.gg_names.specs.declared.role.Role.{Role}
 use Rattle.gg_names.specs.Scope.{written}
 use Rattle.gg_names.specs.Namespace.{scope_of}
-use Rattle.gg_shape.specs.Shape.{fault_if}
+use Rattle.gg_shape.specs.Faults.{fault_if}
 use Rattle.gg_types.specs.Literal.{literal_fits}
 use Rattle.gg_types.specs.Clocks.{leads_to_input}
 use Rattle.gg_types.specs.declared.sort.Sort.{Sort}

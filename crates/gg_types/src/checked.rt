@@ -1,7 +1,8 @@
-//! `Typed`: a circuit without faults of types.
+//! `Typed`: a circuit without faults of shape and types.
 ghost use Rattle.std.specs.Prelude.{◌≡◌, ◌<◌, [], length};
 ghost use Rattle.std.specs.Option.{option_map};
 ghost use Rattle.gg_names.specs.Modules.{module_at, Holds};
+ghost use Rattle.gg_shape.specs.Judged.{IsShaped};
 ghost use Rattle.gg_types.specs.Typed.{sort};
 ghost use Rattle.gg_types.specs.Types.{sort_named, type_faults};
 ghost use Rattle.gg_walk.specs.Graph.{IsOrderOf};
@@ -13,7 +14,7 @@ use gg_bits::{Items, Ty};
 use gg_names::Namespace;
 use std::marker::Model;
 
-/// A circuit without faults of types: its names, what they have of their own, and the order of its modules.
+/// A circuit with none of the faults F1 to F14: its names, what they have of their own, and the order of its modules.
 ///
 /// A contract sees the circuit, and the modules' places in that order.
 #[derive(Drop)]
@@ -39,9 +40,10 @@ impl<'a> Model for Typed<'a> {
 }
 
 impl<'a> Typed<'a> {
-    /// The names of the circuit, and the circuit itself. It has no fault of types.
+    /// The names of the circuit, and the circuit itself. It has none of the faults F1 to F14.
     pub fn names(&self) -> &Namespace<'a>
         ensures names { result.now ≡ self.now.circuit }
+        ensures shaped { IsShaped self.now.circuit }
         ensures faultless { type_faults self.now.circuit ≡ [] }
     {
         &self.names

@@ -5,6 +5,8 @@ ghost use Rattle.std.specs.List.{All};
 ghost use Rattle.gg_names.specs.Modules.{module_at, Holds};
 ghost use Rattle.gg_names.specs.Namespace.{scope_of};
 ghost use Rattle.gg_shape.specs.Faults.{Answers};
+ghost use Rattle.gg_shape.specs.Judged.{IsShaped};
+ghost use Rattle.gg_shape.specs.Rings.{HasNoRing};
 ghost use Rattle.gg_types.specs.Clocks.{leads_to_input};
 ghost use Rattle.gg_types.specs.Typed.{TellsOwn, TellModules};
 ghost use Rattle.gg_types.specs.Types.{module_type_faults, faults_of_module, type_faults};
@@ -15,9 +17,9 @@ use crate::clocks::trace;
 use crate::known::Known;
 use crate::module::judge_all;
 use crate::sort::Own;
-use gg_ast::Module;
+use gg_ast::{Circuit, Module};
 use gg_bits::Items;
-use gg_names::Namespace;
+use gg_names::{NamesFault, Namespace};
 use gg_shape::Refusal;
 use gg_walk::{Graph, WalkFault, walk};
 use std::alloc::{AllocError, Global};
@@ -25,14 +27,31 @@ use std::alloc::{AllocError, Global};
 /// What `types` answers in place of Ok.
 pub type TypeFault = Refusal;
 
-/// Refuses the first of F9 to F14 in the order of the text; else answers the circuit with its names' types. No module of it
-/// may hold itself.
+/// Refuses the first of F9 to F14 in the order of the text; else answers the circuit with its names' types. It may have none
+/// of F1 to F8, which `gg_shape::shape` tells before.
 ///
 /// # Errors
 ///
 /// `Refusal::F` with that fault; `Refusal::NoMemory` where memory ran out.
+pub fn types<'a>(alloc: Global, circuit: &'a Circuit) -> Result<Typed<'a>, TypeFault>
+    requires shaped { IsShaped circuit.now }
+    ensures answers { Answers (type_faults circuit.now) result }
+    ensures circuit { IfOk result (λ t. t.circuit ≡ circuit.now) }
+{
+    match Namespace::of(alloc, circuit) {
+        Ok(names) => typed(alloc, names),
+        Err(NamesFault::Repeated(_)) => unreachable!(),
+        Err(NamesFault::NoMemory) => Err(Refusal::NoMemory),
+    }
+}
+
+/// The same of a circuit whose names are collected.
+///
+/// # Errors
+///
+/// `Refusal::F` with the first of F9 to F14; `Refusal::NoMemory` where memory ran out.
 pub fn typed<'a>(alloc: Global, names: Namespace<'a>) -> Result<Typed<'a>, TypeFault>
-    requires free { (ring : List ℕ) → ¬ IsRing (Holds names.modules) (length names.modules) ring }
+    requires shaped { IsShaped names }
     ensures answers { Answers (type_faults names.entry) result }
     ensures circuit { IfOk result (λ t. t.circuit ≡ names.entry) }
 {
@@ -43,7 +62,7 @@ pub fn typed<'a>(alloc: Global, names: Namespace<'a>) -> Result<Typed<'a>, TypeF
 
 // The order of the modules, each behind all that it holds.
 fn module_order(alloc: Global, names: &Namespace) -> Result<Vec<u32>, Refusal>
-    requires free { (ring : List ℕ) → ¬ IsRing (Holds names.now.modules) (length names.now.modules) ring }
+    requires free { HasNoRing names.now }
     ensures order { IfOk result (λ order. IsOrderOf (Holds names.now.modules) (length names.now.modules) order.items) }
     ensures answers { Answers [] result }
 {

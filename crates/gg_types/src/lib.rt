@@ -1,11 +1,13 @@
 //! The types of a circuit's names and expressions, and the faults in them (FIRRTL Specification, "Ground Types",
 //! "Primitive Operations", "Expressions", "Connects", "Instances", "Memories").
 //!
-//! `typed` answers Ok exactly where a circuit has no fault of F9 to F14, and else the first such fault in the order of the
+//! `types` answers Ok exactly where a circuit has no fault of F9 to F14, and else the first such fault in the order of the
 //! text: an operand's before its operation's, from left to right, at one place the least. All modules are judged, whether
 //! the top reaches them or not; a port of an instance has the type that is written in its module, wherever that stands.
 //!
-//! What it answers, a `Typed`, is a circuit without those faults: it tells the type of each name, and an order of the
+//! `typed` does the same over a namespace that stands already.
+//!
+//! What they answer, a `Typed`, is a circuit with none of the faults F1 to F14: it tells the type of each name, and an order of the
 //! modules in which each stands behind all that it holds.
 //!
 //! `literal` tells the type and the pattern of a literal, and `is_width` which widths a type may have, here and in what
@@ -27,7 +29,7 @@ mod sort;
 mod statement;
 
 pub use checked::Typed;
-pub use circuit::{TypeFault, typed};
+pub use circuit::{TypeFault, typed, types};
 pub use literals::literal;
 pub use places::is_width;
 pub use sort::{Sort, Typing};

@@ -4,7 +4,7 @@ use Rattle.std.specs.Prelude.{codes, decimal}
 use Rattle.std.specs.Str.{IsUtf8}
 use Rattle.gg_ast.specs.Tree.{CircuitTree}
 use Rattle.gg_flat.specs.Circuit.{FlatCircuit}
-use Rattle.gg_read.specs.Text.{LineTokens, IsFaultLine, Spells, HasReadFault, IsTooDeep, first_outside}
+use Rattle.gg_read.specs.Text.{LineTokens, IsFaultLine, HasNoFaultLine, Spells, HasReadFault, IsTooDeep, first_outside}
 use Rattle.gg_read.specs.declared.text.ReadFault.{ReadFault}
 use Rattle.gg_read.specs.declared.text.ReadFault.TheVariants as unread
 use Rattle.gg_front.specs.Fault.{HasFrontFault}
@@ -60,10 +60,6 @@ names-unread bytes unread.NoMemory text has is = absurd is
 abbrev pub OneFaultLine : Type 0
 OneFaultLine = (text : List ℕ) (n m : ℕ) (line other : LineTokens) → IsFaultLine text n line → IsFaultLine text m other → (n ≡ m) × (line ≡ other)
 
--- a text with a fault line spells no circuit
-abbrev pub NoCircuit : Type 0
-NoCircuit = (text : List ℕ) (n : ℕ) (line : LineTokens) (circuit : CircuitTree) → IsFaultLine text n line → Spells text circuit → ⊥
-
 names-unread-once : OneFaultLine → (bytes text other : List ℕ) → NamesUnread bytes text → NamesUnread bytes other → text ≡ other
 names-unread-once one bytes text other (NoText none is) (NoText none' is') = is ∙ sym is'
 names-unread-once one bytes text other (NoText none is) (AtLine utf8 n line at names) = absurd (none utf8)
@@ -73,22 +69,23 @@ names-unread-once one bytes text other (AtLine utf8 n line at names) (AtLine utf
     names-line-once m line' text other
     (subst (λ (l : LineTokens). NamesLine m l text) same.1 (subst (λ (k : ℕ). NamesLine k line text) same.0 names)) names'
 
-unread-spells : NoCircuit → (bytes text : List ℕ) (circuit : CircuitTree) → NamesUnread bytes text → Spells bytes circuit → ⊥
-unread-spells never bytes text circuit (NoText none is) spells = none spells.utf8
-unread-spells never bytes text circuit (AtLine utf8 n line at names) spells = never bytes n line circuit at spells
+-- of a text from which a circuit is read no fault of reading is said
+unread-apart : (bytes text : List ℕ) (circuit : CircuitTree) → NamesUnread bytes text → Spells bytes circuit → HasNoFaultLine bytes → ⊥
+unread-apart bytes text circuit (NoText none is) spells faultless = none spells.utf8
+unread-apart bytes text circuit (AtLine utf8 n line at names) spells faultless = faultless n line at
 
-module _ (never : NoCircuit) (one : OneFaultLine) (name bytes : List ℕ) where
+module _ (one : OneFaultLine) (name bytes : List ℕ) where
   circuit-apart : (said : Said) → IsPlain bytes → TellsCircuit name bytes said → ⊥
-  circuit-apart said plain (inl (fault, has, tells)) = unread-spells never bytes tells.0 plain.circuit (names-unread bytes fault tells.0 has tells.1) plain.plain.spelt
+  circuit-apart said plain (inl (fault, has, tells)) = unread-apart bytes tells.0 plain.circuit (names-unread bytes fault tells.0 has tells.1) plain.plain.spelt plain.plain.faultless
   circuit-apart said plain (inr (read, is)) = read.none plain
 
   circuit-once : (said other : Said) → TellsCircuit name bytes said → TellsCircuit name bytes other → said ≡ other
   circuit-once said other (inl (fault, has, tells)) (inl (fault', has', tells')) =
       tells.2 ∙ ap circuit_fault (names-unread-once one bytes tells.0 tells'.0 (names-unread bytes fault tells.0 has tells.1) (names-unread bytes fault' tells'.0 has' tells'.1)) ∙ sym tells'.2
   circuit-once said other (inl (fault, has, tells)) (inr (read, is)) =
-      absurd (unread-spells never bytes tells.0 read.unplain.circuit (names-unread bytes fault tells.0 has tells.1) read.unplain.spelt)
+      absurd (unread-apart bytes tells.0 read.unplain.circuit (names-unread bytes fault tells.0 has tells.1) read.unplain.spelt read.unplain.faultless)
   circuit-once said other (inr (read, is)) (inl (fault, has, tells)) =
-      absurd (unread-spells never bytes tells.0 read.unplain.circuit (names-unread bytes fault tells.0 has tells.1) read.unplain.spelt)
+      absurd (unread-apart bytes tells.0 read.unplain.circuit (names-unread bytes fault tells.0 has tells.1) read.unplain.spelt read.unplain.faultless)
   circuit-once said other (inr (read, is)) (inr (read', is')) = is ∙ sym is'
 
   circuit-status : (said : Said) → TellsCircuit name bytes said → said.status ≡ 1
@@ -96,10 +93,10 @@ module _ (never : NoCircuit) (one : OneFaultLine) (name bytes : List ℕ) where
   circuit-status said (inr (read, is)) = ap (λ (s : Said). s.status) is
 
 -- of a circuit's bytes one thing is said at most, and nothing of plain ones
-pub circuit_file-exact : NoCircuit → OneFaultLine → (name : List ℕ) → IsExactFile (circuit_file name)
-circuit_file-exact never one name = record {
-  apart = λ bytes said accepts refuses. circuit-apart never one name bytes said accepts refuses;
-  once = λ bytes said other refuses refuses'. circuit-once never one name bytes said other refuses refuses';
-  status = λ bytes said refuses. circuit-status never one name bytes said refuses;
+pub circuit_file-exact : OneFaultLine → (name : List ℕ) → IsExactFile (circuit_file name)
+circuit_file-exact one name = record {
+  apart = λ bytes said accepts refuses. circuit-apart one name bytes said accepts refuses;
+  once = λ bytes said other refuses refuses'. circuit-once one name bytes said other refuses refuses';
+  status = λ bytes said refuses. circuit-status one name bytes said refuses;
   judges = inl refl;
 }

@@ -11,7 +11,7 @@ use Rattle.golden.specs.Lines.{Said, trace_fault}
 use Rattle.golden.specs.Order.{IsExact, IsExactFile}
 use Rattle.golden.specs.Run.{plain_file, trace_file_for, IsTraceFor, TellsTraceFor}
 use Rattle.golden.specs.Words.{Command, Run, order_of}
-use Rattle.golden.proofs.FrontLemmas.{NoCircuit, OneFaultLine, circuit_file-exact}
+use Rattle.golden.proofs.FrontLemmas.{OneFaultLine, circuit_file-exact}
 
 -- a file that is refused exactly where it isn't plain
 pub plain_file-exact : (name : List ℕ) (limit : ℕ) (IsPlain : List ℕ → Type 0) → IsExactFile (plain_file name limit IsPlain)
@@ -52,6 +52,6 @@ module _ (agree : InsAgree) (once : OneFirstFault) (never : NoFault) (circuit : 
   trace_file-exact : (name : List ℕ) → IsExactFile (trace_file_for circuit name)
   trace_file-exact name = record { apart = trace-apart; once = trace-once; status = trace-status; judges = inr refl }
 
-pub order-exact : NoCircuit → OneFaultLine → InsAgree → OneFirstFault → NoFault → (command : Command) → IsExact (order_of command)
-order-exact never one agree once none (Run circuit partition trace capacity workers mono) =
-    (circuit_file-exact never one circuit, λ c. (plain_file-exact partition 1048576 _, λ p. (trace_file-exact agree once none c trace, λ t. tt)))
+pub order-exact : OneFaultLine → InsAgree → OneFirstFault → NoFault → (command : Command) → IsExact (order_of command)
+order-exact one agree once none (Run circuit partition trace capacity workers mono) =
+    (circuit_file-exact one circuit, λ c. (plain_file-exact partition 1048576 _, λ p. (trace_file-exact agree once none c trace, λ t. tt)))

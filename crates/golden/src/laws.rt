@@ -3,7 +3,7 @@ ghost use Rattle.golden.specs.Order.{IsExact};
 ghost use Rattle.golden.specs.Words.{Command, order_of};
 
 use gg_front::ports_agree;
-use gg_read::{no_circuit, one_fault_line};
+use gg_read::one_fault_line;
 use gg_trace::one_first_fault;
 
 /// Of the bytes of each file of a command one thing is said at most, with the file's own status, and nothing of bytes that
@@ -11,7 +11,6 @@ use gg_trace::one_first_fault;
 pub fn refusals_are_exact()
     ensures { (command : Command) → IsExact (order_of command) }
 {
-    no_circuit();
     one_fault_line();
     ports_agree();
     one_first_fault();

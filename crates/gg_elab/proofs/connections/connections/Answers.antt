@@ -10,7 +10,8 @@ loop-statement-preserved c =
     let all = c.args.statements.now in
     let i = c.loop-statement.statement-index in
     let s = c.statement-item.result in
-    let front : take (i + 1) all ≡ take i all ++ s ∷ [] = take_more all i s (omega arith) ∙ ap (λ (x : Stmt). take i all ++ x ∷ []) (sym c.statement-item.is) in
-    (c.in_ok-note.ensures.count,
-     subst (λ (ss : List Stmt). TellsConnections ss c.note.new.sinks.names c.note.new.sinks.sources.items) (sym front)
-     (tells-more (take i all) s c.loop-statement.sinks.names c.note.new.sinks.names c.loop-statement.sinks.sources.items c.note.new.sinks.sources.items c.loop-statement.invariant.1 c.in_ok-note.ensures.noted))
+    let front : take (i + 1) all ≡ take i all ++ s ∷ [] = take_more all i s (omega arith) ∙ ap (λ (x : Stmt). take i all ++ x ∷ []) (sym c.statement-item.is) in (
+      c.in_ok-note.ensures.count,
+      subst (λ (ss : List Stmt). TellsConnections ss c.note.new.sinks.names c.note.new.sinks.sources.items) (sym front)
+          (tells-more (take i all) s c.loop-statement.sinks.names c.note.new.sinks.names c.loop-statement.sinks.sources.items c.note.new.sinks.sources.items c.loop-statement.invariant.1 c.in_ok-note.ensures.noted),
+    )

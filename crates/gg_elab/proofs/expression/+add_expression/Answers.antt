@@ -55,4 +55,4 @@ returns-in_ok-b-in-Mux t c =
     let pb : Stands w two mid c.in-Mux.b.value b = operand w two mid _ c.in-Mux.b.value b c.deref-in-Mux-3.ensures c.in_ok-b-in-Mux.ensures in
     finished c.add_result-in-Mux.result w c.args.line.now mid c.add_result-in-Mux.new.line _ _ (IsResultNode c.result_mux.result (Mux u.node a.node b.node)) (sym c.e.view_is ∙ ap term_of c.in-Mux.is) c.add_result-in-Mux.ensures
     (λ n p. added_mux w c.args.line.now one two mid n c.in-Mux.c.value c.in-Mux.a.value c.in-Mux.b.value u.node a.node b.node c.result_mux.result pc.0 pa.0 pb.0
-      (c.result_mux.ensures.exact ∙ ap (λ s. type_mux s (shape a.ty) (shape b.ty)) pc.1 ∙ ap (λ s. type_mux (shape_of w c.in-Mux.c.value) s (shape b.ty)) pa.1 ∙ ap (type_mux (shape_of w c.in-Mux.c.value) (shape_of w c.in-Mux.a.value)) pb.1) p)
+    (c.result_mux.ensures.exact ∙ ap (λ s. type_mux s (shape a.ty) (shape b.ty)) pc.1 ∙ ap (λ s. type_mux (shape_of w c.in-Mux.c.value) s (shape b.ty)) pa.1 ∙ ap (type_mux (shape_of w c.in-Mux.c.value) (shape_of w c.in-Mux.a.value)) pb.1) p)

@@ -26,7 +26,7 @@ returns-in-Some c =
     let below : s < length types = omega (arith, named-below w.types w.signals w.scope c.args.reference.now s found, c.args.scope.now.even) in
     finished c.add_node.result w c.args.line.now c.args.line.now c.add_node.new.line (NamedTerm c.args.reference.now) _ (λ n. (n.ty ≡ c.index-ty.result.now) × (n.op ≡ Ref s)) refl c.add_node.ensures
     (λ n p. added_reference w c.args.line.now n c.args.reference.now s found (omega (arith, below, length-map types (λ (t : Ty). shape t)))
-      (get_or-map (λ (t : Ty). shape t) types s c.index-ty.result.now (uint 0) below ∙ ap shape (sym c.index-ty.ensures ∙ sym p.0)) p.1)
+    (get_or-map (λ (t : Ty). shape t) types s c.index-ty.result.now (uint 0) below ∙ ap shape (sym c.index-ty.ensures ∙ sym p.0)) p.1)
 
 pub returns-in-None : goal.returns-in-None
 returns-in-None c =

@@ -19,9 +19,9 @@ returns-clause-stands c =
     let bit : shape c.new-bit.result ≡ uint 1 = ap (λ k. of_kind k c.new-bit.result.width) c.new-bit.ensures.kind ∙ ap (of_kind UInt) c.new-bit.ensures.width in
     IfOk-weaker c.cut.result (IsCut c.is_bit.result nodes (shape c.new-bit.result)) (IsConditionOf w.types w.signals w.scope c.args.e.now)
     (λ new h. condition_stands w nodes c.args.e.now stand.node added new
-      (subst (λ (s : Shape). IsCut (is_condition s) nodes (uint 1) new) c.in_ok-stand.ensures.1
-      (subst (λ (b : Bool). IsCut b nodes (uint 1) new) c.is_bit.ensures
-      (subst (λ (s : Shape). IsCut c.is_bit.result nodes s new) bit h))))
+    (subst (λ (s : Shape). IsCut (is_condition s) nodes (uint 1) new) c.in_ok-stand.ensures.1
+    (subst (λ (b : Bool). IsCut b nodes (uint 1) new) c.is_bit.ensures
+    (subst (λ (s : Shape). IsCut c.is_bit.result nodes s new) bit h))))
     c.cut.ensures
 
 pub returns-clause-fits : goal.returns-clause-fits
@@ -33,7 +33,7 @@ returns-clause-fits c =
     let bit : shape c.new-bit.result ≡ uint 1 = ap (λ k. of_kind k c.new-bit.result.width) c.new-bit.ensures.kind ∙ ap (of_kind UInt) c.new-bit.ensures.width in
     IfOk-weaker c.cut.result (IsCut c.is_bit.result nodes (shape c.new-bit.result)) (IsCondition (HasType w.signals.shapes))
     (λ new h. condition_fits w nodes c.args.e.now stand.node added new
-      (subst (λ (s : Shape). IsCut (is_condition s) nodes (uint 1) new) c.in_ok-stand.ensures.1
-      (subst (λ (b : Bool). IsCut b nodes (uint 1) new) c.is_bit.ensures
-      (subst (λ (s : Shape). IsCut c.is_bit.result nodes s new) bit h))))
+    (subst (λ (s : Shape). IsCut (is_condition s) nodes (uint 1) new) c.in_ok-stand.ensures.1
+    (subst (λ (b : Bool). IsCut b nodes (uint 1) new) c.is_bit.ensures
+    (subst (λ (s : Shape). IsCut c.is_bit.result nodes s new) bit h))))
     c.cut.ensures

@@ -17,8 +17,8 @@ returns-clause-stands c =
     let added : Added w [] nodes c.args.e.now stand.node = subst (λ (l : List Node). Added w l nodes c.args.e.now stand.node) c.new-line.ensures c.in_ok-stand.ensures.0 in
     IfOk-weaker c.cut.result (IsCut c.takes.result nodes (shape c.args.ty)) (IsLineOf w.types w.signals w.scope (shape c.args.ty) c.args.e.now)
     (λ new h. cut_stands w nodes c.args.e.now stand.node added (shape c.args.ty) new
-      (subst (λ (s : Shape). IsCut (takes (shape c.args.ty) s) nodes (shape c.args.ty) new) c.in_ok-stand.ensures.1
-      (subst (λ (b : Bool). IsCut b nodes (shape c.args.ty) new) c.takes.ensures h)))
+    (subst (λ (s : Shape). IsCut (takes (shape c.args.ty) s) nodes (shape c.args.ty) new) c.in_ok-stand.ensures.1
+    (subst (λ (b : Bool). IsCut b nodes (shape c.args.ty) new) c.takes.ensures h)))
     c.cut.ensures
 
 pub returns-clause-fits : goal.returns-clause-fits
@@ -29,6 +29,6 @@ returns-clause-fits c =
     let added : Added w [] nodes c.args.e.now stand.node = subst (λ (l : List Node). Added w l nodes c.args.e.now stand.node) c.new-line.ensures c.in_ok-stand.ensures.0 in
     IfOk-weaker c.cut.result (IsCut c.takes.result nodes (shape c.args.ty)) (IsSource (HasType w.signals.shapes) (shape c.args.ty))
     (λ new h. cut_fits w nodes c.args.e.now stand.node added (shape c.args.ty) new
-      (subst (λ (s : Shape). IsCut (takes (shape c.args.ty) s) nodes (shape c.args.ty) new) c.in_ok-stand.ensures.1
-      (subst (λ (b : Bool). IsCut b nodes (shape c.args.ty) new) c.takes.ensures h)))
+    (subst (λ (s : Shape). IsCut (takes (shape c.args.ty) s) nodes (shape c.args.ty) new) c.in_ok-stand.ensures.1
+    (subst (λ (b : Bool). IsCut b nodes (shape c.args.ty) new) c.takes.ensures h)))
     c.cut.ensures

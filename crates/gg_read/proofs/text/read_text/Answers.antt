@@ -3,7 +3,7 @@ use Rattle.std.proofs.lemmas.List.{length_push}
 use Rattle.std.proofs.lemmas.Iterator.Consumers.{YieldsList-turn, YieldsList-end}
 use Rattle.std.proofs.lemmas.Iterator.Splits.{YieldsList-from_lines}
 use Rattle.std.proofs.lemmas.Result.{err_from_is_err_and}
-use Rattle.gg_read.proofs.TextSteps.{line_turn, fault_turn, end_circuit, end_fault}
+use Rattle.gg_read.proofs.TextSteps.{line_turn, fault_turn, end_circuit, end_faultless, end_fault}
 use Rattle.gg_read.proofs.text.read_text.Goals as goal
 
 pub loop-line-preserved : goal.loop-line-preserved
@@ -29,6 +29,11 @@ pub returns-clause-circuit : goal.returns-clause-circuit
 returns-clause-circuit c =
     let end = YieldsList-end (YieldsList-from_lines c.args.text.now cc) c.loop-line.yielded _ c.loop-line.yielded_by _ _ c.in-None.is c.next.ensures.steps in
     end_circuit c.args.text.now (length c.loop-line.yielded) (c.loop-line.number + 1) c.loop-line.stage c.finish.result c.utf8.text end.1 c.loop-line.invariant.read c.finish.ensures
+
+pub returns-clause-faultless : goal.returns-clause-faultless
+returns-clause-faultless c =
+    let end = YieldsList-end (YieldsList-from_lines c.args.text.now cc) c.loop-line.yielded _ c.loop-line.yielded_by _ _ c.in-None.is c.next.ensures.steps in
+    end_faultless c.args.text.now (length c.loop-line.yielded) (c.loop-line.number + 1) c.loop-line.stage c.finish.result end.1 c.loop-line.invariant.read c.finish.ensures
 
 pub returns-clause-fault : goal.returns-clause-fault
 returns-clause-fault c =

@@ -1,17 +1,33 @@
-use Rattle.std.proofs.Common.{◌≡◌, length, subst}
+use Rattle.std.proofs.Common.{rules, ◌≡◌, None, false, length, replicate, ap, subst, ◌∙◌}
+use Rattle.std.proofs.lemmas.List.{length-replicate}
 use Rattle.gg_flat.specs.declared.memory.Memory.{Memory}
 use Rattle.gg_flat.specs.Memory.{read_count}
+use Rattle.gg_node.specs.Machine.{cycle_limit}
 use Rattle.gg_node.specs.Token.{IsNextState}
-use Rattle.gg_memunit.specs.MemoryUnit.{state_of, cycle_limit}
-use Rattle.gg_memunit.proofs.UnitLemmas.{sole, of-sole, next-is}
+use Rattle.gg_memunit.specs.MemoryUnit.{state_of}
+use Rattle.gg_memunit.proofs.UnitLemmas.{sole, of-sole, next-is, tokens-cleared}
 use Rattle.gg_memunit.proofs.unit.MemUnit.next_cycle.Goals as goal
+
+pub invariant_of-self : goal.invariant_of-self
+invariant_of-self c =
+    let unit = c.self.inside in
+    let kept = c.self.invariant in
+    let zeros : c.fill.new.self.items ≡ replicate (length unit.inputs.items) 0 = search rules in
+    let empty : c.fill-2.new.self.items ≡ replicate (length unit.latches.items) None = search rules in
+    let clear : c.fill-3.new.self.items ≡ replicate (length unit.flags.items) false = search rules in
+    record {
+      memory = kept.memory;
+      held = kept.held;
+      ins = ap length empty ∙ length-replicate (length unit.latches.items) None ∙ kept.ins;
+      outs = ap length clear ∙ length-replicate (length unit.flags.items) false ∙ kept.outs;
+      tokens = tokens-cleared unit.inputs.items c.fill.new.self.items unit.latches.items c.fill-2.new.self.items kept.tokens zeros empty;
+    }
 
 pub returns-clause-next : goal.returns-clause-next
 returns-clause-next c =
     let unit = c.self.inside in
     let kept = c.self.invariant in
     let only = sole unit.piece.memories kept.memory.one in
-    let reads = unit.reads.items in
-    let held = of-sole (λ (memory : Memory). length reads ≡ read_count memory.latency memory.readers) unit.piece.memories only.0 only.1 kept.held in
-    subst (λ machine. IsNextState machine (state_of unit.words.items reads)) c.self.view_is
-    (next-is unit.piece only.0 kept.memory only.1 cycle_limit unit.cycle unit.served unit.words.items reads unit.latches.items unit.flags.items held)
+    let held = of-sole (λ (memory : Memory). length unit.bank.reads ≡ read_count memory.latency memory.readers) unit.piece.memories only.0 only.1 kept.held in
+    subst (λ machine. IsNextState machine (state_of unit.bank)) c.self.view_is
+    (next-is unit.piece only.0 kept.memory only.1 cycle_limit unit.cycle unit.served unit.bank unit.latches.items unit.flags.items held)

@@ -1,6 +1,5 @@
 use Rattle.std.proofs.Common.{◌≡◌, length, ap, arith, ◌∙◌}
-use Rattle.gg_order.proofs.ReadLemmas.{written_whole}
-use Rattle.gg_refsim.proofs.CycleLemmas.{Cycle-once, Cycle-of}
+use Rattle.gg_refsim.proofs.CycleLemmas.{Cycle-once, Cycle-of, written_whole}
 use Rattle.gg_refsim.proofs.mono.Mono.cycle.Goals as goal
 
 pub returns-clause-only : goal.returns-clause-only

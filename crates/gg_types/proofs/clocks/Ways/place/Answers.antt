@@ -1,8 +1,7 @@
-use Rattle.std.proofs.Common.{◌≡◌, ℕ, List, map, sym, ap, ◌∙◌}
+use Rattle.std.proofs.Common.{ℕ, List, map, sym, ap, ◌∙◌}
 use Rattle.gg_ast.specs.Places.{place_of}
 use Rattle.gg_names.specs.Modules.{module_at}
 use Rattle.gg_types.specs.declared.clocks.Way.{Way}
-use Rattle.gg_types.specs.Places.{place_in}
 use Rattle.gg_types.proofs.WayLemmas.{ways-names, place-there}
 use Rattle.gg_types.proofs.clocks.Ways.place.Goals as goal
 

@@ -1,0 +1,51 @@
+use Rattle.std.proofs.Common.{◌≡◌, ℕ, ◌<◌, List, [], map, length, get_or, refl, sym, ap, ◌∙◌, subst, arith}
+use Rattle.std.proofs.lemmas.List.{length-map, get_or_default}
+use Rattle.gg_ast.specs.Tree.{ModuleTree, CircuitTree, module_names, empty_module}
+use Rattle.gg_ast.specs.Places.{place_of}
+use Rattle.gg_ast.proofs.NamePlaces.{place_of-below}
+use Rattle.gg_count.specs.Sites.{Site, module_at, all_sites}
+use Rattle.gg_elab.specs.Known.{types_of}
+use Rattle.gg_elab.specs.Views.{site_of}
+use Rattle.gg_elab.specs.declared.sites.Place.{Place}
+use Rattle.gg_elab.specs.Building.{IsSoFar, HasMemories}
+use Rattle.gg_elab.specs.Flat.{flat_signals, flat_memories}
+use Rattle.gg_elab.specs.Growing.{table_signals}
+use Rattle.gg_elab.specs.IsFlat.{signals_of, memory_paths}
+use Rattle.gg_elab.proofs.WholeLemmas.{whole, with_top}
+use Rattle.gg_elab.proofs.elaborate.build.Goals as goal
+
+pub places-requires-clause-top : goal.places-requires-clause-top
+places-requires-clause-top c =
+    let circuit = c.args.typed.now.circuit in
+    omega (arith, place_of-below circuit.name (module_names circuit) c.args.top c.requires.top, length-map circuit.modules (λ (m : ModuleTree). m.name))
+
+pub bounds-modules-top : goal.bounds-modules-top
+bounds-modules-top c =
+    let circuit = c.args.typed.now.circuit in
+    let same : length c.modules-modules.result.now ≡ length circuit.modules = ap (λ (l : List ModuleTree). length l) (c.modules-modules.ensures ∙ ap (λ (k : CircuitTree). k.modules) (c.circuit.ensures.circuit ∙ c.names.ensures.names)) in
+    omega (arith, place_of-below circuit.name (module_names circuit) c.args.top c.requires.top, length-map circuit.modules (λ (m : ModuleTree). m.name), same)
+
+pub returns : goal.returns
+returns c =
+    let circuit = c.args.typed.now.circuit in
+    let modules = circuit.modules in
+    let types = types_of circuit in
+    let places = c.in_ok-places.places.items in
+    let table = c.in_ok-table.table in
+    let all = flat_signals types modules (map site_of places) in
+    let banks = flat_memories modules (map site_of places) in
+    let one = c.add_sites.new.piece in
+    let two = c.add_all_memories.new.piece in
+    let three = c.add_ports.new.piece in
+    let same : table_signals table ≡ signals_of all = c.in_ok-table.ensures.signals ∙ ap (λ (l : List Place). signals_of (flat_signals types modules (map site_of l))) c.as_slice.ensures.value in
+    let listed : table.memories ≡ memory_paths banks = c.in_ok-table.ensures.memories ∙ ap (λ (l : List Place). memory_paths (flat_memories modules (map site_of l))) c.as_slice.ensures.value in
+    let far : IsSoFar types (table_signals table) table.memories all one c.in_ok-add_sites.ensures.0 =
+    subst (λ (l : List Place). IsSoFar types (table_signals table) table.memories (flat_signals types modules (map site_of l)) one c.in_ok-add_sites.ensures.0) c.as_slice-2.ensures.value c.in_ok-add_sites.ensures.1 in
+    let has : HasMemories table.paths banks one two =
+    subst (λ (l : List Place). HasMemories table.paths (flat_memories modules (map site_of l)) one two) c.as_slice-3.ensures.value c.in_ok-add_all_memories.ensures in
+    let below : c.args.top < length modules = omega (arith, place_of-below circuit.name (module_names circuit) c.args.top c.requires.top, length-map modules (λ (m : ModuleTree). m.name)) in
+    let body : c.index-modules-top.result ≡ module_at modules c.args.top =
+    c.index-modules-top.is ∙ ap (λ (ms : List ModuleTree). get_or ms c.args.top c.index-modules-top.result) (c.modules-modules.ensures ∙ ap (λ (k : CircuitTree). k.modules) (c.circuit.ensures.circuit ∙ c.names.ensures.names))
+    ∙ get_or_default modules c.args.top c.index-modules-top.result (empty_module 0 []) below in
+    with_top types modules (place_of circuit.name (module_names circuit)) c.args.top (map site_of places) c.ports.result.now three c.requires.top c.in_ok-places.ensures.sites (c.ports.ensures ∙ ap (λ (m : ModuleTree). m.ports) body)
+    (whole types all banks c.ports.result.now (table_signals table) table.memories one two three c.in_ok-add_sites.ensures.0 same listed far has c.in_ok-add_ports.ensures.ins c.in_ok-add_ports.ensures.outs c.in_ok-add_ports.ensures.rest)

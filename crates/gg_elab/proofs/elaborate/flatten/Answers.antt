@@ -1,0 +1,56 @@
+use Rattle.std.proofs.Common.{◌≡◌, ℕ, ◌<◌, List, length, map, sym, ap, ◌∙◌, subst, arith, Option, Some, None}
+use Rattle.std.proofs.lemmas.List.{length-map}
+use Rattle.gg_ast.specs.Tree.{ModuleTree, CircuitTree, module_names}
+use Rattle.gg_ast.specs.Places.{place_of}
+use Rattle.gg_ast.proofs.NamePlaces.{place_of-below}
+use Rattle.gg_count.specs.Counts.{counts_of}
+use Rattle.gg_count.specs.Sites.{HoldsModule}
+use Rattle.gg_names.specs.Modules.{Holds}
+use Rattle.gg_walk.specs.Graph.{IsOrderOf}
+use Rattle.gg_elab.proofs.OrderLemmas.{order_of}
+use Rattle.gg_elab.specs.Known.{types_of}
+use Rattle.gg_elab.specs.Limits.{own_counts}
+use Rattle.gg_elab.specs.declared.digest.Digest.{Digest}
+use Rattle.gg_elab.proofs.LimitLemmas.{counted, excess-found}
+use Rattle.gg_elab.proofs.elaborate.flatten.Goals as goal
+
+pub count-requires-clause-order : goal.count-requires-clause-order
+count-requires-clause-order c =
+    let same : c.circuit-circuit.result.now ≡ c.args.typed.now.circuit = c.circuit-circuit.ensures.circuit ∙ c.names.ensures.names in
+    subst (λ (k : CircuitTree). IsOrderOf (HoldsModule k.modules) (length k.modules) c.order.result.now) (sym same)
+    (order_of c.args.typed.now.circuit.modules c.order.result.now (subst (λ (l : List ℕ). IsOrderOf (Holds c.args.typed.now.circuit.modules) (length c.args.typed.now.circuit.modules) l) (sym c.order.ensures.order) c.order.ensures.ordered))
+
+pub count-requires-clause-top : goal.count-requires-clause-top
+count-requires-clause-top c =
+    let circuit = c.circuit-circuit.result.now in
+    omega (arith, place_of-below c.as_str.result.now (module_names circuit) c.in-Some.top (sym c.in-Some.ensures.value), length-map circuit.modules (λ (m : ModuleTree). m.name))
+
+pub returns-in-Some-excess-clause-limits : goal.returns-in-Some-excess-clause-limits
+returns-in-Some-excess-clause-limits c =
+    let circuit = c.args.typed.now.circuit in
+    let modules = circuit.modules in
+    let types = types_of circuit in
+    let top = c.in-Some.top in
+    let is : place_of circuit.name (module_names circuit) ≡ Some top =
+    subst (λ (k : CircuitTree). place_of k.name (module_names k) ≡ Some top) (c.circuit-circuit.ensures.circuit ∙ c.names.ensures.names)
+    (ap (λ n. place_of n (module_names c.circuit-circuit.result.now)) (sym (c.as_str.ensures ∙ c.name.ensures)) ∙ sym c.in-Some.ensures.value) in
+    let own : c.in_ok-own.own.items ≡ own_counts types 0 modules =
+    c.in_ok-own.ensures ∙ ap (λ (l : List Digest). map (λ d. length d.signals.items) l) c.as_slice.ensures.value ∙ counted types modules c.in_ok-digests.digests.items c.in_ok-digests.ensures in
+    let counts : c.in_ok-counts.counts ≡ counts_of modules c.in_ok-own.own.items top =
+    c.in_ok-counts.ensures ∙ ap (λ (k : CircuitTree). counts_of k.modules c.as_slice-2.result.now top) (c.circuit-circuit.ensures.circuit ∙ c.names.ensures.names) ∙ ap (λ l. counts_of modules l top) c.as_slice-2.ensures.value in
+    excess-found types modules (place_of circuit.name (module_names circuit)) top c.in_ok-own.own.items c.in_ok-counts.counts (Some c.in-Some-excess.excess) is own counts c.in-Some-excess.ensures
+
+pub returns-clause-limits : goal.returns-clause-limits
+returns-clause-limits c =
+    let circuit = c.args.typed.now.circuit in
+    let modules = circuit.modules in
+    let types = types_of circuit in
+    let top = c.in-Some.top in
+    let is : place_of circuit.name (module_names circuit) ≡ Some top =
+    subst (λ (k : CircuitTree). place_of k.name (module_names k) ≡ Some top) (c.circuit-circuit.ensures.circuit ∙ c.names.ensures.names)
+    (ap (λ n. place_of n (module_names c.circuit-circuit.result.now)) (sym (c.as_str.ensures ∙ c.name.ensures)) ∙ sym c.in-Some.ensures.value) in
+    let own : c.in_ok-own.own.items ≡ own_counts types 0 modules =
+    c.in_ok-own.ensures ∙ ap (λ (l : List Digest). map (λ d. length d.signals.items) l) c.as_slice.ensures.value ∙ counted types modules c.in_ok-digests.digests.items c.in_ok-digests.ensures in
+    let counts : c.in_ok-counts.counts ≡ counts_of modules c.in_ok-own.own.items top =
+    c.in_ok-counts.ensures ∙ ap (λ (k : CircuitTree). counts_of k.modules c.as_slice-2.result.now top) (c.circuit-circuit.ensures.circuit ∙ c.names.ensures.names) ∙ ap (λ l. counts_of modules l top) c.as_slice-2.ensures.value in
+    excess-found types modules (place_of circuit.name (module_names circuit)) top c.in_ok-own.own.items c.in_ok-counts.counts None is own counts c.in-None.ensures

@@ -1,0 +1,4 @@
+pub mod UnitLemmas
+pub mod WorkedPair
+pub mod WorkedMemories
+pub mod FixtureLemmas

@@ -1,0 +1,179 @@
+//! `Unit`: a piece of a cut circuit as a machine of its own.
+ghost use Rattle.std.specs.Prelude.{◌≡◌, ℕ, ◌<◌, List, [], ◌∷◌, All, length, is_some, slice_set, IfOk};
+ghost use Rattle.gg_node.specs.Machine.{Machine, machine_at, latch_at, flag_at, first_empty, missing, due};
+ghost use Rattle.gg_node.specs.Token.{IsToken, IsNextState};
+ghost use Rattle.gg_node.specs.Step.{MayLatch, MayFire, MayServe, MayFinish, with_latch, with_flag, with_served, finished};
+ghost use Rattle.gg_fame1.specs.Unit.{opening_unit};
+
+use gg_flat::{State, settled_once};
+use gg_node::Host;
+use gg_program::{NoMemory, Program};
+use std::alloc::Global;
+use std::marker::Model;
+
+/// A piece of a cut circuit as a machine of its own. It is a host of one thread. Its ins are the piece's in-signals, its
+/// outs the out-signals, both in port order. A contract sees it as this machine.
+#[derive(Drop)]
+pub struct Unit<'a> {
+    program: Program<'a>,
+    state: State,
+    // The token of an in stands in the slot of its signal, too.
+    slots: Vec<u128>,
+    latches: Vec<Option<u128>>,
+    flags: Vec<bool>,
+    cycle: u64,
+}
+
+impl<'a> Model for Unit<'a> {
+    ghost use Rattle.gg_node.specs.Machine.{Machine};
+    ghost use Rattle.gg_fame1.specs.Unit.{unit_machine, IsOfPiece};
+
+    ghost Value = { Machine };
+
+    ghost view = { λ unit. unit_machine unit.program unit.cycle unit.state unit.latches.items unit.flags.items };
+
+    ghost invariant = { λ unit. IsOfPiece unit.program.circuit unit.state unit.slots.items unit.latches.items unit.flags.items };
+}
+
+// The first of these ins that has no token yet.
+fn first_missing(latches: &[Option<u128>], ins: &[u32]) -> Option<u32>
+    requires { All (λ i. i < length latches.now) ins.now }
+    ensures { result ≡ first_empty latches.now ins.now }
+{
+    for i in ins {
+        if latches[*i as usize].is_none() {
+            return Some(*i);
+        }
+    }
+    None
+}
+
+impl<'a> Unit<'a> {
+    /// A unit of a program, before the first cycle.
+    ///
+    /// # Errors
+    ///
+    /// `NoMemory`, where memory is refused.
+    pub fn new(alloc: Global, program: Program<'a>) -> Result<Unit<'a>, NoMemory>
+        ensures { IfOk result (λ unit. unit ≡ opening_unit program.entry) }
+    {
+        let piece = program.piece();
+        let state = State::new(alloc, piece)?;
+        let slots = program.slots(alloc)?;
+        let latches = vec![in alloc; None; piece.ins().len()]?;
+        let flags = vec![in alloc; false; piece.outs().len()]?;
+        Ok(Unit {
+            program,
+            state,
+            slots,
+            latches,
+            flags,
+            cycle: 0,
+        })
+    }
+
+    // The first in that an out needs and that has no token yet.
+    fn missing_of(&self, out: u32) -> Option<u32>
+        requires { out < length self.now.flags }
+        ensures { result ≡ missing self.now out }
+    {
+        first_missing(self.latches.as_slice(), self.program.needs(out))
+    }
+
+    // The token of an out.
+    fn value(&mut self, out: u32) -> u128
+        requires { MayFire self.old out }
+        ensures token { IsToken self.old out result }
+        ensures same { self.new ≡ self.old }
+    {
+        // for what the program says of its needs
+        let _ = self.program.piece();
+        self.program.run_cone(&self.state, &mut self.slots, out)
+    }
+
+    // Puts a token into the latch of an in.
+    fn put(&mut self, place: u32, token: u128)
+        requires { MayLatch self.old place token }
+        ensures { self.new ≡ with_latch self.old place token }
+    {
+        self.program.put(&mut self.slots, place, token);
+        self.latches[place as usize] = Some(token);
+    }
+
+    // Goes to the next cycle.
+    fn next_cycle(&mut self)
+        requires { MayFinish self.old }
+        ensures next { IsNextState self.old self.new.state }
+        ensures step { self.new ≡ finished self.old self.new.state }
+    {
+        // for what the program says of its order
+        let _ = self.program.piece();
+        settled_once();
+        self.program.run_next(&mut self.state, &mut self.slots);
+        self.latches.fill(None);
+        self.flags.fill(false);
+        self.cycle += 1;
+    }
+}
+
+#[tactic(auto, using(gg_node::proofs::OneLemmas::only, gg_node::proofs::OneLemmas::only_set))]
+impl<'a> Host for Unit<'a> {
+    ghost machines = { λ machine. machine ∷ [] };
+
+    fn threads(&self) -> u32 {
+        1
+    }
+
+    fn cycle(&self, thread: u32) -> u64 {
+        self.cycle
+    }
+
+    fn latched(&self, thread: u32, place: u32) -> bool {
+        self.latches[place as usize].is_some()
+    }
+
+    fn fired(&self, thread: u32, place: u32) -> bool {
+        self.flags[place as usize]
+    }
+
+    fn missing(&self, thread: u32, place: u32) -> Option<u32> {
+        self.missing_of(place)
+    }
+
+    fn due(&self, thread: u32) -> Option<u32> {
+        let _ = &self.cycle;
+        None
+    }
+
+    fn served(&self, thread: u32) -> u32 {
+        let _ = &self.cycle;
+        0
+    }
+
+    fn dues(&self, thread: u32) -> u32 {
+        let _ = &self.cycle;
+        0
+    }
+
+    fn token(&mut self, thread: u32, place: u32) -> u128 {
+        self.value(place)
+    }
+
+    fn latch(&mut self, thread: u32, place: u32, value: u128) {
+        self.put(place, value);
+    }
+
+    fn fire(&mut self, thread: u32, place: u32) -> u128 {
+        let value = self.value(place);
+        self.flags[place as usize] = true;
+        value
+    }
+
+    fn serve(&mut self, thread: u32, port: u32) {
+        let _ = &self.cycle;
+    }
+
+    fn finish(&mut self, thread: u32) {
+        self.next_cycle();
+    }
+}

@@ -1,0 +1,38 @@
+//! The order of evaluation of a flat circuit, or a combinational loop.
+ghost use Rattle.std.specs.Prelude.{◌≡◌, ℕ, List, IfOk, IfErr};
+ghost use Rattle.gg_flat.specs.Order.{IsOrder};
+ghost use Rattle.gg_flat.specs.Reads.{IsLoop};
+ghost use Rattle.gg_flat.specs.WellFormed.{IsWellFormed};
+ghost use Rattle.gg_order.specs.Fault.{IfLoop};
+ghost use Rattle.gg_order.specs.Loop.{IsToldLoop};
+
+use crate::fault::OrderFault;
+use crate::graph::Dependencies;
+use crate::loops::told;
+use gg_bits::Ids;
+use gg_flat::{Piece, no_loop};
+use gg_walk::{WalkFault, walk};
+use std::alloc::Global;
+
+/// An order of evaluation: the signals of a circuit by their numbers, each once, behind all that it reads.
+pub type Order = Ids;
+
+/// An order of evaluation of a well-formed circuit.
+///
+/// # Errors
+///
+/// `Loop`, with a combinational loop of the circuit, exactly where it has one; it begins with the signal whose path is
+/// the least by bytes, and where there is more than one loop, it is any of them. `NoMemory`, where memory is refused.
+pub fn order(alloc: Global, piece: &Piece) -> Result<Order, OrderFault>
+    requires { IsWellFormed piece.now }
+    ensures order { IfOk result (λ order. IsOrder piece.now order) }
+    ensures free { IfOk result (λ _. (loop : List ℕ) → ¬ IsLoop piece.now loop) }
+    ensures fault { IfErr result (IfLoop (IsToldLoop piece.now)) }
+{
+    no_loop();
+    match walk(alloc, &Dependencies { piece }) {
+        Ok(order) => Ok(Order::from(order)),
+        Err(WalkFault::Ring(ring)) => Err(OrderFault::Loop(told(piece, ring))),
+        Err(WalkFault::NoMemory) => Err(OrderFault::NoMemory),
+    }
+}

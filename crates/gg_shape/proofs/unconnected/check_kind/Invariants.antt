@@ -1,0 +1,8 @@
+use Rattle.std.proofs.Common.{◌≡◌}
+use Rattle.std.specs.List.{flat_map}
+use Rattle.gg_shape.specs.Told.{is_among, unconnected_in_field}
+use Rattle.gg_shape.proofs.FlatLemmas.{rest}
+use Rattle.gg_shape.proofs.unconnected.check_kind.Given as goal
+
+abbrev pub invariant-loop-field : goal.invariant-loop-field
+invariant-loop-field l = flat_map (unconnected_in_field l.kind l.memory (is_among l.connected) l.line) l.fields ≡ rest (unconnected_in_field l.kind l.memory (is_among l.connected) l.line) l.fields l.field-index
