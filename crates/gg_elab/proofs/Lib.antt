@@ -40,3 +40,4 @@ pub mod DeclaredLemmas
 pub mod WordLemmas
 pub mod ChildLemmas
 pub mod SoundLemmas
+pub mod EndLemmas
