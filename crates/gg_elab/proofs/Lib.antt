@@ -41,3 +41,4 @@ pub mod WordLemmas
 pub mod ChildLemmas
 pub mod SoundLemmas
 pub mod EndLemmas
+pub mod TreePartLemmas

@@ -11,3 +11,4 @@ pub mod Growing
 pub mod Building
 pub mod Limits
 pub mod ElabText
+pub mod TreeParts

@@ -1,0 +1,199 @@
+//! The tree of the circuit's instances.
+ghost use Rattle.std.specs.Prelude.{ℕ, ◌≡◌, ◌<◌, ◌≤◌, ◌+◌, ◌++◌, ◌∷◌, [], map, length, option_to_list, slice_index, IfOk, OnOk, All};
+ghost use Rattle.gg_flat.specs.Tree.{joined as joined_text};
+ghost use Rattle.gg_elab.specs.Building.{IsPlaceIn};
+ghost use Rattle.gg_elab.specs.IsTreeOf.{IsAt, Pairwise};
+ghost use Rattle.gg_elab.specs.Known.{types_of};
+ghost use Rattle.gg_elab.specs.TreeParts.{signals_among, IsPortAt, IsNumberAt, IsHolder, place_paths, signals_to};
+ghost use Rattle.gg_elab.specs.Views.{AreDigests};
+
+use crate::digest::{Digest, OwnMemory};
+use crate::memories::ground_type;
+use crate::names::joined;
+use crate::sites::{Around, Place};
+use crate::table::{Table, add_path};
+use gg_ast::{Direction, Port};
+use gg_bits::Name;
+use gg_flat::{Instance, InstancePort, MemoryInstance, Paths};
+use gg_types::Typed;
+use std::alloc::{AllocError, Global};
+
+// The place of a path among these; of one that isn't there it is told as want of memory.
+fn place_at(paths: &Paths, path: &Name) -> Result<u32, AllocError>
+    ensures { IfOk result (IsAt paths.now path.now) }
+{
+    let _ = paths.len();
+    match paths.find(path) {
+        Some(place) => Ok(place),
+        None => Err(AllocError),
+    }
+}
+
+// The paths of all sites.
+fn site_paths(alloc: Global, places: &[Place]) -> Result<Paths, AllocError>
+    ensures { IfOk result (λ paths. paths ≡ place_paths places.now) }
+{
+    let mut paths = Paths::new(alloc);
+    for place in places {
+        add_path(&mut paths, place.path.clone()?)?;
+    }
+    Ok(paths)
+}
+
+// A number and so many more; 4,294,967,296 and above are refused as want of memory.
+fn raised(number: u32, count: usize) -> Result<u32, AllocError>
+    ensures { IfOk result (λ sum. sum ≡ number + count) }
+{
+    if count > (u32::MAX - number) as usize {
+        return Err(AllocError);
+    }
+    Ok(number + count as u32)
+}
+
+// The first signal of each site, and the end of the last one's.
+fn firsts(
+    alloc: Global,
+    typed: &Typed,
+    digests: &[Digest],
+    places: &[Place],
+) -> Result<Vec<u32>, AllocError>
+    requires digests { AreDigests (types_of typed.now.circuit) typed.now.circuit.modules digests.now }
+    requires places { All (IsPlaceIn (length typed.now.circuit.modules)) places.now }
+    ensures count { IfOk result (λ firsts. length firsts.items ≡ length places.now + 1) }
+    ensures each { IfOk result (λ firsts. (k : ℕ) → k ≤ length places.now → slice_index firsts.items k ≡ signals_to typed.now.circuit places.now k) }
+{
+    let mut firsts = Vec::new(alloc);
+    let mut next: u32 = 0;
+    for place in places {
+        firsts.reserve(1)?;
+        firsts.push_reserved(next);
+        next = raised(next, digests[place.number as usize].signals.len())?;
+    }
+    firsts.reserve(1)?;
+    firsts.push_reserved(next);
+    Ok(firsts)
+}
+
+// How many sites each site lies below.
+fn depths(alloc: Global, places: &[Place]) -> Result<Vec<u32>, AllocError>
+    ensures { IfOk result (λ depths. depths.items ≡ map (λ p. p.depth) places.now) }
+{
+    let mut depths = Vec::new(alloc);
+    for place in places {
+        depths.reserve(1)?;
+        depths.push_reserved(place.depth);
+    }
+    Ok(depths)
+}
+
+// The next that lies no deeper than this one, or the end.
+fn end_of(depths: &[u32], from: usize) -> usize
+    requires { from < length depths.now }
+    ensures after { from < result }
+    ensures inside { result ≤ length depths.now }
+    ensures deeper { (i : ℕ) → from < i → i < result → slice_index depths.now from < slice_index depths.now i }
+    ensures stop { result < length depths.now → slice_index depths.now result ≤ slice_index depths.now from }
+{
+    let mut next = from + 1;
+    while next < depths.len() && depths[next] > depths[from] {
+        next += 1;
+    }
+    next
+}
+
+// The port of an instance of this path; none where it is a Clock.
+fn port(
+    alloc: Global,
+    paths: &Paths,
+    outer: &Name,
+    port: &Port,
+) -> Result<Option<InstancePort>, AllocError>
+    ensures { IfOk result (λ found. Pairwise (IsPortAt paths.now outer.now) (signals_among (port.now ∷ [])) (option_to_list found)) }
+{
+    if ground_type(port.ty).is_none() {
+        return Ok(None);
+    }
+    let signal = place_at(paths, &joined(alloc, outer, &port.name)?)?;
+    let is_input = match port.direction {
+        Direction::Input => true,
+        Direction::Output => false,
+    };
+    Ok(Some(InstancePort { signal, is_input }))
+}
+
+// Adds a port, if there is one.
+fn add_port(found: &mut Vec<InstancePort>, port: Option<InstancePort>) -> Result<(), AllocError>
+    ensures { OnOk result (found.new.items ≡ found.old.items ++ option_to_list port) }
+{
+    match port {
+        None => Ok(()),
+        Some(port) => {
+            found.reserve(1)?;
+            found.push_reserved(port);
+            Ok(())
+        }
+    }
+}
+
+// The ports of an instance of this path, but Clocks.
+fn ports(
+    alloc: Global,
+    paths: &Paths,
+    outer: &Name,
+    ports: &[Port],
+) -> Result<Vec<InstancePort>, AllocError>
+    ensures { IfOk result (λ found. Pairwise (IsPortAt paths.now outer.now) (signals_among ports.now) found.items) }
+{
+    let mut found = Vec::new(alloc);
+    for one in ports {
+        let next = port(alloc, paths, outer, one)?;
+        add_port(&mut found, next)?;
+    }
+    Ok(found)
+}
+
+// The numbers of the memories of an instance of this path.
+fn numbers(
+    alloc: Global,
+    paths: &Paths,
+    outer: &Name,
+    memories: &[OwnMemory],
+) -> Result<Vec<u32>, AllocError>
+    ensures { IfOk result (λ numbers. Pairwise (IsNumberAt paths.now outer.now) memories.now numbers.items) }
+{
+    let mut numbers = Vec::new(alloc);
+    for own in memories {
+        let number = place_at(paths, &joined(alloc, outer, own.name)?)?;
+        numbers.reserve(1)?;
+        numbers.push_reserved(number);
+    }
+    Ok(numbers)
+}
+
+// The instance that holds one, if one does.
+fn holder(paths: &Paths, outer: &Option<Around>) -> Result<Option<u32>, AllocError>
+    ensures { IfOk result (IsHolder paths.now outer.now) }
+{
+    match outer {
+        None => Ok(None),
+        Some(around) => Ok(Some(place_at(paths, &around.path)?)),
+    }
+}
+
+// Adds names once more.
+fn add_names(names: &mut Vec<Name>, more: &[&Name]) -> Result<(), AllocError>
+    ensures { OnOk result (names.new.items ≡ names.old.items ++ map (λ n. n.now) more.now) }
+{
+    for name in more {
+        names.reserve(1)?;
+        names.push_reserved(copied(name)?);
+    }
+    Ok(())
+}
+
+// A name once more.
+fn copied(name: &Name) -> Result<Name, AllocError>
+    ensures { IfOk result (λ copy. copy ≡ name.now) }
+{
+    name.clone()
+}
