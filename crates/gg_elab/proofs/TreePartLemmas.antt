@@ -2,7 +2,7 @@
 use Rattle.std.proofs.Common.{◌≡◌, ℕ, zero, suc, ◌+◌, ◌-◌, ◌<◌, ◌≤◌, ◌⊎◌, inl, inr, Bool, true, false, List, [], ◌∷◌, ◌++◌, Option, Some, None, length, take, get_or, map, filter, refl, sym, ap, ◌∙◌, subst, arith, length-append, slice_index}
 use Rattle.std.specs.Prelude.{flat_map}
 use Rattle.std.proofs.lemmas.Bool.{cases_lt}
-use Rattle.std.proofs.lemmas.List.{take_more, length-map, take-map, get_or-map}
+use Rattle.std.proofs.lemmas.List.{take_more, length-map, take-map, get_or-map, map-append}
 use Rattle.gg_ast.specs.declared.module.Port.{Port}
 use Rattle.gg_ast.specs.Places.{place_of}
 use Rattle.gg_ast.specs.Tree.{CircuitTree, module_names}
@@ -10,14 +10,16 @@ use Rattle.gg_flat.specs.declared.tree.Instance.{Instance}
 use Rattle.gg_flat.specs.Tree.{no_tree, joined}
 use Rattle.gg_count.specs.Sites.{Site, module_at, sites_of}
 use Rattle.gg_elab.specs.declared.sites.Around.{Around}
+use Rattle.gg_flat.specs.declared.tree.MemoryInstance.{MemoryInstance}
 use Rattle.gg_elab.specs.declared.digest.Digest.{Digest}
+use Rattle.gg_elab.specs.declared.digest.OwnMemory.{OwnMemory}
 use Rattle.gg_elab.specs.declared.sites.Place.{Place}
-use Rattle.gg_elab.specs.IsTreeOf.{Pairwise, IsAt, IsParent, IsPortFor, IsMemoryAt, IsInstanceFor, AreInstances, site_paths, signal_paths, memories_of}
+use Rattle.gg_elab.specs.IsTreeOf.{Pairwise, IsAt, IsParent, IsPortFor, IsMemoryAt, IsInstanceFor, AreInstances, held_memory, held_memories, site_paths, signal_paths, memories_of}
 use Rattle.gg_elab.specs.Known.{types_of}
-use Rattle.gg_elab.specs.TreeParts.{signals_to, IsHolder, IsPortAt, IsNumberAt, signals_among}
+use Rattle.gg_elab.specs.TreeParts.{signals_to, IsHolder, IsPortAt, IsNumberAt, signals_among, IsInstanceAt, IsMemoryPart, IsHeldFor, held_at_place}
 use Rattle.gg_elab.specs.Views.{own_of, own_bank_of, outer_of, site_of, IsDigest}
-use Rattle.gg_elab.specs.Flat.{FlatMemory, flat_memory, flat_signal, signals_at, flat_signals}
-use Rattle.gg_elab.proofs.FlatLemmas.{signals-more, map-twice, memories-kept}
+use Rattle.gg_elab.specs.Flat.{FlatMemory, flat_memory, flat_signal, signals_at, flat_signals, flat_memories}
+use Rattle.gg_elab.proofs.FlatLemmas.{signals-more, memories-more, map-twice, memories-kept, one_more}
 use Rattle.gg_elab.specs.IsFlat.{memory_paths}
 use Rattle.gg_elab.proofs.PlaceLemmas.{within, Placed}
 use Rattle.gg_elab.proofs.RangeLemmas.{count_to, placed-at, placed-count}
@@ -106,15 +108,6 @@ holder-parent circuit paths None (Some p) same h = absurd h
 holder-parent circuit paths (Some around) None same h = absurd h
 holder-parent circuit paths (Some around) (Some p) same h = subst (λ l. IsAt l around.path p) same h
 
--- What is made of a site, by its parts.
-pub record IsMade (circuit : CircuitTree) (paths signals memories : List (List ℕ)) (digest : Digest) (ports : List Port) (place : Place) (first end : ℕ) (made : Instance) : Type 0 where
-  pub holder : IsHolder paths place.outer made.parent
-  pub number : made.«module» ≡ place.number
-  pub begins : made.first ≡ first
-  pub ends : made.end ≡ end
-  pub ports_are : Pairwise (IsPortAt signals place.path) (signals_among ports) made.ports
-  pub memories_are : Pairwise (IsNumberAt memories place.path) digest.memories.items made.memories
-
 module _ (circuit : CircuitTree) (top : ℕ) (known_top : place_of circuit.name (module_names circuit) ≡ Some top) (places : List Place) (sites : map site_of places ≡ sites_of circuit) where
   paths-same : map (λ (p : Place). p.path) places ≡ site_paths circuit
   paths-same = sym (map-twice (λ (s : Site). s.path) site_of places) ∙ ap (map (λ (s : Site). s.path)) sites
@@ -139,7 +132,7 @@ module _ (circuit : CircuitTree) (top : ℕ) (known_top : place_of circuit.name 
       ∙ get_or-map (λ (s : Site). s.depth) (sites_of circuit) i d 0 lt
 
   -- what is made is the instance of the site
-  pub instance-is : (paths signals memories : List (List ℕ)) (digest : Digest) (place : Place) (i end first last : ℕ) (depths : List ℕ) (made : Instance) → i < length places → place ≡ get_or places i place → paths ≡ map (λ (p : Place). p.path) places → signals ≡ signal_paths circuit → memories ≡ memory_paths (memories_of circuit) → IsDigest (types_of circuit) circuit.modules place.number digest → first ≡ signals_to circuit places i → last ≡ signals_to circuit places end → depths ≡ map (λ (p : Place). p.depth) places → i < end → end ≤ length depths → ((j : ℕ) → i < j → j < end → slice_index depths i < slice_index depths j) → (end < length depths → slice_index depths end ≤ slice_index depths i) → IsMade circuit paths signals memories digest (module_at circuit.modules place.number).ports place first last made → IsInstanceFor circuit (signals_to circuit places i) (site_of place) made
+  pub instance-is : (paths signals memories : List (List ℕ)) (digest : Digest) (place : Place) (i end first last : ℕ) (depths : List ℕ) (made : Instance) → i < length places → place ≡ get_or places i place → paths ≡ map (λ (p : Place). p.path) places → signals ≡ signal_paths circuit → memories ≡ memory_paths (memories_of circuit) → IsDigest (types_of circuit) circuit.modules place.number digest → first ≡ signals_to circuit places i → last ≡ signals_to circuit places end → depths ≡ map (λ (p : Place). p.depth) places → i < end → end ≤ length depths → ((j : ℕ) → i < j → j < end → slice_index depths i < slice_index depths j) → (end < length depths → slice_index depths end ≤ slice_index depths i) → IsInstanceAt paths signals memories digest (module_at circuit.modules place.number).ports place first last made → IsInstanceFor circuit (signals_to circuit places i) (site_of place) made
   instance-is paths signals memories digest place i end first last depths made lt is paths_are signals_are memories_are digest_is first_is last_is depths_are after inside deeper stop m = record {
     parent = holder-parent circuit paths place.outer made.parent (paths_are ∙ paths-same) m.holder;
     number = m.number;
@@ -166,3 +159,24 @@ module _ (circuit : CircuitTree) (top : ℕ) (known_top : place_of circuit.name 
       end_is = ends-at circuit top known_top i (site_of place) (site_of place) p end after (omega (arith, inside, size))
         (λ j from to. omega (arith, deeper j from to, here, depth j (omega (arith, to, inside, size))))
         (λ below. omega (arith, stop (omega (arith, below, size)), here, depth end below))
+
+-- ---- memories
+
+pub memory-is-for : (circuit : CircuitTree) (paths memories : List (List ℕ)) (place : Place) (own : OwnMemory) (made : MemoryInstance) → paths ≡ site_paths circuit → memories ≡ memory_paths (memories_of circuit) → IsMemoryPart paths memories place.path own made → IsHeldFor circuit (held_at_place place own) made
+memory-is-for circuit paths memories place own made p q h = record {
+  holder = subst (λ l. IsAt l place.path made.instance) p h.holder;
+  number = subst (λ l. IsAt l (joined place.path own.name.now) made.memory) q h.number;
+  ports = h.ports_are;
+}
+
+-- the memories of one site more
+pub held-more : (circuit : CircuitTree) (places : List Place) (i : ℕ) (p : Place) (digest : Digest) → i < length places → p ≡ get_or places i p → IsDigest (types_of circuit) circuit.modules p.number digest → flat_map (held_memories circuit.modules) (map site_of (take i places)) ++ map (held_at_place p) digest.memories.items ≡ flat_map (held_memories circuit.modules) (map site_of (take (i + 1) places))
+held-more circuit places i p digest lt is d =
+    ap (λ l. flat_map (held_memories circuit.modules) (map site_of (take i places)) ++ l) (sym (map-twice (held_memory (site_of p)) (λ m. flat_memory (site_of p) (own_bank_of m)) digest.memories.items) ∙ ap (map (held_memory (site_of p))) (sym (memories-kept (types_of circuit) circuit.modules p digest d)))
+    ∙ sym (one_more (held_memories circuit.modules) places i p lt is)
+
+pub held-paths : (places : List Place) (i : ℕ) (circuit : CircuitTree) (p : Place) (digest : Digest) → i < length places → p ≡ get_or places i p → IsDigest (types_of circuit) circuit.modules p.number digest → memory_paths (flat_memories circuit.modules (map site_of (take i places))) ++ map (λ m. joined p.path m.name.now) digest.memories.items ≡ memory_paths (flat_memories circuit.modules (map site_of (take (i + 1) places)))
+held-paths places i circuit p digest lt is d =
+    ap (λ l. memory_paths (flat_memories circuit.modules (map site_of (take i places))) ++ l) (sym (map-twice (λ (m : FlatMemory). m.path) (λ m. flat_memory (site_of p) (own_bank_of m)) digest.memories.items))
+    ∙ sym (map-append (λ (m : FlatMemory). m.path) (flat_memories circuit.modules (map site_of (take i places))) (map (λ m. flat_memory (site_of p) (own_bank_of m)) digest.memories.items))
+    ∙ ap memory_paths (sym (memories-more (types_of circuit) circuit.modules places i p digest lt is d))

@@ -1,11 +1,15 @@
 //! The tree of the circuit's instances.
-ghost use Rattle.std.specs.Prelude.{ℕ, ◌≡◌, ◌<◌, ◌≤◌, ◌+◌, ◌++◌, ◌∷◌, [], map, length, option_to_list, slice_index, IfOk, OnOk, All};
-ghost use Rattle.gg_flat.specs.Tree.{joined as joined_text};
+ghost use Rattle.std.specs.Prelude.{List, None, ℕ, ◌≡◌, ◌≢◌, ◌<◌, ◌≤◌, ◌+◌, ◌++◌, ◌∷◌, [], map, length, option_to_list, slice_index, IfOk, OnOk, All};
+ghost use Rattle.gg_ast.specs.Places.{place_of};
+ghost use Rattle.gg_ast.specs.Tree.{CircuitTree, module_names};
+ghost use Rattle.gg_count.specs.Sites.{sites_of};
+ghost use Rattle.gg_elab.specs.IsFlat.{memory_paths};
+ghost use Rattle.gg_flat.specs.Tree.{joined as joined_text, no_tree};
 ghost use Rattle.gg_elab.specs.Building.{IsPlaceIn};
-ghost use Rattle.gg_elab.specs.IsTreeOf.{IsAt, Pairwise};
+ghost use Rattle.gg_elab.specs.IsTreeOf.{IsAt, Pairwise, HeldMemory, AreInstances, IsTreeOf, site_paths as paths_of_sites, signal_paths, memories_of};
 ghost use Rattle.gg_elab.specs.Known.{types_of};
-ghost use Rattle.gg_elab.specs.TreeParts.{signals_among, IsPortAt, IsNumberAt, IsHolder, place_paths, signals_to};
-ghost use Rattle.gg_elab.specs.Views.{AreDigests};
+ghost use Rattle.gg_elab.specs.TreeParts.{signals_among, IsPortAt, IsNumberAt, IsHolder, place_paths, signals_to, IsInstanceAt, IsMemoryPart, IsHeldFor, held_at_place};
+ghost use Rattle.gg_elab.specs.Views.{AreDigests, site_of};
 
 use crate::digest::{Digest, OwnMemory};
 use crate::memories::ground_type;
@@ -13,8 +17,8 @@ use crate::names::joined;
 use crate::sites::{Around, Place};
 use crate::table::{Table, add_path};
 use gg_ast::{Direction, Port};
-use gg_bits::Name;
-use gg_flat::{Instance, InstancePort, MemoryInstance, Paths};
+use gg_bits::{Ids, Items, Name, Names};
+use gg_flat::{Instance, InstancePort, MemoryInstance, Paths, Tree};
 use gg_types::Typed;
 use std::alloc::{AllocError, Global};
 
@@ -196,4 +200,122 @@ fn copied(name: &Name) -> Result<Name, AllocError>
     ensures { IfOk result (λ copy. copy ≡ name.now) }
 {
     name.clone()
+}
+
+// The instance of a site, whose signals and those below it are these.
+fn instance(
+    alloc: Global,
+    table: &Table,
+    paths: &Paths,
+    digest: &Digest,
+    module_ports: &[Port],
+    place: &Place,
+    first: u32,
+    end: u32,
+) -> Result<Instance, AllocError>
+    ensures { IfOk result (IsInstanceAt paths.now table.now.paths table.now.memories digest.now module_ports.now place.now first end) }
+{
+    let parent = holder(paths, &place.outer)?;
+    let ports = ports(alloc, &table.paths, &place.path, module_ports)?;
+    let memories = numbers(alloc, &table.memories, &place.path, digest.memories.as_slice())?;
+    Ok(Instance {
+        parent,
+        module: place.number,
+        first,
+        end,
+        ports: Items::from(ports),
+        memories: Ids::from(memories),
+    })
+}
+
+// Adds an instance.
+fn add_instance(tree: &mut Tree, path: Name, instance: Instance) -> Result<(), AllocError>
+    ensures { OnOk result (tree.new ≡ record tree.old { paths = tree.old.paths ++ path ∷ []; instances = tree.old.instances ++ instance ∷ [] }) }
+{
+    if tree.len() >= u32::MAX as usize {
+        return Err(AllocError);
+    }
+    match tree.add(path, instance) {
+        Ok(()) => Ok(()),
+        Err(_) => Err(AllocError),
+    }
+}
+
+// Adds a memory.
+fn add_memory(tree: &mut Tree, path: Name, memory: MemoryInstance) -> Result<(), AllocError>
+    ensures { OnOk result (tree.new ≡ record tree.old { memory_paths = tree.old.memory_paths ++ path ∷ []; memories = tree.old.memories ++ memory ∷ [] }) }
+{
+    if tree.memory_count() >= u32::MAX as usize {
+        return Err(AllocError);
+    }
+    match tree.add_memory(path, memory) {
+        Ok(()) => Ok(()),
+        Err(_) => Err(AllocError),
+    }
+}
+
+// A memory of a site of this path.
+fn memory(
+    alloc: Global,
+    table: &Table,
+    paths: &Paths,
+    outer: &Name,
+    own: &OwnMemory,
+) -> Result<MemoryInstance, AllocError>
+    ensures { IfOk result (IsMemoryPart paths.now table.now.memories outer.now own.now) }
+{
+    let holder = place_at(paths, outer)?;
+    let number = place_at(&table.memories, &joined(alloc, outer, own.name)?)?;
+    let mut names = Vec::new(alloc);
+    add_names(&mut names, own.bank.readers.as_slice())?;
+    add_names(&mut names, own.bank.writers.as_slice())?;
+    Ok(MemoryInstance {
+        instance: holder,
+        memory: number,
+        ports: Names::from(names),
+    })
+}
+
+// Adds the instances of all sites.
+fn add_instances(
+    alloc: Global,
+    typed: &Typed,
+    table: &Table,
+    paths: &Paths,
+    digests: &[Digest],
+    places: &[Place],
+    tree: &mut Tree,
+) -> Result<(), AllocError>
+    requires digests { AreDigests (types_of typed.now.circuit) typed.now.circuit.modules digests.now }
+    requires within { All (IsPlaceIn (length typed.now.circuit.modules)) places.now }
+    requires top { (place_of typed.now.circuit.name (module_names typed.now.circuit)) ≢ None }
+    requires sites { map site_of places.now ≡ sites_of typed.now.circuit }
+    requires paths { paths.now ≡ place_paths places.now }
+    requires signals { table.now.paths ≡ signal_paths typed.now.circuit }
+    requires memories { table.now.memories ≡ memory_paths (memories_of typed.now.circuit) }
+    requires none { tree.old ≡ no_tree }
+    ensures paths { OnOk result (tree.new.paths ≡ place_paths places.now) }
+    ensures instances { OnOk result (AreInstances typed.now.circuit 0 (map site_of places.now) tree.new.instances) }
+    ensures rest { OnOk result ((tree.new.memory_paths ≡ []) × (tree.new.memories ≡ [])) }
+{
+    let modules = typed.names().circuit().modules();
+    let starts = firsts(alloc, typed, digests, places)?;
+    let levels = depths(alloc, places)?;
+    for i in 0..places.len() {
+        let place = &places[i];
+        let number = place.number as usize;
+        let end = end_of(levels.as_slice(), i);
+        let made = instance(
+            alloc,
+            table,
+            paths,
+            &digests[number],
+            modules[number].ports(),
+            place,
+            starts[i],
+            starts[end],
+        )?;
+        add_instance(tree, place.path.clone()?, made)?;
+    }
+    Ok(())
 }
