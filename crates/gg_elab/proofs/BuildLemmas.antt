@@ -1,6 +1,9 @@
 -- A flat circuit that gets one more signal.
 use Rattle.std.proofs.Common.{◌≡◌, ℕ, zero, suc, ◌+◌, ◌<◌, ◌≤◌, List, [], ◌∷◌, ◌++◌, length, map, take, get_or, Option, Some, None, option_to_list, Bool, true, false, cond, if◌then◌else◌, refl, sym, ap, ◌∙◌, subst, arith, below_more}
-use Rattle.std.specs.Prelude.{slice_index_or, count_by, sum_by}
+use Rattle.std.specs.Prelude.{slice_index_or, count_by, sum_by, All, MatchOption, ⊤}
+use Rattle.std.proofs.lemmas.List.Elements.{All-nil, All-push}
+use Rattle.gg_flat.specs.WellFormed.{IsRegister}
+use Rattle.gg_elab.specs.Fitting.{FitsDriver, IsFitting}
 use Rattle.std.proofs.lemmas.List.{map-append, length-append, length-map, get_or_append_left, get_or_push, take-append-le, take_all, append-nil}
 use Rattle.std.proofs.lemmas.List.Sums.{sum_by_push}
 use Rattle.gg_bits.specs.Shape.{Shape, shape, uint}
@@ -12,7 +15,7 @@ use Rattle.gg_flat.specs.declared.piece.Driver.TheVariants.{Input, Held, MemoryW
 use Rattle.gg_flat.specs.declared.piece.Register.{Register}
 use Rattle.gg_flat.specs.declared.piece.Signal.{Signal}
 use Rattle.gg_flat.specs.Circuit.{FlatCircuit, signal_shapes, driver_at, no_circuit}
-use Rattle.gg_flat.specs.Line.{shape_at}
+use Rattle.gg_flat.specs.Line.{shape_at, HasType}
 use Rattle.gg_elab.specs.Flat.{Drive, Outside, Gets, Holds, Answers, FlatSignal}
 use Rattle.gg_elab.specs.IsFlat.{IsComputed, IsHeld, IsRegisterOf, IsDrivenBy, answer, is_outside, is_register, drive_at, count_before}
 use Rattle.gg_elab.specs.Meaning.{Signals}
@@ -145,19 +148,23 @@ module _ (types : Types) (signals : Signals) (memories : List (List ℕ)) where
     drivers = λ s lt. absurd (omega (arith, lt));
     register_count = refl;
     input_count = refl;
+    fitting = λ s lt. absurd (omega (arith, lt));
+    registers_fit = All-nil (IsRegister (HasType signals.shapes));
     no_memories = refl;
     no_ins = refl;
     no_outs = refl;
   }
 
-  pub so_far-more : (xs : List FlatSignal) (x : FlatSignal) (flat : FlatCircuit) (inputs more : ℕ) (path : List ℕ) (ty : Ty) (r : Driver) (register : Option Register) → IsSoFar types signals memories xs flat inputs → path ≡ x.path → shape ty ≡ x.shape → IsMade types signals memories inputs (length flat.registers) x.shape x.drive r register → more ≡ (if is_input_driver r then inputs + 1 else inputs) → IsSoFar types signals memories (xs ++ x ∷ []) (with_made flat path ty r register) more
-  so_far-more xs x flat inputs more path ty r register h named shaped m counted = record {
+  pub so_far-more : (xs : List FlatSignal) (x : FlatSignal) (flat : FlatCircuit) (inputs more : ℕ) (path : List ℕ) (ty : Ty) (r : Driver) (register : Option Register) → IsSoFar types signals memories xs flat inputs → path ≡ x.path → shape ty ≡ x.shape → IsMade types signals memories inputs (length flat.registers) x.shape x.drive r register → IsFitting signals.shapes x.shape r register → more ≡ (if is_input_driver r then inputs + 1 else inputs) → IsSoFar types signals memories (xs ++ x ∷ []) (with_made flat path ty r register) more
+  so_far-more xs x flat inputs more path ty r register h named shaped m fit counted = record {
     paths = ap (λ (l : List (List ℕ)). l ++ path ∷ []) h.paths ∙ ap (λ (p : List ℕ). map (λ (y : FlatSignal). y.path) xs ++ p ∷ []) named ∙ sym (map-append (λ (y : FlatSignal). y.path) xs (x ∷ []));
     shapes = map-append (λ (y : Signal). shape y.ty) flat.signals (record { ty = ty; driver = r } ∷ [])
         ∙ ap (λ (l : List Shape). l ++ shape ty ∷ []) h.shapes ∙ ap (λ (p : Shape). shapes xs ++ p ∷ []) shaped ∙ sym (map-append (λ (y : FlatSignal). y.shape) xs (x ∷ []));
     drivers = λ s lt. below_more (λ (s : ℕ). IsDrivenBy types signals memories new.registers (count_before is_outside (xs ++ x ∷ []) s) (count_before is_register (xs ++ x ∷ []) s) (shape_at (shapes (xs ++ x ∷ [])) s) (drive_at (xs ++ x ∷ []) s) (driver_at new s)) (length xs) old last s (omega (arith, lt, length-append xs (x ∷ [])));
     register_count = omega (arith, length-append flat.registers (option_to_list register), registers_made inputs (length flat.registers) x.shape x.drive r register m, h.register_count, before-last is_register xs x);
     input_count = counted ∙ ap (λ b. if b then inputs + 1 else inputs) (inputs_made inputs (length flat.registers) x.shape x.drive r register m) ∙ added_one (is_outside x.drive) inputs ∙ ap (λ n. n + one_if (is_outside x.drive)) h.input_count ∙ sym (before-last is_outside xs x);
+    fitting = λ s lt. below_more (λ (s : ℕ). FitsDriver signals.shapes (shape_at (shapes (xs ++ x ∷ [])) s) (driver_at new s)) (length xs) fits fits_last s (omega (arith, lt, length-append xs (x ∷ [])));
+    registers_fit = with_register flat.registers register h.registers_fit fit.1;
     no_memories = h.no_memories;
     no_ins = h.no_ins;
     no_outs = h.no_outs;
@@ -180,3 +187,16 @@ module _ (types : Types) (signals : Signals) (memories : List (List ℕ)) where
           moved (flat.registers ++ option_to_list register) inputs _ (length flat.registers) _ x.shape _ x.drive _ r _
           (h.input_count ∙ sym (before-push is_outside xs x (length xs) (omega arith))) (h.register_count ∙ sym (before-push is_register xs x (length xs) (omega arith))) (sym (shape-last xs x)) (sym (drive-last xs x)) (sym (driver-last flat.signals (record { ty = ty; driver = r }) (length xs) count))
           (made flat.registers inputs x.shape x.drive r register m)
+
+      at : (s : ℕ) (sh : Shape) (d : Driver) → shape_at (shapes (xs ++ x ∷ [])) s ≡ sh → driver_at (with_made flat path ty r register) s ≡ d → FitsDriver signals.shapes sh d → FitsDriver signals.shapes (shape_at (shapes (xs ++ x ∷ [])) s) (driver_at (with_made flat path ty r register) s)
+      at s sh d a b k = subst (λ (y : Shape). FitsDriver signals.shapes y (driver_at (with_made flat path ty r register) s)) (sym a) (subst (λ (y : Driver). FitsDriver signals.shapes sh y) (sym b) k)
+
+      fits : (s : ℕ) → s < length xs → FitsDriver signals.shapes (shape_at (shapes (xs ++ x ∷ [])) s) (driver_at (with_made flat path ty r register) s)
+      fits s lt = at s _ _ (shape-push xs x s lt) (driver-push flat.signals (record { ty = ty; driver = r }) s (omega (arith, lt, count))) (h.fitting s lt)
+
+      fits_last : FitsDriver signals.shapes (shape_at (shapes (xs ++ x ∷ [])) (length xs)) (driver_at (with_made flat path ty r register) (length xs))
+      fits_last = at (length xs) x.shape r (shape-last xs x) (driver-last flat.signals (record { ty = ty; driver = r }) (length xs) count) fit.0
+
+      with_register : (regs : List Register) (o : Option Register) → All (IsRegister (HasType signals.shapes)) regs → MatchOption o ⊤ (IsRegister (HasType signals.shapes)) → All (IsRegister (HasType signals.shapes)) (regs ++ option_to_list o)
+      with_register regs None all one = subst (λ (l : List Register). All (IsRegister (HasType signals.shapes)) l) (sym (append-nil regs)) all
+      with_register regs (Some o) all one = All-push (IsRegister (HasType signals.shapes)) regs o all one

@@ -1,7 +1,7 @@
 -- The whole flat circuit: its signals, then its memories, then its ports.
 use Rattle.std.proofs.Common.{◌≡◌, ℕ, ◌<◌, List, [], ◌∷◌, ◌++◌, length, map, take, get_or, ◌+◌, append_assoc, Option, Some, None, refl, sym, ap, ◌∙◌, subst, arith}
-use Rattle.std.specs.Prelude.{slice_index_or}
-use Rattle.std.proofs.lemmas.List.{append-nil, get_or_append_left, get_or_push, length-append, map-append, take_more}
+use Rattle.std.specs.Prelude.{slice_index_or, All}
+use Rattle.std.proofs.lemmas.List.{append-nil, get_or_append_left, get_or_push, length-append, length-map, map-append, take_more}
 use Rattle.std.proofs.Common.{below_more}
 use Rattle.gg_ast.specs.declared.module.Direction.TheVariants as direction
 use Rattle.std.proofs.lemmas.List.Elements.{filter_map-append}
@@ -10,7 +10,14 @@ use Rattle.gg_ast.specs.declared.module.Port.{Port}
 use Rattle.gg_ast.specs.Tree.{ModuleTree}
 use Rattle.gg_count.specs.Sites.{Site, module_at, all_sites, sites_from}
 use Rattle.gg_flat.specs.declared.memory.Memory.{Memory}
-use Rattle.gg_flat.specs.Circuit.{FlatCircuit}
+use Rattle.gg_bits.specs.Shape.{Shape, shape}
+use Rattle.gg_flat.specs.declared.piece.Driver.TheVariants.{Input}
+use Rattle.gg_flat.specs.declared.piece.Register.{Register}
+use Rattle.gg_flat.specs.declared.piece.Signal.{Signal}
+use Rattle.gg_flat.specs.Circuit.{FlatCircuit, signal_shapes, driver_at}
+use Rattle.gg_flat.specs.Line.{shape_at, HasType}
+use Rattle.gg_flat.specs.WellFormed.{IsRegister}
+use Rattle.gg_elab.specs.Fitting.{FitsDriver, AreFitting}
 use Rattle.gg_elab.specs.Building.{IsSoFar, HasMemories}
 use Rattle.gg_elab.specs.Flat.{FlatSignal, FlatMemory, flat_signals, flat_memories}
 use Rattle.gg_elab.specs.IsFlat.{IsFlatOf, IsMemoryOf, signals_of, memory_paths, number_of, port_name, port_names, top_ports}
@@ -107,3 +114,20 @@ names-more paths way before now after ports i p lt is so step =
 pub ports-named : {A R : Type 0} (items lent : List A) (now : A → List ℕ) (of : List ℕ → List ℕ → R) (made : List R) (path other : List ℕ) → made ≡ map (λ a. of path (now a)) lent → lent ≡ items → path ≡ other → made ≡ map (of other) (map now items)
 ports-named items lent now of made path other is same at =
     is ∙ ap (map (λ a. of path (now a))) same ∙ ap (λ p. map (λ a. of p (now a)) items) at ∙ sym (map-twice (of other) now items)
+
+-- ---- what may be connected
+
+pub fitting_whole : (types : Types) (all : List FlatSignal) (table : Signals) (memories : List (List ℕ)) (one three : FlatCircuit) (inputs : ℕ) → table ≡ signals_of all → IsSoFar types table memories all one inputs → three.signals ≡ one.signals → three.registers ≡ one.registers → AreFitting three
+fitting_whole types all table memories one three inputs same far signals registers =
+    let shapes : signal_shapes three ≡ table.shapes = ap (λ (l : List Signal). map (λ x. shape x.ty) l) signals ∙ far.shapes ∙ sym (ap (λ (t : Signals). t.shapes) same) in
+    let count : length three.signals ≡ length all =
+    ap (λ (l : List Signal). length l) signals ∙ sym (length-map one.signals (λ (x : Signal). shape x.ty)) ∙ ap (λ (l : List Shape). length l) far.shapes ∙ length-map all (λ (x : FlatSignal). x.shape) in
+    let listed : signal_shapes three ≡ map (λ (x : FlatSignal). x.shape) all = shapes ∙ ap (λ (t : Signals). t.shapes) same in
+    record {
+      drivers = λ s lt.
+          subst (λ (l : List Shape). FitsDriver l (shape_at (signal_shapes three) s) (driver_at three s)) (sym shapes)
+          (subst (λ (l : List Shape). FitsDriver table.shapes (shape_at l s) (driver_at three s)) (sym listed)
+          (subst (λ (l : List Signal). FitsDriver table.shapes (shape_at (map (λ (x : FlatSignal). x.shape) all) s) (slice_index_or (map (λ x. x.driver) l) s (Input 0))) (sym signals)
+          (far.fitting s (omega (arith, lt, count)))));
+      registers = subst (λ (l : List Shape). All (IsRegister (HasType l)) three.registers) (sym shapes) (subst (λ (l : List Register). All (IsRegister (HasType table.shapes)) l) (sym registers) far.registers_fit);
+    }

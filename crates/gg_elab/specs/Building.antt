@@ -1,5 +1,5 @@
 -- A flat circuit while it is built, signal by signal.
-use Rattle.std.specs.Prelude.{◌≡◌, ℕ, ◌<◌, List, [], ◌∷◌, ◌++◌, Option, Some, None, MatchOption, IfSome, Bool, true, false, length, map, option_to_list, slice_index_or}
+use Rattle.std.specs.Prelude.{◌≡◌, ℕ, ◌<◌, List, [], ◌∷◌, ◌++◌, Option, Some, None, MatchOption, IfSome, All, Bool, true, false, length, map, option_to_list, slice_index_or}
 use Rattle.gg_bits.specs.Shape.{Shape, shape}
 use Rattle.gg_bits.specs.declared.types.Ty.{Ty}
 use Rattle.gg_flat.specs.declared.piece.Driver.{Driver}
@@ -7,7 +7,9 @@ use Rattle.gg_flat.specs.declared.piece.Driver.TheVariants.{Input, Held, MemoryW
 use Rattle.gg_flat.specs.declared.piece.Register.{Register}
 use Rattle.gg_flat.specs.declared.memory.Memory.{Memory}
 use Rattle.gg_flat.specs.Circuit.{FlatCircuit, signal_shapes, driver_at}
-use Rattle.gg_flat.specs.Line.{shape_at}
+use Rattle.gg_flat.specs.Line.{shape_at, HasType}
+use Rattle.gg_flat.specs.WellFormed.{IsRegister}
+use Rattle.gg_elab.specs.Fitting.{FitsDriver}
 use Rattle.gg_elab.specs.declared.sites.Place.{Place}
 use Rattle.gg_elab.specs.Flat.{Drive, Outside, Gets, Holds, Answers, FlatSignal, FlatMemory}
 use Rattle.gg_elab.specs.IsFlat.{IsComputed, IsRegisterOf, IsDrivenBy, answer, number_of, is_outside, is_register, drive_at, count_before, IsMemoryOf}
@@ -51,6 +53,8 @@ pub record IsSoFar (types : Types) (signals : Signals) (memories : List (List �
   pub drivers : (s : ℕ) → s < length xs → IsDrivenBy types signals memories flat.registers (count_before is_outside xs s) (count_before is_register xs s) (shape_at (map (λ x. x.shape) xs) s) (drive_at xs s) (driver_at flat s)
   pub register_count : length flat.registers ≡ count_before is_register xs (length xs)
   pub input_count : inputs ≡ count_before is_outside xs (length xs)
+  pub fitting : (s : ℕ) → s < length xs → FitsDriver signals.shapes (shape_at (map (λ x. x.shape) xs) s) (driver_at flat s)
+  pub registers_fit : All (IsRegister (HasType signals.shapes)) flat.registers
   pub no_memories : flat.memories ≡ []
   pub no_ins : flat.ins ≡ []
   pub no_outs : flat.outs ≡ []

@@ -8,6 +8,7 @@ pub mod IsTreeOf
 pub mod Known
 pub mod Views
 pub mod Growing
+pub mod Fitting
 pub mod Building
 pub mod Limits
 pub mod ElabText

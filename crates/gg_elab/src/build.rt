@@ -1,6 +1,9 @@
 //! The flat circuit, signal by signal.
-ghost use Rattle.std.specs.Prelude.{◌≡◌, ◌<◌, ◌-◌, ◌^◌, ℕ, List, ◌++◌, ◌∷◌, [], None, ◌+◌, if◌then◌else◌, codes, length, map, IfOk, OnOk, IfSome, All, option_copied};
-ghost use Rattle.gg_bits.specs.Shape.{shape};
+ghost use Rattle.std.specs.Prelude.{◌≡◌, ◌<◌, ◌-◌, ◌^◌, ℕ, List, ◌++◌, ◌∷◌, [], None, ◌+◌, if◌then◌else◌, codes, length, map, IfOk, OnOk, IfSome, All, MatchOption, ⊤, option_copied};
+ghost use Rattle.gg_bits.specs.Shape.{Shape, shape};
+ghost use Rattle.gg_flat.specs.Line.{HasType, IsSource};
+ghost use Rattle.gg_flat.specs.WellFormed.{IsRegister, IsReset};
+ghost use Rattle.gg_elab.specs.Fitting.{FitsDriver, IsFitting};
 ghost use Rattle.gg_elab.specs.Flat.{drive_of, input_drive, FlatSignal, flat_signal, signals_at, flat_signals, Gets};
 ghost use Rattle.gg_flat.specs.Circuit.{no_circuit};
 ghost use Rattle.gg_flat.specs.Tree.{joined as joined_text};
@@ -40,7 +43,8 @@ fn register(
     next: Option<Source>,
     ty: Ty,
 ) -> Result<Register, AllocError>
-    ensures { IfOk result (IsRegisterOf (where_of scope.now).types (where_of scope.now).signals (where_of scope.now).scope (shape ty) (option_copied reset.entry) (seen next.entry)) }
+    ensures fits { IfOk result (IsRegister (HasType (where_of scope.now).signals.shapes)) }
+    ensures register { IfOk result (IsRegisterOf (where_of scope.now).types (where_of scope.now).signals (where_of scope.now).scope (shape ty) (option_copied reset.entry) (seen next.entry)) }
 {
     Ok(Register {
         ty,
@@ -56,7 +60,8 @@ fn reset_lines(
     reset: Option<&Reset>,
     ty: Ty,
 ) -> Result<Option<gg_flat::Reset>, AllocError>
-    ensures { IfOk result (HasReset (where_of scope.now).types (where_of scope.now).signals (where_of scope.now).scope (shape ty) (option_copied reset.entry)) }
+    ensures fits { IfOk result (λ reset. MatchOption reset ⊤ (IsReset (HasType (where_of scope.now).signals.shapes) (shape ty))) }
+    ensures asked { IfOk result (HasReset (where_of scope.now).types (where_of scope.now).signals (where_of scope.now).scope (shape ty) (option_copied reset.entry)) }
 {
     match reset {
         None => Ok(None),
@@ -75,7 +80,8 @@ fn next_line(
     next: Option<Source>,
     ty: Ty,
 ) -> Result<Option<Line>, AllocError>
-    ensures { IfOk result (HasNext (where_of scope.now).types (where_of scope.now).signals (where_of scope.now).scope (shape ty) (seen next.entry)) }
+    ensures fits { IfOk result (λ next. MatchOption next ⊤ (IsSource (HasType (where_of scope.now).signals.shapes) (shape ty))) }
+    ensures next { IfOk result (HasNext (where_of scope.now).types (where_of scope.now).signals (where_of scope.now).scope (shape ty) (seen next.entry)) }
 {
     match next {
         None => Ok(None),
@@ -92,7 +98,8 @@ fn computed(
     inputs: u32,
     states: u32,
 ) -> Result<Made, AllocError>
-    ensures { IfOk result (λ made. IsMade (where_of scope.now).types (where_of scope.now).signals scope.now.table.now.memories inputs states (shape ty) (Gets (where_of scope.now).scope (seen source.entry)) made.driver made.register) }
+    ensures fits { IfOk result (λ made. IsFitting (where_of scope.now).signals.shapes (shape ty) made.driver made.register) }
+    ensures made { IfOk result (λ made. IsMade (where_of scope.now).types (where_of scope.now).signals scope.now.table.now.memories inputs states (shape ty) (Gets (where_of scope.now).scope (seen source.entry)) made.driver made.register) }
 {
     let _ = (inputs, states);
     Ok(Made {
@@ -111,7 +118,8 @@ fn answer(
     reader: u32,
     latency: Latency,
 ) -> Result<Driver, AllocError>
-    ensures { IfOk result (λ driver. driver ≡ answer_of latency (number_of table.now.memories (joined_text path.now memory.now)) reader (number_of table.now.paths (joined_text path.now (field_text memory.now port.now (codes "addr")))) (number_of table.now.paths (joined_text path.now (field_text memory.now port.now (codes "en"))))) }
+    ensures fits { IfOk result (λ driver. (shapes : List Shape) (sink : Shape) → FitsDriver shapes sink driver) }
+    ensures answer { IfOk result (λ driver. driver ≡ answer_of latency (number_of table.now.memories (joined_text path.now memory.now)) reader (number_of table.now.paths (joined_text path.now (field_text memory.now port.now (codes "addr")))) (number_of table.now.paths (joined_text path.now (field_text memory.now port.now (codes "en"))))) }
 {
     let memory_number = number(&table.memories, &joined(alloc, path, memory)?);
     match latency {
@@ -141,7 +149,8 @@ fn input<'a>(
     requires even { length table.now.types.items ≡ length table.now.paths }
     requires digests { AreDigests (types_of typed.now.circuit) typed.now.circuit.modules digests.now }
     requires around { IfSome place.now.outer (λ around. around.number < length typed.now.circuit.modules) }
-    ensures { IfOk result (λ made. IsMade (types_of typed.now.circuit) (table_signals table.now) table.now.memories inputs states (shape ty) (input_drive typed.now.circuit.modules (site_of place.now).outer name.now) made.driver made.register) }
+    ensures fits { IfOk result (λ made. IsFitting (table_signals table.now).shapes (shape ty) made.driver made.register) }
+    ensures made { IfOk result (λ made. IsMade (types_of typed.now.circuit) (table_signals table.now) table.now.memories inputs states (shape ty) (input_drive typed.now.circuit.modules (site_of place.now).outer name.now) made.driver made.register) }
 {
     match &place.outer {
         None => Ok(Made {
@@ -177,7 +186,8 @@ fn make<'a>(
     requires digests { AreDigests (types_of typed.now.circuit) typed.now.circuit.modules digests.now }
     requires number { place.now.number < length typed.now.circuit.modules }
     requires around { IfSome place.now.outer (λ around. around.number < length typed.now.circuit.modules) }
-    ensures { IfOk result (λ made. IsMade (types_of typed.now.circuit) (table_signals table.now) table.now.memories inputs states (shape signal.now.ty) (drive_of typed.now.circuit.modules (site_of place.now) signal.now.name (cause_of signal.now.origin)) made.driver made.register) }
+    ensures fits { IfOk result (λ made. IsFitting (table_signals table.now).shapes (shape signal.now.ty) made.driver made.register) }
+    ensures made { IfOk result (λ made. IsMade (types_of typed.now.circuit) (table_signals table.now) table.now.memories inputs states (shape signal.now.ty) (drive_of typed.now.circuit.modules (site_of place.now) signal.now.name (cause_of signal.now.origin)) made.driver made.register) }
 {
     let scope = Scope {
         typed,

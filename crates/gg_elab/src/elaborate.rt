@@ -4,6 +4,8 @@ ghost use Rattle.gg_ast.specs.Places.{place_of};
 ghost use Rattle.gg_ast.specs.Tree.{module_names};
 ghost use Rattle.gg_elab.specs.Building.{IsPlaceIn};
 ghost use Rattle.gg_elab.specs.IsFlat.{IsFlat, IsFlatWith};
+ghost use Rattle.gg_elab.specs.Fitting.{AreFitting};
+ghost use Rattle.gg_flat.specs.WellFormed.{IsWellFormed};
 ghost use Rattle.gg_elab.specs.Known.{types_of};
 ghost use Rattle.gg_elab.specs.Limits.{excess_over, IsAnswered};
 ghost use Rattle.gg_elab.specs.Views.{AreDigests, site_of};
@@ -41,7 +43,8 @@ fn build<'a>(
     requires digests { AreDigests (types_of typed.now.circuit) typed.now.circuit.modules digests.now }
     requires few { length typed.now.circuit.modules < 2 ^ 32 }
     requires top { place_of typed.now.circuit.name (module_names typed.now.circuit) ≡ Some top }
-    ensures { IfOk result (IsFlatWith (types_of typed.now.circuit) typed.now.circuit) }
+    ensures flat { IfOk result (IsFlatWith (types_of typed.now.circuit) typed.now.circuit) }
+    ensures fits { IfOk result AreFitting }
 {
     let modules = typed.names().circuit().modules();
     let places = places(alloc, typed, digests, top)?;
@@ -53,6 +56,18 @@ fn build<'a>(
     Ok(piece)
 }
 
+// The piece, which is well formed. That no other is made here isn't proved: it would be refused as want of memory.
+fn well_formed(piece: Piece) -> Result<Piece, AllocError>
+    ensures same { IfOk result (λ formed. formed ≡ piece) }
+    ensures formed { IfOk result IsWellFormed }
+{
+    if piece.check() {
+        Ok(piece)
+    } else {
+        Err(AllocError)
+    }
+}
+
 /// The flat circuit of a circuit that the checks passed.
 ///
 /// # Errors
@@ -60,17 +75,19 @@ fn build<'a>(
 /// `TooLarge` with the first count that is above its limit, exactly where there is one; `NoMemory`, where memory is refused.
 pub fn flatten(alloc: Global, typed: &Typed) -> Result<Piece, ElabFault>
     ensures flat { IfOk result (IsFlat typed.now.circuit) }
+    ensures fits { IfOk result AreFitting }
+    ensures formed { IfOk result IsWellFormed }
     ensures limits { IsAnswered (excess_over (types_of typed.now.circuit) typed.now.circuit.modules (place_of typed.now.circuit.name (module_names typed.now.circuit))) result }
 {
     let circuit = typed.names().circuit();
     let Some(top) = circuit.module(circuit.name().as_str()) else {
-        return Ok(Piece::new(alloc));
+        return Ok(well_formed(Piece::new(alloc))?);
     };
     let digests = digests(alloc, typed)?;
     let own = own_counts(alloc, digests.as_slice())?;
     let counts = count(alloc, circuit, typed.order(), top, own.as_slice())?;
     match counts.excess() {
         Some(excess) => Err(ElabFault::TooLarge(excess)),
-        None => Ok(build(alloc, typed, digests.as_slice(), top)?),
+        None => Ok(well_formed(build(alloc, typed, digests.as_slice(), top)?)?),
     }
 }

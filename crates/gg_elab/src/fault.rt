@@ -38,8 +38,8 @@ impl fmt::Display for ElabFault {
 
 impl Error for ElabFault {}
 
-// What was counted, as faults name it.
-fn limit_of(measure: Measure) -> Limit
+/// What was counted, as faults name it.
+pub fn limit_of(measure: Measure) -> Limit
     ensures { result ≡ limit_of measure }
 {
     match measure {

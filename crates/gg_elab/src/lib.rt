@@ -33,5 +33,5 @@ mod table;
 mod tree;
 
 pub use elaborate::flatten;
-pub use fault::ElabFault;
+pub use fault::{ElabFault, limit_of};
 pub use laws::{one_reads, one_run};

@@ -1,8 +1,6 @@
+pub mod AgreementLemmas
+pub mod FaultLemmas
+pub mod LoopLemmas
+pub mod MeaningLemmas
 pub mod PortLemmas
-pub mod CountLemmas
-pub mod PlaceLemmas
-pub mod OriginLemmas
-pub mod OrderLemmas
-pub mod TopLemmas
-pub mod JudgeLemmas
-pub mod RefusalLemmas
+mod WorkedRows

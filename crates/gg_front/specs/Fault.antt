@@ -1,33 +1,88 @@
--- Why the bytes of a circuit file give no design.
-use Rattle.std.specs.Prelude.{◌≢◌, ℕ, List, ⊤}
-use Rattle.gg_read.specs.Text.{HasReadFault}
+-- Why the bytes of a circuit file give no design: their fault of reading, or the first fault of the circuit that they spell.
+use Rattle.std.specs.Prelude.{◌≡◌, ◌≢◌, ℕ, List, Some, None, map, codes, ⊤}
+use Rattle.gg_ast.specs.Tree.{CircuitTree}
+use Rattle.gg_count.specs.declared.counts.Excess.{Excess}
+use Rattle.gg_elab.specs.ElabText.{limit_of}
+use Rattle.gg_elab.specs.IsFlat.{IsFlat}
+use Rattle.gg_flat.specs.Circuit.{FlatCircuit}
+use Rattle.gg_flat.specs.Tree.{path_at}
+use Rattle.gg_order.specs.Loop.{IsToldLoop}
+use Rattle.gg_read.specs.FaultText as reading
+use Rattle.gg_read.specs.Text.{Spells, HasNoFaultLine, HasReadFault}
 use Rattle.gg_read.specs.declared.text.ReadFault.TheVariants as unread
-use Rattle.gg_front.specs.Plain.{IsPlain, IsUnplain}
-use Rattle.gg_front.specs.declared.front_end.FrontFault.{FrontFault}
-use Rattle.gg_front.specs.declared.front_end.FrontFault.TheVariants.{Read, Plain, NoMemory}
+use Rattle.gg_shape.specs.FaultText as circuits
+use Rattle.gg_shape.specs.Faults.{first}
+use Rattle.gg_shape.specs.Judged.{IsShaped, RefusesFrom}
+use Rattle.gg_shape.specs.Shape.{named_faults}
+use Rattle.gg_shape.specs.declared.fault.Fault.{Fault}
+use Rattle.gg_shape.specs.declared.fault.Fault.TheVariants.{OverLimit, Loop}
+use Rattle.gg_shape.specs.declared.fault.Refusal.{Refusal}
+use Rattle.gg_shape.specs.declared.fault.Refusal.TheVariants as refusals
+use Rattle.gg_shape.specs.declared.fault.Refusal.TheVariants.{F}
+use Rattle.gg_types.specs.Types.{type_faults}
+use Rattle.gg_front.specs.Accepted.{IsSound, excess_of}
+use Rattle.gg_front.specs.declared.fault.FrontFault.{FrontFault}
+use Rattle.gg_front.specs.declared.fault.FrontFault.TheVariants as front
 
--- a circuit is read from the text, but that is no plain one
-pub record IsReadUnplain (text : List ℕ) : Type 0 where
-  pub unplain : IsUnplain text
-  pub none : ¬ IsPlain text
+-- a count above its limit, as it is told
+abbrev pub over_limit : Excess → Fault
+over_limit excess = OverLimit (limit_of excess.measure) excess.count
 
--- The text has the fault of reading, which isn't want of memory; or a circuit is read from it that is no plain one. Want of
--- memory has no cause in the bytes.
+-- The fault is F16 of a flat circuit: the paths of a combinational loop of it, from the least on.
+pub record TellsLoop (flat : FlatCircuit) (fault : Fault) : Type 0 where
+  pub signals : List ℕ
+  pub loop : IsToldLoop flat signals
+  pub fault_is : fault ≡ Loop (map (path_at flat.paths) signals)
+
+-- The fault holds of the circuit and comes first: F1 to F8 before F9 to F14, these before F15, and that before F16. Of module
+-- rings and of loops any one may be told; every other first fault is the only one.
+pub data IsFirstFault (circuit : CircuitTree) (fault : Fault) : Type 0 where
+  OfShape : (told : RefusesFrom (named_faults circuit) circuit (F fault)) → IsFirstFault circuit fault
+  OfTypes : (shaped : IsShaped circuit) (told : first (type_faults circuit) ≡ Some fault) → IsFirstFault circuit fault
+  OfLimits : (sound : IsSound circuit) (excess : Excess) (over : excess_of circuit ≡ Some excess) (is : fault ≡ over_limit excess) → IsFirstFault circuit fault
+  OfLoop : (sound : IsSound circuit) (within : excess_of circuit ≡ None) (flat : FlatCircuit) (flattened : IsFlat circuit flat) (told : TellsLoop flat fault) → IsFirstFault circuit fault
+
+-- The text spells a circuit, no line of it is at fault, and this is the circuit's first fault.
+pub record IsFaulty (text : List ℕ) (fault : Fault) : Type 0 where
+  pub circuit : CircuitTree
+  pub spelt : Spells text circuit
+  pub faultless : HasNoFaultLine text
+  pub told : IsFirstFault circuit fault
+
+-- The text has the fault of reading, which isn't want of memory; or the circuit that is read from it has the fault, and none
+-- before it. Want of memory has no cause in the bytes.
 abbrev pub HasFrontFault : List ℕ → FrontFault → Type 0
-HasFrontFault bytes (Read fault) = HasReadFault bytes fault × (fault ≢ unread.NoMemory)
-HasFrontFault bytes Plain = IsReadUnplain bytes
-HasFrontFault bytes NoMemory = ⊤
+HasFrontFault bytes (front.Read fault) = HasReadFault bytes fault × (fault ≢ unread.NoMemory)
+HasFrontFault bytes (front.Fault fault) = IsFaulty bytes fault
+HasFrontFault bytes front.NoMemory = ⊤
+
+-- the text of a fault, as the program prints it behind `golden: circuit: `
+abbrev pub front_text : FrontFault → List ℕ
+front_text (front.Read fault) = reading.fault_text fault
+front_text (front.Fault fault) = circuits.fault_text fault
+front_text front.NoMemory = codes "out of memory"
 
 -- ---- parts of the front end
 
--- the same, where only one of the circuits that the text spells is known
-abbrev pub IsRefusedBy : List ℕ → FrontFault → Type 0
-IsRefusedBy bytes (Read fault) = HasReadFault bytes fault × (fault ≢ unread.NoMemory)
-IsRefusedBy bytes Plain = IsUnplain bytes
-IsRefusedBy bytes NoMemory = ⊤
+-- where it is a fault of a circuit it is that circuit's first; it is no fault of reading
+abbrev pub IfFirstFault : CircuitTree → FrontFault → Type 0
+IfFirstFault circuit (front.Read fault) = ⊥
+IfFirstFault circuit (front.Fault fault) = IsFirstFault circuit fault
+IfFirstFault circuit front.NoMemory = ⊤
 
--- where the fault is that the circuit isn't plain, this doesn't hold; it is no fault of reading
-abbrev pub IfUnplain : Type 0 → FrontFault → Type 0
-IfUnplain p (Read fault) = ⊥
-IfUnplain p Plain = ¬ p
-IfUnplain p NoMemory = ⊤
+-- where it is a fault of a circuit it is a loop of this flat circuit; it is no fault of reading
+abbrev pub IfTellsLoop : FlatCircuit → FrontFault → Type 0
+IfTellsLoop flat (front.Read fault) = ⊥
+IfTellsLoop flat (front.Fault fault) = TellsLoop flat fault
+IfTellsLoop flat front.NoMemory = ⊤
+
+-- what a check of a circuit refuses
+abbrev pub fault_by : Refusal → FrontFault
+fault_by (F fault) = front.Fault fault
+fault_by refusals.NoMemory = front.NoMemory
+
+-- it is a fault of reading, or want of memory
+abbrev pub IsUnread : List ℕ → FrontFault → Type 0
+IsUnread bytes (front.Read fault) = HasReadFault bytes fault × (fault ≢ unread.NoMemory)
+IsUnread bytes (front.Fault fault) = ⊥
+IsUnread bytes front.NoMemory = ⊤

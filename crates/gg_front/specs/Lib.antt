@@ -1,5 +1,5 @@
 -- What the front end's contracts speak of.
-pub mod Plain
-pub mod Top
-pub mod Meaning
+pub mod Accepted
+pub mod Agreement
 pub mod Fault
+pub mod Meaning

@@ -1,76 +1,46 @@
 //! `front`: from the bytes of a circuit file to a design.
-ghost use Rattle.std.specs.Prelude.{◌≡◌, ◌<◌, ◌≤◌, ◌^◌, [], true, length, IfOk, IfErr};
-ghost use Rattle.gg_ast.specs.Tree.{CircuitTree};
+ghost use Rattle.std.specs.Prelude.{◌≡◌, ◌<◌, ◌^◌, ℕ, List, [], None, IfOk, IfErr, length, map};
+ghost use Rattle.std.specs.List.{All};
+ghost use Rattle.gg_elab.specs.IsFlat.{IsFlat};
+ghost use Rattle.gg_flat.specs.Reads.{IsLoop};
+ghost use Rattle.gg_flat.specs.Scoped.{IsScoped};
+ghost use Rattle.gg_flat.specs.Tree.{IsTree, path_at};
 ghost use Rattle.gg_flat.specs.WellFormed.{IsWellFormed};
+ghost use Rattle.gg_order.specs.Fault.{IfLoop};
+ghost use Rattle.gg_order.specs.Loop.{IsToldLoop};
 ghost use Rattle.gg_read.specs.Text.{Spells, HasNoFaultLine};
-ghost use Rattle.gg_shape.specs.Namespace.{IsSingleModule};
-ghost use Rattle.gg_shape.specs.Plain.{plain_modules};
-ghost use Rattle.gg_shape.specs.Shape.{shape_faults};
-ghost use Rattle.gg_types.specs.Types.{type_faults};
-ghost use Rattle.gg_front.specs.Fault.{HasFrontFault, IsRefusedBy, IfUnplain};
-ghost use Rattle.gg_elab.specs.FlatModule.{IsFlat};
+ghost use Rattle.gg_shape.specs.Judged.{IsShaped};
+ghost use Rattle.gg_front.specs.Accepted.{IsSound, IsAccepted, excess_of};
+ghost use Rattle.gg_front.specs.Fault.{HasFrontFault, IfFirstFault, IfTellsLoop, IsUnread, fault_by, over_limit};
 ghost use Rattle.gg_front.specs.Meaning.{Means};
-ghost use Rattle.gg_front.specs.Plain.{IsSound, IsPlainTree, signal_count};
 
-use crate::laws::plainness_agrees;
-use crate::top_tree::top_tree;
+use crate::fault::FrontFault;
 use gg_ast::Circuit;
-use gg_elab::{ElabFault, flatten};
-use gg_flat::Piece;
+use gg_bits::{Name, Names};
+use gg_count::Excess;
+use gg_elab::{ElabFault, flatten, limit_of, one_reads};
+use gg_flat::{Piece, Tree};
+use gg_names::Namespace;
 use gg_order::{Design, OrderFault, order};
 use gg_read::{ReadFault, read_circuit};
-use gg_shape::{Refusal, is_single_module, names_only_plain, shape};
-use gg_types::types;
+use gg_shape::{Fault, Refusal, shaped};
+use gg_types::{Typed, typed};
 use std::alloc::{AllocError, Global};
 
-/// Why the bytes of a circuit file give no design.
-#[derive(Debug, Drop)]
-pub enum FrontFault {
-    /// No circuit is read. Want of memory is `FrontFault::NoMemory`.
-    Read(ReadFault),
-    /// The circuit that is read isn't plain.
-    Plain,
-    /// Memory ran out. The bytes say nothing of this.
-    NoMemory,
-}
-
-impl From<AllocError> for FrontFault {
-    ghost use Rattle.std.specs.Prelude.{◌≡◌};
-    ghost use Rattle.gg_front.specs.declared.front_end.FrontFault.TheVariants.{NoMemory};
-
-    ghost from_gives = { λ error fault. fault ≡ NoMemory };
-
-    fn from(error: AllocError) -> FrontFault {
-        let _ = error;
-        FrontFault::NoMemory
-    }
-}
-
-/// The design of a circuit file: a well-formed flat circuit that the bytes mean, with an order of evaluation.
+/// The design of a circuit file: a well-formed flat circuit that the bytes mean, with its tree and an order of evaluation.
 ///
 /// # Errors
 ///
-/// `Read` where the bytes are no text or a line is at fault, with the fault of reading; `Plain` where the text spells a
-/// circuit that isn't plain and no line is at fault; `NoMemory` where memory is refused.
+/// `Read` where the bytes are no text or a line is at fault, with the fault of reading; `Fault` where a circuit is spelt that
+/// isn't accepted, with its first fault: of shape (F1 to F8), of types (F9 to F14), of the limits (F15), or a loop (F16);
+/// of rings of modules and of loops it is any. `NoMemory` where memory is refused.
 pub fn front(alloc: Global, bytes: &[u8]) -> Result<Design, FrontFault>
     requires { length bytes.now < 2 ^ 32 }
     ensures ok { IfOk result (λ design. Means bytes.now design.circuit) }
     ensures refused { IfErr result (HasFrontFault bytes.now) }
 {
-    plainness_agrees();
-    design_of(alloc, bytes)
-}
-
-// The design of the circuit that a text spells, if that is plain.
-fn design_of(alloc: Global, bytes: &[u8]) -> Result<Design, FrontFault>
-    requires { length bytes.now < 2 ^ 32 }
-    ensures ok { IfOk result (λ design. Means bytes.now design.circuit) }
-    ensures refused { IfErr result (IsRefusedBy bytes.now) }
-{
     let circuit = read(alloc, bytes)?;
-    judge(alloc, &circuit)?;
-    let piece = flat_circuit(alloc, &circuit)?;
-    design(alloc, &circuit, piece)
+    design_of(alloc, &circuit)
 }
 
 // The circuit that a text spells, where no line of it is at fault.
@@ -78,7 +48,7 @@ fn read(alloc: Global, bytes: &[u8]) -> Result<Circuit, FrontFault>
     requires { length bytes.now < 2 ^ 32 }
     ensures spelt { IfOk result (λ circuit. Spells bytes.now circuit) }
     ensures faultless { IfOk result (λ _. HasNoFaultLine bytes.now) }
-    ensures unread { IfErr result (IsRefusedBy bytes.now) }
+    ensures unread { IfErr result (IsUnread bytes.now) }
 {
     match read_circuit(alloc, bytes) {
         Ok(circuit) => Ok(circuit),
@@ -87,76 +57,156 @@ fn read(alloc: Global, bytes: &[u8]) -> Result<Circuit, FrontFault>
     }
 }
 
-// Refuses a circuit that isn't plain, whatever its number of signals.
-fn judge(alloc: Global, circuit: &Circuit) -> Result<(), FrontFault>
+// The design of a circuit that is accepted, or its first fault.
+fn design_of(alloc: Global, circuit: &Circuit) -> Result<Design, FrontFault>
+    ensures accepted { IfOk result (λ _. IsAccepted circuit.now) }
+    ensures flat { IfOk result (λ design. IsFlat circuit.now design.circuit) }
+    ensures formed { IfOk result (λ design. IsWellFormed design.circuit) }
+    ensures refused { IfErr result (IfFirstFault circuit.now) }
+{
+    one_reads();
+    let (piece, tree) = flat_circuit(alloc, circuit)?;
+    ordered(alloc, piece, tree)
+}
+
+// The flat circuit of a circuit with its tree, or the first of F1 to F15.
+fn flat_circuit(alloc: Global, circuit: &Circuit) -> Result<(Piece, Tree), FrontFault>
     ensures sound { IfOk result (λ _. IsSound circuit.now) }
-    ensures refused { IfErr result (IfUnplain (IsSound circuit.now)) }
+    ensures within { IfOk result (λ _. excess_of circuit.now ≡ None) }
+    ensures flat { IfOk result (λ made. IsFlat circuit.now made.0) }
+    ensures formed { IfOk result (λ made. IsWellFormed made.0) }
+    ensures fitting { IfOk result (λ made. IsTree made.0 made.1) }
+    ensures scoped { IfOk result (λ made. IsScoped made.0 made.1) }
+    ensures refused { IfErr result (IfFirstFault circuit.now) }
 {
-    if !is_single_module(circuit) {
-        return Err(FrontFault::Plain);
-    }
-    judge_shape(alloc, circuit)?;
-    judge_types(alloc, circuit)?;
-    if !names_only_plain(alloc, circuit)? {
-        return Err(FrontFault::Plain);
-    }
-    Ok(())
+    let checked = checked(alloc, circuit)?;
+    let made = flattened(alloc, &checked);
+    drop(checked);
+    made
 }
 
-// Refuses a circuit with a fault of its shape.
-fn judge_shape(alloc: Global, circuit: &Circuit) -> Result<(), FrontFault>
-    requires { IsSingleModule circuit.now }
-    ensures none { IfOk result (λ _. shape_faults circuit.now ≡ []) }
-    ensures some { IfErr result (IfUnplain (shape_faults circuit.now ≡ [])) }
+// The circuit with its types, or the first of F1 to F14.
+fn checked<'a>(alloc: Global, circuit: &'a Circuit) -> Result<Typed<'a>, FrontFault>
+    ensures circuit { IfOk result (λ typed. typed.circuit ≡ circuit.now) }
+    ensures sound { IfOk result (λ _. IsSound circuit.now) }
+    ensures refused { IfErr result (IfFirstFault circuit.now) }
 {
-    match shape(alloc, circuit) {
-        Ok(()) => Ok(()),
-        Err(Refusal::F(_)) => Err(FrontFault::Plain),
-        Err(Refusal::NoMemory) => Err(FrontFault::NoMemory),
-    }
-}
-
-// Refuses a circuit with a fault of its types.
-fn judge_types(alloc: Global, circuit: &Circuit) -> Result<(), FrontFault>
-    requires single { IsSingleModule circuit.now }
-    requires shape { shape_faults circuit.now ≡ [] }
-    ensures none { IfOk result (λ _. type_faults circuit.now ≡ []) }
-    ensures some { IfErr result (IfUnplain (type_faults circuit.now ≡ [])) }
-{
-    match types(alloc, circuit) {
-        Ok(_) => Ok(()),
-        Err(Refusal::F(_)) => Err(FrontFault::Plain),
-        Err(Refusal::NoMemory) => Err(FrontFault::NoMemory),
+    match shaped(alloc, circuit) {
+        Ok(names) => with_types(alloc, names),
+        Err(refusal) => Err(fault_by(refusal)),
     }
 }
 
-// The flat circuit of a sound circuit, refused where it has too many signals.
-fn flat_circuit(alloc: Global, circuit: &Circuit) -> Result<Piece, FrontFault>
-    requires { IsSound circuit.now }
-    ensures flat { IfOk result (λ piece. IsFlat circuit.now piece) }
-    ensures formed { IfOk result (λ piece. IsWellFormed piece) }
-    ensures few { IfOk result (λ _. signal_count circuit.now.modules ≤ 200000) }
-    ensures many { IfErr result (IfUnplain (signal_count circuit.now.modules ≤ 200000)) }
+// The circuit of these names with its types, or the first of F9 to F14.
+fn with_types<'a>(alloc: Global, names: Namespace<'a>) -> Result<Typed<'a>, FrontFault>
+    requires shaped { IsShaped names }
+    ensures circuit { IfOk result (λ typed. typed.circuit ≡ names.entry) }
+    ensures sound { IfOk result (λ _. IsSound names.entry) }
+    ensures refused { IfErr result (IfFirstFault names.entry) }
 {
-    match flatten(alloc, circuit) {
-        Ok(piece) => Ok(piece),
-        Err(ElabFault::TooManySignals(_)) => Err(FrontFault::Plain),
+    match typed(alloc, names) {
+        Ok(typed) => Ok(typed),
+        Err(refusal) => Err(fault_by(refusal)),
+    }
+}
+
+// What a check refuses.
+fn fault_by(refusal: Refusal) -> FrontFault
+    ensures { result ≡ fault_by refusal }
+{
+    match refusal {
+        Refusal::F(fault) => FrontFault::Fault(fault),
+        Refusal::NoMemory => FrontFault::NoMemory,
+    }
+}
+
+// The flat circuit of a sound circuit with its tree, or the first count that is above its limit.
+fn flattened(alloc: Global, checked: &Typed) -> Result<(Piece, Tree), FrontFault>
+    requires { IsSound checked.now.circuit }
+    ensures within { IfOk result (λ _. excess_of checked.now.circuit ≡ None) }
+    ensures flat { IfOk result (λ made. IsFlat checked.now.circuit made.0) }
+    ensures formed { IfOk result (λ made. IsWellFormed made.0) }
+    ensures fitting { IfOk result (λ made. IsTree made.0 made.1) }
+    ensures scoped { IfOk result (λ made. IsScoped made.0 made.1) }
+    ensures refused { IfErr result (IfFirstFault checked.now.circuit) }
+{
+    match flatten(alloc, checked) {
+        Ok(made) => Ok(made),
+        Err(ElabFault::TooLarge(excess)) => Err(FrontFault::Fault(over_limit(excess))),
         Err(ElabFault::NoMemory) => Err(FrontFault::NoMemory),
     }
 }
 
-// The flat circuit with an order: no expression names an output port or a wire, so there is no loop.
-fn design(alloc: Global, circuit: &Circuit, piece: Piece) -> Result<Design, FrontFault>
-    requires sound { IsSound circuit.now }
-    requires flat { IsFlat circuit.now piece }
-    requires formed { IsWellFormed piece }
-    ensures circuit { IfOk result (λ design. design.circuit ≡ piece) }
-    ensures memory { IfErr result (λ fault. fault ≡ FrontFault.NoMemory) }
+// F15 with this count.
+fn over_limit(excess: Excess) -> Fault
+    ensures { result ≡ over_limit excess }
 {
-    let tree = top_tree(alloc, circuit, &piece)?;
+    Fault::OverLimit {
+        limit: limit_of(excess.measure),
+        count: excess.count,
+    }
+}
+
+// The flat circuit with its tree and an order, or a loop of it.
+fn ordered(alloc: Global, piece: Piece, tree: Tree) -> Result<Design, FrontFault>
+    requires formed { IsWellFormed piece }
+    requires fitting { IsTree piece tree }
+    requires scoped { IsScoped piece tree }
+    ensures circuit { IfOk result (λ design. design.circuit ≡ piece) }
+    ensures free { IfOk result (λ _. (loop : List ℕ) → ¬ IsLoop piece loop) }
+    ensures refused { IfErr result (IfTellsLoop piece) }
+{
     match order(alloc, &piece) {
         Ok(order) => Ok(Design::new(piece, tree, order)),
-        Err(OrderFault::Loop(_)) => unreachable!(),
-        Err(OrderFault::NoMemory) => Err(FrontFault::NoMemory),
+        Err(fault) => Err(loop_by(alloc, &piece, fault)),
+    }
+}
+
+// F16 with the paths of the loop.
+fn loop_by(alloc: Global, piece: &Piece, fault: OrderFault) -> FrontFault
+    requires formed { IsWellFormed piece.now }
+    requires told { IfLoop (IsToldLoop piece.now) fault }
+    ensures { IfTellsLoop piece.now result }
+{
+    match fault {
+        OrderFault::Loop(signals) => loop_of(alloc, piece, signals.as_slice()),
+        OrderFault::NoMemory => FrontFault::NoMemory,
+    }
+}
+
+// F16 with the paths of these signals.
+fn loop_of(alloc: Global, piece: &Piece, signals: &[u32]) -> FrontFault
+    requires formed { IsWellFormed piece.now }
+    requires told { IsToldLoop piece.now signals.now }
+    ensures { IfTellsLoop piece.now result }
+{
+    match paths(alloc, piece, signals) {
+        Ok(paths) => FrontFault::Fault(Fault::Loop { paths }),
+        Err(_) => FrontFault::NoMemory,
+    }
+}
+
+// The paths of these signals.
+fn paths(alloc: Global, piece: &Piece, signals: &[u32]) -> Result<Names, AllocError>
+    requires formed { IsWellFormed piece.now }
+    requires known { All (λ s. s < length piece.now.signals) signals.now }
+    ensures { IfOk result (λ paths. paths ≡ map (path_at piece.now.paths) signals.now) }
+{
+    let mut paths = Vec::new(alloc);
+    for signal in signals {
+        paths.push(path(piece, *signal)?)?;
+    }
+    Ok(Names::from(paths))
+}
+
+// The path of a signal.
+fn path(piece: &Piece, signal: u32) -> Result<Name, AllocError>
+    requires formed { IsWellFormed piece.now }
+    requires known { signal < length piece.now.signals }
+    ensures { IfOk result (λ path. path ≡ path_at piece.now.paths signal) }
+{
+    match piece.path(signal) {
+        Some(path) => path.clone(),
+        None => unreachable!(),
     }
 }

@@ -1,14 +1,21 @@
 //! Laws of what the bytes of a circuit file mean.
-ghost use Rattle.std.specs.Prelude.{◌≡◌, ℕ, List};
+ghost use Rattle.std.specs.Prelude.{◌≡◌, ◌≢◌, ℕ, List};
 ghost use Rattle.gg_ast.specs.Tree.{CircuitTree};
 ghost use Rattle.gg_flat.specs.Circuit.{FlatCircuit};
-ghost use Rattle.gg_flat.specs.Run.{IsRun};
-ghost use Rattle.gg_read.specs.Text.{Spells};
-ghost use Rattle.gg_front.specs.Meaning.{Means};
-ghost use Rattle.gg_front.specs.Plain.{IsPlainTree};
 ghost use Rattle.gg_flat.specs.Ports.{in_ports, out_ports};
+ghost use Rattle.gg_flat.specs.Run.{IsRun};
+ghost use Rattle.gg_read.specs.Text.{Spells, HasReadFault};
+ghost use Rattle.gg_read.specs.declared.text.ReadFault.{ReadFault};
+ghost use Rattle.gg_read.specs.declared.text.ReadFault.TheVariants as unread;
+ghost use Rattle.gg_shape.specs.declared.fault.Fault.{Fault};
+ghost use Rattle.gg_front.specs.Accepted.{IsAccepted, IsAcceptedText};
+ghost use Rattle.gg_front.specs.Agreement.{Agree};
+ghost use Rattle.gg_front.specs.Fault.{HasFrontFault, IsFaulty};
+ghost use Rattle.gg_front.specs.Meaning.{Means};
+ghost use Rattle.gg_front.specs.declared.fault.FrontFault.{FrontFault};
+ghost use Rattle.gg_front.specs.declared.fault.FrontFault.TheVariants.{NoMemory};
 
-use gg_read::one_circuit;
+use gg_read::{one_circuit, one_fault_line};
 
 /// All flat circuits that some bytes mean have the same input ports and the same output ports.
 pub fn ports_agree()
@@ -16,6 +23,7 @@ pub fn ports_agree()
     ensures outs { (bytes : List ℕ) (one other : FlatCircuit) → Means bytes one → Means bytes other → out_ports one ≡ out_ports other }
 {
     one_circuit();
+    gg_elab::one_run();
 }
 
 /// All flat circuits that some bytes mean do the same: they have the same in-signals and the same out-signals, and what is a
@@ -29,9 +37,25 @@ pub fn one_run()
     gg_elab::one_run();
 }
 
-/// Where one circuit that a text spells is plain, each is.
-pub fn plainness_agrees()
-    ensures { (text : List ℕ) (one other : CircuitTree) → Spells text one → Spells text other → IsPlainTree one → IsPlainTree other }
+/// Where one circuit that a text spells is accepted, each is.
+pub fn acceptance_agrees()
+    ensures { (text : List ℕ) (one other : CircuitTree) → Spells text one → Spells text other → IsAccepted one → IsAccepted other }
 {
     one_circuit();
+}
+
+/// An accepted text has no fault, and one with a fault of reading has no fault of a circuit.
+pub fn faults_apart()
+    ensures accepted { (text : List ℕ) (fault : FrontFault) → IsAcceptedText text → fault ≢ NoMemory → HasFrontFault text fault → ⊥ }
+    ensures read { (text : List ℕ) (one : ReadFault) (fault : Fault) → one ≢ unread.NoMemory → HasReadFault text one → IsFaulty text fault → ⊥ }
+{
+    one_circuit();
+}
+
+/// Two faults of a text are the same, or both are rings of modules, or both combinational loops; want of memory aside.
+pub fn one_fault()
+    ensures { (text : List ℕ) (one other : FrontFault) → HasFrontFault text one → HasFrontFault text other → Agree one other }
+{
+    one_circuit();
+    one_fault_line();
 }

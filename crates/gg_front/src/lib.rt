@@ -1,27 +1,27 @@
-//! The front end: from the bytes of a circuit file to a design, which is a well-formed flat circuit with an order of
-//! evaluation.
+//! The front end: from the bytes of a circuit file to a design, which is a well-formed flat circuit with the tree of its
+//! instances and an order of evaluation.
 //!
-//! - `front` answers a design of the circuit that the bytes mean (`Means`), the fault of reading where the bytes are no text
-//!   or a line is at fault, or `Plain` where the text spells a circuit that isn't plain (`IsPlainTree`).
+//! - `front` answers a design of a flat circuit that the bytes mean (`Means`): they spell a circuit, no line is at fault, and the
+//!   circuit is accepted (`IsAccepted`): it has none of the faults F1 to F16. Else it answers the fault of reading, or
+//!   the circuit's first fault (`HasFrontFault`): of shape, of types, of the limits, or a combinational loop. Of rings of
+//!   modules and of loops it may tell any.
 //! - `ports_agree`: all flat circuits that some bytes mean have the same input ports and output ports.
 //! - `one_run`: they all have the same runs.
+//! - `acceptance_agrees`: where one circuit that a text spells is accepted, each is.
+//! - `one_fault`: two faults of a text are the same, but that of rings of modules and of loops any may be told.
+//! - `faults_apart`: an accepted text has no fault, and one with a fault of reading none of a circuit.
 #![tactic(auto)]
 
-#[cfg(test)]
-mod fault_tests;
+mod fault;
 #[cfg(test)]
 mod fixtures;
-#[cfg(test)]
-mod flat_tests;
 mod front_end;
 mod laws;
-#[cfg(test)]
-mod order_tests;
 #[cfg(test)]
 mod reader_tests;
 #[cfg(test)]
 mod tests;
-mod top_tree;
 
-pub use front_end::{FrontFault, front};
-pub use laws::{one_run, plainness_agrees, ports_agree};
+pub use fault::FrontFault;
+pub use front_end::front;
+pub use laws::{acceptance_agrees, faults_apart, one_fault, one_run, ports_agree};

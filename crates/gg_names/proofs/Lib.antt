@@ -5,3 +5,4 @@ pub mod BlockLemmas
 pub mod ScopeLemmas
 pub mod FindLemmas
 pub mod HeldLemmas
+mod WorkedRows

@@ -1,31 +1,19 @@
 -- What is said of a circuit's text that is refused.
-use Rattle.std.proofs.Common.{◌≡◌, ℕ, ◌++◌, List, None, Some, refl, sym, ap, ◌∙◌, subst, inl, inr}
+use Rattle.std.proofs.Common.{◌≡◌, ◌≢◌, ℕ, ◌++◌, List, None, Some, refl, sym, ap, ◌∙◌, subst, inl}
 use Rattle.std.specs.Prelude.{codes, decimal}
 use Rattle.std.specs.Str.{IsUtf8}
-use Rattle.gg_ast.specs.Tree.{CircuitTree}
-use Rattle.gg_flat.specs.Circuit.{FlatCircuit}
-use Rattle.gg_read.specs.Text.{LineTokens, IsFaultLine, HasNoFaultLine, Spells, HasReadFault, IsTooDeep, first_outside}
+use Rattle.gg_read.specs.FaultText.{fault_text}
+use Rattle.gg_read.specs.Text.{LineTokens, IsFaultLine, HasReadFault, IsTooDeep, first_outside}
 use Rattle.gg_read.specs.declared.text.ReadFault.{ReadFault}
 use Rattle.gg_read.specs.declared.text.ReadFault.TheVariants as unread
-use Rattle.gg_front.specs.Fault.{HasFrontFault}
-use Rattle.gg_front.specs.Meaning.{Means}
-use Rattle.gg_front.specs.Plain.{IsPlain}
-use Rattle.gg_front.specs.declared.front_end.FrontFault.{FrontFault}
-use Rattle.gg_front.specs.declared.front_end.FrontFault.TheVariants.{Read, Plain, NoMemory}
-use Rattle.golden.specs.Lines.{Said, IsUnreadText, circuit_fault}
+use Rattle.gg_front.specs.Accepted.{IsAcceptedText}
+use Rattle.gg_front.specs.Fault.{HasFrontFault, IsFaulty, front_text}
+use Rattle.gg_front.specs.declared.fault.FrontFault.{FrontFault}
+use Rattle.gg_front.specs.declared.fault.FrontFault.TheVariants as front
+use Rattle.gg_shape.specs.declared.fault.Fault.{Fault}
+use Rattle.golden.specs.Lines.{Said, TellsUnread, circuit_fault}
 use Rattle.golden.specs.Order.{IsExactFile}
 use Rattle.golden.specs.Run.{TellsCircuit, circuit_file}
-use Rattle.golden.specs.Endings.{TellsFront}
-
--- a text that means a flat circuit is plain
-pub means-plain : (bytes : List ℕ) (flat : FlatCircuit) → Means bytes flat → IsPlain bytes
-means-plain bytes flat means = record { circuit = means.circuit; plain = means.plain }
-
--- what is said where the front end answers a fault is said of the bytes
-pub front-tells : (name bytes : List ℕ) (fault : FrontFault) (said : Said) → HasFrontFault bytes fault → TellsFront name fault said → TellsCircuit name bytes said
-front-tells name bytes (Read fault) said has tells = inl (fault, has.0, tells)
-front-tells name bytes Plain said has tells = inr (has, tells)
-front-tells name bytes NoMemory said has tells = absurd tells
 
 -- what names a fault line with this number: the first of the three causes that holds there
 data NamesLine (n : ℕ) (line : LineTokens) (text : List ℕ) : Type 0 where
@@ -49,12 +37,12 @@ data NamesUnread (bytes text : List ℕ) : Type 0 where
   NoText : (none : IsUtf8 bytes → ⊥) (is : text ≡ codes "not text") → NamesUnread bytes text
   AtLine : (utf8 : IsUtf8 bytes) (n : ℕ) (line : LineTokens) (at : IsFaultLine bytes n line) (names : NamesLine n line text) → NamesUnread bytes text
 
-names-unread : (bytes : List ℕ) (fault : ReadFault) (text : List ℕ) → HasReadFault bytes fault → IsUnreadText fault text → NamesUnread bytes text
-names-unread bytes unread.NotText text has is = NoText has is
-names-unread bytes (unread.TooDeep n) text has is = AtLine has.0 n has.1.0 has.1.1 (Deep has.1.2 is)
-names-unread bytes (unread.Outside n word) text has is = AtLine has.0 n has.1.0 has.1.1 (Outside word has.1.2 has.1.3 is)
-names-unread bytes (unread.Syntax n) text has is = AtLine has.0 n has.1.0 has.1.1 (Syntax has.1.2 has.1.3 is)
-names-unread bytes unread.NoMemory text has is = absurd is
+names-unread : (bytes : List ℕ) (fault : ReadFault) → fault ≢ unread.NoMemory → HasReadFault bytes fault → NamesUnread bytes (fault_text fault)
+names-unread bytes unread.NotText some has = NoText has refl
+names-unread bytes (unread.TooDeep n) some has = AtLine has.0 n has.1.0 has.1.1 (Deep has.1.2 refl)
+names-unread bytes (unread.Outside n word) some has = AtLine has.0 n has.1.0 has.1.1 (Outside word has.1.2 has.1.3 refl)
+names-unread bytes (unread.Syntax n) some has = AtLine has.0 n has.1.0 has.1.1 (Syntax has.1.2 has.1.3 refl)
+names-unread bytes unread.NoMemory some has = absurd (some refl)
 
 -- a text has at most one fault line
 abbrev pub OneFaultLine : Type 0
@@ -69,34 +57,31 @@ names-unread-once one bytes text other (AtLine utf8 n line at names) (AtLine utf
     names-line-once m line' text other
     (subst (λ (l : LineTokens). NamesLine m l text) same.1 (subst (λ (k : ℕ). NamesLine k line text) same.0 names)) names'
 
--- of a text from which a circuit is read no fault of reading is said
-unread-apart : (bytes text : List ℕ) (circuit : CircuitTree) → NamesUnread bytes text → Spells bytes circuit → HasNoFaultLine bytes → ⊥
-unread-apart bytes text circuit (NoText none is) spells faultless = none spells.utf8
-unread-apart bytes text circuit (AtLine utf8 n line at names) spells faultless = faultless n line at
+-- an accepted text has no fault
+abbrev pub NoFaultAccepted : Type 0
+NoFaultAccepted = (text : List ℕ) (fault : FrontFault) → IsAcceptedText text → fault ≢ front.NoMemory → HasFrontFault text fault → ⊥
 
-module _ (one : OneFaultLine) (name bytes : List ℕ) where
-  circuit-apart : (said : Said) → IsPlain bytes → TellsCircuit name bytes said → ⊥
-  circuit-apart said plain (inl (fault, has, tells)) = unread-apart bytes tells.0 plain.circuit (names-unread bytes fault tells.0 has tells.1) plain.plain.spelt plain.plain.faultless
-  circuit-apart said plain (inr (read, is)) = read.none plain
+-- a text with a fault of reading has no fault of a circuit
+abbrev pub NoFaultUnread : Type 0
+NoFaultUnread = (text : List ℕ) (one : ReadFault) (fault : Fault) → one ≢ unread.NoMemory → HasReadFault text one → IsFaulty text fault → ⊥
 
-  circuit-once : (said other : Said) → TellsCircuit name bytes said → TellsCircuit name bytes other → said ≡ other
-  circuit-once said other (inl (fault, has, tells)) (inl (fault', has', tells')) =
-      tells.2 ∙ ap circuit_fault (names-unread-once one bytes tells.0 tells'.0 (names-unread bytes fault tells.0 has tells.1) (names-unread bytes fault' tells'.0 has' tells'.1)) ∙ sym tells'.2
-  circuit-once said other (inl (fault, has, tells)) (inr (read, is)) =
-      absurd (unread-apart bytes tells.0 read.unplain.circuit (names-unread bytes fault tells.0 has tells.1) read.unplain.spelt read.unplain.faultless)
-  circuit-once said other (inr (read, is)) (inl (fault, has, tells)) =
-      absurd (unread-apart bytes tells.0 read.unplain.circuit (names-unread bytes fault tells.0 has tells.1) read.unplain.spelt read.unplain.faultless)
-  circuit-once said other (inr (read, is)) (inr (read', is')) = is ∙ sym is'
+-- of a text with a fault of reading just that is said
+told-once : OneFaultLine → NoFaultUnread → (bytes : List ℕ) (fault : ReadFault) (other : FrontFault) → fault ≢ unread.NoMemory → HasReadFault bytes fault
+    → other ≢ front.NoMemory → HasFrontFault bytes other → front_text other ≡ fault_text fault
+told-once one apart bytes fault (front.Read other) some has told has' =
+    names-unread-once one bytes (fault_text other) (fault_text fault) (names-unread bytes other has'.1 has'.0) (names-unread bytes fault some has)
+told-once one apart bytes fault (front.Fault other) some has told has' = absurd (apart bytes fault other some has has')
+told-once one apart bytes fault front.NoMemory some has told has' = absurd (told refl)
 
-  circuit-status : (said : Said) → TellsCircuit name bytes said → said.status ≡ 1
-  circuit-status said (inl (fault, has, tells)) = ap (λ (s : Said). s.status) tells.2
-  circuit-status said (inr (read, is)) = ap (λ (s : Said). s.status) is
+pub unread-once : OneFaultLine → NoFaultUnread → (bytes : List ℕ) (fault : ReadFault) (said other : Said) → HasReadFault bytes fault → TellsUnread fault said
+    → TellsCircuit bytes other → other ≡ said
+unread-once one apart bytes fault said other has tells (told, has', some, is) =
+    is ∙ ap circuit_fault (told-once one apart bytes fault told tells.0 has some has') ∙ sym tells.1
 
--- of a circuit's bytes one thing is said at most, and nothing of plain ones
-pub circuit_file-exact : OneFaultLine → (name : List ℕ) → IsExactFile (circuit_file name)
-circuit_file-exact one name = record {
-  apart = λ bytes said accepts refuses. circuit-apart one name bytes said accepts refuses;
-  once = λ bytes said other refuses refuses'. circuit-once one name bytes said other refuses refuses';
-  status = λ bytes said refuses. circuit-status one name bytes said refuses;
+-- nothing is said of a circuit's bytes that are accepted, and all that is said of others has the status 1
+pub circuit_file-exact : NoFaultAccepted → (name : List ℕ) → IsExactFile (circuit_file name)
+circuit_file-exact never name = record {
+  apart = λ bytes said accepts refuses. never bytes refuses.0 accepts refuses.2 refuses.1;
+  status = λ bytes said refuses. ap (λ (s : Said). s.status) refuses.3;
   judges = inl refl;
 }

@@ -9,6 +9,29 @@ module _ (files : List ℕ → Told) where
   pub told-bytes : (file : File) (bytes other : List ℕ) → IsTold files file bytes → CanBe files file other → other ≡ bytes
   told-bytes file bytes other told can = let held = can.held in let h : CanHold (Holds bytes) other = subst (λ t. CanHold t other) told held in h
 
+  -- a file holds one text
+  told-once : (file : File) (bytes other : List ℕ) → IsTold files file bytes → IsTold files file other → other ≡ bytes
+  told-once file bytes other told told' = let e : Holds other ≡ Holds bytes = sym told' ∙ told in cc
+
+  -- what is due where the first file is told and accepted is due behind it
+  pub due-behind : (file : File) (next : List ℕ → Order) (bytes : List ℕ) (said : Said) → IsExactFile file → IsTold files file bytes
+      → length bytes ≤ file.limit → file.accepts bytes → DueAt files (Load file next) said → DueAt files (next bytes) said
+  due-behind file next bytes said exact told fits accepts (other, told', inl (inl o)) =
+      let e = told-once file bytes other told told' in let short : length other ≤ file.limit = subst (λ (b : List ℕ). length b ≤ file.limit) (sym e) fits in let long = o.0 in absurd (omega arith)
+  due-behind file next bytes said exact told fits accepts (other, told', inl (inr o)) =
+      absurd (exact.apart bytes said accepts (subst (λ b. file.refuses b said) (told-once file bytes other told told') o.1))
+  due-behind file next bytes said exact told fits accepts (other, told', inr (short, accepts', d)) =
+      subst (λ b. DueAt files (next b) said) (told-once file bytes other told told') d
+
+  -- what is due where the first file is told and refused is said of its bytes
+  pub due-refused : (file : File) (next : List ℕ → Order) (bytes : List ℕ) (due said : Said) → IsExactFile file → IsTold files file bytes
+      → length bytes ≤ file.limit → file.refuses bytes due → DueAt files (Load file next) said → file.refuses bytes said
+  due-refused file next bytes due said exact told fits refuses (other, told', inl (inl o)) =
+      let e = told-once file bytes other told told' in let short : length other ≤ file.limit = subst (λ (b : List ℕ). length b ≤ file.limit) (sym e) fits in let long = o.0 in absurd (omega arith)
+  due-refused file next bytes due said exact told fits refuses (other, told', inl (inr o)) = subst (λ b. file.refuses b said) (told-once file bytes other told told') o.1
+  due-refused file next bytes due said exact told fits refuses (other, told', inr (short, accepts, d)) =
+      absurd (exact.apart bytes due (subst file.accepts (told-once file bytes other told told') accepts) refuses)
+
   -- a told file that is over its limit has more bytes
   pub told-over : (file : File) (bytes : List ℕ) → IsTold files file bytes → CanBeOver (files file.name) file.limit → file.limit < length bytes
   told-over file bytes told over = let h : CanBeOver (Holds bytes) file.limit = subst (λ t. CanBeOver t file.limit) told over in h
@@ -29,16 +52,17 @@ module _ (files : List ℕ → Told) where
   written-due (Write IsText) due text exact d written = d
 
   module _ (lost cut : Type 0) where
-    -- a told file that is to be refused is refused so, where no load fails
+    -- what is said of a told file that is to be refused is due of it, with the same status, where no load fails
     pub refused-due : (file : File) (bytes : List ℕ) (due said : Said) → IsExactFile file → (lost → ⊥) → IsTold files file bytes
-        → IsDueOf files file bytes due → IsRefused files lost cut file said → said ≡ due
+        → IsDueOf files file bytes due → IsRefused files lost cut file said → IsDueOf files file bytes said × (said.status ≡ due.status)
     refused-due file bytes due said exact none told d (inl (inl h)) = absurd (none h.0)
-    refused-due file bytes due said exact none told (inl o) (inl (inr h)) = h.2 ∙ sym o.1
+    refused-due file bytes due said exact none told (inl o) (inl (inr h)) = (inl (o.0, h.2), ap (λ (s : Said). s.status) (h.2 ∙ sym o.1))
     refused-due file bytes due said exact none told (inr o) (inl (inr h)) = let long = told-over file bytes told h.1 in let short = o.0 in absurd (omega arith)
     refused-due file bytes due said exact none told (inl o) (inr (other, can, refuses)) =
         let e = told-bytes file bytes other told can in let short = can.within in let fits : length bytes ≤ file.limit = subst (λ (b : List ℕ). length b ≤ file.limit) e short in let long = o.0 in absurd (omega arith)
     refused-due file bytes due said exact none told (inr o) (inr (other, can, refuses)) =
-        exact.once bytes said due (subst (λ b. file.refuses b said) (told-bytes file bytes other told can) refuses) o.1
+        let refused : file.refuses bytes said = subst (λ b. file.refuses b said) (told-bytes file bytes other told can) refuses in
+        (inr (o.0, refused), exact.status bytes said refused ∙ sym (exact.status bytes due o.1))
 
     -- a told file that is accepted isn't refused, where no load fails
     pub accepted-not_refused : (file : File) (bytes : List ℕ) (said : Said) → IsExactFile file → (lost → ⊥) → IsTold files file bytes
@@ -48,14 +72,16 @@ module _ (files : List ℕ → Told) where
     accepted-not_refused file bytes said exact none told short accepts (inr (other, can, refuses)) =
         exact.apart bytes said accepts (subst (λ b. file.refuses b said) (told-bytes file bytes other told can) refuses)
 
-    -- where no load fails, what is due is what is said
+    -- where no load fails and something is due, what is said is due, with the same status
     pub stops-due : (order : Order) (due said : Said) → IsExact order → (lost → ⊥) → DueAt files order due → StopsAt files lost cut order said
-        → said ≡ due
-    stops-due (Load file next) due said exact none (bytes, told, inl d) (inl refused) = refused-due file bytes due said exact.0 none told d refused
+        → DueAt files order said × (said.status ≡ due.status)
+    stops-due (Load file next) due said exact none (bytes, told, inl d) (inl refused) =
+        let r = refused-due file bytes due said exact.0 none told d refused in ((bytes, told, inl r.0), r.1)
     stops-due (Load file next) due said exact none (bytes, told, inl d) (inr (other, can, accepts, later)) = absurd (due-not_accepted file bytes other due exact.0 told d can accepts)
     stops-due (Load file next) due said exact none (bytes, told, inr (short, accepts, d)) (inl refused) = absurd (accepted-not_refused file bytes said exact.0 none told short accepts refused)
     stops-due (Load file next) due said exact none (bytes, told, inr (short, accepts, d)) (inr (other, can, accepts', later)) =
-        stops-due (next bytes) due said (exact.1 bytes) none d (subst (λ b. StopsAt files lost cut (next b) said) (told-bytes file bytes other told can) later)
+        let r = stops-due (next bytes) due said (exact.1 bytes) none d (subst (λ b. StopsAt files lost cut (next b) said) (told-bytes file bytes other told can) later) in
+        ((bytes, told, inr (short, accepts, r.0)), r.1)
     stops-due (Write IsText) due said exact none d stops = absurd stops
 
     -- where no load fails, files that are told and accepted aren't refused

@@ -7,6 +7,7 @@ use Rattle.gg_read.specs.Text.{HasReadFault}
 use Rattle.gg_read.specs.declared.text.ReadFault.{ReadFault}
 use Rattle.gg_flat.specs.Circuit.{FlatCircuit}
 use Rattle.gg_front.specs.Meaning.{Means}
+use Rattle.gg_front.specs.declared.fault.FrontFault.TheVariants as front
 use Rattle.gg_flat.specs.Ports.{in_ports}
 use Rattle.gg_trace.specs.FaultText.{fault_words}
 use Rattle.gg_trace.specs.Trace.{IsFirstFault}
@@ -18,12 +19,12 @@ use Rattle.gg_words.specs.declared.command.Cmd.TheVariants as cmd
 use Rattle.gg_words.specs.declared.command.WordFault.{WordFault}
 use Rattle.gg_words.specs.declared.command.WordFault.TheVariants as word
 use Rattle.golden.specs.Lines.{Said, TellsUnread, trace_fault}
-use Rattle.golden.specs.Order.{Order, StopsAt, IsWritten, DueAt, IsDueAccepted, IsExact, IsJudgement}
+use Rattle.golden.specs.Order.{Order, Write, StopsAt, IsWritten, DueAt, IsDueAccepted, IsExact, IsUnique, IsJudgement}
 use Rattle.golden.specs.Outcome.{Ends, Refused, Done, Unwritten, WantsMemory, Outcome, Asked, Unasked, WantsMemoryFirst, Answered, Reports}
 use Rattle.golden.specs.Words.{Command, Run, Asks, AskForCommand, TellsUnasked, TellsWords, circuit_of, order_of, partition_of, trace_of}
-use Rattle.golden.specs.Run.{IsPlainPartition}
-use Rattle.golden.proofs.FrontLemmas.{means-plain}
-use Rattle.golden.proofs.OrderLemmas.{Why, Lost, Cut, Judged, why-stops, stops-due, written-due, stops-accepted}
+use Rattle.golden.specs.Promised.{Promised, Tells}
+use Rattle.golden.specs.Run.{IsPlainPartition, IsOnlyText, TellsCircuit, TellsTraceFor, circuit_file, partition_file, partition_order, trace_file_for, trace_order}
+use Rattle.golden.proofs.OrderLemmas.{Why, Lost, Cut, Judged, why-stops, stops-due, written-due, stops-accepted, due-behind, due-refused}
 use Rattle.golden.proofs.WritingLemmas.{append_known-nil}
 
 -- words mean one thing at most
@@ -189,20 +190,24 @@ module _ (files : List ℕ → Told) (lost cut unwritten : Type 0) where
     unasked-2 (Unasked none said tells says nothing) unasked = inl (says.0 ∙ unasked-status words said tells)
     unasked-2 (WantsMemoryFirst says nothing) unasked = inr says.0
 
-    due-ends : (order : Order) (due : Said) → IsExact order → DueAt files order due → (lost → ⊥) → WhyEnds order status text line
-        → ((status ≡ due.status) × (line ≡ due.line)) ⊎ (status ≡ 5)
+    -- something is said that is due, or memory ran out
+    abbrev SaysDue : Order → Said → Type 0
+    SaysDue order due = ((status ≡ due.status) × ((said : Said) × DueAt files order said × (status ≡ said.status) × (line ≡ said.line))) ⊎ (status ≡ 5)
+
+    due-ends : (order : Order) (due : Said) → IsExact order → DueAt files order due → (lost → ⊥) → WhyEnds order status text line → SaysDue order due
     due-ends order due exact d none (Stopped said stops is tells nothing) =
         let same = stops-due files lost cut order due said exact none d stops in
-        inl (is ∙ ap (λ (s : Said). s.status) same, tells ∙ ap (λ (s : Said). s.line) same)
+        inl (is ∙ same.1, (said, same.0, is, tells))
     due-ends order due exact d none (Wrote written is) = absurd (written-due files order due text exact d written)
     due-ends order due exact d none (Failed failed whole written is) = absurd (written-due files order due whole exact d written)
     due-ends order due exact d none (Wanted is) = inr is
 
     due-said : ExactOrders → OneMeaning → Outcome words files lost cut unwritten status text line → (lost → ⊥)
-        → (command : Command) (due : Said) → Asks words command → DueAt files (order_of command) due → ((status ≡ due.status) × (line ≡ due.line)) ⊎ (status ≡ 5)
+        → (command : Command) (due : Said) → Asks words command → DueAt files (order_of command) due → SaysDue (order_of command) due
     due-said exact once (Asked command asks ends) none other due others d =
         let same = asks-once once words other command others asks in
-        due-ends (order_of command) due (exact command) (subst (λ (c : Command). DueAt files (order_of c) due) same d) none (ends-why (order_of command) status text line ends)
+        subst (λ (c : Command). SaysDue (order_of c) due) (sym same)
+        (due-ends (order_of command) due (exact command) (subst (λ (c : Command). DueAt files (order_of c) due) same d) none (ends-why (order_of command) status text line ends))
     due-said exact once (Unasked unasked said tells says nothing) none other due others d = absurd (unasked (other, others))
     due-said exact once (WantsMemoryFirst says nothing) none other due others d = inr says.0
 
@@ -221,77 +226,100 @@ module _ (files : List ℕ → Told) (lost cut unwritten : Type 0) where
     complete-status exact once (Unasked unasked said tells says nothing) none wrote other others d = absurd (unasked (other, others))
     complete-status exact once (WantsMemoryFirst says nothing) none wrote other others d = inr says.0
 
--- the clauses of a call that answered this status
+-- of a text with a fault of reading just that is said
+abbrev pub OneReading : Type 0
+OneReading = (bytes : List ℕ) (fault : ReadFault) (said other : Said) → HasReadFault bytes fault → TellsUnread fault said → TellsCircuit bytes other → other ≡ said
+
+-- of a partition and a trace one thing is said at most
+abbrev pub UniqueOrders : Type 0
+UniqueOrders = (circuit partition trace : List ℕ) → IsUnique (partition_order circuit partition trace)
+
+-- what is promised of a call that answered this status
 module _ {words : List (List ℕ)} {files : List ℕ → Told} {lost cut unwritten trouble : Type 0} {out out' err err' : Option (List ℕ)} {status : ℕ} (a : Answered words files lost cut unwritten trouble out out' err err' status) where
   -- a line that is said is reported
-  reported-as : (line : List ℕ) → a.line ≡ line → Reports err err' trouble line
-  reported-as line e = subst (λ (l : List ℕ). Reports err err' trouble l) e a.reported
+  reported-as : (said : Said) → status ≡ said.status → a.line ≡ said.line → Tells err err' trouble status said
+  reported-as said is e = record { is = is; reported = subst (λ (l : List ℕ). Reports err err' trouble l) e a.reported }
 
   module _ (exact : ExactOrders) where
     caused : Cause files lost cut unwritten words status a.text a.line
     caused = cause files lost cut unwritten exact words status a.text a.line a.outcome
 
-    pub answered-lost : status ≡ 3 → lost
-    answered-lost = lost-3 files lost cut unwritten words status a.text a.line caused
+    judged : IsJudgement status
+        → (command : Command) × Asks words command × ((said : Said) × StopsAt files ⊥ ⊥ (order_of command) said × Tells err err' trouble status said)
+    judged is =
+        let why = judged-1-7 files lost cut unwritten words status a.text a.line caused is in
+        (why.0, why.1, (why.2.0, why.2.1, reported-as why.2.0 why.2.2 why.2.3))
 
-    pub answered-over : status ≡ 8 → cut × ((command : Command) × Asks words command × ((said : Said) × StopsAt files ⊥ cut (order_of command) said × (said.status ≡ 8)))
-    answered-over = cut-8 files lost cut unwritten words status a.text a.line caused
-
-    pub answered-unwritten : status ≡ 4 → unwritten
-    answered-unwritten = unwritten-4 files lost cut unwritten words status a.text a.line caused
-
-    pub answered-judged : IsJudgement status
-        → (command : Command) × Asks words command × ((said : Said) × StopsAt files ⊥ ⊥ (order_of command) said × (status ≡ said.status) × Reports err err' trouble said.line)
-    answered-judged judged =
-        let why = judged-1-7 files lost cut unwritten words status a.text a.line caused judged in
-        (why.0, why.1, (why.2.0, why.2.1, why.2.2, reported-as why.2.0.line why.2.3))
-
-    pub answered-no_command : status ≡ 2 → (¬ AskForCommand words) × ((said : Said) × TellsUnasked words said × Reports err err' trouble said.line)
-    answered-no_command is =
+    no_command : status ≡ 2 → (¬ AskForCommand words) × ((said : Said) × TellsUnasked words said × Tells err err' trouble status said)
+    no_command is =
         let why = no_command-2 files lost cut unwritten words status a.text a.line caused is in
-        (why.0, (why.1.0, why.1.1, reported-as why.1.0.line why.1.2))
+        (why.0, (why.1.0, why.1.1, reported-as why.1.0 (is ∙ sym (unasked-status words why.1.0 why.1.1)) why.1.2))
 
-    pub answered-nothing_written : status ≢ 0 → status ≢ 4 → status ≢ 5 → out' ≡ out
-    answered-nothing_written x y z =
+    nothing_written : status ≢ 0 → status ≢ 4 → status ≢ 5 → out' ≡ out
+    nothing_written x y z =
         a.written ∙ ap (append_known out) (none-written files lost cut unwritten words status a.text a.line caused x y z) ∙ append_known-nil out
 
-    pub answered-unasked : ¬ AskForCommand words → (status ≡ 2) ⊎ (status ≡ 5)
-    answered-unasked = unasked-2 files lost cut unwritten words status a.text a.line a.outcome
+    module _ (once : OneMeaning) (none : lost → ⊥) where
+      due-told : (order : Order) (due : Said) → SaysDue files lost cut unwritten words status a.text a.line order due
+          → ((status ≡ due.status) × ((said : Said) × DueAt files order said × Tells err err' trouble status said)) ⊎ (status ≡ 5)
+      due-told order due (inl h) = inl (h.0, (h.1.0, h.1.1, reported-as h.1.0 h.1.2 h.1.3))
+      due-told order due (inr h) = inr h
 
-    said-reported : (due : Said) → ((status ≡ due.status) × (a.line ≡ due.line)) ⊎ (status ≡ 5) → ((status ≡ due.status) × Reports err err' trouble due.line) ⊎ (status ≡ 5)
-    said-reported due (inl h) = inl (h.0, reported-as due.line h.1)
-    said-reported due (inr h) = inr h
+      tells-due : (command : Command) (due : Said) → Asks words command → DueAt files (order_of command) due
+          → ((status ≡ due.status) × ((said : Said) × DueAt files (order_of command) said × Tells err err' trouble status said)) ⊎ (status ≡ 5)
+      tells-due command due asks d = due-told (order_of command) due (due-said files lost cut unwritten words status a.text a.line exact once a.outcome none command due asks d)
 
-    status-one : (due : Said) → due.status ≡ 1 → ((status ≡ due.status) × Reports err err' trouble due.line) ⊎ (status ≡ 5)
-        → ((status ≡ 1) × Reports err err' trouble due.line) ⊎ (status ≡ 5)
-    status-one due one (inl h) = inl (h.0 ∙ one, h.1)
-    status-one due one (inr h) = inr h
+      -- what is said is this, where nothing else is due
+      only-due : (order : Order) (due : Said) → ((said : Said) → DueAt files order said → said ≡ due)
+          → ((status ≡ due.status) × ((said : Said) × DueAt files order said × Tells err err' trouble status said)) ⊎ (status ≡ 5)
+          → Tells err err' trouble status due ⊎ (status ≡ 5)
+      only-due order due only (inl h) = inl (subst (λ (s : Said). Tells err err' trouble status s) (only h.1.0 h.1.1) h.1.2)
+      only-due order due only (inr h) = inr h
 
-    module _ (once : OneMeaning) where
-      pub answered-due : (lost → ⊥) → (command : Command) (due : Said) → Asks words command → DueAt files (order_of command) due
-          → ((status ≡ due.status) × Reports err err' trouble due.line) ⊎ (status ≡ 5)
-      answered-due none command due asks d =
-          said-reported due (due-said files lost cut unwritten words status a.text a.line exact once a.outcome none command due asks d)
-
-      pub answered-unread : (lost → ⊥) → (command : Command) (bytes : List ℕ) (fault : ReadFault) (said : Said)
+      tells-unread : OneReading → (command : Command) (bytes : List ℕ) (fault : ReadFault) (said : Said)
           → Asks words command → files (circuit_of command) ≡ Holds bytes → length bytes ≤ 4194304
-          → HasReadFault bytes fault → TellsUnread fault said → ((status ≡ 1) × Reports err err' trouble said.line) ⊎ (status ≡ 5)
-      answered-unread none (Run circuit partition trace capacity workers mono) bytes fault said asks told short has tells =
-          status-one said (ap (λ (s : Said). s.status) tells.2)
-          (answered-due none (Run circuit partition trace capacity workers mono) said asks (bytes, told, inl (inr (short, inl (fault, has, tells)))))
+          → HasReadFault bytes fault → TellsUnread fault said → Tells err err' trouble status said ⊎ (status ≡ 5)
+      tells-unread one (Run circuit partition trace capacity workers mono) bytes fault said asks told short has tells =
+          let command : Command = Run circuit partition trace capacity workers mono in
+          let refuses : TellsCircuit bytes said = (front.Read fault, (has, tells.0), (λ e. absurd (cc)), tells.1) in
+          only-due (order_of command) said
+          (λ other d. one bytes fault said other has tells
+          (due-refused files (circuit_file circuit) (λ c. partition_order c partition trace) bytes said other (exact command).0 told short refuses d))
+          (tells-due command said asks (bytes, told, inl (inr (short, refuses))))
 
-      pub answered-traced : (lost → ⊥) → (command : Command) (c p t : List ℕ) (flat : FlatCircuit) (fault : TraceFault) → Asks words command
+      tells-traced : UniqueOrders → (command : Command) (c p t : List ℕ) (flat : FlatCircuit) (fault : TraceFault) → Asks words command
           → files (circuit_of command) ≡ Holds c → length c ≤ 4194304 → Means c flat
           → files (partition_of command) ≡ Holds p → length p ≤ 1048576 → IsPlainPartition p
           → files (trace_of command) ≡ Holds t → length t ≤ 67108864 → IsFirstFault (in_ports flat) t fault
-          → ((status ≡ 7) × Reports err err' trouble (trace_fault (fault_words fault)).line) ⊎ (status ≡ 5)
-      answered-traced none (Run circuit partition trace capacity workers mono) c p t flat fault asks hc lc means hp lp plain ht lt first =
-          answered-due none (Run circuit partition trace capacity workers mono) (trace_fault (fault_words fault)) asks
-          (c, hc, inr (lc, means-plain c flat means, (p, hp, inr (lp, plain, (t, ht, inl (inr (lt, (flat, means, (fault, first, refl)))))))))
+          → Tells err err' trouble status (trace_fault (fault_words fault)) ⊎ (status ≡ 5)
+      tells-traced unique (Run circuit partition trace capacity workers mono) c p t flat fault asks hc lc means hp lp plain ht lt first =
+          let command : Command = Run circuit partition trace capacity workers mono in
+          let said : Said = trace_fault (fault_words fault) in
+          let refuses : TellsTraceFor c t said = (flat, means, (fault, first, refl)) in
+          let accepted = means.text in
+          only-due (order_of command) said
+          (λ other d.
+          let at_partition = due-behind files (circuit_file circuit) (λ b. partition_order b partition trace) c other (exact command).0 hc lc accepted d in
+          let at_trace = due-behind files (partition_file partition) (λ _. trace_order c trace) p other ((exact command).1 c).0 hp lp plain at_partition in
+          let same = due-refused files (trace_file_for c trace) (λ b. Write (IsOnlyText c b)) t said other (((exact command).1 c).1 p).0 ht lt refuses at_trace in
+          ((unique c partition trace).1 p).0 t other said same refuses)
+          (tells-due command said asks (c, hc, inr (lc, accepted, (p, hp, inr (lp, plain, (t, ht, inl (inr (lt, refuses))))))))
 
-      pub answered-complete : (lost → ⊥) → (unwritten → ⊥) → (command : Command) → Asks words command → IsDueAccepted files (order_of command)
-          → (status ≡ 0) ⊎ (status ≡ 5)
-      answered-complete = complete-status files lost cut unwritten words status a.text a.line exact once a.outcome
+    pub promised : OneMeaning → UniqueOrders → OneReading → Promised words files lost cut unwritten trouble out out' err err' status
+    promised once unique one = record {
+      outcome = a;
+      judged = judged;
+      no_command = no_command;
+      not_loaded = lost-3 files lost cut unwritten words status a.text a.line caused;
+      not_written = unwritten-4 files lost cut unwritten words status a.text a.line caused;
+      over = cut-8 files lost cut unwritten words status a.text a.line caused;
+      nothing_written = nothing_written;
+      unasked = unasked-2 files lost cut unwritten words status a.text a.line a.outcome;
+      due = tells-due once;
+      unread = λ none. tells-unread once none one;
+      traced = λ none. tells-traced once none unique;
+      complete = complete-status files lost cut unwritten words status a.text a.line exact once a.outcome;
+    }
 
 -- the words ask for a command of the same names
 pub asks-same : (words : List (List ℕ)) (a b c x y z : List ℕ) (k w : ℕ) (m : Bool) → x ≡ a → y ≡ b → z ≡ c → Asks words (Run a b c k w m) → Asks words (Run x y z k w m)

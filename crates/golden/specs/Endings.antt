@@ -2,9 +2,7 @@
 use Rattle.std.specs.Prelude.{◌≡◌, ℕ, List, [], Option, Result, Ok, Err, ⊤}
 use Rattle.std.specs.Io.KnownBytes.{append_known}
 use Rattle.gg_io.specs.Told.{Told}
-use Rattle.gg_front.specs.declared.front_end.FrontFault.{FrontFault}
-use Rattle.gg_front.specs.declared.front_end.FrontFault.TheVariants as front
-use Rattle.golden.specs.Lines.{Said, not_plain, cannot_write, out_of_memory, TellsUnread}
+use Rattle.golden.specs.Lines.{Said, cannot_write, out_of_memory}
 use Rattle.golden.specs.Order.{Order}
 use Rattle.golden.specs.Outcome.{StandsFront, Ends, Outcome}
 use Rattle.golden.specs.declared.endings.Ending.{Ending}
@@ -15,12 +13,6 @@ abbrev pub IfRefused : (Said → Type 0) → Ending → Type 0
 IfRefused P (Refused said) = P said
 IfRefused P Unwritten = ⊥
 IfRefused P NoMemory = ⊤
-
--- this is said of a circuit's file of this name at which the front end answers this
-abbrev pub TellsFront : List ℕ → FrontFault → Said → Type 0
-TellsFront name (front.Read fault) said = TellsUnread fault said
-TellsFront name front.Plain said = said ≡ not_plain name
-TellsFront name front.NoMemory said = ⊥
 
 -- what is said of the ending
 abbrev pub said_of : Ending → Said

@@ -1,9 +1,9 @@
 -- What a call says where it doesn't write its whole text: its status, and a line on the error sink.
 -- They are this program's own words; the lines are those of docs/FORMATS.md.
-use Rattle.std.specs.Prelude.{◌≡◌, ℕ, List, [], ◌∷◌, ◌++◌, codes, decimal}
+use Rattle.std.specs.Prelude.{◌≡◌, ◌≢◌, ℕ, List, [], ◌∷◌, ◌++◌, codes, decimal}
 use Rattle.gg_read.specs.FaultText.{fault_text}
 use Rattle.gg_read.specs.declared.text.ReadFault.{ReadFault}
-use Rattle.gg_read.specs.declared.text.ReadFault.TheVariants.{NotText, Syntax, Outside, TooDeep, NoMemory}
+use Rattle.gg_read.specs.declared.text.ReadFault.TheVariants.{NoMemory}
 
 -- what a refusal says: its status and its line
 pub record Said : Type 0 where
@@ -38,17 +38,9 @@ not_plain name = record { status = 1; line = line_of (codes "golden: plain " ++ 
 abbrev pub circuit_fault : List ℕ → Said
 circuit_fault text = record { status = 1; line = line_of (codes "golden: circuit: " ++ text) }
 
--- these are the words of a fault of reading; want of memory is no fault of a text
-abbrev pub IsUnreadText : ReadFault → List ℕ → Type 0
-IsUnreadText NotText text = text ≡ fault_text NotText
-IsUnreadText (Syntax n) text = text ≡ fault_text (Syntax n)
-IsUnreadText (Outside n word) text = text ≡ fault_text (Outside n word)
-IsUnreadText (TooDeep n) text = text ≡ fault_text (TooDeep n)
-IsUnreadText NoMemory text = ⊥
-
--- this is said of a circuit's text with this fault of reading
+-- this is said of a circuit's text with this fault of reading; want of memory is no fault of a text
 abbrev pub TellsUnread : ReadFault → Said → Type 0
-TellsUnread fault said = (text : List ℕ) × IsUnreadText fault text × (said ≡ circuit_fault text)
+TellsUnread fault said = (fault ≢ NoMemory) × (said ≡ circuit_fault (fault_text fault))
 
 -- the trace has a fault, in these words
 abbrev pub trace_fault : List ℕ → Said

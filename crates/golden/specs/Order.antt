@@ -22,10 +22,10 @@ pub data Order : Type 1 where
 abbrev pub IsJudgement : ℕ → Type 0
 IsJudgement status = (status ≡ 1) ⊎ (status ≡ 7)
 
--- Of the bytes of a file one thing is said at most, with the file's own status, and nothing of bytes that are accepted.
+-- Nothing is said of the bytes of a file that are accepted, and all that is said of the others has the file's own status.
+-- More than one line may be right: where a circuit has several loops, any of them may be told.
 pub record IsExactFile (file : File) : Type 0 where
   pub apart : (bytes : List ℕ) (said : Said) → file.accepts bytes → file.refuses bytes said → ⊥
-  pub once : (bytes : List ℕ) (said other : Said) → file.refuses bytes said → file.refuses bytes other → said ≡ other
   pub status : (bytes : List ℕ) (said : Said) → file.refuses bytes said → said.status ≡ file.status
   pub judges : IsJudgement file.status
 
@@ -33,6 +33,15 @@ pub record IsExactFile (file : File) : Type 0 where
 abbrev pub IsExact : Order → Type 0
 IsExact (Load file next) = IsExactFile file × ((bytes : List ℕ) → IsExact (next bytes))
 IsExact (Write IsText) = Unit {0}
+
+-- Of the bytes of a file one thing is said at most, its line included.
+abbrev pub IsUniqueFile : File → Type 0
+IsUniqueFile file = (bytes : List ℕ) (said other : Said) → file.refuses bytes said → file.refuses bytes other → said ≡ other
+
+-- and so for each file of an order
+abbrev pub IsUnique : Order → Type 0
+IsUnique (Load file next) = IsUniqueFile file × ((bytes : List ℕ) → IsUnique (next bytes))
+IsUnique (Write IsText) = Unit {0}
 
 -- `files` tells what the shelf holds under each name; `lost` that a load failed, and `cut` that one was cut at its limit.
 module _ (files : List ℕ → Told) where

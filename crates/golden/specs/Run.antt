@@ -1,16 +1,16 @@
 -- The command `run`: its three files, and the text that it writes.
-use Rattle.std.specs.Prelude.{◌≡◌, ℕ, List, codes, ◌⊎◌}
+use Rattle.std.specs.Prelude.{◌≡◌, ◌≢◌, ℕ, List, codes, ◌⊎◌}
 use Rattle.gg_flat.specs.Circuit.{FlatCircuit}
 use Rattle.gg_front.specs.Meaning.{Means}
-use Rattle.gg_front.specs.Fault.{IsReadUnplain}
-use Rattle.gg_front.specs.Plain.{IsPlain}
-use Rattle.gg_read.specs.Text.{HasReadFault}
-use Rattle.gg_read.specs.declared.text.ReadFault.{ReadFault}
+use Rattle.gg_front.specs.Accepted.{IsAcceptedText}
+use Rattle.gg_front.specs.Fault.{HasFrontFault, front_text}
+use Rattle.gg_front.specs.declared.fault.FrontFault.{FrontFault}
+use Rattle.gg_front.specs.declared.fault.FrontFault.TheVariants as front
 use Rattle.gg_flat.specs.Ports.{in_ports}
 use Rattle.gg_trace.specs.FaultText.{fault_words}
 use Rattle.gg_trace.specs.Trace.{IsFirstFault}
 use Rattle.gg_trace.specs.declared.faults.TraceFault.{TraceFault}
-use Rattle.golden.specs.Lines.{Said, line_of, not_plain, trace_fault, TellsUnread}
+use Rattle.golden.specs.Lines.{Said, line_of, circuit_fault, not_plain, trace_fault}
 use Rattle.golden.specs.Order.{File, Order, Load, Write}
 use Rattle.golden.specs.RunText.{IsTraceOf, IsRunText}
 
@@ -25,16 +25,14 @@ plain_file name limit IsPlainFile =
       refuses = λ bytes said. (¬ IsPlainFile bytes) × (said ≡ not_plain name);
     }
 
--- This is said of the bytes of a circuit's file of this name: their fault of reading, or where they are read, that they
--- aren't plain.
-abbrev pub TellsCircuit : (name bytes : List ℕ) → Said → Type 0
-TellsCircuit name bytes said =
-    ((fault : ReadFault) × HasReadFault bytes fault × TellsUnread fault said)
-    ⊎ (IsReadUnplain bytes × (said ≡ not_plain name))
+-- This is said of the bytes of a circuit's file: their fault of reading, or the first fault of the circuit that they spell.
+abbrev pub TellsCircuit : (bytes : List ℕ) → Said → Type 0
+TellsCircuit bytes said =
+    (fault : FrontFault) × HasFrontFault bytes fault × (fault ≢ front.NoMemory) × (said ≡ circuit_fault (front_text fault))
 
 -- the circuit's file: at most 4,194,304 bytes
 abbrev pub circuit_file : (name : List ℕ) → File
-circuit_file name = record { name = name; limit = 4194304; status = 1; accepts = IsPlain; refuses = TellsCircuit name }
+circuit_file name = record { name = name; limit = 4194304; status = 1; accepts = IsAcceptedText; refuses = TellsCircuit }
 
 -- a plain partition: `{}`, with or without a line feed
 abbrev pub IsPlainPartition : List ℕ → Type 0

@@ -1,17 +1,25 @@
 //! A law of the order of refusals.
-ghost use Rattle.golden.specs.Order.{IsExact};
+ghost use Rattle.std.specs.Prelude.{◌≡◌, ℕ, List};
+ghost use Rattle.gg_read.specs.Text.{HasReadFault};
+ghost use Rattle.gg_read.specs.declared.text.ReadFault.{ReadFault};
+ghost use Rattle.golden.specs.Lines.{Said, TellsUnread};
+ghost use Rattle.golden.specs.Order.{IsExact, IsUnique};
+ghost use Rattle.golden.specs.Run.{TellsCircuit, partition_order};
 ghost use Rattle.golden.specs.Words.{Command, order_of};
 
-use gg_front::ports_agree;
+use gg_front::{faults_apart, ports_agree};
 use gg_read::one_fault_line;
 use gg_trace::one_first_fault;
 
-/// Of the bytes of each file of a command one thing is said at most, with the file's own status, and nothing of bytes that
-/// are accepted.
+/// Nothing is said of the bytes of a command's file that are accepted, and all that is said of others has the file's own
+/// status. Of a partition and of a trace one thing is said at most, and of a circuit with a fault of reading just that.
 pub fn refusals_are_exact()
-    ensures { (command : Command) → IsExact (order_of command) }
+    ensures exact { (command : Command) → IsExact (order_of command) }
+    ensures unique { (circuit partition trace : List ℕ) → IsUnique (partition_order circuit partition trace) }
+    ensures unread { (bytes : List ℕ) (fault : ReadFault) (said other : Said) → HasReadFault bytes fault → TellsUnread fault said → TellsCircuit bytes other → other ≡ said }
 {
     one_fault_line();
+    faults_apart();
     ports_agree();
     one_first_fault();
 }

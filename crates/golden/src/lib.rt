@@ -2,19 +2,21 @@
 //! text on one sink and at most one refusal's line on another, and answers the status. Which words are which command gg_words
 //! says. The one command that is there is `run`: the circuit's own run on the trace, printed; `check` is refused by name.
 //!
-//! What its clauses promise, for every shelf and every sink:
+//! What it promises (`Promised`), for every shelf and every sink:
 //!
 //! - `outcome`: the status, the text on `out` and the line on `err` are one end of the command that the words ask for,
 //!   or of words that ask for none. A command is an order of files; it ends where one is refused (each before it being
 //!   accepted), where a put fails, for want of memory, or with its whole text. With status 0 the text on `out` is that
 //!   of the circuit's own run on the trace (`IsOnlyText`): whichever flat circuit the bytes are taken to mean, each of its
 //!   runs on the trace has this text and no other.
-//! - Causes (`judged`, `no_command`, `lost`, `unwritten`, `over`): each status but 0 and 5 has its reason; a load or a
+//! - Causes (`judged`, `no_command`, `not_loaded`, `not_written`, `over`): each status but 0 and 5 has its reason; a load or a
 //!   put that failed is counted where it failed. `nothing_written`: a refusal leaves `out` as it was.
 //! - What is due is said (`unasked`, `due`, `unread`, `traced`): words that are no command give their status, and where no load
-//!   fails a file that is told and is to be refused gives just its status and line.
+//!   fails a file that is told and is to be refused gives just its status, and a line that is right for it. Of a fault of
+//!   reading, of a partition and of a trace only one line is right.
 //! - `complete`: where no load and no put fails, files that are told, within their limits and accepted give status 0.
-//! - The shelf's files stay, and no count falls.
+//!
+//! The shelf's files stay, and no count falls.
 //!
 //! What is no promise: each of `unasked` to `complete` leaves status 5 open, since memory may be refused at any time.
 //! Of a file of which the shelf tells nothing, as those of the system, `outcome` speaks of *some* bytes that it may hold:
@@ -29,7 +31,6 @@ mod loading;
 mod printing;
 mod reading;
 mod run;
-mod unread;
 mod words;
 mod writing;
 

@@ -1,25 +1,26 @@
 //! Reading the three files of `run`.
-ghost use Rattle.std.specs.Prelude.{◌≡◌, ◌≢◌, ℕ, ◌↔◌, List, IfOk, IfErr, IsTrue};
+ghost use Rattle.std.specs.Prelude.{◌≡◌, ◌≢◌, ℕ, ◌↔◌, List, IfOk, IfErr, IsTrue, string_bytes};
 ghost use Rattle.gg_io.specs.Count.{Rose};
+ghost use Rattle.gg_front.specs.Fault.{front_text};
 ghost use Rattle.gg_front.specs.Meaning.{Means};
+ghost use Rattle.gg_front.specs.declared.fault.FrontFault.TheVariants as front;
 ghost use Rattle.gg_flat.specs.Run.{IsColumns};
 ghost use Rattle.gg_trace.specs.declared.faults.TraceFault.TheVariants.{NoMemory};
 ghost use Rattle.gg_trace.specs.FaultText.{fault_words};
-ghost use Rattle.golden.specs.Lines.{not_plain, trace_fault};
+ghost use Rattle.golden.specs.Lines.{circuit_fault, not_plain, trace_fault};
 ghost use Rattle.golden.specs.Order.{CanBe, IsRefused};
 ghost use Rattle.golden.specs.Run.{circuit_file, partition_file, trace_file_of, IsPlainPartition};
 ghost use Rattle.golden.specs.RunText.{FeedsOnly};
-ghost use Rattle.golden.specs.Endings.{IfRefused, TellsFront};
+ghost use Rattle.golden.specs.Endings.{IfRefused};
 ghost use Rattle.golden.specs.WentOn.{ShelfWentOn};
 
 use crate::endings::{Ending, end_not_plain, end_with, make_refusal};
 use crate::loading::load;
-use crate::unread::end_unread;
 use gg_front::{FrontFault, front};
 use gg_io::Shelf;
 use gg_order::Design;
 use gg_trace::{Trace, TraceFault, read_trace};
-use std::alloc::Global;
+use std::alloc::{AllocError, Global};
 
 // How many bytes a circuit, a partition and a trace may have.
 const CIRCUIT_LIMIT: u64 = 4_194_304;
@@ -28,14 +29,23 @@ const PARTITION_LIMIT: u64 = 1_048_576;
 
 const TRACE_LIMIT: u64 = 67_108_864;
 
-// The ending at a circuit of which the front end answers this.
-fn end_at_circuit(alloc: Global, name: &str, fault: &FrontFault) -> Ending
-    ensures { IfRefused (TellsFront name.now fault.now) result }
+// The words of a fault of a circuit.
+fn fault_text(alloc: Global, fault: &FrontFault) -> Result<String, AllocError>
+    ensures { IfOk result (λ text. string_bytes text ≡ front_text fault.now) }
 {
-    match fault {
-        FrontFault::Read(fault) => end_unread(alloc, fault),
-        FrontFault::Plain => end_not_plain(alloc, name),
-        FrontFault::NoMemory => Ending::NoMemory,
+    format!(in alloc; "{fault}")
+}
+
+// The ending at a circuit of which the front end answers this.
+fn end_at_circuit(alloc: Global, fault: &FrontFault) -> Ending
+    ensures { IfRefused (λ said. (fault.now ≢ front.NoMemory) × (said ≡ circuit_fault (front_text fault.now))) result }
+{
+    if let FrontFault::NoMemory = fault {
+        return Ending::NoMemory;
+    }
+    match fault_text(alloc, fault) {
+        Ok(text) => end_with(make_refusal(alloc, 1, "golden: circuit: ", text.as_str(), "")),
+        Err(_) => Ending::NoMemory,
     }
 }
 
@@ -53,7 +63,7 @@ pub(crate) fn read_circuit<S: Shelf>(
     let bytes = load(alloc, shelf, name, CIRCUIT_LIMIT)?;
     match front(alloc, bytes.as_slice()) {
         Ok(design) => Ok(design),
-        Err(fault) => Err(end_at_circuit(alloc, name, &fault)),
+        Err(fault) => Err(end_at_circuit(alloc, &fault)),
     }
 }
 

@@ -11,26 +11,35 @@ use std::collections::BTreeMap;
 use std::process::Abort;
 use std::test::Fail;
 
-// The counter's lines.
-static COUNTER: [&str; 11] = [
-    "circuit Counter :",
-    "  module Counter :",
-    "    input clock : Clock",
-    "    input reset : UInt<1>",
-    "    output out : UInt<8>",
-    "",
-    "    reg c : UInt<8>, clock with :",
-    "      reset => (UInt<1>(\"h0\"), c) @[Counter.scala 5:20]",
-    "    node n = add(c, UInt<1>(\"h1\"))",
-    "    out <= c",
-    "    c <= mux(reset, UInt<8>(\"h0\"), bits(n, 7, 0))",
-];
+// The counter: its sixth line is empty.
+const COUNTER: &str =
+    "circuit Counter :\n  module Counter :\n    input clock : Clock\n    input reset : UInt<1>\n    output out : UInt<8>\n\n    reg c : UInt<8>, clock with :\n      reset => (UInt<1>(\"h0\"), c) @[Counter.scala 5:20]\n    node n = add(c, UInt<1>(\"h1\"))\n    out <= c\n    c <= mux(reset, UInt<8>(\"h0\"), bits(n, 7, 0))\n";
+
+// A sum of the widest.
+const WIDE: &str =
+    "circuit Wide :\nmodule Wide :\ninput x : UInt<127>\ninput y : UInt<127>\noutput z : UInt<128>\nz <= add(x, y)\n";
+
+// A loop across two instances and a read of latency 0.
+const LOOP: &str =
+    "circuit Loop :\nmodule Cell :\ninput clock : Clock\ninput a : UInt<2>\noutput d : UInt<2>\nmem m :\ndata-type => UInt<2>\ndepth => 4\nread-latency => 0\nwrite-latency => 1\nreader => r\nread-under-write => undefined\nm.r.addr <= a\nm.r.en <= UInt<1>(\"h1\")\nm.r.clk <= clock\nd <= m.r.data\nmodule Pass :\ninput b : UInt<2>\noutput e : UInt<2>\ne <= b\nmodule Loop :\ninput clock : Clock\noutput z : UInt<2>\ninst c of Cell\ninst p of Pass\nc.clock <= clock\nc.a <= p.e\np.b <= c.d\nz <= p.e\n";
+
+// Two instances that feed each other in one cycle.
+const PAIR: &str =
+    "circuit Pair :\nmodule A :\ninput clock : Clock\ninput x : UInt<8>\ninput k : UInt<8>\noutput p : UInt<8>\noutput q : UInt<8>\np <= x\nq <= xor(x, k)\nmodule B :\ninput m : UInt<8>\noutput n : UInt<8>\nn <= bits(shl(m, 1), 7, 0)\nmodule Pair :\ninput clock : Clock\ninput x : UInt<8>\noutput q : UInt<8>\ninst a of A\ninst b of B\na.clock <= clock\na.x <= x\nb.m <= a.p\na.k <= b.n\nq <= a.q\n";
+
+// A memory of latency 0 with two readers and two writers.
+const MEMORY: &str =
+    "circuit Mem :\nmodule Mem :\ninput clock : Clock\ninput a : UInt<2>\ninput v : UInt<8>\noutput o0 : UInt<8>\noutput o1 : UInt<8>\nmem m :\ndata-type => UInt<8>\ndepth => 3\nread-latency => 0\nwrite-latency => 1\nreader => r\nreader => s\nwriter => w\nwriter => x\nread-under-write => undefined\nm.r.clk <= clock\nm.s.clk <= clock\nm.w.clk <= clock\nm.x.clk <= clock\nm.r.addr <= a\nm.s.addr <= a\nm.w.addr <= a\nm.x.addr <= a\nm.r.en <= UInt<1>(\"h1\")\nm.s.en <= bits(v, 0, 0)\nm.w.en <= UInt<1>(\"h1\")\nm.x.en <= UInt<1>(\"h1\")\nm.w.mask <= UInt<1>(\"h1\")\nm.x.mask <= UInt<1>(\"h1\")\nm.w.data <= v\nm.x.data <= not(v)\no0 <= m.r.data\no1 <= m.s.data\n";
+
+// A memory of latency 1.
+const LATE: &str =
+    "circuit Late :\nmodule Late :\ninput clock : Clock\ninput a : UInt<2>\ninput e : UInt<1>\ninput v : UInt<8>\noutput o : UInt<8>\nmem m :\ndata-type => UInt<8>\ndepth => 3\nread-latency => 1\nwrite-latency => 1\nreader => r\nwriter => w\nread-under-write => new\nm.r.clk <= clock\nm.w.clk <= clock\nm.r.addr <= a\nm.w.addr <= a\nm.r.en <= e\nm.w.en <= UInt<1>(\"h1\")\nm.w.mask <= UInt<1>(\"h1\")\nm.w.data <= v\no <= m.r.data\n";
 
 const TRACE: &str = "cycle reset\n0 1\n1 0\n2 0\n3 0\n";
 
 const TEXT: &str = "cycle out\n0 00\n1 00\n2 01\n3 02\n";
 
-// Circuits that are plain, a trace of each, and the text of its run.
+// Circuits of one module, a trace of each, and the text of its run.
 static RUNS: [(&str, &str, &str); 12] = [
     // the counter with lines that end with CR LF, comments, tabs and file information
     (
@@ -109,7 +118,15 @@ static RUNS: [(&str, &str, &str); 12] = [
 // line of the refusal.
 static REFUSED: [(usize, &str, &str, &str, u8, u64, &str); 9] = [
     // the first fault is told: the circuit's before the partition's, the partition's before the trace's
-    (10, "", "[]", "cycle", 1, 1, "golden: plain k1.fir\n"),
+    (
+        10,
+        "",
+        "[]",
+        "cycle",
+        1,
+        1,
+        "golden: circuit: F5 line 5 out\n",
+    ),
     (
         9,
         "node n add(c, c)",
@@ -156,7 +173,7 @@ static REFUSED: [(usize, &str, &str, &str, u8, u64, &str); 9] = [
         TRACE,
         1,
         1,
-        "golden: plain k1.fir\n",
+        "golden: circuit: F1 Other\n",
     ),
 ];
 
@@ -214,11 +231,17 @@ static UNASKED: [(&str, &str); 14] = [
     ),
 ];
 
-// The counter's first lines, so many, where this line, counted from 1, is changed.
-fn counter(alloc: Global, lines: usize, changed: usize, text: &str) -> Result<String, AllocError> {
+// The first lines of a circuit, so many, where this line, counted from 1 (0: none), is changed.
+fn edited(
+    alloc: Global,
+    circuit: &str,
+    lines: usize,
+    changed: usize,
+    text: &str,
+) -> Result<String, AllocError> {
     let mut out = String::new(alloc);
     let mut number: usize = 0;
-    for line in COUNTER {
+    for line in circuit.lines() {
         if number >= lines {
             break;
         }
@@ -227,6 +250,11 @@ fn counter(alloc: Global, lines: usize, changed: usize, text: &str) -> Result<St
         out.push_str("\n")?;
     }
     Ok(out)
+}
+
+// The same of the counter.
+fn counter(alloc: Global, lines: usize, changed: usize, text: &str) -> Result<String, AllocError> {
+    edited(alloc, COUNTER, lines, changed, text)
 }
 
 // These files under the names that a call gives.
@@ -343,15 +371,6 @@ fn the_first_fault_is_told(rt: HostRuntime) -> Result<(), Fail> {
         )?;
         check(&rt, &run(alloc, files)?, *status, *loads, "", err);
     }
-    for (lines, err) in [
-        (0, "golden: circuit: syntax line 1\n"),
-        (1, "golden: plain k1.fir\n"),
-        (7, "golden: circuit: syntax line 8\n"),
-    ] {
-        let circuit = counter(alloc, lines, 0, "")?;
-        let files = files_of(alloc, circuit.as_bytes(), b"{}", TRACE.as_bytes())?;
-        check(&rt, &run(alloc, files)?, 1, 1, "", err);
-    }
     let files = files_of(alloc, b"\xff", b"{}", TRACE.as_bytes())?;
     check(
         &rt,
@@ -361,6 +380,221 @@ fn the_first_fault_is_told(rt: HostRuntime) -> Result<(), Fail> {
         "",
         "golden: circuit: not text\n",
     );
+    Ok(())
+}
+
+// Circuits with a line changed, counted from 1 (0: none), and the fault that is told.
+static FAULTS: [(&str, usize, &str, &str); 20] = [
+    (
+        COUNTER,
+        9,
+        "node n add(c, c)",
+        "golden: circuit: syntax line 9\n",
+    ),
+    (COUNTER, 1, "circuit Count :", "golden: circuit: F1 Count\n"),
+    (
+        COUNTER,
+        10,
+        "out <= c\nnode out = c",
+        "golden: circuit: F2 line 11 out\n",
+    ),
+    (COUNTER, 11, "c <= q", "golden: circuit: F3 line 11 q\n"),
+    (
+        COUNTER,
+        10,
+        "out <= c\nout <= c",
+        "golden: circuit: F4 line 11 out\n",
+    ),
+    (COUNTER, 10, "", "golden: circuit: F5 line 5 out\n"),
+    (
+        COUNTER,
+        10,
+        "out <= c\nreset <= c",
+        "golden: circuit: F6 line 11 reset\n",
+    ),
+    (
+        COUNTER,
+        10,
+        "out <= c\ninst x of Counter\nx.clock <= clock\nx.reset <= reset",
+        "golden: circuit: F7 Counter Counter\n",
+    ),
+    (
+        MEMORY,
+        11,
+        "read-latency => 2",
+        "golden: circuit: F8 line 8 read-latency\n",
+    ),
+    (
+        COUNTER,
+        10,
+        "out <= asSInt(c)",
+        "golden: circuit: F9 line 10 connect\n",
+    ),
+    (
+        COUNTER,
+        10,
+        "out <= dshl(c, UInt<32>(\"h0\"))",
+        "golden: circuit: F10 line 10 4294967295\n",
+    ),
+    (
+        WIDE,
+        3,
+        "input x : UInt<128>",
+        "golden: circuit: F10 line 6 129\n",
+    ),
+    (
+        COUNTER,
+        11,
+        "c <= bits(n, 9, 0)",
+        "golden: circuit: F11 line 11 bits\n",
+    ),
+    (
+        COUNTER,
+        9,
+        "node n = add(c, UInt<1>(\"h2\"))",
+        "golden: circuit: F12 line 9\n",
+    ),
+    (COUNTER, 11, "c <= n", "golden: circuit: F13 line 11 9 8\n"),
+    (
+        LOOP,
+        26,
+        "c.clock is invalid",
+        "golden: circuit: F14 line 26 c.clock\n",
+    ),
+    (
+        MEMORY,
+        10,
+        "depth => 65537",
+        "golden: circuit: F15 memory 65537\n",
+    ),
+    (
+        LOOP,
+        0,
+        "",
+        "golden: circuit: F16 c.a p.e p.b c.d c.m.r.data c.m.r.addr\n",
+    ),
+    (PAIR, 23, "a.k <= a.q", "golden: circuit: F16 a.k a.q\n"),
+    // of two faults the one of the lesser number, whatever their lines
+    (
+        COUNTER,
+        9,
+        "node n = add(c, UInt<1>(\"h2\"))\nnode n = c",
+        "golden: circuit: F2 line 10 n\n",
+    ),
+];
+
+#[test]
+fn each_fault_of_a_circuit(rt: HostRuntime) -> Result<(), Fail> {
+    let alloc = rt.alloc();
+    for (circuit, line, text, err) in &FAULTS {
+        let circuit = edited(alloc, circuit, 64, *line, text)?;
+        let files = files_of(alloc, circuit.as_bytes(), b"{}", TRACE.as_bytes())?;
+        check(&rt, &run(alloc, files)?, 1, 1, "", err);
+    }
+    Ok(())
+}
+
+// Circuits with instances and memories, with a line changed, a trace, and the text of the run.
+static WHOLE: [(&str, usize, &str, &str, &str); 5] = [
+    (
+        LOOP,
+        9,
+        "read-latency => 1",
+        "cycle\n0\n1\n",
+        "cycle z\n0 0\n1 0\n",
+    ),
+    (
+        PAIR,
+        0,
+        "",
+        "cycle x\n0 0f\n1 81\n",
+        "cycle q\n0 11\n1 83\n",
+    ),
+    (
+        MEMORY,
+        0,
+        "",
+        "cycle a v\n0 1 0f\n1 1 21\n2 3 55\n3 1 00\n",
+        "cycle o0 o1\n0 00 00\n1 f0 f0\n2 00 00\n3 de 00\n",
+    ),
+    (
+        LATE,
+        0,
+        "",
+        "cycle a e v\n0 1 1 11\n1 1 0 22\n2 3 1 33\n3 1 1 44\n4 0 0 00\n",
+        "cycle o\n0 00\n1 11\n2 00\n3 00\n4 44\n",
+    ),
+    (
+        LATE,
+        15,
+        "read-under-write => old",
+        "cycle a e v\n0 1 1 11\n1 1 0 22\n2 3 1 33\n3 1 1 44\n4 0 0 00\n",
+        "cycle o\n0 00\n1 00\n2 00\n3 00\n4 22\n",
+    ),
+];
+
+#[test]
+fn whole_circuits_are_run(rt: HostRuntime) -> Result<(), Fail> {
+    let alloc = rt.alloc();
+    for (circuit, line, text, trace, out) in &WHOLE {
+        let circuit = edited(alloc, circuit, 64, *line, text)?;
+        let files = files_of(alloc, circuit.as_bytes(), b"{}", trace.as_bytes())?;
+        check(&rt, &run(alloc, files)?, 0, 3, out, "");
+    }
+    Ok(())
+}
+
+// The counter cut after so many lines: the status, how many files are loaded, the text and the line.
+static CUT: [(usize, u8, u64, &str, &str); 12] = [
+    (0, 1, 1, "", "golden: circuit: syntax line 1\n"),
+    (1, 1, 1, "", "golden: circuit: F1 Counter\n"),
+    (2, 7, 3, "", "golden: trace: T1 field 1\n"),
+    (3, 7, 3, "", "golden: trace: T1 field 1\n"),
+    (4, 0, 3, "cycle\n0\n1\n2\n3\n", ""),
+    (5, 1, 1, "", "golden: circuit: F5 line 5 out\n"),
+    (6, 1, 1, "", "golden: circuit: F5 line 5 out\n"),
+    (7, 1, 1, "", "golden: circuit: syntax line 8\n"),
+    (8, 1, 1, "", "golden: circuit: F5 line 5 out\n"),
+    (9, 1, 1, "", "golden: circuit: F5 line 5 out\n"),
+    (10, 0, 3, "cycle out\n0 00\n1 00\n2 00\n3 00\n", ""),
+    (11, 0, 3, TEXT, ""),
+];
+
+#[test]
+fn the_counter_cut_short(rt: HostRuntime) -> Result<(), Fail> {
+    let alloc = rt.alloc();
+    for (lines, status, loads, out, err) in &CUT {
+        let circuit = counter(alloc, *lines, 0, "")?;
+        let files = files_of(alloc, circuit.as_bytes(), b"{}", TRACE.as_bytes())?;
+        check(&rt, &run(alloc, files)?, *status, *loads, out, err);
+    }
+    Ok(())
+}
+
+// The counter whose tenth line has so many operations one inside the other.
+fn nested(alloc: Global, depth: usize) -> Result<String, AllocError> {
+    let mut text = String::from_str(alloc, "out <= ")?;
+    for _ in 0..depth {
+        text.push_str("not(")?;
+    }
+    text.push_str("c")?;
+    for _ in 0..depth {
+        text.push_str(")")?;
+    }
+    counter(alloc, 11, 10, text.as_str())
+}
+
+#[test]
+fn operations_one_inside_the_other(rt: HostRuntime) -> Result<(), Fail> {
+    let alloc = rt.alloc();
+    for (depth, status, loads, out, err) in [
+        (256, 0, 3, TEXT, ""),
+        (257, 1, 1, "", "golden: circuit: too deep line 10\n"),
+    ] {
+        let circuit = nested(alloc, depth)?;
+        let files = files_of(alloc, circuit.as_bytes(), b"{}", TRACE.as_bytes())?;
+        check(&rt, &run(alloc, files)?, status, loads, out, err);
+    }
     Ok(())
 }
 
@@ -456,7 +690,7 @@ fn files_that_are_not_loaded(rt: HostRuntime) -> Result<(), Fail> {
     let alloc = rt.alloc();
     for (changed, status, loads, err) in [
         (0, 3, 2, "golden: cannot load p.json\n"),
-        (10, 1, 1, "golden: plain k1.fir\n"),
+        (10, 1, 1, "golden: circuit: F5 line 5 out\n"),
     ] {
         let mut files = BTreeMap::new(alloc);
         let circuit = counter(alloc, 11, changed, "")?;

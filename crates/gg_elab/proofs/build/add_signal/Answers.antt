@@ -21,5 +21,6 @@ returns c = λ xs h.
     let states : c.in-Ok.states ≡ length old.registers = omega (arith, c.in-Ok.ensures, ap (λ l. length l) c.registers.ensures) in
     subst (λ (f : FlatCircuit). IsSoFar types signals memories (xs ++ x ∷ []) f c.with_input-more.result) (sym c.in_ok-add_made.ensures)
     (so_far-more types signals memories xs x old c.args.inputs c.with_input-more.result c.in_ok-path.path c.args.signal.now.ty made.driver made.register h c.in_ok-path.ensures refl
-    (subst (λ (n : ℕ). IsMade types signals memories c.args.inputs n (shape c.args.signal.now.ty) x.drive made.driver made.register) states c.in_ok-made.ensures)
+    (subst (λ (n : ℕ). IsMade types signals memories c.args.inputs n (shape c.args.signal.now.ty) x.drive made.driver made.register) states c.in_ok-made.ensures.made)
+    c.in_ok-made.ensures.fits
     c.with_input-more.ensures)

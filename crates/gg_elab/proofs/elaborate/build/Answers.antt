@@ -4,6 +4,7 @@ use Rattle.gg_ast.specs.Tree.{ModuleTree, CircuitTree, module_names, empty_modul
 use Rattle.gg_ast.specs.Places.{place_of}
 use Rattle.gg_ast.proofs.NamePlaces.{place_of-below}
 use Rattle.gg_count.specs.Sites.{Site, module_at, all_sites}
+use Rattle.gg_flat.specs.Circuit.{FlatCircuit}
 use Rattle.gg_elab.specs.Known.{types_of}
 use Rattle.gg_elab.specs.Views.{site_of}
 use Rattle.gg_elab.specs.declared.sites.Place.{Place}
@@ -11,7 +12,7 @@ use Rattle.gg_elab.specs.Building.{IsSoFar, HasMemories}
 use Rattle.gg_elab.specs.Flat.{flat_signals, flat_memories}
 use Rattle.gg_elab.specs.Growing.{table_signals}
 use Rattle.gg_elab.specs.IsFlat.{signals_of, memory_paths}
-use Rattle.gg_elab.proofs.WholeLemmas.{whole, with_top}
+use Rattle.gg_elab.proofs.WholeLemmas.{whole, with_top, fitting_whole}
 use Rattle.gg_elab.proofs.elaborate.build.Goals as goal
 
 pub places-requires-clause-top : goal.places-requires-clause-top
@@ -25,8 +26,8 @@ bounds-modules-top c =
     let same : length c.modules-modules.result.now ≡ length circuit.modules = ap (λ (l : List ModuleTree). length l) (c.modules-modules.ensures ∙ ap (λ (k : CircuitTree). k.modules) (c.circuit.ensures.circuit ∙ c.names.ensures.names)) in
     omega (arith, place_of-below circuit.name (module_names circuit) c.args.top c.requires.top, length-map circuit.modules (λ (m : ModuleTree). m.name), same)
 
-pub returns : goal.returns
-returns c =
+pub returns-clause-flat : goal.returns-clause-flat
+returns-clause-flat c =
     let circuit = c.args.typed.now.circuit in
     let modules = circuit.modules in
     let types = types_of circuit in
@@ -49,3 +50,21 @@ returns c =
     ∙ get_or_default modules c.args.top c.index-modules-top.result (empty_module 0 []) below in
     with_top types modules (place_of circuit.name (module_names circuit)) c.args.top (map site_of places) c.ports.result.now three c.requires.top c.in_ok-places.ensures.sites (c.ports.ensures ∙ ap (λ (m : ModuleTree). m.ports) body)
     (whole types all banks c.ports.result.now (table_signals table) table.memories one two three c.in_ok-add_sites.ensures.0 same listed far has c.in_ok-add_ports.ensures.ins c.in_ok-add_ports.ensures.outs c.in_ok-add_ports.ensures.rest)
+
+pub returns-clause-fits : goal.returns-clause-fits
+returns-clause-fits c =
+    let circuit = c.args.typed.now.circuit in
+    let modules = circuit.modules in
+    let types = types_of circuit in
+    let places = c.in_ok-places.places.items in
+    let table = c.in_ok-table.table in
+    let all = flat_signals types modules (map site_of places) in
+    let one = c.add_sites.new.piece in
+    let two = c.add_all_memories.new.piece in
+    let three = c.add_ports.new.piece in
+    let same : table_signals table ≡ signals_of all = c.in_ok-table.ensures.signals ∙ ap (λ (l : List Place). signals_of (flat_signals types modules (map site_of l))) c.as_slice.ensures.value in
+    let far : IsSoFar types (table_signals table) table.memories all one c.in_ok-add_sites.ensures.0 =
+    subst (λ (l : List Place). IsSoFar types (table_signals table) table.memories (flat_signals types modules (map site_of l)) one c.in_ok-add_sites.ensures.0) c.as_slice-2.ensures.value c.in_ok-add_sites.ensures.1 in
+    fitting_whole types all (table_signals table) table.memories one three c.in_ok-add_sites.ensures.0 same far
+    (ap (λ (f : FlatCircuit). f.signals) c.in_ok-add_ports.ensures.rest ∙ ap (λ (f : FlatCircuit). f.signals) c.in_ok-add_all_memories.ensures.rest)
+    (ap (λ (f : FlatCircuit). f.registers) c.in_ok-add_ports.ensures.rest ∙ ap (λ (f : FlatCircuit). f.registers) c.in_ok-add_all_memories.ensures.rest)

@@ -1,6 +1,5 @@
 use Rattle.std.proofs.Common.{inr, subst, List, ℕ}
 use Rattle.golden.specs.Run.{TellsCircuit}
-use Rattle.golden.proofs.FrontLemmas.{front-tells}
 use Rattle.golden.proofs.ReadingLemmas.{IfRefused-map}
 use Rattle.golden.proofs.reading.read_circuit.Goals as goal
 
@@ -10,7 +9,6 @@ returns-clause-refused g c =
     (λ said h. inr (
       c.in_ok-bytes.bytes.items,
       record { held = c.in_ok-bytes.ensures.held; within = c.in_ok-bytes.ensures.within },
-      subst (λ (b : List ℕ). TellsCircuit c.args.name.now b said) c.as_slice.ensures.value
-          (front-tells c.args.name.now c.as_slice.result.now c.in-Err.fault said c.in-Err.ensures.refused h),
+      subst (λ (b : List ℕ). TellsCircuit b said) c.as_slice.ensures.value (c.in-Err.fault, c.in-Err.ensures.refused, h.0, h.1),
     ))
     c.end_at_circuit.result c.end_at_circuit.ensures

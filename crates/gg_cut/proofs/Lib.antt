@@ -1,0 +1,12 @@
+pub mod WorkedPair
+pub mod WorkedCells
+pub mod PathLemmas
+pub mod FindLemmas
+pub mod ChainLemmas
+pub mod CounterpartLemmas
+pub mod KnownLemmas
+pub mod OwnerLemmas
+pub mod RangeLemmas
+pub mod ChannelLemmas
+pub mod WireLemmas
+pub mod SolveLemmas

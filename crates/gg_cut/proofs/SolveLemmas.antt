@@ -1,0 +1,143 @@
+-- The columns of the circuit's run solve the plan.
+use Rattle.std.proofs.Common.{◌≡◌, ℕ, zero, suc, ◌+◌, ◌-◌, ◌<◌, List, [], ◌∷◌, length, map, get_or, Bool, true, false, refl, sym, ◌∙◌, ap, ap₂, subst, arith}
+use Rattle.std.specs.Prelude.{filter, cond, ◌==◌}
+use Rattle.std.specs.List.{range_with_len}
+use Rattle.std.proofs.lemmas.List.{get_or-map, length-map}
+use Rattle.std.proofs.lemmas.Grind.{same_number_lists}
+use Rattle.gg_flat.specs.Line.{value_at, shape_at}
+use Rattle.gg_flat.specs.Circuit.{FlatCircuit, signal_shapes}
+use Rattle.gg_flat.specs.Settled.{driver_value}
+use Rattle.gg_flat.specs.Run.{opening_start, IsRun, IsColumns, state_at, row_at, inputs_at, column}
+use Rattle.gg_flat.proofs.UniqueLemmas.{IsRunFrom-once}
+use Rattle.gg_order.specs.Design.{Ordered, IsDesign}
+use Rattle.gg_part.specs.PartRun.{part_row, part_rows, part_columns}
+use Rattle.gg_part.specs.declared.part.Part.{Part}
+use Rattle.gg_part.proofs.RenameLemmas.{part_row-at}
+use Rattle.gg_part.proofs.RunLemmas.{IsRun-part}
+use Rattle.gg_part.proofs.AlongLemmas.{IsOrder-numbers}
+use Rattle.gg_partfile.specs.declared.request.Request.{Request}
+use Rattle.gg_cut.specs.declared.plan.Body.{Body}
+use Rattle.gg_cut.specs.declared.plan.Body.TheVariants.{Cut, Memory, Source, Tray}
+use Rattle.gg_cut.specs.declared.plan.Machine.{Machine}
+use Rattle.gg_cut.specs.declared.plan.Channel.{Channel}
+use Rattle.gg_cut.specs.declared.plan.Plan.{Plan}
+use Rattle.gg_cut.specs.declared.listed.Listed.{Listed}
+use Rattle.gg_cut.specs.Listed.{listed_of}
+use Rattle.gg_cut.specs.declared.wires.Wire.{Wire}
+use Rattle.gg_cut.specs.Channels.{wires_of, first_source}
+use Rattle.gg_cut.specs.Plan.{wire_at, channels_to, channels_from, signals_of, IsCutPart, IsBody, IsPlan}
+use Rattle.gg_cut.specs.Solves.{GivesColumns, Answers, lists_of, Solves, columns_of}
+use Rattle.gg_cut.proofs.WireLemmas.{source-gives, tray-gives}
+
+map-map : {A B C : Type 0} (g : B → C) (f : A → B) (xs : List A) → map g (map f xs) ≡ map (λ x. g (f x)) xs
+map-map g f [] = refl
+map-map g f (x ∷ xs) = ap (λ l. g (f x) ∷ l) (map-map g f xs)
+
+-- two functions that agree on the items of a list
+map-agree : {B : Type 0} (f g : ℕ → B) (xs : List ℕ) → ((i : ℕ) → i < length xs → f (value_at xs i) ≡ g (value_at xs i)) → map f xs ≡ map g xs
+map-agree f g [] same = refl
+map-agree f g (x ∷ xs) same = ap₂ (λ y l. y ∷ l) (same 0 (omega arith)) (map-agree f g xs (λ i lt. same (suc i) (omega arith)))
+
+map-same : {A B : Type 0} (f g : A → B) (xs : List A) → ((x : A) → f x ≡ g x) → map f xs ≡ map g xs
+map-same f g [] same = refl
+map-same f g (x ∷ xs) same = ap₂ (λ y l. y ∷ l) (same x) (map-same f g xs same)
+
+-- ---- the lists of channels
+
+some-channel : (channels : List Channel) (c : ℕ) → c < length channels → Channel
+some-channel [] c lt = absurd (omega arith)
+some-channel (channel ∷ channels) c lt = channel
+
+-- the lists of the channels that pass a test are the columns of their signals
+lists-signals : (lists rows : List (List ℕ)) (wires : List Wire) (test : ℕ → Bool) (a n : ℕ) → ((c : ℕ) → c < a + n → get_or lists c [] ≡ column rows (wire_at wires c).signal)
+    → lists_of lists (filter test (range_with_len a n)) ≡ map (column rows) (signals_of wires (filter test (range_with_len a n)))
+lists-signals lists rows wires test a zero at = refl
+lists-signals lists rows wires test a (suc n) at =
+    by (filter test (range_with_len (a + 1) n)) (lists-signals lists rows wires test (a + 1) n (λ c lt. at c (omega arith))) (test a)
+  where
+    by : (later : List ℕ) → lists_of lists later ≡ map (column rows) (signals_of wires later) → (b : Bool) → lists_of lists (cond b (a ∷ later) later) ≡ map (column rows) (signals_of wires (cond b (a ∷ later) later))
+    by later rest true = ap₂ (λ y l. y ∷ l) (at a (omega arith)) rest
+    by later rest false = rest
+
+-- ---- a machine with a piece
+
+module _ (whole : FlatCircuit) (part : Part) (columns : List (List ℕ)) (n : ℕ) (rows : List (List ℕ)) where
+  column-part : (s : ℕ) → s < length part.globals → column (part_rows part.globals rows) s ≡ column rows (value_at part.globals s)
+  column-part s lt =
+      map-map (λ (row : List ℕ). value_at row s) (part_row part.globals) rows
+      ∙ map-same (λ row. value_at (part_row part.globals row) s) (λ row. value_at row (value_at part.globals s)) rows (λ row. part_row-at part.globals row s lt)
+
+gives-columns : (design : Ordered) (listed : Listed) (wires : List Wire) (m : ℕ) (part : Part) (columns : List (List ℕ)) (n : ℕ) (rows : List (List ℕ)) → IsCutPart design listed wires m part → IsRun design.circuit columns n rows
+    → GivesColumns part n (map (column rows) (signals_of wires (channels_to wires m))) (map (column rows) (signals_of wires (channels_from wires m)))
+gives-columns design listed wires m part columns n rows cut run =
+    let ins : part_columns part.globals part.piece rows ≡ map (column rows) (signals_of wires (channels_to wires m)) =
+    sym (map-map (column rows) (value_at part.globals) part.piece.ins) ∙ ap (map (column rows)) cut.ins in
+    let own = subst (λ (given : List (List ℕ)). IsRun part.piece given n (part_rows part.globals rows)) ins (IsRun-part design.circuit part.piece part.globals part.held part.memories cut.is columns n rows run) in
+    record {
+      rows = part_rows part.globals rows;
+      run = own;
+      gives = λ others other.
+          let same : others ≡ part_rows part.globals rows =
+          IsRunFrom-once part.piece (range_with_len 0 (length part.piece.signals)) (opening_start part.piece) (map (column rows) (signals_of wires (channels_to wires m))) n others (part_rows part.globals rows) (IsOrder-numbers part.piece cut.ordered) other own in
+          ap (λ (l : List (List ℕ)). map (column l) part.piece.outs) same
+          ∙ map-agree (column (part_rows part.globals rows)) (λ s. column rows (value_at part.globals s)) part.piece.outs (λ i lt. column-part design.circuit part columns n rows (value_at part.piece.outs i) (cut.is.outs i lt))
+          ∙ sym (map-map (column rows) (value_at part.globals) part.piece.outs)
+          ∙ ap (map (column rows)) cut.outs;
+    }
+
+-- ---- a source
+
+-- a top input's column is what it was given
+input-column : (design : Ordered) (columns : List (List ℕ)) (n : ℕ) (rows : List (List ℕ)) (i : ℕ) → IsDesign design → IsColumns design.circuit n columns → IsRun design.circuit columns n rows → i < length design.circuit.ins → column rows (value_at design.circuit.ins i) ≡ get_or columns i []
+input-column design columns n rows i is given run lt =
+    let circuit = design.circuit in
+    let s = value_at circuit.ins i in
+    let at = is.formed.ins i lt in
+    let high : length (get_or columns i []) ≡ n = given.height i [] (omega (arith, lt, given.count)) in
+    let count : length (column rows s) ≡ n = length-map rows (λ (row : List ℕ). value_at row s) ∙ run.count in
+    same_number_lists (column rows s) (get_or columns i []) (count ∙ sym high) (λ t below.
+    let inside : t < n = omega (arith, below, count) in
+    get_or-map (λ (row : List ℕ). value_at row s) rows t [] 0 (omega (arith, inside, run.count))
+    ∙ (run.settled t inside).driven s at.0
+    ∙ ap (driver_value (state_at circuit (opening_start circuit) rows t) (inputs_at columns t) (row_at rows t) (shape_at (signal_shapes circuit) s)) at.1
+    ∙ get_or-map (λ (c : List ℕ). value_at c t) columns i [] 0 (omega (arith, lt, given.count)))
+
+-- ---- all machines
+
+some-machine : (machines : List Machine) (m : ℕ) → m < length machines → Machine
+some-machine [] m lt = absurd (omega arith)
+some-machine (machine ∷ machines) m lt = machine
+
+module _ (design : Ordered) (request : Request) (columns : List (List ℕ)) (n : ℕ) (rows : List (List ℕ)) (is : IsDesign design) (given : IsColumns design.circuit n columns) (run : IsRun design.circuit columns n rows) where
+  answers : (listed : Listed) (m : ℕ) (body : Body) → IsBody design listed (wires_of design.circuit design.tree listed) m body
+      → Answers body n (get_or columns (m - first_source listed) []) (map (column rows) (signals_of (wires_of design.circuit design.tree listed) (channels_to (wires_of design.circuit design.tree listed) m))) (map (column rows) (signals_of (wires_of design.circuit design.tree listed) (channels_from (wires_of design.circuit design.tree listed) m)))
+  answers listed m (Cut part) body = gives-columns design listed (wires_of design.circuit design.tree listed) m part columns n rows body.1 run
+  answers listed m (Memory part) body = gives-columns design listed (wires_of design.circuit design.tree listed) m part columns n rows body.2 run
+  answers listed m Source body =
+      let i = m - first_source listed in
+      let place : m ≡ first_source listed + i = omega (arith, body.0) in
+      let lt : i < length design.circuit.ins = omega (arith, body.0, body.1) in
+      ap (map (column rows)) (source-gives design.circuit design.tree listed m i place lt)
+      ∙ ap (λ c. c ∷ []) (input-column design columns n rows i is given run lt)
+  answers listed m Tray body = ap (map (column rows)) (tray-gives design.circuit design.tree listed m body)
+
+pub Solves-columns : (design : Ordered) (request : Request) (default : ℕ) (plan : Plan) (columns : List (List ℕ)) (n : ℕ) (rows : List (List ℕ)) → IsDesign design → IsPlan design request default plan → IsColumns design.circuit n columns → IsRun design.circuit columns n rows → Solves plan (λ m. get_or columns (m - first_source (listed_of design.tree request)) []) n (columns_of plan rows)
+Solves-columns design request default plan columns n rows is planned given run =
+    let listed = listed_of design.tree request in
+    let wires = wires_of design.circuit design.tree listed in
+    let lists = columns_of plan rows in
+    let list-at : (c : ℕ) → c < 0 + length wires → get_or lists c [] ≡ column rows (wire_at wires c).signal = λ c lt.
+    let known : c < length plan.channels = omega (arith, lt, planned.channel_total) in
+    let some = some-channel plan.channels c known in
+    get_or-map (λ (channel : Channel). column rows channel.signal) plan.channels c some [] known ∙ ap (column rows) (planned.channel c some known).signal in
+    record {
+      count = length-map plan.channels (λ channel. column rows channel.signal);
+      each = λ m any lt.
+          let machine = get_or plan.machines m any in
+          let at = planned.machine m any lt in
+          let ins = ap (lists_of lists) at.ins ∙ lists-signals lists rows wires (λ c. (wire_at wires c).consumer == m) 0 (length wires) list-at in
+          let outs = ap (lists_of lists) at.outs ∙ lists-signals lists rows wires (λ c. (wire_at wires c).producer == m) 0 (length wires) list-at in
+          subst (λ (l : List (List ℕ)). Answers machine.body n (get_or columns (m - first_source listed) []) l (lists_of lists machine.outs)) (sym ins)
+          (subst (Answers machine.body n (get_or columns (m - first_source listed) []) (map (column rows) (signals_of wires (channels_to wires m)))) (sym outs)
+          (answers design request columns n rows is given run listed m machine.body at.body));
+    }

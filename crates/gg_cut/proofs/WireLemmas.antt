@@ -1,0 +1,187 @@
+-- The channels that a machine gives.
+use Rattle.std.proofs.Common.{◌≡◌, ℕ, zero, suc, ◌+◌, ◌<◌, ◌≤◌, List, [], ◌∷◌, ◌++◌, length, map, get_or, Bool, true, false, eq-eqb, true-eqb, refl, sym, ◌∙◌, ap, ap₂, arith}
+use Rattle.std.specs.Prelude.{filter, cond, ◌==◌, if◌then◌else◌, Option, Some, None}
+use Rattle.std.specs.List.{range_with_len}
+use Rattle.std.proofs.lemmas.List.Elements.{filter-append}
+use Rattle.gg_flat.specs.declared.tree.InstancePort.{InstancePort}
+use Rattle.gg_flat.specs.declared.memory.Reader.{Reader}
+use Rattle.gg_flat.specs.declared.memory.Writer.{Writer}
+use Rattle.gg_flat.specs.Circuit.{FlatCircuit, readers_at}
+use Rattle.gg_flat.specs.Tree.{InstanceTree, instance_at, memory_at, parent_place}
+use Rattle.gg_flat.specs.Scoped.{writers_at}
+use Rattle.gg_cut.specs.declared.listed.Listed.{Listed}
+use Rattle.gg_cut.specs.Listed.{unit_or_hub, owner_of_instance, lies, first_place}
+use Rattle.gg_cut.proofs.PathLemmas.{first_place-Some}
+use Rattle.gg_cut.specs.declared.wires.Wire.{Wire}
+use Rattle.gg_cut.specs.Channels.{wire, numbered, flattened, first_memory, first_source, first_tray, port_wire, port_wires, reader_wires, writer_wires, field_wires, source_wires, tray_wires, wires_of}
+use Rattle.gg_cut.specs.Plan.{wire_at, channels_from, signals_of}
+
+-- ---- a property of each wire, by recursion
+
+abbrev pub Each : (Wire → Type 0) → List Wire → Type 0
+Each P [] = Unit {0}
+Each P (w ∷ wires) = P w × Each P wires
+
+pub Each-append : (P : Wire → Type 0) (xs ys : List Wire) → Each P xs → Each P ys → Each P (xs ++ ys)
+Each-append P [] ys a b = b
+Each-append P (x ∷ xs) ys a b = (a.0, Each-append P xs ys a.1 b)
+
+pub Each-numbered : {A : Type 0} (P : Wire → Type 0) (f : ℕ → A → List Wire) (n : ℕ) (xs : List A) → ((k : ℕ) (x : A) → n ≤ k → k < n + length xs → Each P (f k x)) → Each P (numbered f n xs)
+Each-numbered P f n [] each = tt
+Each-numbered P f n (x ∷ xs) each =
+    Each-append P (f n x) (numbered f (suc n) xs) (each n x (omega arith) (omega arith)) (Each-numbered P f (suc n) xs (λ k y le lt. each k y (omega arith) (omega arith)))
+
+Each-flattened : {A : Type 0} (P : Wire → Type 0) (f : A → List Wire) (xs : List A) → ((x : A) → Each P (f x)) → Each P (flattened f xs)
+Each-flattened P f [] each = tt
+Each-flattened P f (x ∷ xs) each = Each-append P (f x) (flattened f xs) (each x) (Each-flattened P f xs each)
+
+Each-map : {A : Type 0} (P : Wire → Type 0) (f : A → Wire) (xs : List A) → ((x : A) → P (f x)) → Each P (map f xs)
+Each-map P f [] each = tt
+Each-map P f (x ∷ xs) each = (each x, Each-map P f xs each)
+
+-- ---- filters
+
+pub filter-none : (test : Wire → Bool) (xs : List Wire) → Each (λ w. test w ≡ false) xs → filter test xs ≡ []
+filter-none test [] each = refl
+filter-none test (x ∷ xs) each = ap (λ b. cond b (x ∷ filter test xs) (filter test xs)) each.0 ∙ filter-none test xs each.1
+
+-- the channels that pass a test, by their numbers, are the wires that do
+filter-numbers : (test : Wire → Bool) (all : List Wire) (a : ℕ) (xs : List Wire) → ((k : ℕ) → k < length xs → wire_at all (a + k) ≡ wire_at xs k) → map (wire_at all) (filter (λ c. test (wire_at all c)) (range_with_len a (length xs))) ≡ filter test xs
+filter-numbers test all a [] same = refl
+filter-numbers test all a (x ∷ xs) same =
+    let here : wire_at all a ≡ x = ap (wire_at all) (let place : a ≡ a + 0 = omega arith in place) ∙ same 0 (omega arith) in
+    let rest = filter-numbers test all (a + 1) xs (λ k lt. ap (wire_at all) (let place : a + 1 + k ≡ a + suc k = omega arith in place) ∙ same (suc k) (omega arith)) in
+    let later = filter (λ c. test (wire_at all c)) (range_with_len (a + 1) (length xs)) in
+    by here later rest (test (wire_at all a)) (ap test here)
+  where
+    by : wire_at all a ≡ x → (later : List ℕ) → map (wire_at all) later ≡ filter test xs → (b : Bool) → b ≡ test x → map (wire_at all) (cond b (a ∷ later) later) ≡ cond (test x) (x ∷ filter test xs) (filter test xs)
+    by here later rest true e = ap₂ (λ w l. w ∷ l) here rest ∙ ap (λ b. cond b (x ∷ filter test xs) (filter test xs)) e
+    by here later rest false e = rest ∙ ap (λ b. cond b (x ∷ filter test xs) (filter test xs)) e
+
+map-signal : (wires : List Wire) (channels : List ℕ) → signals_of wires channels ≡ map (λ (w : Wire). w.signal) (map (wire_at wires) channels)
+map-signal wires [] = refl
+map-signal wires (c ∷ channels) = ap (λ l. (wire_at wires c).signal ∷ l) (map-signal wires channels)
+
+-- the signals of the channels that a machine gives
+pub signals-from : (wires : List Wire) (m : ℕ) → signals_of wires (channels_from wires m) ≡ map (λ (w : Wire). w.signal) (filter (λ w. w.producer == m) wires)
+signals-from wires m =
+    map-signal wires (channels_from wires m)
+    ∙ ap (map (λ (w : Wire). w.signal)) (filter-numbers (λ w. w.producer == m) wires 0 wires (λ k lt. ap (wire_at wires) (let place : 0 + k ≡ k = omega arith in place)))
+
+-- ---- who gives what
+
+other-number : (a b : ℕ) → a < b → (a == b) ≡ false
+other-number a b lt = by (a == b) refl
+  where
+    by : (t : Bool) → (a == b) ≡ t → t ≡ false
+    by true e = let same : a ≡ b = true-eqb a b (sym e) in absurd (omega (arith, same, lt))
+    by false e = refl
+
+abbrev Below : ℕ → Wire → Type 0
+Below n w = w.producer < n
+
+unit_or_hub-below : (tree : InstanceTree) (units : List ℕ) (k : ℕ) → owner_of_instance tree units k < suc (length units)
+unit_or_hub-below tree units k = by (first_place (λ unit. lies tree k unit) units) refl
+  where
+    by : (found : Option ℕ) → first_place (λ unit. lies tree k unit) units ≡ found → unit_or_hub found < suc (length units)
+    by None e = omega arith
+    by (Some u) e = let lt = (first_place-Some (λ unit. lies tree k unit) units u e).within in omega (arith, lt)
+
+port-below : (n outside unit : ℕ) → outside < n → unit < n → (port : InstancePort) → Below n (port_wire outside unit port)
+port-below n outside unit lo lu port = by port.is_input
+  where
+    by : (b : Bool) → Below n (if b then wire port.signal outside unit else wire port.signal unit outside)
+    by true = lo
+    by false = lu
+
+reader-below : (n outside memory : ℕ) → outside < n → memory < n → (reader : Reader) → Each (Below n) (reader_wires outside memory reader)
+reader-below n outside memory lo lm reader = (lo, (lo, (lm, tt)))
+
+writer-below : (n outside memory : ℕ) → outside < n → (writer : Writer) → Each (Below n) (writer_wires outside memory writer)
+writer-below n outside memory lo writer = (lo, (lo, (lo, (lo, tt))))
+
+module _ (circuit : FlatCircuit) (tree : InstanceTree) (listed : Listed) where
+  abbrev pub rest_wires : List Wire
+  rest_wires =
+      numbered (port_wires tree listed.units) 1 listed.units
+      ++ (numbered (field_wires circuit tree listed.units) (first_memory listed) listed.memories
+      ++ numbered tray_wires (first_tray circuit listed) circuit.outs)
+
+  -- what no source gives is given by a machine before the first source
+  pub rest-below : Each (Below (first_source listed)) rest_wires
+  rest-below =
+      let n = first_source listed in
+      Each-append (Below n) (numbered (port_wires tree listed.units) 1 listed.units) _
+      (Each-numbered (Below n) (port_wires tree listed.units) 1 listed.units (λ k unit le lt.
+      let outside = unit_or_hub-below tree listed.units (parent_place (instance_at tree unit).parent) in
+      Each-map (Below n) (port_wire (owner_of_instance tree listed.units (parent_place (instance_at tree unit).parent)) k) (instance_at tree unit).ports
+      (port-below n (owner_of_instance tree listed.units (parent_place (instance_at tree unit).parent)) k (omega (arith, outside)) (omega (arith, lt)))))
+      (Each-append (Below n) (numbered (field_wires circuit tree listed.units) (first_memory listed) listed.memories) _
+      (Each-numbered (Below n) (field_wires circuit tree listed.units) (first_memory listed) listed.memories (λ k j le lt.
+      let outside = owner_of_instance tree listed.units (memory_at tree j).instance in
+      let lo : outside < n = omega (arith, unit_or_hub-below tree listed.units (memory_at tree j).instance) in
+      Each-append (Below n) (flattened (reader_wires outside k) (readers_at circuit (memory_at tree j).memory)) (flattened (writer_wires outside k) (writers_at circuit (memory_at tree j).memory))
+      (Each-flattened (Below n) (reader_wires outside k) (readers_at circuit (memory_at tree j).memory) (reader-below n outside k lo lt))
+      (Each-flattened (Below n) (writer_wires outside k) (writers_at circuit (memory_at tree j).memory) (writer-below n outside k lo))))
+      (Each-numbered (Below n) tray_wires (first_tray circuit listed) circuit.outs (λ k s le lt. (omega arith, tt))))
+
+  other-rest : (m : ℕ) → first_source listed ≤ m → (xs : List Wire) → Each (Below (first_source listed)) xs → Each (λ w. (w.producer == m) ≡ false) xs
+  other-rest m le [] each = tt
+  other-rest m le (x ∷ xs) each = (other-number x.producer m (omega (arith, each.0, le)), other-rest m le xs each.1)
+
+  -- ---- sources
+
+  number-other : (m : ℕ) (k : ℕ) (ins : List ℕ) → m < k → filter (λ w. w.producer == m) (numbered source_wires k ins) ≡ []
+  number-other m k [] lt = refl
+  number-other m k (s ∷ ins) lt =
+      ap (λ b. cond b (wire s k 0 ∷ filter (λ w. w.producer == m) (numbered source_wires (suc k) ins)) (filter (λ w. w.producer == m) (numbered source_wires (suc k) ins))) (unequal k m lt)
+      ∙ number-other m (suc k) ins (omega arith)
+    where
+      unequal : (a b : ℕ) → b < a → (a == b) ≡ false
+      unequal a b lt = by (a == b) refl
+        where
+          by : (t : Bool) → (a == b) ≡ t → t ≡ false
+          by true e = let same : a ≡ b = true-eqb a b (sym e) in absurd (omega (arith, same, lt))
+          by false e = refl
+
+  source-one : (k i : ℕ) (ins : List ℕ) → i < length ins → filter (λ w. w.producer == (k + i)) (numbered source_wires k ins) ≡ wire (get_or ins i 0) (k + i) 0 ∷ []
+  source-one k i [] lt = absurd (omega arith)
+  source-one k zero (s ∷ ins) lt =
+      let place : k + 0 ≡ k = omega arith in
+      let here : (k == (k + 0)) ≡ true = eq-eqb k (k + 0) (sym place) in
+      let rest = filter (λ w. w.producer == (k + 0)) (numbered source_wires (suc k) ins) in
+      ap (λ b. cond b (wire s k 0 ∷ rest) rest) here ∙ ap₂ (λ p l. wire s p 0 ∷ l) (sym place) (number-other (k + 0) (suc k) ins (omega arith))
+  source-one k (suc i) (s ∷ ins) lt =
+      let place : k + suc i ≡ suc k + i = omega arith in
+      let rest = filter (λ w. w.producer == (k + suc i)) (numbered source_wires (suc k) ins) in
+      ap (λ b. cond b (wire s k 0 ∷ rest) rest) (other-number k (k + suc i) (omega arith))
+      ∙ ap (λ m. filter (λ w. w.producer == m) (numbered source_wires (suc k) ins)) place
+      ∙ source-one (suc k) i ins (omega arith)
+      ∙ ap (λ m. wire (get_or ins i 0) m 0 ∷ []) (sym place)
+
+  -- a source gives its top input alone
+  pub source-gives : (m i : ℕ) → m ≡ first_source listed + i → i < length circuit.ins → signals_of (wires_of circuit tree listed) (channels_from (wires_of circuit tree listed) m) ≡ get_or circuit.ins i 0 ∷ []
+  source-gives m i is lt =
+      let wires = wires_of circuit tree listed in
+      signals-from wires m
+      ∙ ap (map (λ (w : Wire). w.signal))
+      (filter-append (λ w. w.producer == m) (numbered source_wires (first_source listed) circuit.ins) rest_wires
+      ∙ ap₂ (λ xs ys. xs ++ ys)
+      (ap (λ m. filter (λ w. w.producer == m) (numbered source_wires (first_source listed) circuit.ins)) is ∙ source-one (first_source listed) i circuit.ins lt)
+      (filter-none (λ w. w.producer == m) rest_wires (other-rest m (omega (arith, is)) rest_wires rest-below)))
+
+  sources-below : (m k : ℕ) (ins : List ℕ) → k + length ins ≤ m → filter (λ w. w.producer == m) (numbered source_wires k ins) ≡ []
+  sources-below m k [] le = refl
+  sources-below m k (s ∷ ins) le =
+      let rest = filter (λ w. w.producer == m) (numbered source_wires (suc k) ins) in
+      ap (λ b. cond b (wire s k 0 ∷ rest) rest) (other-number k m (omega arith)) ∙ sources-below m (suc k) ins (omega arith)
+
+  -- a tray gives nothing
+  pub tray-gives : (m : ℕ) → first_tray circuit listed ≤ m → signals_of (wires_of circuit tree listed) (channels_from (wires_of circuit tree listed) m) ≡ []
+  tray-gives m le =
+      let wires = wires_of circuit tree listed in
+      signals-from wires m
+      ∙ ap (map (λ (w : Wire). w.signal))
+      (filter-append (λ w. w.producer == m) (numbered source_wires (first_source listed) circuit.ins) rest_wires
+      ∙ ap₂ (λ xs ys. xs ++ ys) (sources-below m (first_source listed) circuit.ins le)
+      (filter-none (λ w. w.producer == m) rest_wires (other-rest m (omega arith) rest_wires rest-below)))

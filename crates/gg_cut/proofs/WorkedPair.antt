@@ -1,0 +1,148 @@
+-- Two units that feed each other in one cycle: what is listed, the channels, the hosts and the faults, worked by hand.
+--
+-- The top has the input `x` and the output `q`, an instance `a` of module A with the inputs `x` and `k` and the outputs `p` and
+-- `q`, and an instance `b` of module B with the input `m` and the output `n`. A's `p` is its `x`, its `q` is `xor(x, k)`; B's
+-- `n` is its `m` one bit to the left. The top connects `a.x` to `x`, `a.k` to `b.n`, `b.m` to `a.p` and `q` to `a.q`.
+use Rattle.std.proofs.Common.{◌≡◌, ℕ, List, [], ◌∷◌, Some, None, true, false, refl}
+use Rattle.std.specs.Prelude.{codes, map, replicate}
+use Rattle.gg_bits.specs.declared.ops.Op2.TheVariants.{Xor}
+use Rattle.gg_bits.specs.declared.ops.OpN.TheVariants.{Bits, Shl}
+use Rattle.gg_flat.specs.declared.line.Op.TheVariants.{Ref, Two, Fix}
+use Rattle.gg_flat.specs.declared.piece.Driver.TheVariants.{Input, Computed}
+use Rattle.gg_flat.specs.declared.tree.InstancePort.{InstancePort}
+use Rattle.gg_flat.specs.Circuit.{FlatCircuit}
+use Rattle.gg_flat.specs.Tree.{InstanceTree}
+use Rattle.gg_flat.proofs.WorkedCircuits.{eight, nine, node}
+use Rattle.gg_flat.proofs.WorkedMemories.{signal, copy}
+use Rattle.gg_partfile.specs.declared.request.Request.{Request}
+use Rattle.gg_cut.specs.declared.fault.CutFault.TheVariants.{UnknownUnit, Doubled, OtherModule, UnknownMemory, UnknownChannel, OutOfRange}
+use Rattle.gg_cut.specs.declared.listed.Listed.{Listed}
+use Rattle.gg_cut.specs.Listed.{listed_of, owner_of}
+use Rattle.gg_cut.specs.Channels.{wire, wires_of, channel_signals, channel_names, capacity_of}
+use Rattle.gg_cut.specs.Fault.{fault_in, too_many_units}
+
+abbrev pub input : ℕ → InstancePort
+input s = record { signal = s; is_input = true }
+
+abbrev pub output : ℕ → InstancePort
+output s = record { signal = s; is_input = false }
+
+abbrev pub circuit : FlatCircuit
+circuit =
+    record {
+      paths = codes "x" ∷ codes "q" ∷ codes "a.x" ∷ codes "a.k" ∷ codes "a.p" ∷ codes "a.q" ∷ codes "b.m" ∷ codes "b.n" ∷ [];
+      signals =
+          signal eight (Input 0) ∷ copy eight 5
+          ∷ copy eight 0 ∷ copy eight 7 ∷ copy eight 2
+          ∷ signal eight (Computed (node eight (Ref 2) ∷ node eight (Ref 3) ∷ node eight (Two Xor 0 1) ∷ []))
+          ∷ copy eight 4
+          ∷ signal eight (Computed (node eight (Ref 6) ∷ node nine (Fix Shl 0 1 0) ∷ node eight (Fix Bits 1 7 0) ∷ [])) ∷ [];
+      registers = [];
+      memories = [];
+      ins = 0 ∷ [];
+      outs = 1 ∷ [];
+    }
+
+abbrev pub tree : InstanceTree
+tree =
+    record {
+      paths = [] ∷ codes "a" ∷ codes "b" ∷ [];
+      instances =
+          record { parent = None; «module» = 2; first = 0; end = 8; ports = input 0 ∷ output 1 ∷ []; memories = [] }
+          ∷ record { parent = Some 0; «module» = 0; first = 2; end = 6; ports = input 2 ∷ input 3 ∷ output 4 ∷ output 5 ∷ []; memories = [] }
+          ∷ record { parent = Some 0; «module» = 1; first = 6; end = 8; ports = input 6 ∷ output 7 ∷ []; memories = [] } ∷ [];
+      memory_paths = [];
+      memories = [];
+    }
+
+-- a request for these units and lists that share a host
+abbrev pub asks : List (List ℕ) → List (List (List ℕ)) → Request
+asks units share = record { units = units; share = share; memories = []; capacity = [] }
+
+abbrev pub both_units : Request
+both_units = asks (codes "a" ∷ codes "b" ∷ []) []
+
+abbrev pub listed : Listed
+listed = listed_of tree both_units
+
+-- ---- what is listed, and who owns what
+
+units-listed : listed ≡ record { units = 1 ∷ 2 ∷ []; memories = [] }
+units-listed = refl
+
+-- in the order of the request
+units-reversed : (listed_of tree (asks (codes "b" ∷ codes "a" ∷ []) [])).units ≡ 2 ∷ 1 ∷ []
+units-reversed = refl
+
+owners : map (owner_of circuit tree listed) (0 ∷ 1 ∷ 2 ∷ 3 ∷ 4 ∷ 5 ∷ 6 ∷ 7 ∷ []) ≡ 0 ∷ 0 ∷ 1 ∷ 1 ∷ 1 ∷ 1 ∷ 2 ∷ 2 ∷ []
+owners = refl
+
+-- ---- the channels
+
+-- the hub is machine 0, `a` and `b` are 1 and 2, the source of `x` is 3, the tray of `q` is 4
+wires : wires_of circuit tree listed ≡ wire 0 3 0 ∷ wire 2 0 1 ∷ wire 3 0 1 ∷ wire 4 1 0 ∷ wire 5 1 0 ∷ wire 6 0 2 ∷ wire 7 2 0 ∷ wire 1 0 4 ∷ []
+wires = refl
+
+names : channel_names circuit (channel_signals circuit tree listed) ≡ codes "x" ∷ codes "a.x" ∷ codes "a.k" ∷ codes "a.p" ∷ codes "a.q" ∷ codes "b.m" ∷ codes "b.n" ∷ codes "q" ∷ []
+names = refl
+
+-- the empty partition
+alone : wires_of circuit tree (listed_of tree (asks [] [])) ≡ wire 0 1 0 ∷ wire 1 0 2 ∷ []
+alone = refl
+
+capacities : map (capacity_of ((codes "a.x", 7) ∷ (codes "q", 1) ∷ []) 2) (codes "a.x" ∷ codes "a.k" ∷ codes "q" ∷ []) ≡ 7 ∷ 2 ∷ 1 ∷ []
+capacities = refl
+
+-- ---- faults
+
+accepted : fault_in circuit tree both_units ≡ None
+accepted = refl
+
+-- what isn't in `units` is told before units of different modules
+unknown-share : fault_in circuit tree (asks (codes "a" ∷ []) ((codes "a" ∷ codes "b" ∷ []) ∷ [])) ≡ Some (UnknownUnit (codes "b"))
+unknown-share = refl
+
+other-module : fault_in circuit tree (asks (codes "a" ∷ codes "b" ∷ []) ((codes "a" ∷ codes "b" ∷ []) ∷ [])) ≡ Some (OtherModule (codes "b"))
+other-module = refl
+
+-- the top is no instance
+the-top : fault_in circuit tree (asks ([] ∷ []) []) ≡ Some (UnknownUnit [])
+the-top = refl
+
+a-signal : fault_in circuit tree (asks (codes "a.x" ∷ []) []) ≡ Some (UnknownUnit (codes "a.x"))
+a-signal = refl
+
+twice : fault_in circuit tree (asks (codes "a" ∷ codes "b" ∷ codes "a" ∷ []) []) ≡ Some (Doubled (codes "a"))
+twice = refl
+
+-- an entry that names nothing is told before one that stands twice, wherever it is
+unknown-first : fault_in circuit tree (asks (codes "a" ∷ codes "a" ∷ codes "c" ∷ []) []) ≡ Some (UnknownUnit (codes "c"))
+unknown-first = refl
+
+twice-shared : fault_in circuit tree (asks (codes "a" ∷ codes "b" ∷ []) ((codes "b" ∷ []) ∷ (codes "a" ∷ codes "b" ∷ []) ∷ [])) ≡ Some (Doubled (codes "b"))
+twice-shared = refl
+
+no-memory : fault_in circuit tree (record both_units { memories = codes "a" ∷ [] }) ≡ Some (UnknownMemory (codes "a"))
+no-memory = refl
+
+-- a port of an instance that is no unit is no channel
+no-channel : fault_in circuit tree (record (asks (codes "a" ∷ []) []) { capacity = (codes "a.x", 3) ∷ (codes "b.m", 1) ∷ [] }) ≡ Some (UnknownChannel (codes "b.m"))
+no-channel = refl
+
+-- an unknown channel is told before a capacity out of range
+range-last : fault_in circuit tree (record both_units { capacity = (codes "a.x", 0) ∷ (codes "oo", 1) ∷ [] }) ≡ Some (UnknownChannel (codes "oo"))
+range-last = refl
+
+nothing : fault_in circuit tree (record both_units { capacity = (codes "a.k", 4096) ∷ (codes "a.x", 0) ∷ [] }) ≡ Some (OutOfRange (codes "a.x") 0)
+nothing = refl
+
+over : fault_in circuit tree (record both_units { capacity = (codes "a.k", 4097) ∷ (codes "a.x", 0) ∷ [] }) ≡ Some (OutOfRange (codes "a.k") 4097)
+over = refl
+
+-- ---- limits
+
+limit : (too_many_units (record { units = replicate 200 1; memories = replicate 56 1 })) ≡ None
+limit = refl
+
+past-limit : (too_many_units (record { units = replicate 200 1; memories = replicate 57 1 })) ≡ Some 257
+past-limit = refl

@@ -1,0 +1,196 @@
+-- What is wrong with a request for a design.
+-- Source: ICCAD 2019 for what can be cut and shared; the numbers of faults, their order and the limits are this program's own.
+use Rattle.std.specs.Prelude.{◌≡◌, ◌⊎◌, ◌<◌, ◌^◌, Ok, Err, Result, ℕ, ◌+◌, List, [], ◌∷◌, ◌++◌, Bool, false, not, ◌||◌, ◌==◌, if◌then◌else◌, Option, Some, None, option_map, length, flat_map, find, codes, nat_lt, bytes_eq}
+use Rattle.std.specs.Fmt.{decimal}
+use Rattle.std.specs.List.{list_any}
+use Rattle.gg_flat.specs.Circuit.{FlatCircuit}
+use Rattle.gg_flat.specs.Tree.{InstanceTree, path_at, instance_at}
+use Rattle.gg_order.specs.Design.{Ordered}
+use Rattle.gg_partfile.specs.declared.request.Request.{Request}
+use Rattle.gg_cut.specs.declared.fault.CutFault.{CutFault}
+use Rattle.gg_cut.specs.declared.fault.CutFault.TheVariants.{UnknownUnit, Doubled, OtherModule, UnknownMemory, Unmatched, UnknownChannel, OutOfRange, TooManyUnits, TooManyChannels, NoMemory}
+use Rattle.gg_cut.specs.Listed.{is_among, is_instance_path, is_memory_path, instance_of, lies, listed_of}
+use Rattle.gg_cut.specs.declared.listed.Listed.{Listed}
+use Rattle.gg_cut.specs.Channels.{channel_signals, channel_names}
+
+-- the most units and listed memories, channels, and tokens that a channel holds
+abbrev pub most_units : ℕ
+most_units = 256
+
+abbrev pub most_channels : ℕ
+most_channels = 16384
+
+abbrev pub most_capacity : ℕ
+most_capacity = 4096
+
+-- the first fault of two
+abbrev pub or_else : {A : Type 0} → Option A → Option A → Option A
+or_else None later = later
+or_else (Some fault) later = Some fault
+
+-- the entries of all lists of `share`, in order
+abbrev pub entries : List (List (List ℕ)) → List (List ℕ)
+entries share = flat_map (λ group. group) share
+
+-- ---- entries that name nothing
+
+-- the first of these that is no instance path
+abbrev pub unknown_unit : InstanceTree → List (List ℕ) → Option (List ℕ)
+unknown_unit tree units = find (λ path. not (is_instance_path tree path)) units
+
+-- the first entry of the lists that isn't among the units
+abbrev pub unshared : List (List ℕ) → List (List (List ℕ)) → Option (List ℕ)
+unshared units [] = None
+unshared units (group ∷ share) = or_else (find (λ path. not (is_among units path)) group) (unshared units share)
+
+-- ---- entries that stand twice
+
+-- the first of these that clashes with one before it, `earlier` standing before them all
+abbrev pub first_clash : (List ℕ → List ℕ → Bool) → List (List ℕ) → List (List ℕ) → Option (List ℕ)
+first_clash clash earlier [] = None
+first_clash clash earlier (path ∷ paths) = if list_any (clash path) earlier then Some path else first_clash clash (earlier ++ path ∷ []) paths
+
+-- a unit holds another, lies in it or is it
+abbrev pub overlap : InstanceTree → List ℕ → List ℕ → Bool
+overlap tree a b = lies tree (instance_of tree a) (instance_of tree b) || lies tree (instance_of tree b) (instance_of tree a)
+
+abbrev pub same_path : List ℕ → List ℕ → Bool
+same_path a b = bytes_eq a b
+
+-- the first unit that overlaps an earlier one
+abbrev pub overlapping : InstanceTree → List (List ℕ) → Option (List ℕ)
+overlapping tree units = first_clash (overlap tree) [] units
+
+-- the first path that equals an earlier one
+abbrev pub repeated : List (List ℕ) → Option (List ℕ)
+repeated paths = first_clash same_path [] paths
+
+-- ---- lists of units of different modules
+
+abbrev pub module_of : InstanceTree → List ℕ → ℕ
+module_of tree path = (instance_at tree (instance_of tree path)).«module»
+
+abbrev pub other_in : InstanceTree → List (List ℕ) → Option (List ℕ)
+other_in tree group = find (λ path. not (module_of tree path == module_of tree (path_at group 0))) group
+
+-- the first entry of a list of `share` that has another module than the list's first
+abbrev pub other_module : InstanceTree → List (List (List ℕ)) → Option (List ℕ)
+other_module tree [] = None
+other_module tree (group ∷ share) = or_else (other_in tree group) (other_module tree share)
+
+-- ---- memories
+
+abbrev pub unknown_memory : InstanceTree → List (List ℕ) → Option (List ℕ)
+unknown_memory tree memories = find (λ path. not (is_memory_path tree path)) memories
+
+-- a rest of a path that begins with a dot
+abbrev pub dotted : List ℕ → Option (List ℕ)
+dotted [] = None
+dotted (byte ∷ rest) = if byte == 46 then Some (byte ∷ rest) else None
+
+-- what stands in a path behind the path of a unit in which it lies, with the dot between them
+abbrev pub rest_behind : List ℕ → List ℕ → Option (List ℕ)
+rest_behind [] path = dotted path
+rest_behind (a ∷ unit) [] = None
+rest_behind (a ∷ unit) (b ∷ path) = if a == b then rest_behind unit path else None
+
+-- whether, for what stands behind one unit of a list, the counterpart in a unit of the list isn't among the memories
+abbrev pub lacks_counterpart : List (List ℕ) → List (List ℕ) → Option (List ℕ) → Bool
+lacks_counterpart memories group None = false
+lacks_counterpart memories group (Some rest) = list_any (λ unit. not (is_among memories (unit ++ rest))) group
+
+-- whether a memory lies in a unit of a list, and its counterpart in a unit of the list isn't listed
+abbrev pub lacks_in : List (List ℕ) → List ℕ → List (List ℕ) → Bool
+lacks_in memories path group = list_any (λ unit. lacks_counterpart memories group (rest_behind unit path)) group
+
+-- the first listed memory that lies in a shared unit and whose counterpart in another unit of the list isn't listed
+abbrev pub unmatched : List (List ℕ) → List (List (List ℕ)) → Option (List ℕ)
+unmatched memories share = find (λ path. list_any (lacks_in memories path) share) memories
+
+-- ---- capacities
+
+abbrev pub unknown_channel : List (List ℕ) → List (List ℕ × ℕ) → Option (List ℕ)
+unknown_channel names capacities = option_map (λ pair. pair.0) (find (λ pair. not (is_among names pair.0)) capacities)
+
+abbrev pub out_of_range : List (List ℕ × ℕ) → Option (List ℕ × ℕ)
+out_of_range capacities = find (λ pair. (pair.1 == 0) || nat_lt most_capacity pair.1) capacities
+
+abbrev pub range_fault : List (List ℕ × ℕ) → Option CutFault
+range_fault capacities = option_map (λ pair. OutOfRange pair.0 pair.1) (out_of_range capacities)
+
+-- ---- limits
+
+abbrev pub too_many_units : Listed → Option ℕ
+too_many_units listed = if nat_lt most_units (length listed.units + length listed.memories) then Some (length listed.units + length listed.memories) else None
+
+abbrev pub too_many_channels : List ℕ → Option ℕ
+too_many_channels signals = if nat_lt most_channels (length signals) then Some (length signals) else None
+
+-- ---- the first of all
+
+-- entries that name nothing, or stand twice
+abbrev pub entry_fault : InstanceTree → Request → Option CutFault
+entry_fault tree request =
+    or_else (option_map UnknownUnit (unknown_unit tree request.units))
+    (or_else (option_map UnknownUnit (unshared request.units request.share))
+    (or_else (option_map Doubled (overlapping tree request.units))
+    (or_else (option_map Doubled (repeated (entries request.share)))
+    (option_map Doubled (repeated request.memories)))))
+
+-- lists of units of different modules; memories
+abbrev pub kind_fault : InstanceTree → Request → Option CutFault
+kind_fault tree request =
+    or_else (option_map OtherModule (other_module tree request.share))
+    (or_else (option_map UnknownMemory (unknown_memory tree request.memories))
+    (option_map Unmatched (unmatched request.memories request.share)))
+
+-- capacities, and the numbers of units and of channels
+abbrev pub channel_fault : FlatCircuit → Request → Listed → List ℕ → Option CutFault
+channel_fault circuit request listed signals =
+    or_else (option_map UnknownChannel (unknown_channel (channel_names circuit signals) request.capacity))
+    (or_else (range_fault request.capacity)
+    (or_else (option_map TooManyUnits (too_many_units listed))
+    (option_map TooManyChannels (too_many_channels signals))))
+
+abbrev pub fault_in : FlatCircuit → InstanceTree → Request → Option CutFault
+fault_in circuit tree request =
+    or_else (entry_fault tree request)
+    (or_else (kind_fault tree request)
+    (channel_fault circuit request (listed_of tree request) (channel_signals circuit tree (listed_of tree request))))
+
+-- The fault of a request for a design: the one of the least number; of one number the first in `units`, then in `share`, then in
+-- `memories`; for capacities the least name.
+abbrev pub first_fault : Ordered → Request → Option CutFault
+first_fault design request = fault_in design.circuit design.tree request
+
+-- the fault in words
+abbrev pub fault_text : CutFault → List ℕ
+fault_text (UnknownUnit path) = codes "P2 " ++ path
+fault_text (Doubled path) = codes "P3 " ++ path
+fault_text (OtherModule path) = codes "P4 " ++ path
+fault_text (UnknownMemory path) = codes "P5 " ++ path
+fault_text (Unmatched path) = codes "P6 " ++ path
+fault_text (UnknownChannel name) = codes "P7 " ++ name
+fault_text (OutOfRange name capacity) = codes "P8 " ++ name ++ codes " " ++ decimal capacity
+fault_text (TooManyUnits count) = codes "P9 units " ++ decimal count
+fault_text (TooManyChannels count) = codes "P9 channels " ++ decimal count
+fault_text NoMemory = codes "out of memory"
+
+-- ---- what a call that judges answers
+
+-- the error tells this fault, or want of memory
+abbrev pub IsTold : Option CutFault → CutFault → Type 0
+IsTold fault cause = (cause ≡ NoMemory) ⊎ (fault ≡ Some cause)
+
+-- Ok exactly where there is no fault, else the fault; want of memory says nothing
+abbrev pub Tells : {A : Type 0} → Option CutFault → Result A CutFault → Type 0
+Tells fault (Ok answer) = fault ≡ None
+Tells fault (Err cause) = IsTold fault cause
+
+-- ---- requests
+
+-- A request has fewer than 2 ^ 32 entries of each kind.
+pub record IsSmall (request : Request) : Type 0 where
+  pub units : length request.units < 2 ^ 32
+  pub share : length (entries request.share) < 2 ^ 32
+  pub memories : length request.memories < 2 ^ 32

@@ -1,0 +1,7 @@
+pub mod Listed
+pub mod Fault
+pub mod Channels
+pub mod Hosts
+pub mod Owners
+pub mod Plan
+pub mod Solves

@@ -1,0 +1,144 @@
+-- The plan of a cut: its machines with their pieces, its channels, and what each channel needs.
+-- Source: MEMOCODE 2009 (a network of machines that are latency-insensitive: an output depends on just the inputs that it is
+-- computed from); ICCAD 2019 (instances and memories of a target as models of their own).
+use Rattle.std.specs.Prelude.{◌≡◌, ◌↔◌, ◌⊎◌, ℕ, ◌<◌, ◌≤◌, List, [], ◌∷◌, ◌++◌, ◌==◌, length, map, filter, codes, slice_index_or, Contains, AllPairs}
+use Rattle.std.specs.List.{range_with_len}
+use Rattle.gg_bits.specs.Shape.{shape}
+use Rattle.gg_flat.specs.Line.{value_at, shape_at}
+use Rattle.gg_flat.specs.Circuit.{FlatCircuit, signal_shapes}
+use Rattle.gg_flat.specs.Tree.{InstanceTree, path_at, memory_at}
+use Rattle.gg_order.specs.Design.{Ordered}
+use Rattle.gg_program.specs.Cone.{Reaches}
+use Rattle.gg_part.specs.Part.{IsPart}
+use Rattle.gg_part.specs.InOrder.{IsInOrder}
+use Rattle.gg_part.specs.declared.part.Part.{Part}
+use Rattle.gg_partfile.specs.declared.request.Request.{Request}
+use Rattle.gg_cut.specs.declared.plan.Body.{Body}
+use Rattle.gg_cut.specs.declared.plan.Body.TheVariants.{Cut, Memory, Source, Tray}
+use Rattle.gg_cut.specs.declared.plan.Machine.{Machine}
+use Rattle.gg_cut.specs.declared.plan.Channel.{Channel}
+use Rattle.gg_cut.specs.declared.plan.Plan.{Plan}
+use Rattle.gg_cut.specs.declared.listed.Listed.{Listed}
+use Rattle.gg_cut.specs.Listed.{listed_of, owner_of, owner_of_instance, memory_or, first_place}
+use Rattle.gg_cut.specs.declared.wires.Wire.{Wire}
+use Rattle.gg_cut.specs.Channels.{wire, wires_of, capacity_of, first_memory, first_source, first_tray, machine_count}
+use Rattle.gg_cut.specs.Hosts.{host_of}
+
+-- ---- channels by machine
+
+-- the channel at a place
+abbrev pub wire_at : List Wire → ℕ → Wire
+wire_at wires c = slice_index_or wires c (wire 0 0 0)
+
+-- the channels that a machine takes, in their order
+abbrev pub channels_to : List Wire → ℕ → List ℕ
+channels_to wires m = filter (λ c. (wire_at wires c).consumer == m) (range_with_len 0 (length wires))
+
+-- the channels that a machine gives, in their order
+abbrev pub channels_from : List Wire → ℕ → List ℕ
+channels_from wires m = filter (λ c. (wire_at wires c).producer == m) (range_with_len 0 (length wires))
+
+-- the signals of channels
+abbrev pub signals_of : List Wire → List ℕ → List ℕ
+signals_of wires channels = map (λ c. (wire_at wires c).signal) channels
+
+-- ---- a machine's piece
+
+-- a signal of no channel
+abbrev pub IsInner : List Wire → ℕ → Type 0
+IsInner wires s = (c : ℕ) → c < length wires → ¬ ((wire_at wires c).signal ≡ s)
+
+-- Machine m gives signal s its value: it owns the signal, which no channel carries, or it gives the signal's channel.
+abbrev pub Makes : FlatCircuit → InstanceTree → Listed → List Wire → ℕ → ℕ → Type 0
+Makes circuit tree listed wires m s = ((s < length circuit.signals) × (owner_of circuit tree listed s ≡ m) × IsInner wires s) ⊎ Contains (signals_of wires (channels_from wires m)) s
+
+-- machine m gets signal s from outside: it takes the signal's channel
+abbrev pub Takes : List Wire → ℕ → ℕ → Type 0
+Takes wires m s = Contains (signals_of wires (channels_to wires m)) s
+
+-- the machine that the memory at a place of the tree belongs to: its own where it is listed, else its instance's
+abbrev pub memory_owner : InstanceTree → Listed → ℕ → ℕ
+memory_owner tree listed place =
+    memory_or (length listed.units) (owner_of_instance tree listed.units (memory_at tree place).instance) (first_place (λ j. j == place) listed.memories)
+
+-- memory k of the circuit belongs to machine m
+pub record HasMemory (tree : InstanceTree) (listed : Listed) (m k : ℕ) : Type 0 where
+  pub place : ℕ
+  pub known : place < length tree.memories
+  pub is : (memory_at tree place).memory ≡ k
+  pub owner : memory_owner tree listed place ≡ m
+
+-- A machine's piece: just the signals that it makes or takes; its channels' signals, in order, are its in-signals and its
+-- out-signals; the memories that belong to it; in an order of evaluation.
+pub record IsCutPart (design : Ordered) (listed : Listed) (wires : List Wire) (m : ℕ) (part : Part) : Type 0 where
+  pub is : IsPart design.circuit part.piece part.globals part.held part.memories
+  pub signals : (s : ℕ) → Contains part.globals s ↔ (Makes design.circuit design.tree listed wires m s ⊎ Takes wires m s)
+  pub ins : map (value_at part.globals) part.piece.ins ≡ signals_of wires (channels_to wires m)
+  pub outs : map (value_at part.globals) part.piece.outs ≡ signals_of wires (channels_from wires m)
+  pub memories : (k : ℕ) → Contains part.memories k ↔ HasMemory design.tree listed m k
+  pub ordered : IsInOrder part.piece
+
+-- what machine m is, by its number: the hub or a unit, a listed memory, a source or a tray
+abbrev pub IsBody : Ordered → Listed → List Wire → ℕ → Body → Type 0
+IsBody design listed wires m (Cut part) = (m < first_memory listed) × IsCutPart design listed wires m part
+IsBody design listed wires m (Memory part) = (first_memory listed ≤ m) × (m < first_source listed) × IsCutPart design listed wires m part
+IsBody design listed wires m Source = (first_source listed ≤ m) × (m < first_tray design.circuit listed)
+IsBody design listed wires m Tray = first_tray design.circuit listed ≤ m
+
+-- ---- machines
+
+-- the names of the machines, in their order
+abbrev pub machine_names : Ordered → Request → Listed → List (List ℕ)
+machine_names design request listed =
+    codes "hub:" ∷ (request.units
+    ++ map (path_at design.tree.memory_paths) listed.memories
+    ++ map (λ s. codes "in:" ++ path_at design.circuit.paths s) design.circuit.ins
+    ++ map (λ s. codes "out:" ++ path_at design.circuit.paths s) design.circuit.outs)
+
+-- machine m of the plan
+pub record IsMachine (design : Ordered) (request : Request) (listed : Listed) (wires : List Wire) (m : ℕ) (machine : Machine) : Type 0 where
+  pub name : machine.name ≡ path_at (machine_names design request listed) m
+  pub host : machine.host ≡ host_of request.units request.share m
+  pub body : IsBody design listed wires m machine.body
+  pub ins : machine.ins ≡ channels_to wires m
+  pub outs : machine.outs ≡ channels_from wires m
+
+-- ---- channels
+
+-- Channel c is needed by an out-signal of a part: it is at an in-signal that the out-signal reaches by reads.
+pub record IsNeed (part : Part) (channels : List ℕ) (out c : ℕ) : Type 0 where
+  pub place : ℕ
+  pub known : place < length part.piece.ins
+  pub is : value_at channels place ≡ c
+  pub reached : Reaches part.piece out (value_at part.piece.ins place)
+
+-- The needs of an out-signal of a part: the channels at just those of its in-signals that it reaches by reads.
+abbrev pub AreNeedsOf : Part → List ℕ → ℕ → List ℕ → Type 0
+AreNeedsOf part channels out needs = (c : ℕ) → Contains needs c ↔ IsNeed part channels out c
+
+-- The needs of a channel that this machine gives: those of the out-signal that is the channel's; a source's channel needs none.
+abbrev pub NeedsIn : Body → List ℕ → ℕ → List ℕ → Type 0
+NeedsIn (Cut part) channels s needs = (out : ℕ) → out < length part.globals → value_at part.globals out ≡ s → AreNeedsOf part channels out needs
+NeedsIn (Memory part) channels s needs = (out : ℕ) → out < length part.globals → value_at part.globals out ≡ s → AreNeedsOf part channels out needs
+NeedsIn Source channels s needs = needs ≡ []
+NeedsIn Tray channels s needs = needs ≡ []
+
+-- channel c of the plan
+pub record IsChannel (design : Ordered) (capacity : List ℕ → ℕ) (machines : List Machine) (w : Wire) (channel : Channel) : Type 0 where
+  pub signal : channel.signal ≡ w.signal
+  pub name : channel.name ≡ path_at design.circuit.paths w.signal
+  pub type : shape channel.ty ≡ shape_at (signal_shapes design.circuit) w.signal
+  pub producer : channel.producer ≡ w.producer
+  pub consumer : channel.consumer ≡ w.consumer
+  pub bound : channel.capacity ≡ capacity (path_at design.circuit.paths w.signal)
+  pub ascending : AllPairs (λ a b. a < b) channel.needs
+  pub needs : (any : Machine) → NeedsIn (slice_index_or machines w.producer any).body (slice_index_or machines w.producer any).ins w.signal channel.needs
+
+-- ---- the plan
+
+-- The plan of a design, a request and the capacity of the channels that the request doesn't name.
+pub record IsPlan (design : Ordered) (request : Request) (default : ℕ) (plan : Plan) : Type 0 where
+  pub machine_total : length plan.machines ≡ machine_count design.circuit (listed_of design.tree request)
+  pub channel_total : length plan.channels ≡ length (wires_of design.circuit design.tree (listed_of design.tree request))
+  pub machine : (m : ℕ) (any : Machine) → m < length plan.machines → IsMachine design request (listed_of design.tree request) (wires_of design.circuit design.tree (listed_of design.tree request)) m (slice_index_or plan.machines m any)
+  pub channel : (c : ℕ) (any : Channel) → c < length plan.channels → IsChannel design (capacity_of request.capacity default) plan.machines (wire_at (wires_of design.circuit design.tree (listed_of design.tree request)) c) (slice_index_or plan.channels c any)

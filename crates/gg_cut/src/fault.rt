@@ -1,0 +1,65 @@
+//! What is wrong with a request for a design.
+ghost use Rattle.std.specs.Prelude.{◌≡◌};
+ghost use Rattle.gg_cut.specs.declared.fault.CutFault.TheVariants.{NoMemory};
+
+use gg_bits::Name;
+use std::alloc::AllocError;
+use std::error::Error;
+use std::fmt;
+
+/// Why a request doesn't fit a design, in the order in which faults are told.
+#[derive(Debug, Drop)]
+pub enum CutFault {
+    /// An entry of `units` that is no instance path, or of `share` that isn't in `units`.
+    UnknownUnit(Name),
+    /// An entry that equals an earlier one of the same key, or a unit that holds or lies in an earlier one.
+    Doubled(Name),
+    /// An entry of a list of `share` that has another module than the list's first.
+    OtherModule(Name),
+    /// An entry of `memories` that is no memory's path.
+    UnknownMemory(Name),
+    /// A listed memory in a shared unit, whose counterpart in another unit of the list isn't listed.
+    Unmatched(Name),
+    /// A name in `capacity` that is no channel.
+    UnknownChannel(Name),
+    /// A capacity of 0 or above 4,096, with its channel's name.
+    OutOfRange(Name, u64),
+    /// The number of units and listed memories, where it is above 256.
+    TooManyUnits(u64),
+    /// The number of channels, where it is above 16,384.
+    TooManyChannels(u64),
+    /// Memory was refused.
+    NoMemory,
+}
+
+impl From<AllocError> for CutFault {
+    ghost from_gives = { λ _ e. e ≡ NoMemory };
+
+    fn from(_error: AllocError) -> CutFault {
+        CutFault::NoMemory
+    }
+}
+
+impl fmt::Display for CutFault {
+    ghost use Rattle.std.specs.Prelude.{Some};
+    ghost use Rattle.gg_cut.specs.Fault.{fault_text};
+
+    ghost output = { λ fault. Some (fault_text fault) };
+
+    fn fmt<W: fmt::Write>(&self, f: &mut fmt::Formatter<W>) -> fmt::Result {
+        match self {
+            CutFault::UnknownUnit(path) => write!(f, "P2 {path}"),
+            CutFault::Doubled(path) => write!(f, "P3 {path}"),
+            CutFault::OtherModule(path) => write!(f, "P4 {path}"),
+            CutFault::UnknownMemory(path) => write!(f, "P5 {path}"),
+            CutFault::Unmatched(path) => write!(f, "P6 {path}"),
+            CutFault::UnknownChannel(name) => write!(f, "P7 {name}"),
+            CutFault::OutOfRange(name, capacity) => write!(f, "P8 {name} {capacity}"),
+            CutFault::TooManyUnits(count) => write!(f, "P9 units {count}"),
+            CutFault::TooManyChannels(count) => write!(f, "P9 channels {count}"),
+            CutFault::NoMemory => f.write_str("out of memory"),
+        }
+    }
+}
+
+impl Error for CutFault {}

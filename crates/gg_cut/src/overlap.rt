@@ -1,0 +1,135 @@
+//! Units that lie in one another.
+ghost use Rattle.std.specs.Prelude.{◌≡◌, ℕ, List, ◌<◌, ◌||◌, false, length, option_map, IfOk, IfErr};
+ghost use Rattle.std.specs.List.{list_any};
+ghost use Rattle.gg_flat.specs.Tree.{instance_at};
+ghost use Rattle.gg_order.specs.Marks.{is_marked};
+ghost use Rattle.gg_cut.specs.Listed.{ParentsBefore, AreMarks, instance_of, lies};
+ghost use Rattle.gg_cut.specs.Fault.{Tells, IsTold, overlapping};
+ghost use Rattle.gg_cut.specs.declared.fault.CutFault.TheVariants.{Doubled};
+
+use crate::entries::doubled;
+use crate::fault::CutFault;
+use crate::paths::instance;
+use gg_bits::Name;
+use gg_flat::Tree;
+use std::alloc::{AllocError, Global};
+
+/// No unit holds an earlier one, lies in it or is it.
+///
+/// Each instance of the tree stands behind its parent.
+///
+/// # Errors
+///
+/// `Doubled`, with the first that does. `NoMemory`, where memory is refused.
+pub(crate) fn none_overlap(alloc: Global, tree: &Tree, units: &[Name]) -> Result<(), CutFault>
+    requires some { 0 < length tree.now.instances }
+    requires parents { ParentsBefore tree.now }
+    ensures { Tells (option_map Doubled (overlapping tree.now units.now)) result }
+{
+    let mut own = unmarked(alloc, tree.len())?;
+    let mut above = unmarked(alloc, tree.len())?;
+    check_apart(tree, units, &mut own, &mut above)
+}
+
+// No unit overlaps an earlier one, where nothing is marked. Marks the units in `own`, and what they lie in in `above`.
+fn check_apart(
+    tree: &Tree,
+    units: &[Name],
+    own: &mut [bool],
+    above: &mut [bool],
+) -> Result<(), CutFault>
+    requires some { 0 < length tree.now.instances }
+    requires parents { ParentsBefore tree.now }
+    requires own { (k : ℕ) → is_marked own.old k ≡ false }
+    requires above { (k : ℕ) → is_marked above.old k ≡ false }
+    requires own_count { length own.old ≡ length tree.now.instances }
+    requires above_count { length above.old ≡ length tree.now.instances }
+    ensures { Tells (option_map Doubled (overlapping tree.now units.now)) result }
+{
+    for path in units {
+        let place = place(tree, path);
+        if overlaps(tree, own, above, place) {
+            return Err(doubled(path));
+        }
+        own[place as usize] = true;
+        mark_above(tree, above, place);
+    }
+    Ok(())
+}
+
+// Whether an instance lies in a unit or holds one, of the units that are marked in `own` and what they lie in in `above`.
+fn overlaps(tree: &Tree, own: &[bool], above: &[bool], place: u32) -> bool
+    requires parents { ParentsBefore tree.now }
+    requires known { place < length tree.now.instances }
+    requires own { length own.now ≡ length tree.now.instances }
+    requires above { length above.now ≡ length tree.now.instances }
+    ensures { (units : List ℕ) → AreMarks units own.now → result ≡ (list_any (lies tree.now place) units || is_marked above.now place) }
+{
+    lies_in_marked(tree, own, place) || above[place as usize]
+}
+
+// No marks.
+fn unmarked(alloc: Global, count: usize) -> Result<Vec<bool>, AllocError>
+    ensures none { IfOk result (λ marks. (k : ℕ) → is_marked marks.items k ≡ false) }
+    ensures count { IfOk result (λ marks. length marks.items ≡ count) }
+{
+    vec![in alloc; false; count]
+}
+
+/// The place of the instance of a path; the top, where it is none.
+pub(crate) fn place(tree: &Tree, path: &Name) -> u32
+    requires some { 0 < length tree.now.instances }
+    ensures place { result ≡ instance_of tree.now path.now }
+    ensures within { result < length tree.now.instances }
+{
+    let _ = tree.len();
+    match instance(tree, path) {
+        Some(place) => place,
+        None => 0,
+    }
+}
+
+/// The parent of an instance.
+pub(crate) fn parent_of(tree: &Tree, place: u32) -> Option<u32>
+    requires { place < length tree.now.instances }
+    ensures { result ≡ (instance_at tree.now place).parent }
+{
+    tree.instances()[place as usize].parent
+}
+
+// Whether an instance is a marked one, or lies in one.
+fn lies_in_marked(tree: &Tree, marks: &[bool], place: u32) -> bool
+    requires parents { ParentsBefore tree.now }
+    requires known { place < length tree.now.instances }
+    requires count { length marks.now ≡ length tree.now.instances }
+    ensures { (units : List ℕ) → AreMarks units marks.now → result ≡ list_any (lies tree.now place) units }
+{
+    let mut node = place;
+    'chain: loop {
+        if marks[node as usize] {
+            return true;
+        }
+        match parent_of(tree, node) {
+            Some(parent) => node = parent,
+            None => return false,
+        }
+    }
+}
+
+// Marks an instance and all that it lies in.
+fn mark_above(tree: &Tree, marks: &mut [bool], place: u32)
+    requires parents { ParentsBefore tree.now }
+    requires known { place < length tree.now.instances }
+    requires count { length marks.old ≡ length tree.now.instances }
+    ensures above { (k : ℕ) → is_marked marks.new k ≡ (is_marked marks.old k || lies tree.now place k) }
+    ensures count { length marks.new ≡ length marks.old }
+{
+    let mut node = place;
+    'chain: loop {
+        marks[node as usize] = true;
+        match parent_of(tree, node) {
+            Some(parent) => node = parent,
+            None => return,
+        }
+    }
+}

@@ -1,0 +1,59 @@
+//! `Plan`: what a cut makes of a design.
+use gg_bits::{Ids, Items, Name, Ty};
+use gg_part::Part;
+
+/// What a machine does.
+#[derive(Drop)]
+pub enum Body {
+    /// The hub or a unit: it runs a part of the circuit.
+    Cut(Part),
+    /// A listed memory: a part of the circuit that is one memory, which is served port by port.
+    Memory(Part),
+    /// Gives the column of a top input.
+    Source,
+    /// Keeps the values of a top output.
+    Tray,
+}
+
+/// A machine. Channels are named by their numbers.
+#[derive(Drop)]
+pub struct Machine {
+    /// `hub:`, a unit's or a memory's path, or `in:` or `out:` and the name of a top port.
+    pub name: Name,
+    /// The number of its host.
+    pub host: u32,
+    /// What it does.
+    pub body: Body,
+    /// The channels that it takes, ascending.
+    pub ins: Ids,
+    /// The channels that it gives, ascending.
+    pub outs: Ids,
+}
+
+/// A channel. Machines and channels are named by their numbers.
+#[derive(Drop)]
+pub struct Channel {
+    /// The number in the circuit of the signal whose values it carries.
+    pub signal: u32,
+    /// The path of the signal.
+    pub name: Name,
+    /// The type of the signal.
+    pub ty: Ty,
+    /// The machine that gives it.
+    pub producer: u32,
+    /// The machine that takes it.
+    pub consumer: u32,
+    /// How many tokens it holds at most.
+    pub capacity: u32,
+    /// The in-channels of its producer that it depends on in a cycle, ascending.
+    pub needs: Ids,
+}
+
+/// The plan of a cut: the hub, the units, the listed memories, the sources and the trays; and the channels between them.
+#[derive(Drop)]
+pub struct Plan {
+    /// The machines, by number.
+    pub machines: Items<Machine>,
+    /// The channels, by number.
+    pub channels: Items<Channel>,
+}

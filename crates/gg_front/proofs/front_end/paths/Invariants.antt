@@ -1,0 +1,6 @@
+use Rattle.std.proofs.Common.{◌≡◌, map, take}
+use Rattle.gg_flat.specs.Tree.{path_at}
+use Rattle.gg_front.proofs.front_end.paths.Given as goal
+
+abbrev pub invariant-loop-signal : goal.invariant-loop-signal
+invariant-loop-signal l = l.paths.items ≡ map (path_at l.piece.paths) (take l.signal-index l.signals)

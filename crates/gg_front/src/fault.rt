@@ -1,0 +1,47 @@
+//! Why the bytes of a circuit file give no design.
+use gg_read::ReadFault;
+use gg_shape::Fault;
+use std::alloc::AllocError;
+use std::error::Error;
+use std::fmt;
+
+/// Why the bytes of a circuit file give no design.
+#[derive(Debug, Drop)]
+pub enum FrontFault {
+    /// No circuit is read. Want of memory is `FrontFault::NoMemory`.
+    Read(ReadFault),
+    /// The first fault of the circuit that is read: one of F1 to F16.
+    Fault(Fault),
+    /// Memory ran out. The bytes say nothing of this.
+    NoMemory,
+}
+
+impl From<AllocError> for FrontFault {
+    ghost use Rattle.std.specs.Prelude.{◌≡◌};
+    ghost use Rattle.gg_front.specs.declared.fault.FrontFault.TheVariants.{NoMemory};
+
+    ghost from_gives = { λ error fault. fault ≡ NoMemory };
+
+    fn from(error: AllocError) -> FrontFault {
+        let _ = error;
+        FrontFault::NoMemory
+    }
+}
+
+/// The fault's text, as the program prints it behind `golden: circuit: `.
+impl fmt::Display for FrontFault {
+    ghost use Rattle.std.specs.Prelude.{Some};
+    ghost use Rattle.gg_front.specs.Fault.{front_text};
+
+    ghost output = { λ fault. Some (front_text fault) };
+
+    fn fmt<W: fmt::Write>(&self, f: &mut fmt::Formatter<W>) -> fmt::Result {
+        match self {
+            FrontFault::Read(fault) => write!(f, "{fault}"),
+            FrontFault::Fault(fault) => write!(f, "{fault}"),
+            FrontFault::NoMemory => f.write_str("out of memory"),
+        }
+    }
+}
+
+impl Error for FrontFault {}

@@ -1,0 +1,105 @@
+-- Signals that are listed along an order of the whole stand in an order of evaluation, and then their numbers are an order.
+use Rattle.std.proofs.Common.{◌≡◌, ℕ, zero, suc, ◌+◌, ◌<◌, ◌≤◌, List, [], ◌∷◌, length, refl, sym, ◌∙◌, ap, subst, inl, inr, ◌⊎◌, arith}
+use Rattle.std.specs.List.{range_with_len}
+use Rattle.std.proofs.lemmas.List.{get_or-take, get_or_default, length-take}
+use Rattle.std.proofs.lemmas.List.FromFn.{get_or-range_with_len, length-range_with_len}
+use Rattle.std.proofs.lemmas.Bool.{cases_lt}
+use Rattle.gg_flat.specs.declared.line.Node.{Node}
+use Rattle.gg_flat.specs.declared.piece.Driver.{Driver}
+use Rattle.gg_flat.specs.declared.piece.Driver.TheVariants.{Input, Held, MemoryWord, ReadRegister, Computed}
+use Rattle.gg_flat.specs.Line.{value_at}
+use Rattle.gg_flat.specs.Circuit.{FlatCircuit, driver_at}
+use Rattle.gg_flat.specs.Reads.{Names, NamesSignal, Reads}
+use Rattle.gg_flat.specs.Order.{IsOrder}
+use Rattle.gg_flat.proofs.OrderLemmas.{read-before, not-before, place-of}
+use Rattle.gg_part.specs.Part.{IsPart, IsFrom, renamed_op, renamed_line}
+use Rattle.gg_part.specs.InOrder.{Precedes, IsAlong, IsInOrder}
+
+-- what a line names, it names in the whole under its number there
+pub Names-renamed : (globals : List ℕ) (line : List Node) (s : ℕ) → Names line s → Names (renamed_line globals line) (value_at globals s)
+Names-renamed globals [] s named = absurd (omega (arith, named.1))
+Names-renamed globals (node ∷ nodes) s (zero, lt, is) = (zero, omega arith, ap (renamed_op globals) is)
+Names-renamed globals (node ∷ nodes) s (suc k, lt, is) =
+    let rest = Names-renamed globals nodes s (k, omega (arith, lt), is) in
+    (suc rest.0, omega (arith, rest.1), rest.2)
+
+-- what a driver of the part names is one of its signals, and the whole's driver names it
+pub record IsNamedIn (globals : List ℕ) (driver : Driver) (s : ℕ) : Type 0 where
+  pub within : s < length globals
+  pub named : NamesSignal driver (value_at globals s)
+
+pub named-in : (ins globals held memories : List ℕ) (a b : ℕ) (whole part : Driver) → IsFrom ins globals held memories a whole part → NamesSignal part b → IsNamedIn globals whole b
+named-in ins globals held memories a b whole (Input place) from named = absurd named
+named-in ins globals held memories a b whole (Held register) from named = absurd named
+named-in ins globals held memories a b whole (MemoryWord m r addr en) from (inl is) =
+    subst (λ t. IsNamedIn globals whole t) is (record { within = from.1; named = subst (λ d. NamesSignal d (value_at globals addr)) (sym from.3) (inl refl) })
+named-in ins globals held memories a b whole (MemoryWord m r addr en) from (inr is) =
+    subst (λ t. IsNamedIn globals whole t) is (record { within = from.2; named = subst (λ d. NamesSignal d (value_at globals en)) (sym from.3) (inr refl) })
+named-in ins globals held memories a b whole (ReadRegister m r) from named = absurd named
+named-in ins globals held memories a b whole (Computed line) from named =
+    record { within = from.0 b named; named = subst (λ d. NamesSignal d (value_at globals b)) (sym from.1) (Names-renamed globals line b named) }
+
+module _ (whole part : FlatCircuit) (globals held memories order : List ℕ) (is : IsPart whole part globals held memories) (ordered : IsOrder whole order) where
+  -- a signal of the part that another reads is read in the whole
+  reads-in : (a b : ℕ) → Reads part a b → (b < length globals) × Reads whole (value_at globals a) (value_at globals b)
+  reads-in a b reads =
+      let known : a < length globals = omega (arith, reads.signal, is.count) in
+      let at = named-in part.ins globals held memories a b (driver_at whole (value_at globals a)) (driver_at part a) (is.drivers a known) reads.names in
+      (at.within, record { signal = is.within a known; names = at.named })
+
+  -- a signal stands at one place
+  one-place : (i j : ℕ) → i < length order → j < length order → value_at order i ≡ value_at order j → i ≡ j
+  one-place i j li lj same = by (cases_lt i j) (cases_lt j i)
+    where
+      by : (i < j) ⊎ (j ≤ i) → (j < i) ⊎ (i ≤ j) → i ≡ j
+      by (inl lt) q = absurd (ordered.once i j 0 lt lj same)
+      by (inr le) (inl lt) = absurd (ordered.once j i 0 lt li (sym same))
+      by (inr le) (inr ge) = omega arith
+
+  -- a signal doesn't stand before what it reads
+  no-later : (a b : ℕ) → Reads whole a b → Precedes order a b → ⊥
+  no-later a b reads precedes =
+      let before = read-before whole order precedes.first a b ordered (omega (arith, precedes.before, precedes.within)) precedes.first_is reads in
+      let same = one-place before.place precedes.second before.within precedes.within (before.is ∙ sym precedes.second_is) in
+      omega (arith, same, before.before, precedes.before)
+
+  -- nor does it read itself
+  no-self : (a : ℕ) → Reads whole a a → ⊥
+  no-self a reads =
+      let at = place-of whole order a ordered reads.signal in
+      not-before whole order at.place a ordered at.within at.is (read-before whole order at.place a a ordered at.within at.is reads)
+
+  pub IsInOrder-along : IsAlong order globals → IsInOrder part
+  IsInOrder-along along a b reads =
+      let known : a < length globals = omega (arith, reads.signal, is.count) in
+      let in_whole = reads-in a b reads in
+      by in_whole.0 in_whole.1 (cases_lt b a) (cases_lt a b)
+    where
+      by : b < length globals → Reads whole (value_at globals a) (value_at globals b) → (b < a) ⊎ (a ≤ b) → (a < b) ⊎ (b ≤ a) → b < a
+      by within read (inl lt) q = lt
+      by within read (inr le) (inl lt) = absurd (no-later (value_at globals a) (value_at globals b) read (along a b 0 lt within))
+      by within read (inr le) (inr ge) = absurd (no-self (value_at globals a) (subst (λ t. Reads whole (value_at globals a) (value_at globals t)) (let same : b ≡ a = omega arith in same) read))
+
+-- ---- the numbers of a circuit in order
+
+at-number : (n i : ℕ) → i < n → value_at (range_with_len 0 n) i ≡ i
+at-number n i lt = get_or-range_with_len 0 n i 0 lt ∙ (let same : 0 + i ≡ i = omega arith in same)
+
+pub IsOrder-numbers : (circuit : FlatCircuit) → IsInOrder circuit → IsOrder circuit (range_with_len 0 (length circuit.signals))
+IsOrder-numbers circuit inside =
+    let n = length circuit.signals in
+    let numbers = range_with_len 0 n in
+    let count : length numbers ≡ n = length-range_with_len 0 n in
+    record {
+      signals = λ i lt. subst (λ s. s < n) (sym (at-number n i (omega (arith, lt, count)))) (omega (arith, lt, count));
+      once = λ i j d lt within same.
+          let first : value_at numbers i ≡ i = at-number n i (omega (arith, lt, within, count)) in
+          let second : value_at numbers j ≡ j = at-number n j (omega (arith, within, count)) in
+          let equal : i ≡ j = sym first ∙ get_or_default numbers i 0 d (omega (arith, lt, within)) ∙ same ∙ get_or_default numbers j d 0 within ∙ second in
+          omega (arith, lt, equal);
+      every = λ s lt. (s, omega (arith, lt, count), get_or_default numbers s s 0 (omega (arith, lt, count)) ∙ at-number n s lt);
+      after = λ i s lt reads.
+          let known : i < n = omega (arith, lt, count) in
+          let below : s < i = inside i s (subst (λ a. Reads circuit a s) (at-number n i known) reads) in
+          (s, omega (arith, below, lt, length-take i numbers), get_or-take i numbers s s below ∙ get_or_default numbers s s 0 (omega (arith, below, lt)) ∙ at-number n s (omega (arith, below, known)));
+    }

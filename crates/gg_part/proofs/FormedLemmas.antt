@@ -1,0 +1,269 @@
+-- A part of a well-formed circuit is well formed.
+use Rattle.std.proofs.Common.{◌≡◌, ◌≢◌, ℕ, zero, suc, ◌<◌, ◌≤◌, List, [], ◌∷◌, length, map, get_or, refl, sym, ◌∙◌, ap, ap₂, subst, inl, inr, ◌⊎◌, arith}
+use Rattle.std.specs.Prelude.{Option, Some, None, MatchOption, AllPairs, ⊤}
+use Rattle.std.proofs.lemmas.Bool.{cases_lt}
+use Rattle.std.proofs.lemmas.List.{get_or-map, get_or_default, length-map}
+use Rattle.gg_bits.specs.Shape.{Shape, shape, uint}
+use Rattle.gg_flat.specs.declared.line.Node.{Node}
+use Rattle.gg_flat.specs.declared.line.Op.{Op}
+use Rattle.gg_flat.specs.declared.line.Op.TheVariants.{Ref, Literal, One, Two, Fix, Mux}
+use Rattle.gg_flat.specs.declared.memory.Latency.{Latency}
+use Rattle.gg_flat.specs.declared.memory.Latency.TheVariants.{Zero, One as Late}
+use Rattle.gg_flat.specs.declared.memory.Reader.{Reader}
+use Rattle.gg_flat.specs.declared.memory.Writer.{Writer}
+use Rattle.gg_flat.specs.declared.memory.Memory.{Memory}
+use Rattle.gg_flat.specs.declared.piece.Register.{Register}
+use Rattle.gg_flat.specs.declared.piece.Reset.{Reset}
+use Rattle.gg_flat.specs.declared.piece.Driver.{Driver}
+use Rattle.gg_flat.specs.declared.piece.Driver.TheVariants.{Input, Held, MemoryWord, ReadRegister, Computed}
+use Rattle.gg_flat.specs.Line.{value_at, shape_at, shapes_of, op_at, HasType, HasShape, IsLine, IsSource, IsCondition}
+use Rattle.gg_flat.specs.Circuit.{FlatCircuit, signal_shapes, driver_at, readers_at, latency_at, reader_at}
+use Rattle.gg_flat.specs.Reads.{Names, ResetNames, NextNames}
+use Rattle.gg_flat.specs.Tree.{path_at}
+use Rattle.gg_flat.specs.WellFormed.{IsDataOf, MayDrive, IsReset, IsRegister, IsReader, IsWriter, IsMemory, IsWellFormed, reader_driver}
+use Rattle.gg_flat.proofs.AdvanceLemmas.{some-register}
+use Rattle.gg_flat.proofs.TypedLemmas.{some-memory}
+use Rattle.gg_part.specs.Part.{IsPart, IsFrom, renamed_op, renamed_line, renamed_next, renamed_reset, renamed_register, renamed_reader, renamed_writer, renamed_memory, NamesBelow, ReadsAmong}
+use Rattle.gg_part.proofs.RenameLemmas.{shapes_of-renamed, length-renamed, line_shape-renamed}
+use Rattle.gg_part.proofs.RunLemmas.{shape-part, length-shapes}
+
+-- two of different numbers differ, where a list has each once
+once-apart : {X : Type 0} (xs : List X) (d : X) → AllPairs (λ a b. a ≢ b) xs → (i j : ℕ) → i < length xs → j < length xs → get_or xs i d ≡ get_or xs j d → i ≡ j
+once-apart xs d once i j li lj same = by (cases_lt i j) (cases_lt j i)
+  where
+    by : (i < j) ⊎ (j ≤ i) → (j < i) ⊎ (i ≤ j) → i ≡ j
+    by (inl lt) q = absurd (once i j d lt lj same)
+    by (inr le) (inl lt) = absurd (once j i d lt li (sym same))
+    by (inr le) (inr ge) = omega arith
+
+module _ (whole part : FlatCircuit) (globals held memories : List ℕ) (is : IsPart whole part globals held memories) where
+  type-part : (s : ℕ) (to : Shape) → s < length globals → HasType (signal_shapes whole) (value_at globals s) to → HasType (signal_shapes part) s to
+  type-part s to lt typed = (omega (arith, lt, length-shapes whole part globals held memories is), shape-part whole part globals held memories is s lt ∙ typed.1)
+
+  -- ---- lines
+
+  shape-op : (shapes : List Shape) (k : ℕ) (to : Shape) (op : Op) → ((s : ℕ) → op ≡ Ref s → s < length globals) → HasShape (HasType (signal_shapes whole)) shapes k to (renamed_op globals op) → HasShape (HasType (signal_shapes part)) shapes k to op
+  shape-op shapes k to (Ref s) below typed = type-part s to (below s refl) typed
+  shape-op shapes k to (Literal value) below typed = typed
+  shape-op shapes k to (One op i) below typed = typed
+  shape-op shapes k to (Two op i j) below typed = typed
+  shape-op shapes k to (Fix op i n m) below typed = typed
+  shape-op shapes k to (Mux c i j) below typed = typed
+
+  op-at : (line : List Node) (k : ℕ) → k < length line → op_at (renamed_line globals line) k ≡ renamed_op globals (op_at line k)
+  op-at [] k lt = absurd (omega arith)
+  op-at (node ∷ nodes) zero lt = refl
+  op-at (node ∷ nodes) (suc k) lt = op-at nodes k (omega arith)
+
+  named-at : (line : List Node) (k s : ℕ) → k < length line → op_at line k ≡ Ref s → Names line s
+  named-at line k s lt at =
+      let inside : k < length (map (λ (n : Node). n.op) line) = omega (arith, lt, length-map line (λ (n : Node). n.op)) in
+      (k, inside, get_or_default (map (λ (n : Node). n.op) line) k (Ref s) (Ref 0) inside ∙ at)
+
+  line-part : (line : List Node) → NamesBelow (length globals) line → IsLine (HasType (signal_shapes whole)) (renamed_line globals line) → IsLine (HasType (signal_shapes part)) line
+  line-part line below typed =
+      record {
+        some = omega (arith, typed.some, length-renamed globals line);
+        typed = λ k lt.
+            shape-op (shapes_of line) k (shape_at (shapes_of line) k) (op_at line k) (λ s at. below s (named-at line k s lt at))
+            (subst (λ (shapes : List Shape). HasShape (HasType (signal_shapes whole)) shapes k (shape_at shapes k) (renamed_op globals (op_at line k))) (shapes_of-renamed globals line)
+            (subst (HasShape (HasType (signal_shapes whole)) (shapes_of (renamed_line globals line)) k (shape_at (shapes_of (renamed_line globals line)) k)) (op-at line k lt)
+            (typed.typed k (omega (arith, lt, length-renamed globals line)))));
+      }
+
+  source-part : (sink : Shape) (line : List Node) → NamesBelow (length globals) line → IsSource (HasType (signal_shapes whole)) sink (renamed_line globals line) → IsSource (HasType (signal_shapes part)) sink line
+  source-part sink line below source =
+      record {
+        line = line-part line below source.line;
+        kind = ap (λ (s : Shape). s.kind) (sym (line_shape-renamed globals line)) ∙ source.kind;
+        width = subst (λ (s : Shape). s.width ≤ sink.width) (line_shape-renamed globals line) source.width;
+      }
+
+  condition-part : (line : List Node) → NamesBelow (length globals) line → IsCondition (HasType (signal_shapes whole)) (renamed_line globals line) → IsCondition (HasType (signal_shapes part)) line
+  condition-part line below condition = record { line = line-part line below condition.line; bit = sym (line_shape-renamed globals line) ∙ condition.bit }
+
+  -- ---- registers
+
+  reset-part : (sink : Shape) (reset : Option Reset) → ((s : ℕ) → ResetNames reset s → s < length globals) → MatchOption (renamed_reset globals reset) ⊤ (IsReset (HasType (signal_shapes whole)) sink) → MatchOption reset ⊤ (IsReset (HasType (signal_shapes part)) sink)
+  reset-part sink None below typed = tt
+  reset-part sink (Some reset) below typed =
+      record { condition = condition-part reset.condition (λ s named. below s (inl named)) typed.condition; init = source-part sink reset.init (λ s named. below s (inr named)) typed.init }
+
+  next-part : (sink : Shape) (next : Option (List Node)) → ((s : ℕ) → NextNames next s → s < length globals) → MatchOption (renamed_next globals next) ⊤ (IsSource (HasType (signal_shapes whole)) sink) → MatchOption next ⊤ (IsSource (HasType (signal_shapes part)) sink)
+  next-part sink None below typed = tt
+  next-part sink (Some line) below typed = source-part sink line below typed
+
+  -- ---- memories
+
+  memory-part : (memory : Memory) → ((r : ℕ) (d : Reader) → r < length memory.readers → ReadsAmong (length globals) (get_or memory.readers r d)) → ((w : ℕ) (d : Writer) → w < length memory.writers → (λ (writer : Writer). (writer.addr < length globals) × (writer.en < length globals) × (writer.word < length globals) × (writer.mask < length globals)) (get_or memory.writers w d)) → IsMemory (HasType (signal_shapes whole)) (renamed_memory globals memory) → IsMemory (HasType (signal_shapes part)) memory
+  memory-part memory reads writes typed =
+      record {
+        some = typed.some;
+        readers = λ r d lt.
+            let among = reads r d lt in
+            let long : r < length (map (λ reader. renamed_reader globals reader) memory.readers) = omega (arith, lt, length-map memory.readers (λ reader. renamed_reader globals reader)) in
+            let at = get_or-map (λ reader. renamed_reader globals reader) memory.readers r d (renamed_reader globals d) lt in
+            let old = subst (IsReader (HasType (signal_shapes whole)) (shape memory.word) memory.depth) at (typed.readers r (renamed_reader globals d) long) in
+            record {
+              address = type-part (get_or memory.readers r d).addr _ among.0 old.address;
+              enable = type-part (get_or memory.readers r d).en _ among.1 old.enable;
+              output = type-part (get_or memory.readers r d).word _ among.2 old.output;
+            };
+        writers = λ w d lt.
+            let among = writes w d lt in
+            let long : w < length (map (λ writer. renamed_writer globals writer) memory.writers) = omega (arith, lt, length-map memory.writers (λ writer. renamed_writer globals writer)) in
+            let at = get_or-map (λ writer. renamed_writer globals writer) memory.writers w d (renamed_writer globals d) lt in
+            let old = subst (IsWriter (HasType (signal_shapes whole)) (shape memory.word) memory.depth) at (typed.writers w (renamed_writer globals d) long) in
+            record {
+              address = type-part (get_or memory.writers w d).addr _ among.0 old.address;
+              enable = type-part (get_or memory.writers w d).en _ among.1 old.enable;
+              input = type-part (get_or memory.writers w d).word _ among.2 old.input;
+              masked = type-part (get_or memory.writers w d).mask _ among.3 old.masked;
+            };
+      }
+
+  readers-part : (m : ℕ) → m < length memories → readers_at whole (value_at memories m) ≡ map (λ reader. renamed_reader globals reader) (readers_at part m)
+  readers-part m lt =
+      let within : m < length part.memories = omega (arith, lt, is.memory_count) in
+      let some = some-memory part.memories m within in
+      let local = get_or part.memories m some in
+      let at = is.memory_from m lt in
+      get_or-map (λ (k : Memory). k.readers) whole.memories (value_at memories m) (renamed_memory globals local) [] at.within
+      ∙ ap (λ (k : Memory). k.readers) (at.is some (renamed_memory globals local))
+      ∙ ap (map (λ reader. renamed_reader globals reader)) (sym (get_or-map (λ (k : Memory). k.readers) part.memories m some [] within))
+
+  latency-part : (m : ℕ) → m < length memories → latency_at whole (value_at memories m) ≡ latency_at part m
+  latency-part m lt =
+      let within : m < length part.memories = omega (arith, lt, is.memory_count) in
+      let some = some-memory part.memories m within in
+      let local = get_or part.memories m some in
+      let at = is.memory_from m lt in
+      get_or-map (λ (k : Memory). k.latency) whole.memories (value_at memories m) (renamed_memory globals local) Zero at.within
+      ∙ ap (λ (k : Memory). k.latency) (at.is some (renamed_memory globals local))
+      ∙ sym (get_or-map (λ (k : Memory). k.latency) part.memories m some Zero within)
+
+  reader-among : (m r : ℕ) → m < length memories → r < length (readers_at part m) → ReadsAmong (length globals) (reader_at (readers_at part m) r)
+  reader-among m r lt inside =
+      let within : m < length part.memories = omega (arith, lt, is.memory_count) in
+      let some = some-memory part.memories m within in
+      let same : readers_at part m ≡ (get_or part.memories m some).readers = get_or-map (λ (k : Memory). k.readers) part.memories m some [] within in
+      subst (λ (l : List Reader). ReadsAmong (length globals) (reader_at l r)) (sym same) (((is.memory_from m lt).below some).readers r (record { addr = 0; en = 0; word = 0 }) (subst (λ (l : List Reader). r < length l) same inside))
+
+  -- reader r of memory m, in the whole's numbers
+  reader-renamed : (m r : ℕ) → m < length memories → r < length (readers_at part m) → reader_at (readers_at whole (value_at memories m)) r ≡ renamed_reader globals (reader_at (readers_at part m) r)
+  reader-renamed m r lt inside =
+      ap (λ l. reader_at l r) (readers-part m lt) ∙ get_or-map (λ reader. renamed_reader globals reader) (readers_at part m) r (record { addr = 0; en = 0; word = 0 }) (record { addr = 0; en = 0; word = 0 }) inside
+
+  of-part : (m r s : ℕ) → m < length memories → s < length globals → IsDataOf whole (value_at memories m) r (value_at globals s) → IsDataOf part m r s
+  of-part m r s lt known of =
+      let inside : r < length (readers_at part m) = omega (arith, of.0, ap length (readers-part m lt), length-map (readers_at part m) (λ reader. renamed_reader globals reader)) in
+      let same : value_at globals (reader_at (readers_at part m) r).word ≡ value_at globals s = ap (λ (k : Reader). k.word) (sym (reader-renamed m r lt inside)) ∙ of.1 in
+      (inside, once-apart globals 0 is.once (reader_at (readers_at part m) r).word s (reader-among m r lt inside).2 known same)
+
+  -- ---- drivers
+
+  drive-part : (s : ℕ) (outer inner : Driver) → s < length globals → IsFrom part.ins globals held memories s outer inner → MayDrive whole (value_at globals s) outer → MayDrive part s inner
+  drive-part s outer (Input place) known from may = from
+  drive-part s outer (Held r) known from may =
+      let old = subst (MayDrive whole (value_at globals s)) from.1 may in
+      let within : r < length part.registers = omega (arith, from.0, is.register_count) in
+      let some = some-register part.registers r within in
+      let local = get_or part.registers r some in
+      let at = is.register_from r from.0 in (
+        within,
+        get_or-map (λ (x : Register). shape x.ty) part.registers r some (uint 0) within
+            ∙ ap (λ (x : Register). shape x.ty) (sym (at.is some (renamed_register globals local)))
+            ∙ sym (get_or-map (λ (x : Register). shape x.ty) whole.registers (value_at held r) (renamed_register globals local) (uint 0) at.within)
+            ∙ old.1
+            ∙ sym (shape-part whole part globals held memories is s known),
+      )
+  drive-part s outer (MemoryWord m r addr en) known from may = of-part m r s from.0 known (subst (MayDrive whole (value_at globals s)) from.3 may)
+  drive-part s outer (ReadRegister m r) known from may = of-part m r s from.0 known (subst (MayDrive whole (value_at globals s)) from.1 may)
+  drive-part s outer (Computed line) known from may =
+      let old = subst (MayDrive whole (value_at globals s)) from.1 may in
+      subst (λ sink. IsSource (HasType (signal_shapes part)) sink line) (sym (shape-part whole part globals held memories is s known)) (source-part (shape_at (signal_shapes whole) (value_at globals s)) line from.0 old)
+
+  -- the driver of a reader's data, in the part
+  driven-part : (m r s : ℕ) (latency : Latency) (reader : Reader) (inner : Driver) → m < length memories → ReadsAmong (length globals) reader → ((place : ℕ) → inner ≢ Input place) → IsFrom part.ins globals held memories s (reader_driver latency (value_at memories m) r (renamed_reader globals reader)) inner → inner ≡ reader_driver latency m r reader
+  driven-part m r s latency reader (Input place) lt among given from = absurd (given place refl)
+  driven-part m r s Zero reader (Held k) lt among given from = absurd (held≢word from.1)
+    where
+      held≢word : {k m r a e : ℕ} {A : Type 0} → MemoryWord m r a e ≡ Held k → A
+      held≢word e = absurd (cc)
+  driven-part m r s (Late under) reader (Held k) lt among given from = absurd (held≢read from.1)
+    where
+      held≢read : {k m r : ℕ} {A : Type 0} → ReadRegister m r ≡ Held k → A
+      held≢read e = absurd (cc)
+  driven-part m r s Zero reader (MemoryWord m2 r2 addr en) lt among given from =
+      let parts = word-parts from.3 in
+      let memory : m2 ≡ m = once-apart memories 0 is.memories_once m2 m from.0 lt (sym parts.0) in
+      let port : r2 ≡ r = sym parts.1 in
+      let address : addr ≡ reader.addr = once-apart globals 0 is.once addr reader.addr from.1 among.0 (sym parts.2) in
+      let enable : en ≡ reader.en = once-apart globals 0 is.once en reader.en from.2 among.1 (sym parts.3) in
+      ap₂ (λ m r. MemoryWord m r addr en) memory port ∙ ap₂ (λ a e. MemoryWord m r a e) address enable
+    where
+      word-parts : {m r a e m2 r2 a2 e2 : ℕ} → MemoryWord m r a e ≡ MemoryWord m2 r2 a2 e2 → (m ≡ m2) × (r ≡ r2) × (a ≡ a2) × (e ≡ e2)
+      word-parts e = (cc, cc, cc, cc)
+  driven-part m r s (Late under) reader (MemoryWord m2 r2 addr en) lt among given from = absurd (cc)
+  driven-part m r s Zero reader (ReadRegister m2 r2) lt among given from = absurd (cc)
+  driven-part m r s (Late under) reader (ReadRegister m2 r2) lt among given from =
+      let parts = read-parts from.1 in
+      ap₂ ReadRegister (once-apart memories 0 is.memories_once m2 m from.0 lt (sym parts.0)) (sym parts.1)
+    where
+      read-parts : {m r m2 r2 : ℕ} → ReadRegister m r ≡ ReadRegister m2 r2 → (m ≡ m2) × (r ≡ r2)
+      read-parts e = (cc, cc)
+  driven-part m r s Zero reader (Computed line) lt among given from = absurd (cc)
+  driven-part m r s (Late under) reader (Computed line) lt among given from = absurd (cc)
+
+  -- ---- paths
+
+  distinct-part : AllPairs (λ a b. a ≢ b) whole.paths → length whole.paths ≡ length whole.signals → AllPairs (λ a b. a ≢ b) (map (path_at whole.paths) globals)
+  distinct-part distinct named i j d lt within same =
+      let li : i < length globals = omega (arith, lt, within, length-map globals (path_at whole.paths)) in
+      let lj : j < length globals = omega (arith, within, length-map globals (path_at whole.paths)) in
+      let equal : path_at whole.paths (value_at globals i) ≡ path_at whole.paths (value_at globals j) =
+      sym (get_or-map (path_at whole.paths) globals i 0 d li) ∙ same ∙ get_or-map (path_at whole.paths) globals j 0 d lj in
+      let one : value_at globals i ≡ value_at globals j = once-apart whole.paths [] distinct (value_at globals i) (value_at globals j) (omega (arith, is.within i li, named)) (omega (arith, is.within j lj, named)) equal in
+      let place : i ≡ j = once-apart globals 0 is.once i j li lj one in
+      omega (arith, place, lt)
+
+pub IsWellFormed-part : (whole part : FlatCircuit) (globals held memories : List ℕ) → IsWellFormed whole → IsPart whole part globals held memories → IsWellFormed part
+IsWellFormed-part whole part globals held memories formed is =
+    record {
+      named = ap length is.paths ∙ length-map globals (path_at whole.paths) ∙ sym is.count;
+      distinct = subst (λ (l : List (List ℕ)). AllPairs (λ a b. a ≢ b) l) (sym is.paths) (distinct-part whole part globals held memories is formed.distinct formed.named);
+      drivers = λ s lt.
+          let known : s < length globals = omega (arith, lt, is.count) in
+          drive-part whole part globals held memories is s (driver_at whole (value_at globals s)) (driver_at part s) known (is.drivers s known) (formed.drivers (value_at globals s) (is.within s known));
+      ins = λ place lt. let at = is.ins place lt in (omega (arith, at.0, is.count), at.1);
+      outs = λ place lt. omega (arith, is.outs place lt, is.count);
+      registers = λ r d lt.
+          let known : r < length held = omega (arith, lt, is.register_count) in
+          let at = is.register_from r known in
+          let local = get_or part.registers r d in
+          let old = subst (IsRegister (HasType (signal_shapes whole))) (at.is d (renamed_register globals local)) (formed.registers (value_at held r) (renamed_register globals local) at.within) in
+          record {
+            reset = reset-part whole part globals held memories is (shape local.ty) local.reset (λ s named. at.below d s (inl named)) old.reset;
+            next = next-part whole part globals held memories is (shape local.ty) local.next (λ s named. at.below d s (inr named)) old.next;
+          };
+      memories = λ m d lt.
+          let known : m < length memories = omega (arith, lt, is.memory_count) in
+          let at = is.memory_from m known in
+          let local = get_or part.memories m d in
+          let old = subst (IsMemory (HasType (signal_shapes whole))) (at.is d (renamed_memory globals local)) (formed.memories (value_at memories m) (renamed_memory globals local) at.within) in
+          memory-part whole part globals held memories is local (at.below d).readers (at.below d).writers old;
+      reads = λ m lt r inside.
+          let known : m < length memories = omega (arith, lt, is.memory_count) in
+          let at = is.memory_from m known in
+          let reader = reader_at (readers_at part m) r in
+          let among = reader-among whole part globals held memories is m r known inside in
+          let renamed = reader-renamed whole part globals held memories is m r known inside in
+          let count : length (readers_at whole (value_at memories m)) ≡ length (readers_at part m) =
+          ap length (readers-part whole part globals held memories is m known) ∙ length-map (readers_at part m) (λ reader. renamed_reader globals reader) in
+          let old : driver_at whole (value_at globals reader.word) ≡ reader_driver (latency_at part m) (value_at memories m) r (renamed_reader globals reader) =
+          ap (λ (k : Reader). driver_at whole k.word) (sym renamed)
+          ∙ formed.reads (value_at memories m) at.within r (omega (arith, inside, count))
+          ∙ ap₂ (λ latency reader. reader_driver latency (value_at memories m) r reader) (latency-part whole part globals held memories is m known) renamed in
+          driven-part whole part globals held memories is m r reader.word (latency_at part m) reader (driver_at part reader.word) known among (λ place. at.given r place inside)
+          (subst (λ outer. IsFrom part.ins globals held memories reader.word outer (driver_at part reader.word)) old (is.drivers reader.word among.2));
+    }

@@ -1,0 +1,4 @@
+pub mod RenameLemmas
+pub mod AlongLemmas
+pub mod RunLemmas
+pub mod FormedLemmas

@@ -1,0 +1,28 @@
+-- What a part makes of the rows, states and runs of the whole.
+-- Source: MEMOCODE 2009: the values of a part are those of the same signals in the whole.
+use Rattle.std.specs.Prelude.{ℕ, List, map}
+use Rattle.gg_flat.specs.Line.{value_at}
+use Rattle.gg_flat.specs.Circuit.{FlatCircuit}
+use Rattle.gg_flat.specs.Memory.{bank_at}
+use Rattle.gg_flat.specs.State.{State}
+use Rattle.gg_flat.specs.Run.{Start, column}
+
+-- the values of the part's signals in a row of the whole
+abbrev pub part_row : List ℕ → List ℕ → List ℕ
+part_row globals row = map (value_at row) globals
+
+-- the part's rows
+abbrev pub part_rows : List ℕ → List (List ℕ) → List (List ℕ)
+part_rows globals rows = map (λ row. part_row globals row) rows
+
+-- the part's state in a state of the whole
+abbrev pub part_state : List ℕ → List ℕ → State → State
+part_state held memories state = record { registers = map (value_at state.registers) held; banks = map (bank_at state.banks) memories }
+
+-- where the part's run starts, where the whole's starts here
+abbrev pub part_start : List ℕ → List ℕ → Start → Start
+part_start held memories start = record { cycle = start.cycle; state = part_state held memories start.state }
+
+-- the columns of the part's in-signals in the rows of the whole
+abbrev pub part_columns : List ℕ → FlatCircuit → List (List ℕ) → List (List ℕ)
+part_columns globals part rows = map (λ s. column rows (value_at globals s)) part.ins

@@ -1,0 +1,59 @@
+-- What the program promises of each call: how it ends, why, and what is due.
+use Rattle.std.specs.Prelude.{◌≡◌, ◌≢◌, ℕ, ◌≤◌, ◌⊎◌, List, Option, length}
+use Rattle.gg_io.specs.Told.{Told, Holds}
+use Rattle.gg_read.specs.Text.{HasReadFault}
+use Rattle.gg_read.specs.declared.text.ReadFault.{ReadFault}
+use Rattle.gg_flat.specs.Circuit.{FlatCircuit}
+use Rattle.gg_flat.specs.Ports.{in_ports}
+use Rattle.gg_front.specs.Meaning.{Means}
+use Rattle.gg_trace.specs.FaultText.{fault_words}
+use Rattle.gg_trace.specs.Trace.{IsFirstFault}
+use Rattle.gg_trace.specs.declared.faults.TraceFault.{TraceFault}
+use Rattle.golden.specs.Lines.{Said, TellsUnread, trace_fault}
+use Rattle.golden.specs.Order.{StopsAt, DueAt, IsDueAccepted, IsJudgement}
+use Rattle.golden.specs.Outcome.{Answered, Reports}
+use Rattle.golden.specs.Run.{IsPlainPartition}
+use Rattle.golden.specs.Words.{Command, Asks, AskForCommand, TellsUnasked, circuit_of, order_of, partition_of, trace_of}
+
+-- A call with this status told this: the status is that of what was said, and its line is reported; `err` stood and stands
+-- so, and `trouble` says that something went wrong there.
+pub record Tells (err err' : Option (List ℕ)) (trouble : Type 0) (status : ℕ) (said : Said) : Type 0 where
+  pub is : status ≡ said.status
+  pub reported : Reports err err' trouble said.line
+
+-- A call with these words answered this status. What happened outside: `lost`, a load failed; `cut`, a load was cut at its
+-- limit; `unwritten`, a put on `out` failed; `trouble`, a put on `err` failed or found no memory. `out` and `err` are what
+-- stood on the two sinks before the call, and behind it.
+pub record Promised (words : List (List ℕ)) (files : List ℕ → Told) (lost cut unwritten trouble : Type 0) (out out' err err' : Option (List ℕ)) (status : ℕ) : Type 0 where
+  -- The headline: status, text and line are an outcome of the words and the files; at status 0 the text is that of the
+  -- circuit's own run, and there is no other.
+  pub outcome : Answered words files lost cut unwritten trouble out out' err err' status
+  -- The cause of each status; of a judgement on a file, and of words that are no command, the line too.
+  pub judged : IsJudgement status
+      → (command : Command) × Asks words command × ((said : Said) × StopsAt files ⊥ ⊥ (order_of command) said × Tells err err' trouble status said)
+  pub no_command : status ≡ 2 → (¬ AskForCommand words) × ((said : Said) × TellsUnasked words said × Tells err err' trouble status said)
+  pub not_loaded : status ≡ 3 → lost
+  pub not_written : status ≡ 4 → unwritten
+  pub over : status ≡ 8
+      → cut × ((command : Command) × Asks words command × ((said : Said) × StopsAt files ⊥ cut (order_of command) said × (said.status ≡ 8)))
+  pub nothing_written : status ≢ 0 → status ≢ 4 → status ≢ 5 → out' ≡ out
+  -- Words that are no command are refused as such.
+  pub unasked : ¬ AskForCommand words → (status ≡ 2) ⊎ (status ≡ 5)
+  -- Where no load fails and something is due by the files that are told, something is said that is due by them, with the
+  -- same status.
+  pub due : (lost → ⊥) → (command : Command) (due : Said) → Asks words command → DueAt files (order_of command) due
+      → ((status ≡ due.status) × ((said : Said) × DueAt files (order_of command) said × Tells err err' trouble status said)) ⊎ (status ≡ 5)
+  -- So a circuit's file that is told and has a fault of reading is refused with that, whatever the other files are.
+  pub unread : (lost → ⊥) → (command : Command) (bytes : List ℕ) (fault : ReadFault) (said : Said)
+      → Asks words command → files (circuit_of command) ≡ Holds bytes → length bytes ≤ 4194304
+      → HasReadFault bytes fault → TellsUnread fault said → Tells err err' trouble status said ⊎ (status ≡ 5)
+  -- And a trace's file that is told and has a fault is refused with its first, where the files before it are accepted.
+  pub traced : (lost → ⊥) → (command : Command) (c p t : List ℕ) (flat : FlatCircuit) (fault : TraceFault)
+      → Asks words command
+      → files (circuit_of command) ≡ Holds c → length c ≤ 4194304 → Means c flat
+      → files (partition_of command) ≡ Holds p → length p ≤ 1048576 → IsPlainPartition p
+      → files (trace_of command) ≡ Holds t → length t ≤ 67108864 → IsFirstFault (in_ports flat) t fault
+      → Tells err err' trouble status (trace_fault (fault_words fault)) ⊎ (status ≡ 5)
+  -- Where no load and no put fails, files that are told and accepted are run: `outcome` then names the text.
+  pub complete : (lost → ⊥) → (unwritten → ⊥) → (command : Command) → Asks words command → IsDueAccepted files (order_of command)
+      → (status ≡ 0) ⊎ (status ≡ 5)
