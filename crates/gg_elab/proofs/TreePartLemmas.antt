@@ -1,5 +1,5 @@
 -- The parts of a tree while it is made.
-use Rattle.std.proofs.Common.{◌≡◌, ℕ, zero, suc, ◌+◌, ◌-◌, ◌<◌, ◌≤◌, ◌⊎◌, inl, inr, Bool, true, false, List, [], ◌∷◌, ◌++◌, Option, Some, None, length, take, get_or, map, filter, refl, sym, ap, ◌∙◌, subst, arith, length-append, slice_index}
+use Rattle.std.proofs.Common.{◌≡◌, ◌≢◌, ℕ, zero, suc, ◌+◌, ◌-◌, ◌<◌, ◌≤◌, ◌⊎◌, inl, inr, Bool, true, false, List, [], ◌∷◌, ◌++◌, Option, Some, None, length, take, get_or, map, filter, refl, sym, ap, ◌∙◌, subst, arith, length-append, slice_index}
 use Rattle.std.specs.Prelude.{flat_map}
 use Rattle.std.proofs.lemmas.Bool.{cases_lt}
 use Rattle.std.proofs.lemmas.List.{take_more, length-map, take-map, get_or-map, map-append}
@@ -180,3 +180,19 @@ held-paths places i circuit p digest lt is d =
     ap (λ l. memory_paths (flat_memories circuit.modules (map site_of (take i places))) ++ l) (sym (map-twice (λ (m : FlatMemory). m.path) (λ m. flat_memory (site_of p) (own_bank_of m)) digest.memories.items))
     ∙ sym (map-append (λ (m : FlatMemory). m.path) (flat_memories circuit.modules (map site_of (take i places))) (map (λ m. flat_memory (site_of p) (own_bank_of m)) digest.memories.items))
     ∙ ap memory_paths (sym (memories-more (types_of circuit) circuit.modules places i p digest lt is d))
+
+pub some-of : {A : Type 0} (o : Option A) → o ≢ None → (x : A) × (o ≡ Some x)
+some-of None h = absurd (h refl)
+some-of (Some x) h = (x, refl)
+
+-- the instances with one more site
+pub instances-next : (circuit : CircuitTree) (places : List Place) (i : ℕ) (p : Place) (ys new : List Instance) (made : Instance) → i < length places → p ≡ get_or places i p → AreInstances circuit 0 (map site_of (take i places)) ys → IsInstanceFor circuit (signals_to circuit places i) (site_of p) made → new ≡ ys ++ made ∷ [] → AreInstances circuit 0 (map site_of (take (i + 1) places)) new
+instances-next circuit places i p ys new made lt is h k e =
+    let start : signals_to circuit places i ≡ 0 + signals_to circuit places i = omega arith in
+    let sites : map site_of (take i places) ++ site_of p ∷ [] ≡ map site_of (take (i + 1) places) = sym (map-append site_of (take i places) (p ∷ [])) ∙ ap (map site_of) (ap (λ (x : Place). take i places ++ x ∷ []) is ∙ sym (take_more places i p lt)) in
+    subst (λ l. AreInstances circuit 0 (map site_of (take (i + 1) places)) l) (sym e)
+      (subst (λ l. AreInstances circuit 0 l (ys ++ made ∷ [])) sites (instances-more circuit 0 (map site_of (take i places)) (site_of p) ys made h (subst (λ n. IsInstanceFor circuit n (site_of p) made) start k)))
+
+pub paths-next : (places : List Place) (i : ℕ) (p : Place) (old new : List (List ℕ)) → i < length places → p ≡ get_or places i p → old ≡ map (λ (q : Place). q.path) (take i places) → new ≡ old ++ p.path ∷ [] → new ≡ map (λ (q : Place). q.path) (take (i + 1) places)
+paths-next places i p old new lt is h e =
+    e ∙ ap (λ l. l ++ p.path ∷ []) h ∙ sym (map-append (λ (q : Place). q.path) (take i places) (p ∷ [])) ∙ ap (map (λ (q : Place). q.path)) (ap (λ (x : Place). take i places ++ x ∷ []) is ∙ sym (take_more places i p lt))

@@ -1,12 +1,14 @@
 //! The tree of the circuit's instances.
-ghost use Rattle.std.specs.Prelude.{List, None, ℕ, ◌≡◌, ◌≢◌, ◌<◌, ◌≤◌, ◌+◌, ◌++◌, ◌∷◌, [], map, length, option_to_list, slice_index, IfOk, OnOk, All};
+ghost use Rattle.std.specs.Prelude.{List, None, ℕ, ◌≡◌, ◌≢◌, ◌<◌, ◌≤◌, ◌+◌, ◌++◌, ◌∷◌, [], map, flat_map, length, option_to_list, slice_index, IfOk, OnOk, All};
 ghost use Rattle.gg_ast.specs.Places.{place_of};
 ghost use Rattle.gg_ast.specs.Tree.{CircuitTree, module_names};
 ghost use Rattle.gg_count.specs.Sites.{sites_of};
+ghost use Rattle.gg_elab.specs.declared.sites as sites_specs;
+ghost use Rattle.gg_elab.specs.Flat.{flat_memories};
 ghost use Rattle.gg_elab.specs.IsFlat.{memory_paths};
 ghost use Rattle.gg_flat.specs.Tree.{joined as joined_text, no_tree};
 ghost use Rattle.gg_elab.specs.Building.{IsPlaceIn};
-ghost use Rattle.gg_elab.specs.IsTreeOf.{IsAt, Pairwise, HeldMemory, AreInstances, IsTreeOf, site_paths as paths_of_sites, signal_paths, memories_of};
+ghost use Rattle.gg_elab.specs.IsTreeOf.{IsAt, Pairwise, HeldMemory, held_memories, AreInstances, IsTreeOf, site_paths as paths_of_sites, signal_paths, memories_of};
 ghost use Rattle.gg_elab.specs.Known.{types_of};
 ghost use Rattle.gg_elab.specs.TreeParts.{signals_among, IsPortAt, IsNumberAt, IsHolder, place_paths, signals_to, IsInstanceAt, IsMemoryPart, IsHeldFor, held_at_place};
 ghost use Rattle.gg_elab.specs.Views.{AreDigests, site_of};
@@ -315,7 +317,76 @@ fn add_instances(
             starts[i],
             starts[end],
         )?;
-        add_instance(tree, place.path.clone()?, made)?;
+        add_instance(tree, copied(&place.path)?, made)?;
     }
     Ok(())
+}
+
+// Adds the memories of a site of this path.
+fn add_site_memories(
+    alloc: Global,
+    table: &Table,
+    paths: &Paths,
+    outer: &Name,
+    memories: &[OwnMemory],
+    tree: &mut Tree,
+) -> Result<(), AllocError>
+    ensures names { OnOk result (tree.new.memory_paths ≡ tree.old.memory_paths ++ map (λ m. joined_text outer.now m.name.now) memories.now) }
+    ensures made { OnOk result ((circuit : CircuitTree) (said : List HeldMemory) (place : sites_specs.Place.Place) → paths.now ≡ paths_of_sites circuit → table.now.memories ≡ memory_paths (memories_of circuit) → place.path ≡ outer.now → Pairwise (IsHeldFor circuit) said tree.old.memories → Pairwise (IsHeldFor circuit) (said ++ map (held_at_place place) memories.now) tree.new.memories) }
+    ensures rest { OnOk result ((tree.new.paths ≡ tree.old.paths) × (tree.new.instances ≡ tree.old.instances)) }
+{
+    for own in memories {
+        let made = memory(alloc, table, paths, outer, own)?;
+        add_memory(tree, joined(alloc, outer, own.name)?, made)?;
+    }
+    Ok(())
+}
+
+// Adds the memories of all sites.
+fn add_memories(
+    alloc: Global,
+    typed: &Typed,
+    table: &Table,
+    paths: &Paths,
+    digests: &[Digest],
+    places: &[Place],
+    tree: &mut Tree,
+) -> Result<(), AllocError>
+    requires digests { AreDigests (types_of typed.now.circuit) typed.now.circuit.modules digests.now }
+    requires within { All (IsPlaceIn (length typed.now.circuit.modules)) places.now }
+    requires paths { paths.now ≡ paths_of_sites typed.now.circuit }
+    requires memories { table.now.memories ≡ memory_paths (memories_of typed.now.circuit) }
+    requires none { (tree.old.memory_paths ≡ []) × (tree.old.memories ≡ []) }
+    ensures names { OnOk result (tree.new.memory_paths ≡ memory_paths (flat_memories typed.now.circuit.modules (map site_of places.now))) }
+    ensures made { OnOk result (Pairwise (IsHeldFor typed.now.circuit) (flat_map (held_memories typed.now.circuit.modules) (map site_of places.now)) tree.new.memories) }
+    ensures rest { OnOk result ((tree.new.paths ≡ tree.old.paths) × (tree.new.instances ≡ tree.old.instances)) }
+{
+    for place in places {
+        let memories = digests[place.number as usize].memories.as_slice();
+        add_site_memories(alloc, table, paths, &place.path, memories, tree)?;
+    }
+    Ok(())
+}
+
+/// The tree of a circuit: the instances of its sites with their signals, ports and memories.
+pub(crate) fn tree_of(
+    alloc: Global,
+    typed: &Typed,
+    table: &Table,
+    digests: &[Digest],
+    places: &[Place],
+) -> Result<Tree, AllocError>
+    requires digests { AreDigests (types_of typed.now.circuit) typed.now.circuit.modules digests.now }
+    requires within { All (IsPlaceIn (length typed.now.circuit.modules)) places.now }
+    requires top { (place_of typed.now.circuit.name (module_names typed.now.circuit)) ≢ None }
+    requires sites { map site_of places.now ≡ sites_of typed.now.circuit }
+    requires signals { table.now.paths ≡ signal_paths typed.now.circuit }
+    requires memories { table.now.memories ≡ memory_paths (memories_of typed.now.circuit) }
+    ensures { IfOk result (IsTreeOf typed.now.circuit) }
+{
+    let paths = site_paths(alloc, places)?;
+    let mut tree = Tree::new(alloc);
+    add_instances(alloc, typed, table, &paths, digests, places, &mut tree)?;
+    add_memories(alloc, typed, table, &paths, digests, places, &mut tree)?;
+    Ok(tree)
 }
