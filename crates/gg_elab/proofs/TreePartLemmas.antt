@@ -109,7 +109,7 @@ holder-parent circuit paths (Some around) None same h = absurd h
 holder-parent circuit paths (Some around) (Some p) same h = subst (λ l. IsAt l around.path p) same h
 
 module _ (circuit : CircuitTree) (top : ℕ) (known_top : place_of circuit.name (module_names circuit) ≡ Some top) (places : List Place) (sites : map site_of places ≡ sites_of circuit) where
-  paths-same : map (λ (p : Place). p.path) places ≡ site_paths circuit
+  pub paths-same : map (λ (p : Place). p.path) places ≡ site_paths circuit
   paths-same = sym (map-twice (λ (s : Site). s.path) site_of places) ∙ ap (map (λ (s : Site). s.path)) sites
 
   pub count-same : (k : ℕ) → signals_to circuit places k ≡ count_to (signals_in circuit) (sites_of circuit) k
