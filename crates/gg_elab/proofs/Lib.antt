@@ -42,3 +42,4 @@ pub mod ChildLemmas
 pub mod SoundLemmas
 pub mod EndLemmas
 pub mod TreePartLemmas
+pub mod HoldsLemmas

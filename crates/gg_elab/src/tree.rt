@@ -219,7 +219,12 @@ fn instance(
 {
     let parent = holder(paths, &place.outer)?;
     let ports = ports(alloc, &table.paths, &place.path, module_ports)?;
-    let memories = numbers(alloc, &table.memories, &place.path, digest.memories.as_slice())?;
+    let memories = numbers(
+        alloc,
+        &table.memories,
+        &place.path,
+        digest.memories.as_slice(),
+    )?;
     Ok(Instance {
         parent,
         module: place.number,

@@ -24,13 +24,13 @@ loop-place-preserved c =
     let added = c.in_ok-add_site_memories.ensures in
     let sites = flat_map (held_memories c.args.typed.now.circuit.modules) (map site_of (take c.loop-place.place-index c.args.places.now)) in (
       added.names
-        ∙ ap (λ (l : List OwnMemory). c.loop-place.tree.memory_paths ++ map (λ m. joined c.place-item.result.path m.name.now) l) c.as_slice.ensures.value
-        ∙ ap (λ l. l ++ map (λ m. joined c.place-item.result.path m.name.now) c.index-digests-place.result.memories.items) c.loop-place.invariant.0
-        ∙ held-paths c.args.places.now c.loop-place.place-index c.args.typed.now.circuit c.place-item.result c.index-digests-place.result lt c.place-item.is d,
+          ∙ ap (λ (l : List OwnMemory). c.loop-place.tree.memory_paths ++ map (λ m. joined c.place-item.result.path m.name.now) l) c.as_slice.ensures.value
+          ∙ ap (λ l. l ++ map (λ m. joined c.place-item.result.path m.name.now) c.index-digests-place.result.memories.items) c.loop-place.invariant.0
+          ∙ held-paths c.args.places.now c.loop-place.place-index c.args.typed.now.circuit c.place-item.result c.index-digests-place.result lt c.place-item.is d,
       subst (λ (l : List HeldMemory). Pairwise (IsHeldFor c.args.typed.now.circuit) l c.add_site_memories.new.tree.memories)
-        (ap (λ (l : List OwnMemory). flat_map (held_memories c.args.typed.now.circuit.modules) (map site_of (take c.loop-place.place-index c.args.places.now)) ++ map (held_at_place c.place-item.result) l) c.as_slice.ensures.value
+          (ap (λ (l : List OwnMemory). flat_map (held_memories c.args.typed.now.circuit.modules) (map site_of (take c.loop-place.place-index c.args.places.now)) ++ map (held_at_place c.place-item.result) l) c.as_slice.ensures.value
           ∙ held-more c.args.typed.now.circuit c.args.places.now c.loop-place.place-index c.place-item.result c.index-digests-place.result lt c.place-item.is d)
-        (added.made c.args.typed.now.circuit (flat_map (held_memories c.args.typed.now.circuit.modules) (map site_of (take c.loop-place.place-index c.args.places.now))) c.place-item.result c.requires.paths c.requires.memories refl c.loop-place.invariant.1),
+          (added.made c.args.typed.now.circuit (flat_map (held_memories c.args.typed.now.circuit.modules) (map site_of (take c.loop-place.place-index c.args.places.now))) c.place-item.result c.requires.paths c.requires.memories refl c.loop-place.invariant.1),
       added.rest.0 ∙ c.loop-place.invariant.2,
       added.rest.1 ∙ c.loop-place.invariant.3,
     )
