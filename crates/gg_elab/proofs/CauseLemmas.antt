@@ -144,10 +144,10 @@ memory-named : (Has : List ℕ → Type 0) (memory : List ℕ) (bank : Option Ba
 memory-named Has memory None had = named-none Has
 memory-named Has memory (Some bank) had =
     named-append Has (readers_signals memory bank 0 bank.readers) (flat_map (writer_signals memory bank) bank.writers)
-      (readers-named Has memory bank 0 bank.readers (λ i d lt.
-        subst (λ (o : Own). Has o.name) (front (readers_signals memory bank 0 bank.readers) (flat_map (writer_signals memory bank) bank.writers) i d lt)
-          (had i d (omega (arith, lt, length-append (readers_signals memory bank 0 bank.readers) (flat_map (writer_signals memory bank) bank.writers))))))
-      (writers-named Has memory bank bank.writers)
+    (readers-named Has memory bank 0 bank.readers (λ i d lt.
+    subst (λ (o : Own). Has o.name) (front (readers_signals memory bank 0 bank.readers) (flat_map (writer_signals memory bank) bank.writers) i d lt)
+    (had i d (omega (arith, lt, length-append (readers_signals memory bank 0 bank.readers) (flat_map (writer_signals memory bank) bank.writers))))))
+    (writers-named Has memory bank bank.writers)
 
 kind-named : (Has : List ℕ → Type 0) (types : Types) (k : ℕ) (kind : StmtKind) → AreNamesOfKind kind → AreHad Has (own_of_kind types k kind) → AreNamed Has (own_of_kind types k kind)
 kind-named Has types k (says.Wire name ty) h had = named-one Has name Connected (type_shape ty) tt
@@ -166,10 +166,10 @@ statements-cause Has types k [] h had = named-none Has
 statements-cause Has types k (s ∷ ss) h had =
     let sum = length-append (own_of_kind types k s.kind) (flat_map (λ (s : Stmt). own_of_kind types k s.kind) ss) in
     named-append Has (own_of_kind types k s.kind) (flat_map (λ (s : Stmt). own_of_kind types k s.kind) ss)
-      (kind-named Has types k s.kind (h 0 s (omega arith)) (λ i d lt.
-        subst (λ (o : Own). Has o.name) (front (own_of_kind types k s.kind) (flat_map (λ (s : Stmt). own_of_kind types k s.kind) ss) i d lt) (had i d (omega (arith, lt, sum)))))
-      (statements-cause Has types k ss (λ i d lt. h (suc i) d (omega (arith, lt))) (λ i d lt.
-        subst (λ (o : Own). Has o.name) (get_or-append-add (own_of_kind types k s.kind) (flat_map (λ (s : Stmt). own_of_kind types k s.kind) ss) i d) (had (length (own_of_kind types k s.kind) + i) d (omega (arith, lt, sum)))))
+    (kind-named Has types k s.kind (h 0 s (omega arith)) (λ i d lt.
+    subst (λ (o : Own). Has o.name) (front (own_of_kind types k s.kind) (flat_map (λ (s : Stmt). own_of_kind types k s.kind) ss) i d lt) (had i d (omega (arith, lt, sum)))))
+    (statements-cause Has types k ss (λ i d lt. h (suc i) d (omega (arith, lt))) (λ i d lt.
+    subst (λ (o : Own). Has o.name) (get_or-append-add (own_of_kind types k s.kind) (flat_map (λ (s : Stmt). own_of_kind types k s.kind) ss) i d) (had (length (own_of_kind types k s.kind) + i) d (omega (arith, lt, sum)))))
 
 -- ---- ports
 
@@ -185,11 +185,12 @@ ports-cause (p ∷ ps) = go (type_shape p.ty) refl (ports-cause ps)
 pub port-cause : (ports : List Port) (i : ℕ) (d : Own) (p : Port) → i < length (filter (λ (port : Port). is_some (type_shape port.ty)) ports) → (i < length (filter_map own_of_port ports)) × ((get_or (filter_map own_of_port ports) i d).cause ≡ cause_of_port (get_or (filter (λ (port : Port). is_some (type_shape port.ty)) ports) i p).direction)
 port-cause ports i d p lt =
     let same = ap (λ (l : List Cause). length l) (ports-cause ports) in
-    let inside : i < length (filter_map own_of_port ports) = omega (arith, lt, same, length-map (filter_map own_of_port ports) (λ (o : Own). o.cause), length-map (filter (λ (port : Port). is_some (type_shape port.ty)) ports) (λ (q : Port). cause_of_port q.direction)) in
-    (inside,
-     sym (get_or-map (λ (o : Own). o.cause) (filter_map own_of_port ports) i d FromOutside inside)
-       ∙ ap (λ (l : List Cause). get_or l i FromOutside) (ports-cause ports)
-       ∙ get_or-map (λ (q : Port). cause_of_port q.direction) (filter (λ (port : Port). is_some (type_shape port.ty)) ports) i p FromOutside lt)
+    let inside : i < length (filter_map own_of_port ports) = omega (arith, lt, same, length-map (filter_map own_of_port ports) (λ (o : Own). o.cause), length-map (filter (λ (port : Port). is_some (type_shape port.ty)) ports) (λ (q : Port). cause_of_port q.direction)) in (
+      inside,
+      sym (get_or-map (λ (o : Own). o.cause) (filter_map own_of_port ports) i d FromOutside inside)
+          ∙ ap (λ (l : List Cause). get_or l i FromOutside) (ports-cause ports)
+          ∙ get_or-map (λ (q : Port). cause_of_port q.direction) (filter (λ (port : Port). is_some (type_shape port.ty)) ports) i p FromOutside lt,
+    )
 
 pub port-count : (ports : List Port) → length (filter_map own_of_port ports) ≡ length (filter (λ (port : Port). is_some (type_shape port.ty)) ports)
 port-count ports =

@@ -111,8 +111,8 @@ statements-differ ports before (s ∷ ss) d h =
     let parts = append-none (repeated_by ports before s) (along_from (repeated_by ports) (before ++ s ∷ []) ss) h in
     let more : Differ (names_after ports before ++ name_by_kind s.kind) = kind-differs (names_after ports before) s.line s.kind d parts.0 in
     let same : names_after ports before ++ name_by_kind s.kind ≡ names_after ports (before ++ s ∷ []) =
-          append_assoc (port_names ports) (flat_map name_by before) (name_by_kind s.kind)
-          ∙ ap (λ l. port_names ports ++ l) (sym (flat_map-append name_by before (s ∷ []) ∙ ap (λ l. flat_map name_by before ++ l) (append-nil (name_by_kind s.kind)))) in
+    append_assoc (port_names ports) (flat_map name_by before) (name_by_kind s.kind)
+    ∙ ap (λ l. port_names ports ++ l) (sym (flat_map-append name_by before (s ∷ []) ∙ ap (λ l. flat_map name_by before ++ l) (append-nil (name_by_kind s.kind)))) in
     subst (λ l. Differ (names_after ports l)) (append_assoc before (s ∷ []) ss) (statements-differ ports (before ++ s ∷ []) ss (subst Differ same more) parts.1)
 
 -- the names that a module declares are distinct

@@ -173,10 +173,10 @@ module _ (circuit : CircuitTree) (flat : FlatCircuit) (tree : InstanceTree) (top
       let number = same-held r (count_before is_register (flat_signals (types_of circuit) circuit.modules (sites_of circuit)) s) (sym held ∙ is.held) in
       let same : slice_index_or flat.registers (count_before is_register (flat_signals (types_of circuit) circuit.modules (sites_of circuit)) s) register ≡ register = ap (λ i. get_or flat.registers i register) (sym number) ∙ get_or_from_slice_get flat.registers r register register at in
       register-visible k x p (shape_at all_signals.shapes s) name reset register h
-        (subst (λ y. IsRegisterOf (types_of circuit) all_signals (scope_at x) (shape_at all_signals.shapes s) reset (connection_in (module_at circuit.modules x.number).statements name) y) same (is.register register)) t n
+      (subst (λ y. IsRegisterOf (types_of circuit) all_signals (scope_at x) (shape_at all_signals.shapes s) reset (connection_in (module_at circuit.modules x.number).statements name) y) same (is.register register)) t n
   cause-register k x p s name (Answered memory port place latency) h driver is r register held at t n =
       absurd (not-held driver (answer latency (number_of (memory_paths (memories_of circuit)) (joined x.path memory)) place (number_of (signal_paths circuit) (joined x.path (field_name memory port (codes "addr")))) (number_of (signal_paths circuit) (joined x.path (field_name memory port (codes "en"))))) r is
-        (answer-not-held latency (number_of (memory_paths (memories_of circuit)) (joined x.path memory)) place (number_of (signal_paths circuit) (joined x.path (field_name memory port (codes "addr")))) (number_of (signal_paths circuit) (joined x.path (field_name memory port (codes "en"))))) held)
+      (answer-not-held latency (number_of (memory_paths (memories_of circuit)) (joined x.path memory)) place (number_of (signal_paths circuit) (joined x.path (field_name memory port (codes "addr")))) (number_of (signal_paths circuit) (joined x.path (field_name memory port (codes "en"))))) held)
 
   -- ---- where a driver is written
 
@@ -194,8 +194,8 @@ module _ (circuit : CircuitTree) (flat : FlatCircuit) (tree : InstanceTree) (top
   own-driven k x p o lt =
       let inside = own-inside circuit k x p o lt in
       let drive : drive_at (flat_signals (types_of circuit) circuit.modules (sites_of circuit)) (from_site k + o) ≡ drive_of circuit.modules x (get_or (own_in circuit x) o no_own).name (get_or (own_in circuit x) o no_own).cause =
-            get_or-map (λ (y : FlatSignal). y.drive) (flat_signals (types_of circuit) circuit.modules (sites_of circuit)) (from_site k + o) (flat_signal circuit.modules x no_own) Outside inside
-            ∙ ap (λ (y : FlatSignal). y.drive) (own-signal circuit k x p o (flat_signal circuit.modules x no_own) no_own lt) in
+      get_or-map (λ (y : FlatSignal). y.drive) (flat_signals (types_of circuit) circuit.modules (sites_of circuit)) (from_site k + o) (flat_signal circuit.modules x no_own) Outside inside
+      ∙ ap (λ (y : FlatSignal). y.drive) (own-signal circuit k x p o (flat_signal circuit.modules x no_own) no_own lt) in
       subst (λ d. Driven (from_site k + o) d (driver_at flat (from_site k + o))) drive (is_flat.drivers (from_site k + o) inside)
 
   -- the cause of the own signal that is a port
@@ -218,18 +218,19 @@ module _ (circuit : CircuitTree) (flat : FlatCircuit) (tree : InstanceTree) (top
 
       named : AreNamed (HasOwn x) (flat_map (λ (s : Stmt). own_of_kind (types_of circuit) x.number s.kind) (module_at circuit.modules x.number).statements)
       named = statements-cause (HasOwn x) (types_of circuit) x.number (module_at circuit.modules x.number).statements (statements_of x)
-        (λ i d inside.
-          (length (filter_map own_of_port (module_at circuit.modules x.number).ports) + i,
-           omega (arith, inside, sum),
-           ap (λ (y : Own). y.name)
-             (get_or-append-add (filter_map own_of_port (module_at circuit.modules x.number).ports) (flat_map (λ (s : Stmt). own_of_kind (types_of circuit) x.number s.kind) (module_at circuit.modules x.number).statements) i no_own
-               ∙ any (flat_map (λ (s : Stmt). own_of_kind (types_of circuit) x.number s.kind) (module_at circuit.modules x.number).statements) i no_own d inside)))
+          (λ i d inside. (
+            length (filter_map own_of_port (module_at circuit.modules x.number).ports) + i,
+            omega (arith, inside, sum),
+            ap (λ (y : Own). y.name)
+                (get_or-append-add (filter_map own_of_port (module_at circuit.modules x.number).ports) (flat_map (λ (s : Stmt). own_of_kind (types_of circuit) x.number s.kind) (module_at circuit.modules x.number).statements) i no_own
+                ∙ any (flat_map (λ (s : Stmt). own_of_kind (types_of circuit) x.number s.kind) (module_at circuit.modules x.number).statements) i no_own d inside),
+          ))
 
       go : (o < length (filter_map own_of_port (module_at circuit.modules x.number).ports)) ⊎ (length (filter_map own_of_port (module_at circuit.modules x.number).ports) ≤ o) → (o < length (signal_ports (module_at circuit.modules x.number))) ⊎ IsNamed (HasOwn x) (get_or (own_in circuit x) o no_own).cause
       go (inl here) = inl (omega (arith, here, port-count (module_at circuit.modules x.number).ports))
       go (inr behind) = inr (subst (λ (y : Own). IsNamed (HasOwn x) y.cause)
-        (sym (get_or-append_right (filter_map own_of_port (module_at circuit.modules x.number).ports) (flat_map (λ (s : Stmt). own_of_kind (types_of circuit) x.number s.kind) (module_at circuit.modules x.number).statements) o no_own behind))
-        (named (o - length (filter_map own_of_port (module_at circuit.modules x.number).ports)) no_own (omega (arith, lt, behind, sum))))
+          (sym (get_or-append_right (filter_map own_of_port (module_at circuit.modules x.number).ports) (flat_map (λ (s : Stmt). own_of_kind (types_of circuit) x.number s.kind) (module_at circuit.modules x.number).statements) o no_own behind))
+          (named (o - length (filter_map own_of_port (module_at circuit.modules x.number).ports)) no_own (omega (arith, lt, behind, sum))))
 
   tells : Ranges (length circuit.modules) circuit.modules (signals_in circuit) (sites_of circuit) tree
   tells = ranges circuit tree top known_top is_tree distinct.of_sites

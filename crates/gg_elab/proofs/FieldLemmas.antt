@@ -129,7 +129,7 @@ memory-field memory bank i d lt = go (cases_lt i (length (readers_signals memory
     go : (i < length (readers_signals memory bank 0 bank.readers)) ⊎ (length (readers_signals memory bank 0 bank.readers) ≤ i) → FieldName memory bank (get_or (memory_signals memory (Some bank)) i d).name
     go (inl here) =
         subst (λ (o : Own). FieldName memory bank o.name) (sym (front (readers_signals memory bank 0 bank.readers) (flat_map (writer_signals memory bank) bank.writers) i d here))
-          (reader-field memory bank 0 bank.readers i d (λ p c. c) here)
+        (reader-field memory bank 0 bank.readers i d (λ p c. c) here)
     go (inr behind) =
         subst (λ (o : Own). FieldName memory bank o.name) (sym (get_or-append_right (readers_signals memory bank 0 bank.readers) (flat_map (writer_signals memory bank) bank.writers) i d behind))
-          (writer-field memory bank bank.writers (i - length (readers_signals memory bank 0 bank.readers)) d (λ p c. c) (omega (arith, lt, behind, length-append (readers_signals memory bank 0 bank.readers) (flat_map (writer_signals memory bank) bank.writers))))
+        (writer-field memory bank bank.writers (i - length (readers_signals memory bank 0 bank.readers)) d (λ p c. c) (omega (arith, lt, behind, length-append (readers_signals memory bank 0 bank.readers) (flat_map (writer_signals memory bank) bank.writers))))

@@ -141,9 +141,9 @@ module _ (circuit : CircuitTree) (tree : InstanceTree) (top : ℕ) (known_top : 
     pub memory_path-place : (j : ℕ) (d : FlatMemory) → j < length (memories_of circuit) → place_of (get_or (memories_of circuit) j d).path (memory_paths (memories_of circuit)) ≡ Some j
     memory_path-place j d lt =
         place_of-at (memory_paths (memories_of circuit)) (get_or (memories_of circuit) j d).path j
-          (slice_get-get_or (memory_paths (memories_of circuit)) j [] (omega (arith, lt, length-map (memories_of circuit) (λ (m : FlatMemory). m.path)))
-            ∙ ap Some (get_or-map (λ (m : FlatMemory). m.path) (memories_of circuit) j d [] lt))
-          memories_differ
+        (slice_get-get_or (memory_paths (memories_of circuit)) j [] (omega (arith, lt, length-map (memories_of circuit) (λ (m : FlatMemory). m.path)))
+        ∙ ap Some (get_or-map (λ (m : FlatMemory). m.path) (memories_of circuit) j d [] lt))
+        memories_differ
 
     -- it is held by its site's instance, and is the memory of that place
     pub memory-holder : (j : ℕ) → (p : MemoryPlace circuit tree j) → (memory_at tree j).instance ≡ p.holder
@@ -152,6 +152,6 @@ module _ (circuit : CircuitTree) (tree : InstanceTree) (top : ℕ) (known_top : 
     pub memory-number : (j : ℕ) → j < length tree.memories → (p : MemoryPlace circuit tree j) → (memory_at tree j).memory ≡ j
     memory-number j lt p =
         some-same (memory_at tree j).memory j
-          (sym p.is_for.number.is
-            ∙ ap (λ (m : FlatMemory). place_of m.path (memory_paths (memories_of circuit))) (sym (p.said (flat_memory p.site p.own)))
-            ∙ memory_path-place j (flat_memory p.site p.own) (omega (arith, lt, memory-count)))
+        (sym p.is_for.number.is
+        ∙ ap (λ (m : FlatMemory). place_of m.path (memory_paths (memories_of circuit))) (sym (p.said (flat_memory p.site p.own)))
+        ∙ memory_path-place j (flat_memory p.site p.own) (omega (arith, lt, memory-count)))

@@ -88,9 +88,9 @@ module _ (circuit : CircuitTree) (tree : InstanceTree) (top : ℕ) (known_top : 
         let some = within-some (length circuit.modules - x.depth) circuit.modules x in
         let lt : k < length (sites_of circuit) = omega (arith, inside, some) in
         place_of-at (site_paths circuit) x.path k
-          (slice_get-get_or (site_paths circuit) k x.path (omega (arith, lt, length-map (sites_of circuit) (λ (s : Site). s.path)))
-            ∙ ap Some (get_or-map (λ (s : Site). s.path) (sites_of circuit) k x x.path lt ∙ ap (λ (s : Site). s.path) (placed-at (length circuit.modules) circuit.modules (sites_of circuit) k x x p)))
-          differ
+        (slice_get-get_or (site_paths circuit) k x.path (omega (arith, lt, length-map (sites_of circuit) (λ (s : Site). s.path)))
+        ∙ ap Some (get_or-map (λ (s : Site). s.path) (sites_of circuit) k x x.path lt ∙ ap (λ (s : Site). s.path) (placed-at (length circuit.modules) circuit.modules (sites_of circuit) k x x p)))
+        differ
 
     parent-at : (k above : ℕ) → Under (length circuit.modules) circuit.modules (sites_of circuit) above k → (instance_at tree k).parent ≡ Some above
     parent-at k above u =

@@ -42,4 +42,5 @@ pub mod ChildLemmas
 pub mod SoundLemmas
 pub mod EndLemmas
 pub mod TreePartLemmas
+pub mod HoldsLemmas
 mod TreeJoinLemmas

@@ -147,13 +147,13 @@ module _ (circuit : CircuitTree) (flat : FlatCircuit) (tree : InstanceTree) (top
       go : (k : ℕ) → k < length tree.instances → path_at tree.paths k ≡ path_at tree.memory_paths j → ⊥
       go zero lt same =
           joined-some m.site.path m.own.name (names.some_name m.site m.own listed)
-            (sym path ∙ sym same ∙ path-is circuit flat tree top known_top is_flat is_tree distinct 0 (top_site top) (top_placed circuit tree top known_top))
+          (sym path ∙ sym same ∙ path-is circuit flat tree top known_top is_flat is_tree distinct 0 (top_site top) (top_placed circuit tree top known_top))
       go (suc k) lt same =
           let r = ranges circuit tree top known_top is_tree distinct.of_sites in
           let h = held_at-place circuit tree top known_top k (omega (arith, lt, r.same)) in
           let u = h.under in
           let once = joined-once u.outer.path m.site.path u.held.name m.own.name (plain.of_instances u.outer.number u.held u.among) (plain.of_memories m.site m.own listed)
-                (sym (path-is circuit flat tree top known_top is_flat is_tree distinct (suc k) (site_below u.outer u.held) u.at_place) ∙ same ∙ path) in
+          (sym (path-is circuit flat tree top known_top is_flat is_tree distinct (suc k) (site_below u.outer u.held) u.at_place) ∙ same ∙ path) in
           let place : h.above ≡ m.holder = some-same h.above m.holder (sym (path-place circuit tree top known_top is_tree distinct.of_sites h.above u.outer u.at_outer) ∙ ap (λ path. place_of path (site_paths circuit)) once.0 ∙ path-place circuit tree top known_top is_tree distinct.of_sites m.holder m.site m.placed) in
           let site : u.outer ≡ m.site = placed-same (length circuit.modules) circuit.modules (sites_of circuit) m.holder u.outer m.site (subst (λ i. Placed (length circuit.modules) circuit.modules (sites_of circuit) i u.outer) place u.at_outer) m.placed in
           names.apart m.site u.held m.own (subst (λ (x : Site). Contains (held_at circuit.modules x.number) u.held) site u.among) listed once.1

@@ -63,13 +63,14 @@ port-own circuit x i p lt =
     let same = ap (λ (l : List (List ℕ)). length l) (port-names (module_at circuit.modules x.number).ports) in
     let a = length-map (filter_map own_of_port (module_at circuit.modules x.number).ports) (λ (o : Own). o.name) in
     let b = length-map (signal_ports (module_at circuit.modules x.number)) (λ (q : Port). q.name) in
-    let inside : i < length (filter_map own_of_port (module_at circuit.modules x.number).ports) = omega (arith, lt, same, a, b) in
-    (omega (arith, inside, length-append (filter_map own_of_port (module_at circuit.modules x.number).ports) (flat_map (λ (s : Stmt). own_of_kind (types_of circuit) x.number s.kind) (module_at circuit.modules x.number).statements)),
-     λ d.
-       ap (λ (o : Own). o.name) (front (filter_map own_of_port (module_at circuit.modules x.number).ports) (flat_map (λ (s : Stmt). own_of_kind (types_of circuit) x.number s.kind) (module_at circuit.modules x.number).statements) i d inside)
-       ∙ sym (get_or-map (λ (o : Own). o.name) (filter_map own_of_port (module_at circuit.modules x.number).ports) i d [] inside)
-       ∙ ap (λ (l : List (List ℕ)). get_or l i []) (port-names (module_at circuit.modules x.number).ports)
-       ∙ get_or-map (λ (q : Port). q.name) (signal_ports (module_at circuit.modules x.number)) i p [] lt)
+    let inside : i < length (filter_map own_of_port (module_at circuit.modules x.number).ports) = omega (arith, lt, same, a, b) in (
+      omega (arith, inside, length-append (filter_map own_of_port (module_at circuit.modules x.number).ports) (flat_map (λ (s : Stmt). own_of_kind (types_of circuit) x.number s.kind) (module_at circuit.modules x.number).statements)),
+      λ d.
+          ap (λ (o : Own). o.name) (front (filter_map own_of_port (module_at circuit.modules x.number).ports) (flat_map (λ (s : Stmt). own_of_kind (types_of circuit) x.number s.kind) (module_at circuit.modules x.number).statements) i d inside)
+          ∙ sym (get_or-map (λ (o : Own). o.name) (filter_map own_of_port (module_at circuit.modules x.number).ports) i d [] inside)
+          ∙ ap (λ (l : List (List ℕ)). get_or l i []) (port-names (module_at circuit.modules x.number).ports)
+          ∙ get_or-map (λ (q : Port). q.name) (signal_ports (module_at circuit.modules x.number)) i p [] lt,
+    )
 
 module _ (circuit : CircuitTree) (k : ℕ) (x : Site) (placed : Placed (length circuit.modules) circuit.modules (sites_of circuit) k x) where
   pub placed-known : k < length (sites_of circuit)
@@ -110,9 +111,9 @@ module _ (circuit : CircuitTree) (k : ℕ) (x : Site) (placed : Placed (length c
   pub own-place : Differ (signal_paths circuit) → (o : ℕ) (e : Own) → o < length (own_in circuit x) → place_of (joined x.path (get_or (own_in circuit x) o e).name) (signal_paths circuit) ≡ Some (count_to (signals_in circuit) (sites_of circuit) k + o)
   own-place differ o e lt =
       place_of-at (signal_paths circuit) (joined x.path (get_or (own_in circuit x) o e).name) (count_to (signals_in circuit) (sites_of circuit) k + o)
-        (slice_get-get_or (signal_paths circuit) (count_to (signals_in circuit) (sites_of circuit) k + o) [] (omega (arith, own-inside o lt, length-map (flat_signals (types_of circuit) circuit.modules (sites_of circuit)) (λ (s : FlatSignal). s.path)))
-          ∙ ap Some (own-path o [] e lt))
-        differ
+      (slice_get-get_or (signal_paths circuit) (count_to (signals_in circuit) (sites_of circuit) k + o) [] (omega (arith, own-inside o lt, length-map (flat_signals (types_of circuit) circuit.modules (sites_of circuit)) (λ (s : FlatSignal). s.path)))
+      ∙ ap Some (own-path o [] e lt))
+      differ
 
   some-same : (a b : ℕ) → Some a ≡ Some b → a ≡ b
   some-same a b e = cc
@@ -123,4 +124,4 @@ module _ (circuit : CircuitTree) (k : ℕ) (x : Site) (placed : Placed (length c
       let h = Pairwise-at (IsPortFor circuit x) (signal_ports (module_at circuit.modules x.number)) ports i p q each lt in
       let o = port-own circuit x i p lt in
       some-same (get_or ports i q).signal (count_to (signals_in circuit) (sites_of circuit) k + i)
-        (sym h.signal.is ∙ ap (λ name. place_of (joined x.path name) (signal_paths circuit)) (sym (o.1 e)) ∙ own-place differ i e o.0)
+      (sym h.signal.is ∙ ap (λ name. place_of (joined x.path name) (signal_paths circuit)) (sym (o.1 e)) ∙ own-place differ i e o.0)

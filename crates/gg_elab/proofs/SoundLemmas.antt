@@ -83,9 +83,9 @@ module _ (circuit : CircuitTree) (are_names : AreNamesOfCircuit circuit) (once :
       go (inl here) = inl (omega (arith, here, port-count (module_at circuit.modules x.number).ports))
       go (inr behind) =
           let rest = statement-own (types_of circuit) x.number (module_at circuit.modules x.number).statements (o - length (filter_map own_of_port (module_at circuit.modules x.number).ports)) no_own (words x.number)
-                (omega (arith, lt, behind, length-append (filter_map own_of_port (module_at circuit.modules x.number).ports) (flat_map (λ (s : Stmt). own_of_kind (types_of circuit) x.number s.kind) (module_at circuit.modules x.number).statements))) in
+          (omega (arith, lt, behind, length-append (filter_map own_of_port (module_at circuit.modules x.number).ports) (flat_map (λ (s : Stmt). own_of_kind (types_of circuit) x.number s.kind) (module_at circuit.modules x.number).statements))) in
           inr (both (subst (λ y. DeclaredIn (module_at circuit.modules x.number).statements y ⊎ FieldPlace (module_at circuit.modules x.number).statements y)
-            (sym (get_or-append_right (filter_map own_of_port (module_at circuit.modules x.number).ports) (flat_map (λ (s : Stmt). own_of_kind (types_of circuit) x.number s.kind) (module_at circuit.modules x.number).statements) o no_own behind)) rest))
+          (sym (get_or-append_right (filter_map own_of_port (module_at circuit.modules x.number).ports) (flat_map (λ (s : Stmt). own_of_kind (types_of circuit) x.number s.kind) (module_at circuit.modules x.number).statements) o no_own behind)) rest))
 
   -- the signal of a port has the port's name
   pub port-has : (x : Site) (o : ℕ) → o < length (signal_ports (module_at circuit.modules x.number)) → (p : Port) × Contains (module_at circuit.modules x.number).ports p × ((d : Own) → (get_or (own_in circuit x) o d).name ≡ p.name)
@@ -129,6 +129,6 @@ module _ (circuit : CircuitTree) (are_names : AreNamesOfCircuit circuit) (once :
       of-port x p o c named (inl lt) = lt
       of-port x p o c named (inr (inl a)) =
           absurd (Differ-parts (port_names (module_at circuit.modules x.number).ports) (flat_map name_by (module_at circuit.modules x.number).statements) p.name (names_differ x.number) (port-among (module_at circuit.modules x.number).ports p c)
-            (subst (Contains (flat_map name_by (module_at circuit.modules x.number).statements)) (named no_own) (a no_own).among))
+          (subst (Contains (flat_map name_by (module_at circuit.modules x.number).statements)) (named no_own) (a no_own).among))
       of-port x p o c named (inr (inr a)) =
           absurd (port-plain x p c (subst (λ n. Contains n 46) (named no_own) (field-dotted x (get_or (own_in circuit x) o no_own) (a no_own))))

@@ -105,9 +105,9 @@ module _ (circuit : CircuitTree) (flat : FlatCircuit) (tree : InstanceTree) (top
     path = path-is 0 (top_site top) (top_placed circuit tree top known_top);
     first = tells.begins 0 (sites-some circuit tree top known_top);
     all =
-      tells.ends 0 (top_site top) (top_placed circuit tree top known_top)
-      ∙ ap from_site (omega (arith, top_whole circuit tree top known_top))
-      ∙ all-counted;
+        tells.ends 0 (top_site top) (top_placed circuit tree top known_top)
+        ∙ ap from_site (omega (arith, top_whole circuit tree top known_top))
+        ∙ all-counted;
   }
 
   -- an instance that is among those of another has a parent that is that one or behind it
@@ -239,9 +239,9 @@ module _ (circuit : CircuitTree) (flat : FlatCircuit) (tree : InstanceTree) (top
         record {
           rest = (get_or (own_in circuit o.site) o.offset no_own).name;
           is =
-            ap (path_at flat.paths) o.counted
-            ∙ signal-path k o.site o.placed o.offset no_own o.known
-            ∙ ap (λ path. joined path (get_or (own_in circuit o.site) o.offset no_own).name) (sym (path-is k o.site o.placed));
+              ap (path_at flat.paths) o.counted
+              ∙ signal-path k o.site o.placed o.offset no_own o.known
+              ∙ ap (λ path. joined path (get_or (own_in circuit o.site) o.offset no_own).name) (sym (path-is k o.site o.placed));
         }
 
     -- ---- memories
@@ -266,8 +266,8 @@ module _ (circuit : CircuitTree) (flat : FlatCircuit) (tree : InstanceTree) (top
     pub memory-is : (j : ℕ) → j < length tree.memories → (p : MemoryPlace circuit tree j) → (any : Memory) → IsMemoryOf (signals_of (flat_signals (types_of circuit) circuit.modules (sites_of circuit))).paths (flat_memory p.site p.own) (get_or flat.memories j any)
     memory-is j lt p any =
         subst (λ said. IsMemoryOf (signals_of (flat_signals (types_of circuit) circuit.modules (sites_of circuit))).paths said (get_or flat.memories j any))
-          (p.said (flat_memory p.site p.own))
-          (is_flat.memories j (flat_memory p.site p.own) any (omega (arith, lt, memory-count circuit tree top known_top is_tree)))
+        (p.said (flat_memory p.site p.own))
+        (is_flat.memories j (flat_memory p.site p.own) any (omega (arith, lt, memory-count circuit tree top known_top is_tree)))
 
     element : {A : Type 0} (l : List A) (i : ℕ) → i < length l → A
     element [] i below = absurd (omega (arith, below))
@@ -317,7 +317,7 @@ module _ (circuit : CircuitTree) (flat : FlatCircuit) (tree : InstanceTree) (top
         number_here =
             let at = Pairwise-at (IsMemoryAt circuit) (memories_at circuit.modules p.site) (instance_at tree p.holder).memories p.offset (flat_memory p.site p.own) (memory_at tree j).memory h.memories (omega (arith, p.known, size)) in
             some-same (get_or (instance_at tree p.holder).memories p.offset (memory_at tree j).memory) (memory_at tree j).memory
-              (sym at.number.is ∙ ap (λ (m : FlatMemory). place_of m.path (memory_paths (memories_of circuit))) said_here ∙ p.is_for.number.is)
+            (sym at.number.is ∙ ap (λ (m : FlatMemory). place_of m.path (memory_paths (memories_of circuit))) said_here ∙ p.is_for.number.is)
 
         listed : Contains (instance_at tree p.holder).memories (memory_at tree j).memory
         listed = (p.offset, omega (arith, p.known, size, both), number_here)

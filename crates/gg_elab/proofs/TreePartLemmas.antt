@@ -45,7 +45,7 @@ filter-append test (x ∷ xs) ys = go (test x) refl (filter-append test xs ys)
 pub Pairwise-filter : {A B : Type 0} (R : A → B → Type 0) (test : A → Bool) (all : List A) (i : ℕ) (a : A) (ys more : List B) → i < length all → a ≡ get_or all i a → Pairwise R (filter test (take i all)) ys → Pairwise R (filter test (a ∷ [])) more → Pairwise R (filter test (take (i + 1) all)) (ys ++ more)
 Pairwise-filter R test all i a ys more lt is h k =
     subst (λ l. Pairwise R l (ys ++ more)) (sym (filter-append test (take i all) (a ∷ [])) ∙ ap (filter test) (ap (λ x. take i all ++ x ∷ []) is ∙ sym (take_more all i a lt)))
-      (Pairwise-append R (filter test (take i all)) (filter test (a ∷ [])) ys more h k)
+    (Pairwise-append R (filter test (take i all)) (filter test (a ∷ [])) ys more h k)
 
 -- the signals of one site more
 pub signals_to-more : (circuit : CircuitTree) (places : List Place) (i : ℕ) (p : Place) (digest : Digest) → i < length places → p ≡ get_or places i p → IsDigest (types_of circuit) circuit.modules p.number digest → signals_to circuit places (i + 1) ≡ signals_to circuit places i + length digest.signals.items
@@ -64,9 +64,9 @@ firsts-none circuit places = record { size = refl; each = λ k lt. absurd (omega
 
 pub firsts-more : (circuit : CircuitTree) (places : List Place) (i : ℕ) (firsts new : List ℕ) (next : ℕ) → TellsFirsts circuit places i firsts → next ≡ signals_to circuit places i → new ≡ firsts ++ next ∷ [] → TellsFirsts circuit places (i + 1) new
 firsts-more circuit places i firsts new next h is e = record {
-    size = ap (λ (l : List ℕ). length l) e ∙ length-append firsts (next ∷ []) ∙ omega (arith, h.size);
-    each = λ k lt. ap (λ (l : List ℕ). slice_index l k) e ∙ go k (cases_lt k i) lt;
-  }
+  size = ap (λ (l : List ℕ). length l) e ∙ length-append firsts (next ∷ []) ∙ omega (arith, h.size);
+  each = λ k lt. ap (λ (l : List ℕ). slice_index l k) e ∙ go k (cases_lt k i) lt;
+}
   where
     last : (l : List ℕ) (n : ℕ) → get_or (l ++ n ∷ []) (length l) 0 ≡ n
     last [] n = refl
@@ -109,7 +109,7 @@ holder-parent circuit paths (Some around) None same h = absurd h
 holder-parent circuit paths (Some around) (Some p) same h = subst (λ l. IsAt l around.path p) same h
 
 module _ (circuit : CircuitTree) (top : ℕ) (known_top : place_of circuit.name (module_names circuit) ≡ Some top) (places : List Place) (sites : map site_of places ≡ sites_of circuit) where
-  paths-same : map (λ (p : Place). p.path) places ≡ site_paths circuit
+  pub paths-same : map (λ (p : Place). p.path) places ≡ site_paths circuit
   paths-same = sym (map-twice (λ (s : Site). s.path) site_of places) ∙ ap (map (λ (s : Site). s.path)) sites
 
   pub count-same : (k : ℕ) → signals_to circuit places k ≡ count_to (signals_in circuit) (sites_of circuit) k
@@ -140,7 +140,7 @@ module _ (circuit : CircuitTree) (top : ℕ) (known_top : place_of circuit.name 
     ends = m.ends ∙ last_is ∙ count-same end ∙ ap (count_to (signals_in circuit) (sites_of circuit)) end_is ∙ placed-count (length circuit.modules) circuit.modules (sites_of circuit) (signals_in circuit) i (site_of place) p ∙ ap (λ n. n + length (flat_map (signals_in circuit) (within (length circuit.modules) circuit.modules (site_of place)))) (sym (count-same i));
     ports = Pairwise-turned (IsPortAt signals place.path) (IsPortFor circuit (site_of place)) (λ port found at. record { signal = subst (λ l. IsAt l (joined place.path port.name) found.signal) signals_are at.signal; goes = at.goes }) (signals_among (module_at circuit.modules place.number).ports) made.ports m.ports_are;
     memories = subst (λ (l : List FlatMemory). Pairwise (IsMemoryAt circuit) l made.memories) (sym (memories-kept (types_of circuit) circuit.modules place digest digest_is))
-      (Pairwise-mapped (IsNumberAt memories place.path) (IsMemoryAt circuit) (λ own. flat_memory (site_of place) (own_bank_of own)) (λ own number at. record { number = subst (λ l. IsAt l (joined place.path own.name.now) number) memories_are at }) digest.memories.items made.memories m.memories_are);
+        (Pairwise-mapped (IsNumberAt memories place.path) (IsMemoryAt circuit) (λ own. flat_memory (site_of place) (own_bank_of own)) (λ own number at. record { number = subst (λ l. IsAt l (joined place.path own.name.now) number) memories_are at }) digest.memories.items made.memories m.memories_are);
   }
     where
       p : Placed (length circuit.modules) circuit.modules (sites_of circuit) i (site_of place)
@@ -157,8 +157,8 @@ module _ (circuit : CircuitTree) (top : ℕ) (known_top : place_of circuit.name 
 
       end_is : end ≡ i + length (within (length circuit.modules) circuit.modules (site_of place))
       end_is = ends-at circuit top known_top i (site_of place) (site_of place) p end after (omega (arith, inside, size))
-        (λ j from to. omega (arith, deeper j from to, here, depth j (omega (arith, to, inside, size))))
-        (λ below. omega (arith, stop (omega (arith, below, size)), here, depth end below))
+          (λ j from to. omega (arith, deeper j from to, here, depth j (omega (arith, to, inside, size))))
+          (λ below. omega (arith, stop (omega (arith, below, size)), here, depth end below))
 
 -- ---- memories
 
@@ -191,7 +191,7 @@ instances-next circuit places i p ys new made lt is h k e =
     let start : signals_to circuit places i ≡ 0 + signals_to circuit places i = omega arith in
     let sites : map site_of (take i places) ++ site_of p ∷ [] ≡ map site_of (take (i + 1) places) = sym (map-append site_of (take i places) (p ∷ [])) ∙ ap (map site_of) (ap (λ (x : Place). take i places ++ x ∷ []) is ∙ sym (take_more places i p lt)) in
     subst (λ l. AreInstances circuit 0 (map site_of (take (i + 1) places)) l) (sym e)
-      (subst (λ l. AreInstances circuit 0 l (ys ++ made ∷ [])) sites (instances-more circuit 0 (map site_of (take i places)) (site_of p) ys made h (subst (λ n. IsInstanceFor circuit n (site_of p) made) start k)))
+    (subst (λ l. AreInstances circuit 0 l (ys ++ made ∷ [])) sites (instances-more circuit 0 (map site_of (take i places)) (site_of p) ys made h (subst (λ n. IsInstanceFor circuit n (site_of p) made) start k)))
 
 pub paths-next : (places : List Place) (i : ℕ) (p : Place) (old new : List (List ℕ)) → i < length places → p ≡ get_or places i p → old ≡ map (λ (q : Place). q.path) (take i places) → new ≡ old ++ p.path ∷ [] → new ≡ map (λ (q : Place). q.path) (take (i + 1) places)
 paths-next places i p old new lt is h e =

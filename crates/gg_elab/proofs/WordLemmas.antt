@@ -219,8 +219,8 @@ statement-own types k (s ∷ ss) i d n lt = go (cases_lt i (length (own_of_kind 
     go : (i < length (own_of_kind types k s.kind)) ⊎ (length (own_of_kind types k s.kind) ≤ i) → (i - length (own_of_kind types k s.kind) < length (flat_map (λ (s : Stmt). own_of_kind types k s.kind) ss) → DeclaredIn ss (get_or (flat_map (λ (s : Stmt). own_of_kind types k s.kind) ss) (i - length (own_of_kind types k s.kind)) d) ⊎ FieldPlace ss (get_or (flat_map (λ (s : Stmt). own_of_kind types k s.kind) ss) (i - length (own_of_kind types k s.kind)) d)) → DeclaredIn (s ∷ ss) (get_or (own_of_kind types k s.kind ++ flat_map (λ (s : Stmt). own_of_kind types k s.kind) ss) i d) ⊎ FieldPlace (s ∷ ss) (get_or (own_of_kind types k s.kind ++ flat_map (λ (s : Stmt). own_of_kind types k s.kind) ss) i d)
     go (inl inside) next =
         subst (λ o. DeclaredIn (s ∷ ss) o ⊎ FieldPlace (s ∷ ss) o) (sym (front (own_of_kind types k s.kind) (flat_map (λ (s : Stmt). own_of_kind types k s.kind) ss) i d inside))
-          (here (get_or (own_of_kind types k s.kind) i d) (kind-own types k s.kind i d inside (n 0 s (omega arith))))
+        (here (get_or (own_of_kind types k s.kind) i d) (kind-own types k s.kind i d inside (n 0 s (omega arith))))
     go (inr behind) next =
         subst (λ o. DeclaredIn (s ∷ ss) o ⊎ FieldPlace (s ∷ ss) o) (sym (get_or-append_right (own_of_kind types k s.kind) (flat_map (λ (s : Stmt). own_of_kind types k s.kind) ss) i d behind))
-          (there (get_or (flat_map (λ (s : Stmt). own_of_kind types k s.kind) ss) (i - length (own_of_kind types k s.kind)) d)
-            (next (omega (arith, lt, behind, length-append (own_of_kind types k s.kind) (flat_map (λ (s : Stmt). own_of_kind types k s.kind) ss)))))
+        (there (get_or (flat_map (λ (s : Stmt). own_of_kind types k s.kind) ss) (i - length (own_of_kind types k s.kind)) d)
+        (next (omega (arith, lt, behind, length-append (own_of_kind types k s.kind) (flat_map (λ (s : Stmt). own_of_kind types k s.kind) ss)))))

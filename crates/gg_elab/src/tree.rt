@@ -3,7 +3,7 @@ ghost use Rattle.std.specs.Prelude.{List, None, ℕ, ◌≡◌, ◌≢◌, ◌<�
 ghost use Rattle.gg_ast.specs.Places.{place_of};
 ghost use Rattle.gg_ast.specs.Tree.{CircuitTree, module_names};
 ghost use Rattle.gg_count.specs.Sites.{sites_of};
-ghost use Rattle.gg_elab.specs.declared.sites as sites_specs;
+ghost use Rattle.gg_elab.specs.declared.sites.Place.{Place};
 ghost use Rattle.gg_elab.specs.Flat.{flat_memories};
 ghost use Rattle.gg_elab.specs.IsFlat.{memory_paths};
 ghost use Rattle.gg_flat.specs.Tree.{joined as joined_text, no_tree};
@@ -219,7 +219,12 @@ fn instance(
 {
     let parent = holder(paths, &place.outer)?;
     let ports = ports(alloc, &table.paths, &place.path, module_ports)?;
-    let memories = numbers(alloc, &table.memories, &place.path, digest.memories.as_slice())?;
+    let memories = numbers(
+        alloc,
+        &table.memories,
+        &place.path,
+        digest.memories.as_slice(),
+    )?;
     Ok(Instance {
         parent,
         module: place.number,
@@ -332,7 +337,7 @@ fn add_site_memories(
     tree: &mut Tree,
 ) -> Result<(), AllocError>
     ensures names { OnOk result (tree.new.memory_paths ≡ tree.old.memory_paths ++ map (λ m. joined_text outer.now m.name.now) memories.now) }
-    ensures made { OnOk result ((circuit : CircuitTree) (said : List HeldMemory) (place : sites_specs.Place.Place) → paths.now ≡ paths_of_sites circuit → table.now.memories ≡ memory_paths (memories_of circuit) → place.path ≡ outer.now → Pairwise (IsHeldFor circuit) said tree.old.memories → Pairwise (IsHeldFor circuit) (said ++ map (held_at_place place) memories.now) tree.new.memories) }
+    ensures made { OnOk result ((circuit : CircuitTree) (said : List HeldMemory) (place : Place) → paths.now ≡ paths_of_sites circuit → table.now.memories ≡ memory_paths (memories_of circuit) → place.path ≡ outer.now → Pairwise (IsHeldFor circuit) said tree.old.memories → Pairwise (IsHeldFor circuit) (said ++ map (held_at_place place) memories.now) tree.new.memories) }
     ensures rest { OnOk result ((tree.new.paths ≡ tree.old.paths) × (tree.new.instances ≡ tree.old.instances)) }
 {
     for own in memories {
@@ -362,8 +367,15 @@ fn add_memories(
     ensures rest { OnOk result ((tree.new.paths ≡ tree.old.paths) × (tree.new.instances ≡ tree.old.instances)) }
 {
     for place in places {
-        let memories = digests[place.number as usize].memories.as_slice();
-        add_site_memories(alloc, table, paths, &place.path, memories, tree)?;
+        let digest = &digests[place.number as usize];
+        add_site_memories(
+            alloc,
+            table,
+            paths,
+            &place.path,
+            digest.memories.as_slice(),
+            tree,
+        )?;
     }
     Ok(())
 }
