@@ -33,7 +33,7 @@ pub memories-kept : (types : Types) (modules : List ModuleTree) (place : Place) 
 memories-kept types modules place digest h =
     ap (map (flat_memory (site_of place))) (sym h.memories) ∙ map-twice (flat_memory (site_of place)) own_bank_of digest.memories.items
 
-one_more : {B : Type 0} (f : Site → List B) (places : List Place) (i : ℕ) (p : Place) → i < length places → p ≡ get_or places i p → flat_map f (map site_of (take (i + 1) places)) ≡ flat_map f (map site_of (take i places)) ++ f (site_of p)
+pub one_more : {B : Type 0} (f : Site → List B) (places : List Place) (i : ℕ) (p : Place) → i < length places → p ≡ get_or places i p → flat_map f (map site_of (take (i + 1) places)) ≡ flat_map f (map site_of (take i places)) ++ f (site_of p)
 one_more f places i p lt is =
     ap (λ (l : List Place). flat_map f (map site_of l)) (take_more places i p lt ∙ ap (λ (x : Place). take i places ++ x ∷ []) (sym is))
     ∙ ap (flat_map f) (map-append site_of (take i places) (p ∷ []))

@@ -23,3 +23,24 @@ mod WorkedCounter
 mod WorkedText
 mod WorkedHierarchy
 mod WorkedTree
+pub mod PlaceLemmas
+pub mod RangeLemmas
+pub mod InstanceLemmas
+pub mod OwnLemmas
+pub mod HeldMemoryLemmas
+pub mod TreeLemmas
+pub mod JoinLemmas
+pub mod FieldLemmas
+pub mod ScopeOfTreeLemmas
+pub mod NamedLemmas
+pub mod VisibleLemmas
+pub mod CauseLemmas
+pub mod DriverLemmas
+pub mod DeclaredLemmas
+pub mod WordLemmas
+pub mod ChildLemmas
+pub mod SoundLemmas
+pub mod EndLemmas
+pub mod TreePartLemmas
+pub mod HoldsLemmas
+mod TreeJoinLemmas

@@ -12,3 +12,4 @@ pub mod Fitting
 pub mod Building
 pub mod Limits
 pub mod ElabText
+pub mod TreeParts

@@ -1,11 +1,14 @@
 //! `flatten`: from a circuit to its flat circuit.
-ghost use Rattle.std.specs.Prelude.{◌≡◌, ◌<◌, ◌^◌, [], length, map, Some, None, Err, IfOk, IfErr, All};
+ghost use Rattle.std.specs.Prelude.{◌≡◌, ◌≢◌, ◌<◌, ◌^◌, [], length, map, Some, None, Err, IfOk, IfErr, All};
 ghost use Rattle.gg_ast.specs.Places.{place_of};
 ghost use Rattle.gg_ast.specs.Tree.{module_names};
 ghost use Rattle.gg_elab.specs.Building.{IsPlaceIn};
 ghost use Rattle.gg_elab.specs.IsFlat.{IsFlat, IsFlatWith};
 ghost use Rattle.gg_elab.specs.Fitting.{AreFitting};
+ghost use Rattle.gg_flat.specs.Scoped.{IsScoped};
+ghost use Rattle.gg_flat.specs.Tree.{IsTree};
 ghost use Rattle.gg_flat.specs.WellFormed.{IsWellFormed};
+ghost use Rattle.gg_elab.specs.IsTreeOf.{IsTreeOf};
 ghost use Rattle.gg_elab.specs.Known.{types_of};
 ghost use Rattle.gg_elab.specs.Limits.{excess_over, IsAnswered};
 ghost use Rattle.gg_elab.specs.Views.{AreDigests, site_of};
@@ -16,8 +19,9 @@ use crate::fault::ElabFault;
 use crate::ports::{add_all_memories, add_ports};
 use crate::sites::{Place, places};
 use crate::table::table_of;
+use crate::tree::tree_of;
 use gg_count::count;
-use gg_flat::Piece;
+use gg_flat::{Piece, Tree};
 use gg_types::Typed;
 use std::alloc::{AllocError, Global};
 
@@ -33,18 +37,19 @@ fn own_counts(alloc: Global, digests: &[Digest]) -> Result<Vec<u64>, AllocError>
     Ok(counts)
 }
 
-// The flat circuit of a circuit whose top is the module at this place.
+// The flat circuit of a circuit whose top is the module at this place, and its tree.
 fn build<'a>(
     alloc: Global,
     typed: &Typed<'a>,
     digests: &[Digest<'a>],
     top: u32,
-) -> Result<Piece, AllocError>
+) -> Result<(Piece, Tree), AllocError>
     requires digests { AreDigests (types_of typed.now.circuit) typed.now.circuit.modules digests.now }
     requires few { length typed.now.circuit.modules < 2 ^ 32 }
     requires top { place_of typed.now.circuit.name (module_names typed.now.circuit) ≡ Some top }
-    ensures flat { IfOk result (IsFlatWith (types_of typed.now.circuit) typed.now.circuit) }
-    ensures fits { IfOk result AreFitting }
+    ensures flat { IfOk result (λ both. IsFlatWith (types_of typed.now.circuit) typed.now.circuit both.0) }
+    ensures fits { IfOk result (λ both. AreFitting both.0) }
+    ensures tree { IfOk result (λ both. IsTreeOf typed.now.circuit both.1) }
 {
     let modules = typed.names().circuit().modules();
     let places = places(alloc, typed, digests, top)?;
@@ -53,41 +58,58 @@ fn build<'a>(
     add_sites(alloc, typed, &table, digests, places.as_slice(), &mut piece)?;
     add_all_memories(alloc, typed, &table, digests, places.as_slice(), &mut piece)?;
     add_ports(&table.paths, modules[top as usize].ports(), &mut piece)?;
-    Ok(piece)
+    let tree = tree_of(alloc, typed, &table, digests, places.as_slice())?;
+    Ok((piece, tree))
 }
 
-// The piece, which is well formed. That no other is made here isn't proved: it would be refused as want of memory.
-fn well_formed(piece: Piece) -> Result<Piece, AllocError>
-    ensures same { IfOk result (λ formed. formed ≡ piece) }
-    ensures formed { IfOk result IsWellFormed }
+// The flat circuit with its tree, where it is well formed. That no other is made here isn't proved: it would be refused as
+// want of memory.
+fn joined(typed: &Typed, piece: Piece, tree: Tree) -> Result<(Piece, Tree), AllocError>
+    requires top { (place_of typed.now.circuit.name (module_names typed.now.circuit)) ≢ None }
+    requires flat { IsFlat typed.now.circuit piece }
+    requires tree { IsTreeOf typed.now.circuit tree }
+    ensures same { IfOk result (λ both. both.0 ≡ piece) }
+    ensures formed { IfOk result (λ both. IsWellFormed both.0) }
+    ensures fitting { IfOk result (λ both. IsTree both.0 both.1) }
+    ensures scoped { IfOk result (λ both. IsScoped both.0 both.1) }
 {
+    let circuit = typed.names().circuit();
+    circuit.names_are_words();
+    let _ = tree.len();
+    let _ = tree.memory_count();
     if piece.check() {
-        Ok(piece)
+        Ok((piece, tree))
     } else {
         Err(AllocError)
     }
 }
 
-/// The flat circuit of a circuit that the checks passed.
+/// The flat circuit of a circuit that the checks passed, and the tree of its instances, to whose scopes it keeps.
 ///
 /// # Errors
 ///
 /// `TooLarge` with the first count that is above its limit, exactly where there is one; `NoMemory`, where memory is refused.
-pub fn flatten(alloc: Global, typed: &Typed) -> Result<Piece, ElabFault>
-    ensures flat { IfOk result (IsFlat typed.now.circuit) }
-    ensures fits { IfOk result AreFitting }
-    ensures formed { IfOk result IsWellFormed }
+pub fn flatten(alloc: Global, typed: &Typed) -> Result<(Piece, Tree), ElabFault>
+    ensures flat { IfOk result (λ both. IsFlat typed.now.circuit both.0) }
+    ensures fits { IfOk result (λ both. AreFitting both.0) }
+    ensures formed { IfOk result (λ both. IsWellFormed both.0) }
+    ensures fitting { IfOk result (λ both. IsTree both.0 both.1) }
+    ensures scoped { IfOk result (λ both. IsScoped both.0 both.1) }
     ensures limits { IsAnswered (excess_over (types_of typed.now.circuit) typed.now.circuit.modules (place_of typed.now.circuit.name (module_names typed.now.circuit))) result }
 {
     let circuit = typed.names().circuit();
+    // A circuit without a top isn't checked: it has the fault F1.
     let Some(top) = circuit.module(circuit.name().as_str()) else {
-        return Ok(well_formed(Piece::new(alloc))?);
+        return Err(ElabFault::NoMemory);
     };
     let digests = digests(alloc, typed)?;
     let own = own_counts(alloc, digests.as_slice())?;
     let counts = count(alloc, circuit, typed.order(), top, own.as_slice())?;
     match counts.excess() {
         Some(excess) => Err(ElabFault::TooLarge(excess)),
-        None => Ok(well_formed(build(alloc, typed, digests.as_slice(), top)?)?),
+        None => {
+            let (piece, tree) = build(alloc, typed, digests.as_slice(), top)?;
+            Ok(joined(typed, piece, tree)?)
+        }
     }
 }

@@ -30,6 +30,7 @@ mod ports;
 mod scope;
 mod sites;
 mod table;
+mod tree;
 
 pub use elaborate::flatten;
 pub use fault::{ElabFault, limit_of};

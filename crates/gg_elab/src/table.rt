@@ -25,8 +25,8 @@ pub(crate) struct Table {
     pub(crate) memories: Paths,
 }
 
-// Adds a path. No path comes twice; more than 4,294,967,295 are refused as want of memory.
-fn add_path(paths: &mut Paths, path: Name) -> Result<(), AllocError>
+/// Adds a path. No path comes twice; more than 4,294,967,295 are refused as want of memory.
+pub(crate) fn add_path(paths: &mut Paths, path: Name) -> Result<(), AllocError>
     ensures { OnOk result (paths.new ≡ paths.old ++ path ∷ []) }
 {
     if paths.len() >= u32::MAX as usize {

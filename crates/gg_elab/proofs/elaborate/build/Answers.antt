@@ -3,7 +3,7 @@ use Rattle.std.proofs.lemmas.List.{length-map, get_or_default}
 use Rattle.gg_ast.specs.Tree.{ModuleTree, CircuitTree, module_names, empty_module}
 use Rattle.gg_ast.specs.Places.{place_of}
 use Rattle.gg_ast.proofs.NamePlaces.{place_of-below}
-use Rattle.gg_count.specs.Sites.{Site, module_at, all_sites}
+use Rattle.gg_count.specs.Sites.{Site, module_at, all_sites, sites_of}
 use Rattle.gg_flat.specs.Circuit.{FlatCircuit}
 use Rattle.gg_elab.specs.Known.{types_of}
 use Rattle.gg_elab.specs.Views.{site_of}
@@ -13,7 +13,13 @@ use Rattle.gg_elab.specs.Flat.{flat_signals, flat_memories}
 use Rattle.gg_elab.specs.Growing.{table_signals}
 use Rattle.gg_elab.specs.IsFlat.{signals_of, memory_paths}
 use Rattle.gg_elab.proofs.WholeLemmas.{whole, with_top, fitting_whole}
+use Rattle.gg_elab.proofs.TreeJoinLemmas.{sites-of, is-some}
+use Rattle.gg_elab.specs.Signals.{Types}
+use Rattle.gg_elab.specs.Meaning.{Signals}
 use Rattle.gg_elab.proofs.elaborate.build.Goals as goal
+
+abbrev signal_paths_of : Types → List ModuleTree → List Site → List (List ℕ)
+signal_paths_of types modules sites = (signals_of (flat_signals types modules sites)).paths
 
 pub places-requires-clause-top : goal.places-requires-clause-top
 places-requires-clause-top c =
@@ -68,3 +74,33 @@ returns-clause-fits c =
     fitting_whole types all (table_signals table) table.memories one three c.in_ok-add_sites.ensures.0 same far
     (ap (λ (f : FlatCircuit). f.signals) c.in_ok-add_ports.ensures.rest ∙ ap (λ (f : FlatCircuit). f.signals) c.in_ok-add_all_memories.ensures.rest)
     (ap (λ (f : FlatCircuit). f.registers) c.in_ok-add_ports.ensures.rest ∙ ap (λ (f : FlatCircuit). f.registers) c.in_ok-add_all_memories.ensures.rest)
+
+pub tree_of-requires-clause-top : goal.tree_of-requires-clause-top
+tree_of-requires-clause-top c =
+    let circuit = c.args.typed.now.circuit in
+    is-some (place_of circuit.name (module_names circuit)) c.args.top c.requires.top
+
+pub tree_of-requires-clause-sites : goal.tree_of-requires-clause-sites
+tree_of-requires-clause-sites c =
+    let circuit = c.args.typed.now.circuit in
+    subst (λ (l : List Place). map site_of l ≡ sites_of circuit) (sym c.as_slice-4.ensures.value)
+    (sites-of circuit.modules (place_of circuit.name (module_names circuit)) c.args.top (map site_of c.in_ok-places.places.items) c.requires.top c.in_ok-places.ensures.sites)
+
+pub tree_of-requires-clause-signals : goal.tree_of-requires-clause-signals
+tree_of-requires-clause-signals c =
+    let circuit = c.args.typed.now.circuit in
+    let modules = circuit.modules in
+    let types = types_of circuit in
+    let places = c.in_ok-places.places.items in
+    let sites = sites-of modules (place_of circuit.name (module_names circuit)) c.args.top (map site_of places) c.requires.top c.in_ok-places.ensures.sites in
+    let same : table_signals c.in_ok-table.table ≡ signals_of (flat_signals types modules (map site_of places)) = c.in_ok-table.ensures.signals ∙ ap (λ (l : List Place). signals_of (flat_signals types modules (map site_of l))) c.as_slice.ensures.value in
+    ap (λ (s : Signals). s.paths) same ∙ ap (λ (l : List Site). signal_paths_of types modules l) sites
+
+pub tree_of-requires-clause-memories : goal.tree_of-requires-clause-memories
+tree_of-requires-clause-memories c =
+    let circuit = c.args.typed.now.circuit in
+    let modules = circuit.modules in
+    let places = c.in_ok-places.places.items in
+    let sites = sites-of modules (place_of circuit.name (module_names circuit)) c.args.top (map site_of places) c.requires.top c.in_ok-places.ensures.sites in
+    c.in_ok-table.ensures.memories ∙ ap (λ (l : List Place). memory_paths (flat_memories modules (map site_of l))) c.as_slice.ensures.value
+    ∙ ap (λ (l : List Site). memory_paths (flat_memories modules l)) sites
