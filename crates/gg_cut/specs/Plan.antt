@@ -8,7 +8,7 @@ use Rattle.gg_flat.specs.Line.{value_at, shape_at}
 use Rattle.gg_flat.specs.Circuit.{FlatCircuit, signal_shapes}
 use Rattle.gg_flat.specs.Tree.{InstanceTree, path_at, memory_at}
 use Rattle.gg_order.specs.Design.{Ordered}
-use Rattle.gg_program.specs.Cone.{Reaches}
+use Rattle.gg_flat.specs.Reads.{Reaches}
 use Rattle.gg_part.specs.Part.{IsPart}
 use Rattle.gg_part.specs.InOrder.{IsInOrder}
 use Rattle.gg_part.specs.declared.part.Part.{Part}

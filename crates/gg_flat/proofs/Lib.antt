@@ -23,3 +23,4 @@ pub mod WorkedMemories
 pub mod FlawedMemories
 pub mod WorkedTree
 pub mod WorkedRuns
+pub mod WorkedScopes

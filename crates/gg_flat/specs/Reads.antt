@@ -51,3 +51,13 @@ ReadsInTurn circuit first (a ∷ b ∷ rest) = Reads circuit a b × ReadsInTurn 
 abbrev pub IsLoop : FlatCircuit → List ℕ → Type 0
 IsLoop circuit [] = ⊥
 IsLoop circuit (first ∷ rest) = AllPairs (λ a b. a ≢ b) (first ∷ rest) × ReadsInTurn circuit first (first ∷ rest)
+
+-- a path of reads from signal a to signal b: each signal reads the next of the path, and the last is b
+abbrev pub IsPath : FlatCircuit → ℕ → List ℕ → ℕ → Type 0
+IsPath circuit a [] b = a ≡ b
+IsPath circuit a (next ∷ path) b = Reads circuit a next × IsPath circuit next path b
+
+-- Signal a reaches signal b: there is a path of reads from a to b. Each signal reaches itself.
+pub record Reaches (circuit : FlatCircuit) (a b : ℕ) : Type 0 where
+  pub path : List ℕ
+  pub reads : IsPath circuit a path b

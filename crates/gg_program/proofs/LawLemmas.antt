@@ -5,14 +5,13 @@ use Rattle.gg_flat.specs.declared.piece.Driver.{Driver}
 use Rattle.gg_flat.specs.declared.piece.Driver.TheVariants.{Input, Held, MemoryWord, ReadRegister, Computed}
 use Rattle.gg_flat.specs.Line.{value_at, shape_at}
 use Rattle.gg_flat.specs.Circuit.{FlatCircuit, signal_shapes, driver_at}
-use Rattle.gg_flat.specs.Reads.{Reads, NamesSignal}
+use Rattle.gg_flat.specs.Reads.{Reads, NamesSignal, Reaches}
 use Rattle.gg_flat.specs.WellFormed.{IsWellFormed, MayDrive}
 use Rattle.gg_flat.specs.State.{State}
 use Rattle.gg_flat.specs.Settled.{Settled, driver_value}
 use Rattle.gg_flat.specs.Order.{IsOrder}
 use Rattle.gg_flat.proofs.AgreeLemmas.{driver_value-agree}
 use Rattle.gg_flat.proofs.OrderLemmas.{read-before, place-of}
-use Rattle.gg_program.specs.Cone.{Reaches}
 use Rattle.gg_program.specs.ConeValue.{AgreeOnNeeds, NeedsAlike, IsConeValue}
 use Rattle.gg_program.proofs.ReachLemmas.{Reaches-itself, Reaches-on}
 

@@ -8,14 +8,14 @@ use Rattle.std.proofs.lemmas.Bool.{cases_lt}
 use Rattle.std.proofs.Math.Seq.{get_or-append_seam}
 use Rattle.gg_flat.specs.Line.{value_at}
 use Rattle.gg_flat.specs.Circuit.{FlatCircuit}
-use Rattle.gg_flat.specs.Reads.{Reads}
+use Rattle.gg_flat.specs.Reads.{Reads, Reaches}
 use Rattle.gg_flat.specs.WellFormed.{IsWellFormed}
 use Rattle.gg_flat.specs.Order.{IsOrder}
 use Rattle.gg_flat.proofs.NameLemmas.{Contains-one}
 use Rattle.gg_flat.proofs.OrderLemmas.{stands-before}
 use Rattle.gg_order.specs.Marks.{is_marked}
 use Rattle.gg_program.specs.declared.cone.Cone.{Cone}
-use Rattle.gg_program.specs.Cone.{Reaches, IsCone, AreNeeds, IsConeOf, AreConesOf}
+use Rattle.gg_program.specs.Cone.{IsCone, AreNeeds, IsConeOf, AreConesOf}
 use Rattle.gg_program.specs.Walk.{MarksReached, IsClosed, StandsAfter, ArePicked, AreMarkedIns}
 use Rattle.gg_program.proofs.ReachLemmas.{Reaches-within}
 

@@ -1,10 +1,9 @@
 -- What a signal reaches.
 use Rattle.std.proofs.Common.{ℕ, ◌<◌, List, [], ◌∷◌, ◌++◌, length, refl, sym, subst}
 use Rattle.gg_flat.specs.Circuit.{FlatCircuit}
-use Rattle.gg_flat.specs.Reads.{Reads}
+use Rattle.gg_flat.specs.Reads.{Reads, IsPath, Reaches}
 use Rattle.gg_flat.specs.WellFormed.{IsWellFormed}
 use Rattle.gg_order.proofs.ReadLemmas.{names_within}
-use Rattle.gg_program.specs.Cone.{IsPath, Reaches}
 
 pub Reaches-itself : (circuit : FlatCircuit) (a : ℕ) → Reaches circuit a a
 Reaches-itself circuit a = record { path = []; reads = refl }

@@ -18,7 +18,8 @@ use Rattle.gg_flat.specs.Room.{HasRoom}
 use Rattle.gg_flat.specs.Along.{settled_along}
 use Rattle.gg_flat.proofs.AlongLemmas.{Settled-along}
 use Rattle.gg_flat.proofs.TypedLemmas.{shape_at-in_shapes, AreTyped-zeros, AreTyped-set}
-use Rattle.gg_program.specs.Cone.{Reaches, IsCone}
+use Rattle.gg_flat.specs.Reads.{Reaches}
+use Rattle.gg_program.specs.Cone.{IsCone}
 use Rattle.gg_program.specs.ConeValue.{HasNeeds, MaySettle, IsConeValue}
 use Rattle.gg_program.specs.Slots.{signals_in, inputs_in, AreSlots}
 use Rattle.gg_program.specs.Steps.{KeepsIns, HasInsOf, Follows}

@@ -5,11 +5,10 @@ use Rattle.std.proofs.lemmas.Bool.{cases_lt}
 use Rattle.std.proofs.lemmas.Bool.Decides.{Decides-eqb}
 use Rattle.gg_flat.specs.Line.{value_at}
 use Rattle.gg_flat.specs.Circuit.{FlatCircuit, driver_at}
-use Rattle.gg_flat.specs.Reads.{Reads, NamesSignal}
+use Rattle.gg_flat.specs.Reads.{Reads, NamesSignal, Reaches}
 use Rattle.gg_flat.specs.Order.{IsOrder}
 use Rattle.gg_flat.proofs.OrderLemmas.{read-before, place-of}
 use Rattle.gg_order.specs.Marks.{is_marked, Marks}
-use Rattle.gg_program.specs.Cone.{Reaches}
 use Rattle.gg_program.specs.Walk.{MarksReached, IsClosed, IsWalk, ReadsMarked}
 use Rattle.gg_program.proofs.ReachLemmas.{Reaches-itself, Reaches-on, along-reaches}
 

@@ -7,11 +7,11 @@ use Rattle.gg_flat.specs.declared.memory.UnderWrite.TheVariants.{New}
 use Rattle.gg_flat.specs.declared.piece.Driver.TheVariants.{Input, Computed}
 use Rattle.gg_flat.specs.Line.{value_at}
 use Rattle.gg_flat.specs.Circuit.{FlatCircuit}
-use Rattle.gg_flat.specs.Reads.{Reads}
+use Rattle.gg_flat.specs.Reads.{Reads, Reaches}
 use Rattle.gg_flat.proofs.WorkedCircuits.{eight, node}
 use Rattle.gg_flat.proofs.WorkedForms.{only, both, same}
 use Rattle.gg_flat.proofs.WorkedMemories.{ports, late, copy, signal}
-use Rattle.gg_program.specs.Cone.{Reaches, IsCone, AreNeeds}
+use Rattle.gg_program.specs.Cone.{IsCone, AreNeeds}
 use Rattle.gg_program.proofs.ReachLemmas.{along-reaches}
 
 -- Signals 0 and 1 are the inputs `x` and `k`, 2 and 3 the outputs `p`, which is `x`, and `q`, which is `xor(x, k)`.

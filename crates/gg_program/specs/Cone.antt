@@ -1,21 +1,11 @@
 -- Which signals a signal reaches in a cycle: its cone, and the inputs that it needs.
 -- Source: FIRRTL Specification, "Combinational Loops" (dependency without a register), and "Memories" for reads of latency
 -- 0; MEMOCODE 2009 for an output that needs just the inputs that it depends on.
-use Rattle.std.specs.Prelude.{◌≡◌, ◌≢◌, ℕ, ◌<◌, ◌↔◌, List, [], ◌∷◌, length, take, slice_index_or, Contains, AllPairs}
+use Rattle.std.specs.Prelude.{◌≡◌, ◌≢◌, ℕ, ◌<◌, ◌↔◌, List, length, take, slice_index_or, Contains, AllPairs}
 use Rattle.gg_flat.specs.Line.{value_at}
 use Rattle.gg_flat.specs.Circuit.{FlatCircuit}
-use Rattle.gg_flat.specs.Reads.{Reads}
+use Rattle.gg_flat.specs.Reads.{Reads, Reaches}
 use Rattle.gg_program.specs.declared.cone.Cone.{Cone}
-
--- a path of reads from signal a to signal b: each signal reads the next of the path, and the last is b
-abbrev pub IsPath : FlatCircuit → ℕ → List ℕ → ℕ → Type 0
-IsPath circuit a [] b = a ≡ b
-IsPath circuit a (next ∷ path) b = Reads circuit a next × IsPath circuit next path b
-
--- Signal a reaches signal b: there is a path of reads from a to b. Each signal reaches itself.
-pub record Reaches (circuit : FlatCircuit) (a b : ℕ) : Type 0 where
-  pub path : List ℕ
-  pub reads : IsPath circuit a path b
 
 -- The cone of a signal in an order of evaluation: just the signals that it reaches, each once, behind all that it reads.
 pub record IsCone (circuit : FlatCircuit) (out : ℕ) (cone : List ℕ) : Type 0 where

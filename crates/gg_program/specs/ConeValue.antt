@@ -5,7 +5,7 @@ use Rattle.gg_flat.specs.Line.{value_at}
 use Rattle.gg_flat.specs.Circuit.{FlatCircuit}
 use Rattle.gg_flat.specs.State.{State}
 use Rattle.gg_flat.specs.Settled.{Settled}
-use Rattle.gg_program.specs.Cone.{Reaches}
+use Rattle.gg_flat.specs.Reads.{Reaches}
 
 -- two rows agree on the in-signals that a signal reaches
 abbrev pub AgreeOnNeeds : FlatCircuit → ℕ → List ℕ → List ℕ → Type 0

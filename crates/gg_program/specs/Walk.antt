@@ -2,9 +2,8 @@
 use Rattle.std.specs.Prelude.{◌≡◌, ℕ, ◌<◌, ◌≤◌, ◌↔◌, ◌≢◌, List, length, take, Contains, AllPairs, Bool, true, ◌⊎◌}
 use Rattle.gg_flat.specs.Line.{value_at}
 use Rattle.gg_flat.specs.Circuit.{FlatCircuit}
-use Rattle.gg_flat.specs.Reads.{Reads}
+use Rattle.gg_flat.specs.Reads.{Reads, Reaches}
 use Rattle.gg_order.specs.Marks.{is_marked}
-use Rattle.gg_program.specs.Cone.{Reaches}
 
 -- just the signals that a signal reaches are marked
 abbrev pub MarksReached : FlatCircuit → ℕ → List Bool → Type 0
