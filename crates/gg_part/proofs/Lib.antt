@@ -2,3 +2,5 @@ pub mod RenameLemmas
 pub mod AlongLemmas
 pub mod RunLemmas
 pub mod FormedLemmas
+pub mod PlaceLemmas
+pub mod StepLemmas
