@@ -4,3 +4,4 @@ pub mod RunLemmas
 pub mod FormedLemmas
 pub mod PlaceLemmas
 pub mod StepLemmas
+pub mod FrameLemmas

@@ -6,6 +6,7 @@ ghost use Rattle.gg_part.specs.Choice.{IsChoice};
 ghost use Rattle.gg_part.specs.Building.{Holds, AreHeld};
 
 use crate::numbers::Numbers;
+use crate::part::Part;
 use gg_flat::{Driver, Piece};
 use std::alloc::{AllocError, Global};
 
@@ -17,6 +18,30 @@ pub(crate) struct Frame {
     pub(crate) ins: Numbers,
     pub(crate) held: Numbers,
     pub(crate) memories: Numbers,
+}
+
+impl Frame {
+    /// The part whose frame this is, and that is this piece.
+    pub(crate) fn part(self, piece: Piece) -> Part
+        ensures piece { result.piece ≡ piece }
+        ensures globals { result.globals ≡ self.globals }
+        ensures held { result.held ≡ self.held }
+        ensures memories { result.memories ≡ self.memories }
+    {
+        let Frame {
+            globals,
+            ins,
+            held,
+            memories,
+        } = self;
+        drop(ins);
+        Part {
+            piece,
+            globals: globals.into_ids(),
+            held: held.into_ids(),
+            memories: memories.into_ids(),
+        }
+    }
 }
 
 /// The driver of a signal.

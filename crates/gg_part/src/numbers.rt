@@ -71,6 +71,13 @@ impl Numbers {
         Ok(Numbers { items, places })
     }
 
+    /// The numbers, in order.
+    pub(crate) fn as_slice(&self) -> &[u32]
+        ensures { result.now ≡ self.now }
+    {
+        self.items.as_slice()
+    }
+
     /// The place of a number, where it is one of these.
     pub(crate) fn find(&self, number: u32) -> Option<u32>
         ensures within { IfSome result (λ place. place < length self.now) }
