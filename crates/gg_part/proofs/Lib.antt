@@ -5,3 +5,5 @@ pub mod FormedLemmas
 pub mod PlaceLemmas
 pub mod StepLemmas
 pub mod FrameLemmas
+pub mod BuildLemmas
+pub mod PartLemmas

@@ -46,12 +46,7 @@ fn local_driver(alloc: Global, frame: &Frame, driver: &Driver) -> Result<Driver,
 }
 
 // The driver of a signal of the part.
-fn driver_in(
-    alloc: Global,
-    whole: &Piece,
-    frame: &Frame,
-    signal: u32,
-) -> Result<Driver, AllocError>
+fn driver_in(alloc: Global, whole: &Piece, frame: &Frame, signal: u32) -> Result<Driver, AllocError>
     requires chosen { IsChoice whole.now frame.now.globals frame.now.ins [] frame.now.memories }
     requires held { AreHeld whole.now frame.now.globals frame.now.ins frame.now.held }
     requires signal { Contains frame.now.globals signal }
@@ -145,9 +140,10 @@ fn add_registers(
     ensures only { OnOk result (piece.new ≡ record piece.old { registers = piece.new.registers }) }
     ensures registers { OnOk result (AreRegisters whole.now frame.now.globals frame.now.held (length frame.now.held) piece.new.registers) }
 {
-    for register in frame.held.as_slice() {
-        let register = &whole.registers()[*register as usize];
-        piece.add_register(local_register(alloc, &frame.globals, register)?)?;
+    for number in frame.held.as_slice() {
+        let register = &whole.registers()[*number as usize];
+        let own = local_register(alloc, &frame.globals, register)?;
+        piece.add_register(own)?;
     }
     Ok(())
 }
@@ -164,9 +160,10 @@ fn add_memories(
     ensures only { OnOk result (piece.new ≡ record piece.old { memories = piece.new.memories }) }
     ensures memories { OnOk result (AreMemories whole.now frame.now.globals frame.now.memories (length frame.now.memories) piece.new.memories) }
 {
-    for memory in frame.memories.as_slice() {
-        let memory = &whole.memories()[*memory as usize];
-        piece.add_memory(local_memory(alloc, &frame.globals, memory)?)?;
+    for number in frame.memories.as_slice() {
+        let memory = &whole.memories()[*number as usize];
+        let own = local_memory(alloc, &frame.globals, memory)?;
+        piece.add_memory(own)?;
     }
     Ok(())
 }
@@ -224,7 +221,8 @@ fn add_all(
     add_registers(alloc, whole, frame, piece)?;
     add_memories(alloc, whole, frame, piece)?;
     add_ins(&frame.globals, frame.ins.as_slice(), piece)?;
-    add_outs(&frame.globals, outs, piece)
+    add_outs(&frame.globals, outs, piece)?;
+    Ok(())
 }
 
 /// The part of a circuit that has these signals and memories, gets the values of `ins` from outside, and gives those of

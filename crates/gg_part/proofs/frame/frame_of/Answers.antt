@@ -34,4 +34,4 @@ of-requires-3-clause-few c =
 
 pub of-requires-4-clause-few : goal.of-requires-4-clause-few
 of-requires-4-clause-few c =
-    length-once c.args.memories.now 4294967296 c.requires.chosen.memories_once (All-from_get_or (λ m. m < 4294967296) c.args.memories.now 0 (λ i lt. c.type_inv.memories i))
+    length-once c.args.memories.now 4294967296 c.requires.chosen.memories_once (All-from_get_or (λ m. m < 4294967296) c.args.memories.now 0 (λ i lt. (c.type_inv.memories i).fits))
