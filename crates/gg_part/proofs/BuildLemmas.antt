@@ -1,13 +1,13 @@
 -- A part while it is made: one signal, register or memory more.
-use Rattle.std.proofs.Common.{◌≡◌, ◌≢◌, ℕ, ◌+◌, ◌<◌, ◌≤◌, List, [], ◌∷◌, ◌++◌, length, map, take, get_or, refl, sym, ◌∙◌, ap, ap₂, subst, arith, below_more}
+use Rattle.std.proofs.Common.{◌≡◌, ◌≢◌, ℕ, ◌+◌, ◌<◌, List, [], ◌∷◌, ◌++◌, length, map, take, get_or, sym, ◌∙◌, ap, ap₂, subst, arith, below_more}
 use Rattle.std.specs.Prelude.{All, AllPairs, Contains}
 use Rattle.std.proofs.lemmas.List.{map_push, map_more, length_push, length-map, length-take-le, get_or_append_left, get_or_push, get_or-map, get_or-take, get_or_default}
-use Rattle.gg_bits.specs.Shape.{Shape, shape, uint}
+use Rattle.gg_bits.specs.Shape.{shape, uint}
 use Rattle.gg_flat.specs.declared.piece.Signal.{Signal}
 use Rattle.gg_flat.specs.declared.piece.Driver.{Driver}
 use Rattle.gg_flat.specs.declared.piece.Driver.TheVariants.{Input}
 use Rattle.gg_flat.specs.Line.{shape_at, value_at}
-use Rattle.gg_flat.specs.Circuit.{FlatCircuit, no_circuit, signal_shapes, driver_at}
+use Rattle.gg_flat.specs.Circuit.{FlatCircuit, signal_shapes, driver_at}
 use Rattle.gg_flat.specs.Tree.{path_at}
 use Rattle.gg_flat.specs.declared.piece.Register.{Register}
 use Rattle.gg_flat.specs.declared.memory.Memory.{Memory}

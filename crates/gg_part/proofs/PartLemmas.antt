@@ -1,9 +1,8 @@
 -- What was made is a part.
-use Rattle.std.proofs.Common.{◌≡◌, ◌≢◌, ℕ, ◌<◌, ◌≤◌, List, [], ◌∷◌, ◌++◌, length, map, get_or, refl, sym, ◌∙◌, ap, ap₂, subst, arith}
-use Rattle.std.specs.Prelude.{All, AllPairs, Contains}
+use Rattle.std.proofs.Common.{◌≡◌, ℕ, ◌<◌, List, [], length, map, get_or, sym, ◌∙◌, ap, subst, arith}
+use Rattle.std.specs.Prelude.{All, Contains}
 use Rattle.std.proofs.lemmas.List.{get_or-map, length-map, take_all}
 use Rattle.std.proofs.lemmas.List.Elements.{Contains-get_or}
-use Rattle.gg_flat.specs.declared.line.Node.{Node}
 use Rattle.gg_flat.specs.declared.memory.Reader.{Reader}
 use Rattle.gg_flat.specs.declared.memory.Memory.{Memory}
 use Rattle.gg_flat.specs.declared.piece.Driver.{Driver}
@@ -15,7 +14,7 @@ use Rattle.gg_flat.specs.WellFormed.{IsWellFormed}
 use Rattle.gg_flat.proofs.TypedLemmas.{some-memory}
 use Rattle.gg_part.specs.Part.{IsPart, IsFrom, renamed_reader, renamed_memory}
 use Rattle.gg_part.specs.Choice.{IsChoice}
-use Rattle.gg_part.specs.Building.{AreHeld, IsInput, AreSignals, AreRegisters, AreMemories}
+use Rattle.gg_part.specs.Building.{AreHeld, AreSignals, AreRegisters, AreMemories}
 use Rattle.gg_part.proofs.FormedLemmas.{once-apart}
 use Rattle.gg_part.proofs.FrameLemmas.{held-within}
 

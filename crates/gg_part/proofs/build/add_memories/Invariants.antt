@@ -1,4 +1,4 @@
-use Rattle.std.proofs.Common.{◌≡◌, length, take}
+use Rattle.std.proofs.Common.{◌≡◌}
 use Rattle.gg_part.specs.Building.{AreMemories}
 use Rattle.gg_part.proofs.build.add_memories.Given as goal
 

@@ -1,7 +1,5 @@
-use Rattle.std.proofs.Common.{◌≡◌, ◌<◌, [], ◌∷◌, ◌++◌, length, get_or, sym, ◌∙◌, ap}
-use Rattle.std.proofs.lemmas.List.{get_or-map}
+use Rattle.std.proofs.Common.{◌<◌, [], ◌∷◌, ◌++◌, length, get_or, ◌∙◌, ap}
 use Rattle.std.proofs.lemmas.List.Elements.{All-contains}
-use Rattle.gg_bits.specs.Shape.{shape, uint}
 use Rattle.gg_flat.specs.declared.piece.Signal.{Signal}
 use Rattle.gg_flat.specs.Circuit.{FlatCircuit}
 use Rattle.gg_part.proofs.BuildLemmas.{shape-read}

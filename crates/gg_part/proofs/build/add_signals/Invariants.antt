@@ -1,4 +1,4 @@
-use Rattle.std.proofs.Common.{◌≡◌, length, take}
+use Rattle.std.proofs.Common.{◌≡◌}
 use Rattle.gg_flat.specs.Circuit.{no_circuit}
 use Rattle.gg_part.specs.Building.{AreSignals}
 use Rattle.gg_part.proofs.build.add_signals.Given as goal

@@ -1,7 +1,6 @@
-use Rattle.std.proofs.Common.{◌≡◌, ◌<◌, ◌≤◌, length, sym, ◌∙◌, ap, subst, arith}
-use Rattle.std.specs.Prelude.{All, Contains}
+use Rattle.std.proofs.Common.{◌<◌, length, sym, ap, subst, arith}
+use Rattle.std.specs.Prelude.{All}
 use Rattle.std.proofs.lemmas.List.Elements.{All-from_get_or}
-use Rattle.gg_part.specs.Building.{AreHeld}
 use Rattle.gg_part.proofs.FrameLemmas.{length-once, held-within, ins-within}
 use Rattle.gg_part.proofs.frame.frame_of.Goals as goal
 

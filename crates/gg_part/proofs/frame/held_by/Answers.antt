@@ -1,4 +1,4 @@
-use Rattle.std.proofs.Common.{◌≡◌, ◌≤◌, ◌+◌, take, vec_len, sym, ◌∙◌, ap, subst, arith}
+use Rattle.std.proofs.Common.{◌≡◌, ◌+◌, take, vec_len, sym, ◌∙◌, ap, subst, arith}
 use Rattle.gg_part.specs.Building.{AreHeld}
 use Rattle.gg_part.proofs.FrameLemmas.{AreHeld-more, AreHeld-passed}
 use Rattle.gg_part.proofs.frame.held_by.Goals as goal

@@ -1,4 +1,3 @@
-use Rattle.std.proofs.Common.{◌≡◌, ap, sym, ◌∙◌, get_or, subst}
 use Rattle.gg_part.specs.Part.{renamed_node}
 use Rattle.gg_part.proofs.StepLemmas.{map-grows, NamesBelow-more}
 use Rattle.gg_part.proofs.rename.local_line.Goals as goal
