@@ -7,3 +7,4 @@ pub mod StepLemmas
 pub mod FrameLemmas
 pub mod BuildLemmas
 pub mod PartLemmas
+pub mod WorkedParts
