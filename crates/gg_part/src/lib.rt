@@ -3,6 +3,7 @@
 //! A part has some of the signals, registers and memories of a flat circuit, with numbers of its own (`IsPart` in
 //! `specs/Part`). What it gets from outside are its in-signals. The crate promises:
 //!
+//! - `part_of` makes the part that has the signals and memories of a choice (`IsChoice` in `specs/Choice`), in their order;
 //! - a part of a run is a run of the part (`part_runs`);
 //! - a part of a well-formed circuit is well formed (`part_formed`);
 //! - where the part's signals are listed along an order of the whole, their numbers are an order of the part (`part_in_order`).
