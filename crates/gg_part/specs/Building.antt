@@ -12,18 +12,18 @@ use Rattle.gg_flat.specs.Circuit.{FlatCircuit, signal_shapes, driver_at}
 use Rattle.gg_flat.specs.Tree.{path_at}
 use Rattle.gg_part.specs.Part.{IsFrom, renamed_register, renamed_memory, RegisterBelow, MemoryBelow}
 
--- signal s holds register r, and isn't one that comes from outside
+-- Signal s holds register r, and doesn't come from outside.
 pub record Holds (whole : FlatCircuit) (ins : List ℕ) (s r : ℕ) : Type 0 where
   pub inside : ¬ Contains ins s
   pub holds : driver_at whole s ≡ Held r
 
--- Signal s is one of these, and holds register r.
+-- One of these signals holds register r, and doesn't come from outside.
 pub record IsHeldIn (whole : FlatCircuit) (globals ins : List ℕ) (r : ℕ) : Type 0 where
   pub signal : ℕ
   pub chosen : Contains globals signal
   pub holds : Holds whole ins signal r
 
--- The registers that these signals hold, all of them and no others.
+-- The registers that these signals hold, all of them and no others. A register may stand twice.
 pub record AreHeld (whole : FlatCircuit) (globals ins held : List ℕ) : Type 0 where
   pub every : (s r : ℕ) → Contains globals s → Holds whole ins s r → Contains held r
   pub sound : (r : ℕ) → Contains held r → IsHeldIn whole globals ins r

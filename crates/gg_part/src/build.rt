@@ -116,8 +116,8 @@ fn add_signals(
     ensures only { OnOk result (piece.new ≡ record no_circuit { paths = piece.new.paths; signals = piece.new.signals }) }
     ensures signals { OnOk result (AreSignals whole.now frame.now.globals frame.now.ins frame.now.held frame.now.memories (length frame.now.globals) piece.new) }
 {
-    let count = whole.signal_count();
-    let _ = count;
+    // What it says of the whole's signals: that they are few enough for a piece.
+    let _ = whole.signal_count();
     for signal in frame.globals.as_slice() {
         add_signal(alloc, whole, frame, *signal, piece)?;
     }
@@ -225,9 +225,9 @@ fn add_all(
     Ok(())
 }
 
-/// The part of a circuit that has these signals and memories, gets the values of `ins` from outside, and gives those of
-/// `outs`. All numbers are the whole's. The part's signals stand in the order of `globals`, its in-signals in that of `ins`,
-/// its out-signals in that of `outs`, its memories in that of `memories`.
+/// The part of a circuit that has these signals and memories, gets the values of `ins` from outside, and gives those
+/// of `outs`. All numbers are the whole's. The part's signals stand in the order of `globals`, its in-signals in that
+/// of `ins`, its out-signals in that of `outs`, its memories in that of `memories`.
 ///
 /// # Errors
 ///

@@ -7,8 +7,9 @@ use gg_bits::Ids;
 use std::alloc::{AllocError, Global};
 use std::marker::Model;
 
-/// Numbers of the whole's signals or memories. What stands in a part at a place is the whole's of the number there. A
-/// contract sees the list; the table by which a number's place is found is as long as the whole has signals or memories.
+/// Numbers of the whole's signals, registers or memories: what a part has at a place is the whole's of the number
+/// there. A contract sees the list. The table by which the place of a number is found has an entry for each of the
+/// whole's.
 #[derive(Drop)]
 pub(crate) struct Numbers {
     items: Vec<u32>,

@@ -10,7 +10,7 @@ use Rattle.gg_part.proofs.build.add_signals.Goals as goal
 
 pub add_signal-requires-clause-few : goal.add_signal-requires-clause-few
 add_signal-requires-clause-few c =
-    let few : length c.loop-signal.piece.signals < 4294967295 = omega (arith, c.loop-signal.invariant.signals.counted, ap length c.as_slice-signal-items.ensures, c.loop-signal-test.true, c.signal_count-count.ensures.few, length-once c.args.frame.now.globals (length c.args.whole.now.signals) c.requires.chosen.once c.requires.chosen.within) in
+    let few : length c.loop-signal.piece.signals < 4294967295 = omega (arith, c.loop-signal.invariant.signals.counted, ap length c.as_slice-signal-items.ensures, c.loop-signal-test.true, c.signal_count.ensures.few, length-once c.args.frame.now.globals (length c.args.whole.now.signals) c.requires.chosen.once c.requires.chosen.within) in
     few
 
 pub add_signal-requires-clause-fresh : goal.add_signal-requires-clause-fresh
