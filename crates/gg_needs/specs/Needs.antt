@@ -1,5 +1,5 @@
 -- Needs of the out-signals, group by group.
--- Source: MEMOCODE 2009 (an output is ready when the inputs that it depends on are there); groups are this program's own.
+-- Source: MEMOCODE 2009 (an output is ready when the inputs that it depends on are there).
 use Rattle.std.specs.Prelude.{◌≡◌, ℕ, ◌+◌, ◌<◌, ◌≤◌, List, [], length, slice_index_or}
 use Rattle.gg_flat.specs.Line.{value_at}
 use Rattle.gg_flat.specs.Circuit.{FlatCircuit}

@@ -5,13 +5,15 @@
 //!
 //! - `needs_of` gives for each out-signal, in port order, the places of just the in-signals that it needs, ascending.
 //!
-//! It goes over the signals once for every 128 out-signals, from the last to the first. Each signal has a set of marks, one
-//! for each of those out-signals, and hands its set on to the signals that it reads.
+//! It goes over the signals once for every 128 out-signals, from the last to the first. Each signal has a set of marks,
+//! one for each of those out-signals, and hands its set on to the signals that it reads.
 #![tactic(auto)]
 
 mod groups;
 mod marks;
 mod needs;
+#[cfg(test)]
+mod tests;
 mod walk;
 
 pub use needs::needs_of;
