@@ -12,6 +12,8 @@
 //! - `faults_apart`: an accepted text has no fault, and one with a fault of reading none of a circuit.
 #![tactic(auto)]
 
+#[cfg(test)]
+mod count_tests;
 mod fault;
 #[cfg(test)]
 mod fixtures;

@@ -104,7 +104,7 @@ fn shown(alloc: Global, design: &Design) -> Result<String, AllocError> {
 }
 
 /// What `front` answers, as it is printed.
-fn told(alloc: Global, bytes: &[u8]) -> Result<String, AllocError> {
+pub(crate) fn told(alloc: Global, bytes: &[u8]) -> Result<String, AllocError> {
     if bytes.len() >= 4_294_967_296 {
         return String::from_str(alloc, "too long");
     }
@@ -172,30 +172,6 @@ fn late_reads_are_told(rt: HostRuntime) -> Result<(), Fail> {
 fn nested_instances_are_told(rt: HostRuntime) -> Result<(), Fail> {
     let wrong = first_wrong(rt.alloc(), &TOP, &NESTED)?;
     assert_eq!(rt; wrong.as_str(), "");
-    Ok(())
-}
-
-/// A circuit with two instances of a module, which has two of the next, and so on.
-fn doubled(alloc: Global, levels: u32) -> Result<String, AllocError> {
-    let mut text = format!(in alloc;
-        "circuit M{levels} :\nmodule M0 :\noutput o : UInt<1>\no <= UInt<1>(0)\n"
-    )?;
-    for below in 0..levels {
-        let level = below + 1;
-        let module = format!(in alloc;
-            "module M{level} :\noutput o : UInt<1>\ninst a of M{below}\ninst b of M{below}\no <= and(a.o, b.o)\n"
-        )?;
-        text.push_str(module.as_str())?;
-    }
-    Ok(text)
-}
-
-#[test]
-fn signals_are_counted(rt: HostRuntime) -> Result<(), Fail> {
-    let alloc = rt.alloc();
-    let text = doubled(alloc, 17)?;
-    let shown = told(alloc, text.as_bytes())?;
-    assert_eq!(rt; shown.as_str(), "F15 signals 262143");
     Ok(())
 }
 

@@ -1,0 +1,84 @@
+//! The words of a call.
+use super::{Answer, TEXT, call, check, counter_files};
+use std::alloc::Global;
+use std::test::Fail;
+
+// Words that run the counter.
+static ASKED: [&str; 12] = [
+    "golden run k1.fir p.json k1.trace --mono",
+    "golden run k1.fir p.json k1.trace --workers 0",
+    "golden run k1.fir p.json k1.trace --workers 1",
+    "golden run k1.fir p.json k1.trace --workers=2",
+    "golden run --workers 3 k1.fir p.json k1.trace",
+    "golden run k1.fir --workers 64 p.json k1.trace",
+    "golden run k1.fir p.json k1.trace --capacity 1",
+    "golden run k1.fir p.json k1.trace --capacity=3",
+    "golden run k1.fir p.json --capacity 4096 k1.trace",
+    "golden run --mono k1.fir p.json k1.trace --capacity 0002 --workers 00",
+    "golden run --mono -- k1.fir p.json k1.trace",
+    "gold run k1.fir -- p.json k1.trace",
+];
+
+const COMMANDS: &str =
+    "golden: words: the command is run CIRCUIT PARTITION TRACE [--capacity K] [--workers W] [--mono]\n";
+
+// Words that are no command that is there, and the line of their refusal.
+static UNASKED: [(&str, &str); 14] = [
+    ("golden", COMMANDS),
+    ("golden run k1.fir", COMMANDS),
+    ("golden run k1.fir p.json k1.trace k1.trace", COMMANDS),
+    ("golden run -k1.fir p.json k1.trace", COMMANDS),
+    ("golden run k1.fir p.json k1.trace --mono --mono", COMMANDS),
+    ("golden run k1.fir p.json k1.trace --capacity", COMMANDS),
+    ("golden walk k1.fir p.json k1.trace", COMMANDS),
+    ("golden replay k1.fir p.json k1.trace s.steps", COMMANDS),
+    ("golden --help", COMMANDS),
+    (
+        "golden run k1.fir p.json k1.trace --capacity 0",
+        "golden: words: '0' is not a number in its range: --capacity takes 1 to 4096, --workers 0 to 64\n",
+    ),
+    (
+        "golden run k1.fir p.json k1.trace --capacity 4097",
+        "golden: words: '4097' is not a number in its range: --capacity takes 1 to 4096, --workers 0 to 64\n",
+    ),
+    (
+        "golden run k1.fir p.json k1.trace --workers 65",
+        "golden: words: '65' is not a number in its range: --capacity takes 1 to 4096, --workers 0 to 64\n",
+    ),
+    (
+        "golden check k1.fir p.json --capacity +7",
+        "golden: words: '+7' is not a number in its range: --capacity takes 1 to 4096, --workers 0 to 64\n",
+    ),
+    (
+        "golden check k1.fir p.json",
+        "golden: words: check is not there yet; the command is run CIRCUIT PARTITION TRACE [--capacity K] [--workers W] [--mono]\n",
+    ),
+];
+
+// A call with these words and the counter's files, where nothing fails.
+fn ask(alloc: Global, line: &str) -> Result<Answer, Fail> {
+    call(
+        alloc,
+        line,
+        counter_files(alloc)?,
+        Vec::new(alloc),
+        Vec::new(alloc),
+        Vec::new(alloc),
+    )
+}
+
+#[test]
+fn options_that_change_nothing(rt: HostRuntime) -> Result<(), Fail> {
+    for line in &ASKED {
+        check(&rt, &ask(rt.alloc(), line)?, 0, 3, TEXT, "");
+    }
+    Ok(())
+}
+
+#[test]
+fn words_that_are_no_command(rt: HostRuntime) -> Result<(), Fail> {
+    for (line, err) in &UNASKED {
+        check(&rt, &ask(rt.alloc(), line)?, 2, 0, "", err);
+    }
+    Ok(())
+}

@@ -1,0 +1,91 @@
+//! Of several faults the first is told.
+use super::{TRACE, check, counter, files_of, run};
+use std::test::Fail;
+
+// The counter with a line changed, counted from 1 (0: none), the other files, the status, how many files are loaded, and the
+// line of the refusal.
+static REFUSED: [(usize, &str, &str, &str, u8, u64, &str); 9] = [
+    // the first fault is told: the circuit's before the partition's, the partition's before the trace's
+    (
+        10,
+        "",
+        "[]",
+        "cycle",
+        1,
+        1,
+        "golden: circuit: F5 line 5 out\n",
+    ),
+    (
+        9,
+        "node n add(c, c)",
+        "[]",
+        "cycle",
+        1,
+        1,
+        "golden: circuit: syntax line 9\n",
+    ),
+    (0, "", "[]", "cycle", 1, 2, "golden: plain p.json\n"),
+    (0, "", "{}", "cycle", 7, 3, "golden: trace: T1 field 1\n"),
+    (
+        0,
+        "",
+        "{}\n",
+        "cycle reset\n0 1\n1 2\n",
+        7,
+        3,
+        "golden: trace: T4 row 1 field 1\n",
+    ),
+    (0, "", "{}\r\n", TRACE, 1, 2, "golden: plain p.json\n"),
+    (
+        3,
+        "input clock : Analog<1>",
+        "{}",
+        TRACE,
+        1,
+        1,
+        "golden: circuit: outside line 3 Analog\n",
+    ),
+    (
+        10,
+        "when reset :",
+        "{}",
+        TRACE,
+        1,
+        1,
+        "golden: circuit: outside line 10 when\n",
+    ),
+    (
+        1,
+        "circuit Other :",
+        "{}",
+        TRACE,
+        1,
+        1,
+        "golden: circuit: F1 Other\n",
+    ),
+];
+
+#[test]
+fn the_first_fault_is_told(rt: HostRuntime) -> Result<(), Fail> {
+    let alloc = rt.alloc();
+    for (line, text, partition, trace, status, loads, err) in &REFUSED {
+        let circuit = counter(alloc, 11, *line, text)?;
+        let files = files_of(
+            alloc,
+            circuit.as_bytes(),
+            partition.as_bytes(),
+            trace.as_bytes(),
+        )?;
+        check(&rt, &run(alloc, files)?, *status, *loads, "", err);
+    }
+    let files = files_of(alloc, b"\xff", b"{}", TRACE.as_bytes())?;
+    check(
+        &rt,
+        &run(alloc, files)?,
+        1,
+        1,
+        "",
+        "golden: circuit: not text\n",
+    );
+    Ok(())
+}
