@@ -8,8 +8,10 @@
 //! - where the part's signals are listed along an order of the whole, their numbers are an order of the part (`part_in_order`).
 #![tactic(auto)]
 
+mod build;
 mod laws;
 mod part;
 
+pub use build::part_of;
 pub use laws::{part_formed, part_in_order, part_runs};
 pub use part::Part;

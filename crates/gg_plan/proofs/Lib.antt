@@ -1,0 +1,3 @@
+pub mod HostLemmas
+pub mod NameLemmas
+pub mod CapacityLemmas
