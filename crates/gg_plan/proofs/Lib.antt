@@ -1,3 +1,4 @@
 pub mod HostLemmas
 pub mod NameLemmas
 pub mod CapacityLemmas
+pub mod MachineLemmas

@@ -13,7 +13,7 @@ use std::alloc::{AllocError, Global};
 /// # Errors
 ///
 /// Where memory is refused.
-pub fn hosts_of(
+pub(crate) fn hosts_of(
     alloc: Global,
     units: &[Name],
     share: &[Names],

@@ -12,8 +12,9 @@
 mod capacities;
 mod hosts;
 mod lists;
+mod machines;
 mod names;
+mod parts;
 
 pub use capacities::capacity_table;
-pub use hosts::hosts_of;
-pub use names::machine_name;
+pub use machines::machines_of;

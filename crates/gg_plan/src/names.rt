@@ -15,7 +15,7 @@ use std::alloc::{AllocError, Global};
 /// # Errors
 ///
 /// Where memory is refused.
-pub fn machine_name(
+pub(crate) fn machine_name(
     alloc: Global,
     design: &Design,
     request: &Request,
