@@ -2,3 +2,4 @@ pub mod HostLemmas
 pub mod NameLemmas
 pub mod CapacityLemmas
 pub mod MachineLemmas
+pub mod NeedLemmas

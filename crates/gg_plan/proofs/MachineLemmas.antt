@@ -28,21 +28,19 @@ from-below wires m channels is k d lt = let below = filter-below (λ c. (wire_at
 -- ---- parts
 
 -- the part that a machine's share makes is the machine's
-pub cut-part : (design : Ordered) (listed : Listed) (wires : List Wire) (m : ℕ) (share : Share) (whole : FlatCircuit) (part : Part) → IsShare design listed wires m share → m < first_source listed
-    → whole ≡ design.circuit → IsPart whole part.piece part.globals part.held part.memories → part.globals ≡ share.globals → part.memories ≡ share.memories
+pub cut-part : (design : Ordered) (listed : Listed) (wires : List Wire) (m : ℕ) (share : Share) (whole : FlatCircuit) (part : Part) → IsShare design listed wires m share → whole ≡ design.circuit → IsPart whole part.piece part.globals part.held part.memories → part.globals ≡ share.globals → part.memories ≡ share.memories
     → map (value_at part.globals) part.piece.ins ≡ signals_of wires share.ins → map (value_at part.globals) part.piece.outs ≡ signals_of wires share.outs → IsOrder design.circuit design.order
     → ((whole part : FlatCircuit) (globals held memories order : List ℕ) → IsPart whole part globals held memories → IsOrder whole order → IsAlong order globals → IsInOrder part)
     → IsCutPart design listed wires m part
-cut-part design listed wires m share whole part own inside w is g ms i o ordered law =
-    let piece = own.piece inside in
+cut-part design listed wires m share whole part own w is g ms i o ordered law =
     let here = subst (λ (all : FlatCircuit). IsPart all part.piece part.globals part.held part.memories) w is in
     record {
       is = here;
-      signals = λ s. subst (λ (l : List ℕ). Contains l s ↔ (Makes design.circuit design.tree listed wires m s ⊎ Takes wires m s)) (sym g) (piece.signals s);
-      ins = i ∙ ap (signals_of wires) own.ins;
-      outs = o ∙ ap (signals_of wires) own.outs;
-      memories = λ k. subst (λ (l : List ℕ). Contains l k ↔ HasMemory design.tree listed m k) (sym ms) (piece.memories k);
-      ordered = law design.circuit part.piece part.globals part.held part.memories design.order here ordered (subst (λ (l : List ℕ). IsAlong design.order l) (sym g) piece.along);
+      signals = λ s. subst (λ (l : List ℕ). Contains l s ↔ (Makes design.circuit design.tree listed wires m s ⊎ Takes wires m s)) (sym g) (own.signals s);
+      ins = i ∙ ap (signals_of wires) own.takes;
+      outs = o ∙ ap (signals_of wires) own.gives;
+      memories = λ k. subst (λ (l : List ℕ). Contains l k ↔ HasMemory design.tree listed m k) (sym ms) (own.banks k);
+      ordered = law design.circuit part.piece part.globals part.held part.memories design.order here ordered (subst (λ (l : List ℕ). IsAlong design.order l) (sym g) own.along);
     }
 
 -- ---- one more at the end

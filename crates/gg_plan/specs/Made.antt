@@ -18,7 +18,7 @@ use Rattle.gg_cut.specs.declared.plan.Channel.{Channel}
 use Rattle.gg_cut.specs.declared.listed.Listed.{Listed}
 use Rattle.gg_cut.specs.declared.wires.Wire.{Wire}
 use Rattle.gg_cut.specs.Channels.{machine_count}
-use Rattle.gg_cut.specs.Plan.{wire_at, channels_to, channels_from, signals_of, IsMachine, NeedsIn}
+use Rattle.gg_cut.specs.Plan.{wire_at, channels_to, channels_from, signals_of, IsMachine, AreNeedsOf, NeedsIn}
 
 -- the machines of a plan
 pub record AreMachines (design : Ordered) (request : Request) (listed : Listed) (wires : List Wire) (machines : List Machine) : Type 0 where
@@ -45,6 +45,18 @@ pub record IsFit (wires : List Wire) (m : ℕ) (machine : Machine) : Type 0 wher
   pub ins : machine.ins ≡ channels_to wires m
   pub outs : machine.outs ≡ channels_from wires m
   pub body : IsServedBody wires machine.body machine.ins machine.outs
+
+-- The needs of the channel of signal s that a part gives, ascending.
+pub record ArePartNeeds (part : Part) (channels : List ℕ) (s : ℕ) (told : List ℕ) : Type 0 where
+  pub ascending : AllPairs (λ a b. a < b) told
+  pub needs : (out : ℕ) → out < length part.globals → value_at part.globals out ≡ s → AreNeedsOf part channels out told
+
+-- The first n of the channels `given` have in a table the channels at the places of their lists among `taken`; every other channel
+-- has what it had before.
+pub record ArePut (taken given : List ℕ) (lists before : List (List ℕ)) (n : ℕ) (table : List (List ℕ)) : Type 0 where
+  pub count : length table ≡ length before
+  pub put : (i : ℕ) → i < n → slice_index_or table (value_at given i) [] ≡ map (value_at taken) (slice_index_or lists i [])
+  pub others : (c : ℕ) → ((i : ℕ) → i < n → value_at given i ≢ c) → slice_index_or table c [] ≡ slice_index_or before c []
 
 -- the needs of a channel that a machine gives
 pub record AreGiven (machine : Machine) (w : Wire) (told : List ℕ) : Type 0 where

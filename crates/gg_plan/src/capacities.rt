@@ -13,7 +13,7 @@ use std::alloc::{AllocError, Global};
 /// # Errors
 ///
 /// Where memory is refused.
-pub fn capacity_table(
+pub(crate) fn capacity_table(
     alloc: Global,
     piece: &Piece,
     capacities: &[(Name, u64)],

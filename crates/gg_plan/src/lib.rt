@@ -10,11 +10,14 @@
 #![tactic(auto)]
 
 mod capacities;
+mod channels;
 mod hosts;
 mod lists;
 mod machines;
 mod names;
+mod needs;
 mod parts;
 
-pub use capacities::capacity_table;
+pub use channels::channels_of;
 pub use machines::machines_of;
+pub use needs::needs_table;

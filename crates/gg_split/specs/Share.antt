@@ -10,18 +10,19 @@ use Rattle.gg_cut.specs.Channels.{first_source, machine_count}
 use Rattle.gg_cut.specs.Plan.{channels_to, channels_from, signals_of, Makes, Takes, HasMemory}
 use Rattle.gg_split.specs.declared.shares.Share.{Share}
 
--- the signals and memories of a machine's piece
-pub record IsPieceShare (design : Ordered) (listed : Listed) (wires : List Wire) (m : ℕ) (share : Share) : Type 0 where
-  pub signals : (s : ℕ) → Contains share.globals s ↔ (Makes design.circuit design.tree listed wires m s ⊎ Takes wires m s)
-  pub along : IsAlong design.order share.globals
-  pub memories : (k : ℕ) → Contains share.memories k ↔ HasMemory design.tree listed m k
-  pub chosen : IsChoice design.circuit share.globals (signals_of wires share.ins) (signals_of wires share.outs) share.memories
+-- What machine m has: the channels that it takes and those that it gives, in order; just the signals that it makes or takes, along
+-- the order of evaluation; and just the memories that belong to it. They make a part, where m is the hub, a unit or a memory.
+pub record IsShareOf (design : Ordered) (listed : Listed) (wires : List Wire) (m : ℕ) (ins outs globals memories : List ℕ) : Type 0 where
+  pub takes : ins ≡ channels_to wires m
+  pub gives : outs ≡ channels_from wires m
+  pub signals : (s : ℕ) → Contains globals s ↔ (Makes design.circuit design.tree listed wires m s ⊎ Takes wires m s)
+  pub along : IsAlong design.order globals
+  pub banks : (k : ℕ) → Contains memories k ↔ HasMemory design.tree listed m k
+  pub choice : m < first_source listed → IsChoice design.circuit globals (signals_of wires ins) (signals_of wires outs) memories
 
 -- what machine m has
-pub record IsShare (design : Ordered) (listed : Listed) (wires : List Wire) (m : ℕ) (share : Share) : Type 0 where
-  pub ins : share.ins ≡ channels_to wires m
-  pub outs : share.outs ≡ channels_from wires m
-  pub piece : m < first_source listed → IsPieceShare design listed wires m share
+abbrev pub IsShare : Ordered → Listed → List Wire → ℕ → Share → Type 0
+IsShare design listed wires m share = IsShareOf design listed wires m share.ins share.outs share.globals share.memories
 
 -- a share for each machine
 pub record AreShares (design : Ordered) (listed : Listed) (wires : List Wire) (shares : List Share) : Type 0 where
