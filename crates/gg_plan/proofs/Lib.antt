@@ -3,3 +3,4 @@ pub mod NameLemmas
 pub mod CapacityLemmas
 pub mod MachineLemmas
 pub mod NeedLemmas
+pub mod FaultlessLemmas

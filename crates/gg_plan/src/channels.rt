@@ -35,33 +35,35 @@ pub fn channels_of(
     let bounds = capacity_table(alloc, piece, capacities, default)?;
     let mut channels = Vec::new(alloc);
     for number in 0..wires.len() {
-        let wire = wires[number];
         let needs = take_list(alloc, table, number);
-        let bound = bounds[wire.signal as usize];
-        channels.push(channel_at(alloc, piece, wire, bound, needs)?)?;
+        channels.push(channel_at(alloc, piece, wires, number, &bounds, needs)?)?;
     }
     Ok(channels)
 }
 
-// A channel with its capacity and its needs.
+// A channel with its capacity, of those that its signal's channel would have, and its needs.
 fn channel_at(
     alloc: Global,
     piece: &Piece,
-    wire: Wire,
-    bound: u32,
+    wires: &[Wire],
+    number: usize,
+    bounds: &[u32],
     needs: Ids,
 ) -> Result<Channel, AllocError>
-    requires { wire.signal < length piece.now.signals }
-    ensures wired { (capacity : List ℕ → ℕ) → bound ≡ capacity (path_at piece.now.paths wire.signal) → IfOk result (λ channel. IsWired piece.now capacity wire channel) }
+    requires inside { number < length wires.now }
+    requires known { (wire_at wires.now number).signal < length piece.now.signals }
+    requires count { length bounds.now ≡ length piece.now.signals }
+    ensures wired { (capacity : List ℕ → ℕ) → ((s : ℕ) → s < length piece.now.signals → value_at bounds.now s ≡ capacity (path_at piece.now.paths s)) → IfOk result (λ channel. IsWired piece.now capacity (wire_at wires.now number) channel) }
     ensures needs { IfOk result (λ channel. channel.needs ≡ needs) }
 {
+    let wire = wires[number];
     Ok(Channel {
         signal: wire.signal,
         name: signal_name(alloc, piece, wire.signal)?,
         ty: piece.signals()[wire.signal as usize].ty,
         producer: wire.producer,
         consumer: wire.consumer,
-        capacity: bound,
+        capacity: bounds[wire.signal as usize],
         needs,
     })
 }
