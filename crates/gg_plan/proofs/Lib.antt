@@ -4,3 +4,4 @@ pub mod CapacityLemmas
 pub mod MachineLemmas
 pub mod NeedLemmas
 pub mod FaultlessLemmas
+pub mod PlanLemmas

@@ -18,7 +18,7 @@ use Rattle.gg_cut.specs.declared.plan.Channel.{Channel}
 use Rattle.gg_cut.specs.declared.listed.Listed.{Listed}
 use Rattle.gg_cut.specs.declared.wires.Wire.{Wire}
 use Rattle.gg_cut.specs.Channels.{machine_count}
-use Rattle.gg_cut.specs.Plan.{wire_at, channels_to, channels_from, signals_of, IsMachine, AreNeedsOf, NeedsIn}
+use Rattle.gg_cut.specs.Plan.{wire_at, channels_to, channels_from, signals_of, IsMachine, AreNeedsOf, NeedsIn, IsChannel}
 
 -- the machines of a plan
 pub record AreMachines (design : Ordered) (request : Request) (listed : Listed) (wires : List Wire) (machines : List Machine) : Type 0 where
@@ -82,3 +82,8 @@ pub record AreWired (circuit : FlatCircuit) (capacity : List ℕ → ℕ) (wires
   pub count : length channels ≡ length wires
   pub each : (c : ℕ) (any : Channel) → c < length channels → IsWired circuit capacity (wire_at wires c) (slice_index_or channels c any)
   pub needs : (c : ℕ) (any : Channel) → c < length channels → (slice_index_or channels c any).needs ≡ slice_index_or table c []
+
+-- the channels of a plan
+pub record AreChannels (design : Ordered) (capacity : List ℕ → ℕ) (wires : List Wire) (machines : List Machine) (channels : List Channel) : Type 0 where
+  pub total : length channels ≡ length wires
+  pub each : (c : ℕ) (any : Channel) → c < length channels → IsChannel design capacity machines (wire_at wires c) (slice_index_or channels c any)

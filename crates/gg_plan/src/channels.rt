@@ -19,7 +19,7 @@ use std::alloc::{AllocError, Global};
 /// # Errors
 ///
 /// Where memory is refused.
-pub fn channels_of(
+pub(crate) fn channels_of(
     alloc: Global,
     piece: &Piece,
     wires: &[Wire],

@@ -9,6 +9,7 @@
 //! each entry of `share` with the units, of which there are at most 256.
 #![tactic(auto)]
 
+mod build;
 mod capacities;
 mod channels;
 mod hosts;
@@ -18,6 +19,4 @@ mod names;
 mod needs;
 mod parts;
 
-pub use channels::channels_of;
-pub use machines::machines_of;
-pub use needs::needs_table;
+pub use build::{cut, deps};

@@ -21,7 +21,7 @@ use std::alloc::{AllocError, Global};
 /// # Errors
 ///
 /// Where memory is refused.
-pub fn machines_of(
+pub(crate) fn machines_of(
     alloc: Global,
     design: &Design,
     request: &Request,

@@ -17,7 +17,7 @@ use std::mem::replace;
 /// # Errors
 ///
 /// Where memory is refused.
-pub fn needs_table(
+pub(crate) fn needs_table(
     alloc: Global,
     wires: &[Wire],
     machines: &[Machine],
