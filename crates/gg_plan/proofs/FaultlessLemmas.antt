@@ -14,9 +14,10 @@ use Rattle.gg_cut.specs.declared.listed.Listed.{Listed}
 use Rattle.gg_cut.specs.declared.wires.Wire.{Wire}
 use Rattle.gg_cut.specs.declared.fault.CutFault.TheVariants.{UnknownChannel, OutOfRange, TooManyUnits, TooManyChannels}
 use Rattle.gg_cut.specs.Listed.{place_of, instance_of, is_among, first_place, listed_of}
-use Rattle.gg_cut.specs.Channels.{wire, numbered, flattened, source_wires, first_source, first_tray, machine_count, wires_of, port_signals, channel_signals, channel_names}
+use Rattle.gg_cut.specs.Channels.{wire, numbered, flattened, source_wires, first_source, first_tray, machine_count, wires_of, port_signals, channel_signals, channel_names, capacity_of}
 use Rattle.gg_cut.specs.Fault.{or_else, most_capacity, most_units, most_channels, out_of_range, range_fault, too_many_units, too_many_channels, channel_fault, entry_fault, kind_fault, first_fault, unknown_channel}
 use Rattle.gg_cut.specs.Plan.{wire_at}
+use Rattle.gg_plan.specs.Made.{IsCapacity}
 use Rattle.gg_cut.proofs.PathLemmas.{first_place-Some}
 use Rattle.gg_cut.proofs.RangeLemmas.{filter-below}
 use Rattle.gg_cut.proofs.KnownLemmas.{signals-known}
@@ -88,6 +89,38 @@ in-range (pair ∷ capacities) none = by ((pair.1 == 0) || nat_lt most_capacity 
 
 pub capacities-small : (capacities : List (List ℕ × ℕ)) → range_fault capacities ≡ None → All (λ pair. pair.1 < 2 ^ 32) capacities
 capacities-small capacities none = in-range capacities (none-map (λ pair. OutOfRange pair.0 pair.1) (out_of_range capacities) none)
+
+-- a capacity that the request has, or the default, is one that a channel may have
+capacity-in-range : (capacities : List (List ℕ × ℕ)) (default : ℕ) (name : List ℕ) → out_of_range capacities ≡ None → IsCapacity default → IsCapacity (capacity_of capacities default name)
+capacity-in-range [] default name none own = own
+capacity-in-range (pair ∷ capacities) default name none own =
+    by ((pair.1 == 0) || nat_lt most_capacity pair.1) refl none (λ more. capacity-in-range capacities default name more own)
+  where
+    or-left : (a b : Bool) → (a || b) ≡ false → a ≡ false
+    or-left true b e = absurd (cc)
+    or-left false b e = refl
+
+    or-right : (a b : Bool) → (a || b) ≡ false → b ≡ false
+    or-right true b e = absurd (cc)
+    or-right false b e = e
+
+    some : (n : ℕ) → (n == 0) ≡ false → 0 < n
+    some zero e = absurd (cc)
+    some (suc n) e = omega arith
+
+    either : (b : Bool) → IsCapacity pair.1 → IsCapacity (capacity_of capacities default name) → IsCapacity (unwrap_or (option_map (λ pair. pair.1) (cond b (Some pair) (find (λ pair. bytes_eq pair.0 name) capacities))) default)
+    either true here rest = here
+    either false here rest = rest
+
+    by : (b : Bool) → ((pair.1 == 0) || nat_lt most_capacity pair.1) ≡ b → cond b (Some pair) (out_of_range capacities) ≡ None → (out_of_range capacities ≡ None → IsCapacity (capacity_of capacities default name)) → IsCapacity (capacity_of (pair ∷ capacities) default name)
+    by true e none rest = absurd (cc)
+    by false e none rest =
+        either (bytes_eq pair.0 name)
+        (some pair.1 (or-left (pair.1 == 0) (nat_lt most_capacity pair.1) e), ltb-false most_capacity pair.1 (or-right (pair.1 == 0) (nat_lt most_capacity pair.1) e))
+        (rest none)
+
+pub capacity-sound : (capacities : List (List ℕ × ℕ)) (default : ℕ) (name : List ℕ) → range_fault capacities ≡ None → IsCapacity default → IsCapacity (capacity_of capacities default name)
+capacity-sound capacities default name none own = capacity-in-range capacities default name (none-map (λ pair. OutOfRange pair.0 pair.1) (out_of_range capacities) none) own
 
 -- ---- what is listed
 

@@ -1,6 +1,6 @@
 -- The plan of its machines and channels.
-use Rattle.std.proofs.Common.{◌≡◌, ℕ, ◌<◌, List, [], ◌∷◌, length, map, get_or, sym, ◌∙◌, ap, subst, arith}
-use Rattle.std.specs.Prelude.{AllPairs}
+use Rattle.std.proofs.Common.{◌≡◌, ℕ, ◌<◌, None, List, [], ◌∷◌, length, map, get_or, sym, ◌∙◌, ap, subst, arith}
+use Rattle.std.specs.Prelude.{All, AllPairs}
 use Rattle.std.proofs.lemmas.List.{length-map}
 use Rattle.gg_flat.specs.Circuit.{FlatCircuit}
 use Rattle.gg_flat.specs.WellFormed.{IsWellFormed}
@@ -16,11 +16,12 @@ use Rattle.gg_cut.specs.declared.plan.Plan.{Plan}
 use Rattle.gg_cut.specs.declared.listed.Listed.{Listed}
 use Rattle.gg_cut.specs.declared.wires.Wire.{Wire}
 use Rattle.gg_cut.specs.Listed.{listed_of, instance_of}
+use Rattle.gg_cut.specs.Fault.{range_fault}
 use Rattle.gg_cut.specs.Channels.{wires_of, capacity_of, machine_count}
 use Rattle.gg_cut.specs.Plan.{wire_at, channels_to, channels_from, signals_of, IsCutPart, IsBody, IsMachine, NeedsIn, IsPlan}
-use Rattle.gg_flat.specs.Tree.{IsTree}
-use Rattle.gg_plan.proofs.FaultlessLemmas.{wires-given, wires-known}
-use Rattle.gg_plan.specs.Made.{AreMachines, IsServed, IsServedBody, IsFit, AreGiven, AreTold, IsWired, AreWired, AreChannels}
+use Rattle.gg_flat.specs.Tree.{IsTree, path_at}
+use Rattle.gg_plan.proofs.FaultlessLemmas.{capacity-sound, wires-given, wires-known}
+use Rattle.gg_plan.specs.Made.{IsCapacity, AreMachines, IsServed, IsServedBody, IsFit, AreGiven, AreTold, IsWired, AreWired, AreChannels}
 
 -- ---- machines
 
@@ -117,3 +118,9 @@ known-below design request listed wires whole formed fitting is same all c lt =
     let below = subst (λ (w : List Wire). c < length w → (wire_at w c).signal < length design.circuit.signals) (sym (same ∙ ap (wires_of design.circuit design.tree) is)) (wires-known design request formed fitting c) lt in
     let count = ap (λ (circuit : FlatCircuit). length circuit.signals) all in
     omega (arith, below, count)
+
+-- each channel's capacity is one that a channel may have
+pub bounds-sound : (design : Ordered) (request : Request) (default : ℕ) (wires : List Wire) (machines : List Machine) (channels : List Channel) → IsCapacity default → range_fault request.capacity ≡ None → AreChannels design (capacity_of request.capacity default) wires machines channels → All (λ channel. IsCapacity channel.capacity) channels
+bounds-sound design request default wires machines channels own none are = λ c any lt.
+    let is = are.each c any lt in
+    subst IsCapacity (sym is.bound) (capacity-sound request.capacity default (path_at design.circuit.paths (wire_at wires c).signal) none own)

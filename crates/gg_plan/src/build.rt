@@ -1,11 +1,11 @@
 //! The plan of a cut, and what its channels need.
-ghost use Rattle.std.specs.Prelude.{◌≡◌, ◌<◌, ◌≤◌, length, None, IfOk, slice_index_or};
+ghost use Rattle.std.specs.Prelude.{◌≡◌, ◌<◌, ◌≤◌, length, None, All, IfOk, slice_index_or};
 ghost use Rattle.gg_cut.specs.declared.plan.Channel.{Channel};
 ghost use Rattle.gg_cut.specs.Listed.{listed_of};
 ghost use Rattle.gg_cut.specs.Fault.{IsSmall, Tells, first_fault, most_capacity};
 ghost use Rattle.gg_cut.specs.Plan.{IsPlan};
 ghost use Rattle.gg_cut.specs.Channels.{wires_of, capacity_of};
-ghost use Rattle.gg_plan.specs.Made.{AreMachines, AreChannels};
+ghost use Rattle.gg_plan.specs.Made.{IsCapacity, AreMachines, AreChannels};
 
 use crate::channels::channels_of;
 use crate::machines::machines_of;
@@ -18,7 +18,8 @@ use gg_partfile::Request;
 use gg_split::split;
 use std::alloc::{AllocError, Global};
 
-/// The plan of a design, a request and the capacity of the channels that the request doesn't name.
+/// The plan of a design, a request and the capacity of the channels that the request doesn't name. Each channel's capacity is
+/// from 1 to 4,096.
 ///
 /// # Errors
 ///
@@ -34,6 +35,7 @@ pub fn cut(
     requires bounded { default_capacity ≤ most_capacity }
     ensures told { Tells (first_fault design.now request.now) result }
     ensures plan { IfOk result (λ plan. IsPlan design.now request.now default_capacity plan) }
+    ensures capacities { IfOk result (λ plan. All (λ channel. IsCapacity channel.capacity) plan.channels) }
 {
     let listed = judge(alloc, design, request)?;
     match plan_of(alloc, design, request, &listed, default_capacity) {
@@ -51,9 +53,11 @@ fn plan_of(
     default_capacity: u32,
 ) -> Result<Plan, AllocError>
     requires small { IsSmall request.now }
+    requires capacity { IsCapacity default_capacity }
     requires faultless { first_fault design.now request.now ≡ None }
     requires listed { listed.now ≡ listed_of design.now.tree request.now }
-    ensures { IfOk result (λ plan. IsPlan design.now request.now default_capacity plan) }
+    ensures plan { IfOk result (λ plan. IsPlan design.now request.now default_capacity plan) }
+    ensures capacities { IfOk result (λ plan. All (λ channel. IsCapacity channel.capacity) plan.channels) }
 {
     let split = split(alloc, design, request, listed)?;
     let machines = machines_of(alloc, design, request, listed, &split)?;
