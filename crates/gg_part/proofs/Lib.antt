@@ -2,3 +2,9 @@ pub mod RenameLemmas
 pub mod AlongLemmas
 pub mod RunLemmas
 pub mod FormedLemmas
+pub mod PlaceLemmas
+pub mod StepLemmas
+pub mod FrameLemmas
+pub mod BuildLemmas
+pub mod PartLemmas
+pub mod WorkedParts

@@ -2,3 +2,5 @@ pub mod Part
 pub mod PartRun
 pub mod InOrder
 pub mod Choice
+pub mod Numbers
+pub mod Building

@@ -1,15 +1,233 @@
-//! The part of a flat circuit that a choice of its signals makes.
-ghost use Rattle.std.specs.Prelude.{◌≡◌, map, IfOk};
+//! `part_of`: a part, made of what was chosen of a circuit.
+ghost use Rattle.std.specs.Prelude.{◌≡◌, ◌≢◌, ℕ, ◌<◌, ◌-◌, ◌^◌, List, [], length, map, IfOk, OnOk, All, Contains};
+ghost use Rattle.gg_flat.specs.declared.paths.AddError.TheVariants.{Doubled};
+ghost use Rattle.gg_flat.specs.declared.piece.Driver.TheVariants.{Input, Held};
+ghost use Rattle.gg_flat.specs.Circuit.{no_circuit, driver_at};
 ghost use Rattle.gg_flat.specs.Line.{value_at};
+ghost use Rattle.gg_flat.specs.Reads.{NamesSignal};
+ghost use Rattle.gg_flat.specs.Tree.{path_at};
 ghost use Rattle.gg_flat.specs.WellFormed.{IsWellFormed};
-ghost use Rattle.gg_part.specs.Part.{IsPart};
-ghost use Rattle.gg_part.specs.Choice.{IsChoice};
+ghost use Rattle.gg_part.specs.Part.{IsFrom, IsPart};
+ghost use Rattle.gg_part.specs.Choice.{NamesMemory, IsChoice};
+ghost use Rattle.gg_part.specs.Building.{AreHeld, IsDriven, IsAdded, AreSignals, AreRegisters, AreMemories};
 
+use crate::frame::{Frame, driver_of, frame_of};
+use crate::numbers::Numbers;
 use crate::part::Part;
-use gg_flat::Piece;
+use crate::rename::{local_line, local_memory, local_register};
+use gg_bits::Name;
+use gg_flat::{AddError, Driver, Piece, Signal};
 use std::alloc::{AllocError, Global};
 
-/// The part that these signals and memories make.
+// ---- signals
+
+// The driver of a signal that doesn't come from outside, in the part's numbers.
+fn local_driver(alloc: Global, frame: &Frame, driver: &Driver) -> Result<Driver, AllocError>
+    requires inside { (place : ℕ) → driver.now ≢ Input place }
+    requires signals { (t : ℕ) → NamesSignal driver.now t → Contains frame.now.globals t }
+    requires registers { (r : ℕ) → driver.now ≡ Held r → Contains frame.now.held r }
+    requires memories { (m : ℕ) → NamesMemory driver.now m → Contains frame.now.memories m }
+    ensures { IfOk result (λ own. (ins : List ℕ) (s : ℕ) → IsFrom ins frame.now.globals frame.now.held frame.now.memories s driver.now own) }
+{
+    match driver {
+        Driver::Input(_) => unreachable!(),
+        Driver::Held(register) => Ok(Driver::Held(frame.held.place(*register))),
+        Driver::MemoryWord(memory, reader, addr, en) => {
+            let memory = frame.memories.place(*memory);
+            let addr = frame.globals.place(*addr);
+            let en = frame.globals.place(*en);
+            Ok(Driver::MemoryWord(memory, *reader, addr, en))
+        }
+        Driver::ReadRegister(memory, reader) => {
+            Ok(Driver::ReadRegister(frame.memories.place(*memory), *reader))
+        }
+        Driver::Computed(line) => Ok(Driver::Computed(local_line(alloc, &frame.globals, line)?)),
+    }
+}
+
+// The driver of a signal of the part.
+fn driver_in(alloc: Global, whole: &Piece, frame: &Frame, signal: u32) -> Result<Driver, AllocError>
+    requires chosen { IsChoice whole.now frame.now.globals frame.now.ins [] frame.now.memories }
+    requires held { AreHeld whole.now frame.now.globals frame.now.ins frame.now.held }
+    requires signal { Contains frame.now.globals signal }
+    ensures { IfOk result (λ own. IsDriven whole.now frame.now.globals frame.now.ins frame.now.held frame.now.memories signal own) }
+{
+    match frame.ins.find(signal) {
+        Some(place) => Ok(Driver::Input(place)),
+        None => local_driver(alloc, frame, driver_of(whole, signal)),
+    }
+}
+
+// A copy of a signal's path.
+fn path_of(whole: &Piece, signal: u32) -> Result<Name, AllocError>
+    requires { signal < length whole.now.signals }
+    ensures { IfOk result (λ path. path ≡ path_at whole.now.paths signal) }
+{
+    let count = whole.signal_count();
+    prove!((signal as usize) < count);
+    Ok(whole.path(signal).unwrap().clone()?)
+}
+
+// That memory was refused, since no path was doubled.
+fn refused(error: AddError) -> AllocError
+    requires { error ≢ Doubled }
+{
+    match error {
+        AddError::NoMemory => AllocError,
+        AddError::Doubled => unreachable!(),
+    }
+}
+
+// Adds a signal of the part.
+fn add_signal(
+    alloc: Global,
+    whole: &Piece,
+    frame: &Frame,
+    signal: u32,
+    piece: &mut Piece,
+) -> Result<(), AllocError>
+    requires chosen { IsChoice whole.now frame.now.globals frame.now.ins [] frame.now.memories }
+    requires held { AreHeld whole.now frame.now.globals frame.now.ins frame.now.held }
+    requires signal { Contains frame.now.globals signal }
+    requires few { length piece.old.signals < 2 ^ 32 - 1 }
+    requires fresh { ¬ Contains piece.old.paths (path_at whole.now.paths signal) }
+    ensures { OnOk result (IsAdded whole.now frame.now.globals frame.now.ins frame.now.held frame.now.memories signal piece.old piece.new) }
+{
+    let path = path_of(whole, signal)?;
+    let ty = whole.signals()[signal as usize].ty;
+    let driver = driver_in(alloc, whole, frame, signal)?;
+    match piece.add_signal(path, Signal { ty, driver }) {
+        Ok(()) => Ok(()),
+        Err(error) => Err(refused(error)),
+    }
+}
+
+// Adds the signals of the part.
+fn add_signals(
+    alloc: Global,
+    whole: &Piece,
+    frame: &Frame,
+    piece: &mut Piece,
+) -> Result<(), AllocError>
+    requires formed { IsWellFormed whole.now }
+    requires chosen { IsChoice whole.now frame.now.globals frame.now.ins [] frame.now.memories }
+    requires held { AreHeld whole.now frame.now.globals frame.now.ins frame.now.held }
+    requires empty { piece.old ≡ no_circuit }
+    ensures only { OnOk result (piece.new ≡ record no_circuit { paths = piece.new.paths; signals = piece.new.signals }) }
+    ensures signals { OnOk result (AreSignals whole.now frame.now.globals frame.now.ins frame.now.held frame.now.memories (length frame.now.globals) piece.new) }
+{
+    // What it says of the whole's signals: that they are few enough for a piece.
+    let _ = whole.signal_count();
+    for signal in frame.globals.as_slice() {
+        add_signal(alloc, whole, frame, *signal, piece)?;
+    }
+    Ok(())
+}
+
+// ---- registers and memories
+
+// Adds the registers of the part.
+fn add_registers(
+    alloc: Global,
+    whole: &Piece,
+    frame: &Frame,
+    piece: &mut Piece,
+) -> Result<(), AllocError>
+    requires formed { IsWellFormed whole.now }
+    requires chosen { IsChoice whole.now frame.now.globals frame.now.ins [] frame.now.memories }
+    requires held { AreHeld whole.now frame.now.globals frame.now.ins frame.now.held }
+    requires empty { piece.old.registers ≡ [] }
+    ensures only { OnOk result (piece.new ≡ record piece.old { registers = piece.new.registers }) }
+    ensures registers { OnOk result (AreRegisters whole.now frame.now.globals frame.now.held (length frame.now.held) piece.new.registers) }
+{
+    for number in frame.held.as_slice() {
+        let register = &whole.registers()[*number as usize];
+        let own = local_register(alloc, &frame.globals, register)?;
+        piece.add_register(own)?;
+    }
+    Ok(())
+}
+
+// Adds the memories of the part.
+fn add_memories(
+    alloc: Global,
+    whole: &Piece,
+    frame: &Frame,
+    piece: &mut Piece,
+) -> Result<(), AllocError>
+    requires chosen { IsChoice whole.now frame.now.globals frame.now.ins [] frame.now.memories }
+    requires empty { piece.old.memories ≡ [] }
+    ensures only { OnOk result (piece.new ≡ record piece.old { memories = piece.new.memories }) }
+    ensures memories { OnOk result (AreMemories whole.now frame.now.globals frame.now.memories (length frame.now.memories) piece.new.memories) }
+{
+    for number in frame.memories.as_slice() {
+        let memory = &whole.memories()[*number as usize];
+        let own = local_memory(alloc, &frame.globals, memory)?;
+        piece.add_memory(own)?;
+    }
+    Ok(())
+}
+
+// ---- ports
+
+// Adds the in-signals of the part.
+fn add_ins(globals: &Numbers, ins: &[u32], piece: &mut Piece) -> Result<(), AllocError>
+    requires known { All (λ s. Contains globals.now s) ins.now }
+    requires empty { piece.old.ins ≡ [] }
+    ensures only { OnOk result (piece.new ≡ record piece.old { ins = piece.new.ins }) }
+    ensures ins { OnOk result (map (value_at globals.now) piece.new.ins ≡ ins.now) }
+    ensures below { OnOk result (All (λ s. s < length globals.now) piece.new.ins) }
+{
+    for signal in ins {
+        piece.add_in(globals.place(*signal))?;
+    }
+    Ok(())
+}
+
+// Adds the out-signals of the part.
+fn add_outs(globals: &Numbers, outs: &[u32], piece: &mut Piece) -> Result<(), AllocError>
+    requires known { All (λ s. Contains globals.now s) outs.now }
+    requires empty { piece.old.outs ≡ [] }
+    ensures only { OnOk result (piece.new ≡ record piece.old { outs = piece.new.outs }) }
+    ensures outs { OnOk result (map (value_at globals.now) piece.new.outs ≡ outs.now) }
+    ensures below { OnOk result (All (λ s. s < length globals.now) piece.new.outs) }
+{
+    for signal in outs {
+        piece.add_out(globals.place(*signal))?;
+    }
+    Ok(())
+}
+
+// ---- the part
+
+// Adds all that the part has.
+fn add_all(
+    alloc: Global,
+    whole: &Piece,
+    frame: &Frame,
+    outs: &[u32],
+    piece: &mut Piece,
+) -> Result<(), AllocError>
+    requires formed { IsWellFormed whole.now }
+    requires chosen { IsChoice whole.now frame.now.globals frame.now.ins [] frame.now.memories }
+    requires held { AreHeld whole.now frame.now.globals frame.now.ins frame.now.held }
+    requires outs { All (λ s. Contains frame.now.globals s) outs.now }
+    requires empty { piece.old ≡ no_circuit }
+    ensures part { OnOk result (IsPart whole.now piece.new frame.now.globals frame.now.held frame.now.memories) }
+    ensures ins { OnOk result (map (value_at frame.now.globals) piece.new.ins ≡ frame.now.ins) }
+    ensures outs { OnOk result (map (value_at frame.now.globals) piece.new.outs ≡ outs.now) }
+{
+    add_signals(alloc, whole, frame, piece)?;
+    add_registers(alloc, whole, frame, piece)?;
+    add_memories(alloc, whole, frame, piece)?;
+    add_ins(&frame.globals, frame.ins.as_slice(), piece)?;
+    add_outs(&frame.globals, outs, piece)?;
+    Ok(())
+}
+
+/// The part of a circuit that has these signals and memories, gets the values of `ins` from outside, and gives those
+/// of `outs`. All numbers are the whole's. The part's signals stand in the order of `globals`, its in-signals in that
+/// of `ins`, its out-signals in that of `outs`, its memories in that of `memories`.
 ///
 /// # Errors
 ///
@@ -30,11 +248,8 @@ pub fn part_of(
     ensures outs { IfOk result (λ part. map (value_at part.globals) part.piece.outs ≡ outs.now) }
     ensures memories { IfOk result (λ part. part.memories ≡ memories.now) }
 {
-    let _ = alloc;
-    let _ = whole;
-    let _ = globals;
-    let _ = ins;
-    let _ = outs;
-    let _ = memories;
-    Err(AllocError)
+    let frame = frame_of(alloc, whole, globals, ins, memories)?;
+    let mut piece = Piece::new(alloc);
+    add_all(alloc, whole, &frame, outs, &mut piece)?;
+    Ok(frame.part(piece))
 }

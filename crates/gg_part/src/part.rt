@@ -2,7 +2,7 @@
 use gg_bits::Ids;
 use gg_flat::Piece;
 
-/// A part of a flat circuit. Whoever makes it owes that it is one (`IsPart` in `specs/Part`).
+/// A part of a flat circuit. Whoever makes it owes that it is one (`IsPart` in `specs/Part`), as `part_of` promises.
 #[derive(Drop)]
 pub struct Part {
     /// The part as a circuit of its own.

@@ -1,0 +1,12 @@
+use Rattle.std.proofs.Common.{◌≡◌, ◌<◌, length, map, take}
+use Rattle.std.specs.Prelude.{All}
+use Rattle.gg_flat.specs.Line.{value_at}
+use Rattle.gg_part.proofs.build.add_ins.Given as goal
+
+abbrev pub invariant-loop-signal : goal.invariant-loop-signal
+invariant-loop-signal l =
+    record {
+      only : l.piece ≡ record l.initial.piece { ins = l.piece.ins };
+      ins : map (value_at l.globals) l.piece.ins ≡ take l.signal-index l.ins;
+      below : All (λ s. s < length l.globals) l.piece.ins;
+    }

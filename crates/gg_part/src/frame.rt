@@ -1,0 +1,119 @@
+//! `Frame`: the numbers of what a part has.
+ghost use Rattle.std.specs.Prelude.{◌≡◌, ℕ, ◌<◌, ◌≤◌, List, [], length, vec_len, IfOk, IfSome, IfNone, All, Contains};
+ghost use Rattle.gg_flat.specs.Circuit.{driver_at};
+ghost use Rattle.gg_flat.specs.WellFormed.{IsWellFormed};
+ghost use Rattle.gg_part.specs.Choice.{IsChoice};
+ghost use Rattle.gg_part.specs.Building.{Holds, AreHeld};
+
+use crate::numbers::Numbers;
+use crate::part::Part;
+use gg_flat::{Driver, Piece};
+use std::alloc::{AllocError, Global};
+
+/// The numbers of what a part has, all of them the whole's: its signals, those among them that come from outside, its
+/// registers, its memories.
+#[derive(Drop)]
+pub(crate) struct Frame {
+    pub(crate) globals: Numbers,
+    pub(crate) ins: Numbers,
+    pub(crate) held: Numbers,
+    pub(crate) memories: Numbers,
+}
+
+impl Frame {
+    /// The part whose frame this is, and that is this piece.
+    pub(crate) fn part(self, piece: Piece) -> Part
+        ensures piece { result.piece ≡ piece }
+        ensures globals { result.globals ≡ self.globals }
+        ensures held { result.held ≡ self.held }
+        ensures memories { result.memories ≡ self.memories }
+    {
+        let Frame {
+            globals,
+            ins,
+            held,
+            memories,
+        } = self;
+        drop(ins);
+        Part {
+            piece,
+            globals: globals.into_ids(),
+            held: held.into_ids(),
+            memories: memories.into_ids(),
+        }
+    }
+}
+
+/// The driver of a signal.
+pub(crate) fn driver_of(whole: &Piece, signal: u32) -> &Driver
+    requires { signal < length whole.now.signals }
+    ensures { result.now ≡ driver_at whole.now signal }
+{
+    &whole.signals()[signal as usize].driver
+}
+
+// The register that a signal holds, if it does and isn't one that comes from outside.
+fn register_of(whole: &Piece, ins: &Numbers, signal: u32) -> Option<u32>
+    requires { signal < length whole.now.signals }
+    ensures holds { IfSome result (λ register. Holds whole.now ins.now signal register) }
+    ensures none { IfNone result ((register : ℕ) → ¬ Holds whole.now ins.now signal register) }
+{
+    if ins.find(signal).is_some() {
+        return None;
+    }
+    match driver_of(whole, signal) {
+        Driver::Held(register) => Some(*register),
+        _ => None,
+    }
+}
+
+// The registers that these signals hold.
+fn held_by(
+    alloc: Global,
+    whole: &Piece,
+    globals: &[u32],
+    ins: &Numbers,
+) -> Result<Vec<u32>, AllocError>
+    requires { All (λ s. s < length whole.now.signals) globals.now }
+    ensures held { IfOk result (λ held. AreHeld whole.now globals.now ins.now held.items) }
+    ensures few { IfOk result (λ held. vec_len held ≤ length globals.now) }
+{
+    let mut held = Vec::new(alloc);
+    for signal in globals {
+        if let Some(register) = register_of(whole, ins, *signal) {
+            held.push(register)?;
+        }
+    }
+    Ok(held)
+}
+
+/// The frame of a part that has these signals and memories.
+///
+/// # Errors
+///
+/// Where memory is refused.
+pub(crate) fn frame_of(
+    alloc: Global,
+    whole: &Piece,
+    globals: &[u32],
+    ins: &[u32],
+    memories: &[u32],
+) -> Result<Frame, AllocError>
+    requires formed { IsWellFormed whole.now }
+    requires chosen { IsChoice whole.now globals.now ins.now [] memories.now }
+    ensures globals { IfOk result (λ frame. frame.globals ≡ globals.now) }
+    ensures ins { IfOk result (λ frame. frame.ins ≡ ins.now) }
+    ensures held { IfOk result (λ frame. AreHeld whole.now globals.now ins.now frame.held) }
+    ensures memories { IfOk result (λ frame. frame.memories ≡ memories.now) }
+{
+    let signals = whole.signal_count();
+    let ins = Numbers::of(alloc, signals, ins)?;
+    let held = held_by(alloc, whole, globals, &ins)?;
+    let held = Numbers::of(alloc, whole.registers().len(), held.as_slice())?;
+    Ok(Frame {
+        globals: Numbers::of(alloc, signals, globals)?,
+        ins,
+        held,
+        memories: Numbers::of(alloc, whole.memories().len(), memories)?,
+    })
+}
