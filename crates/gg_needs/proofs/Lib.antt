@@ -1,0 +1,4 @@
+pub mod AddLemmas
+pub mod WalkLemmas
+pub mod NeedLemmas
+pub mod WorkedNeeds

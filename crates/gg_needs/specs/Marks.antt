@@ -1,0 +1,15 @@
+-- Sets of marks on signals: bit i of a signal's set is the mark of the out-signal at place i of a group.
+-- Source: FIRRTL Specification, "Combinational Loops" (dependency without a register); marks are this program's own.
+use Rattle.std.specs.Prelude.{◌≡◌, ◌==◌, ℕ, List, Bool, length, map}
+use Rattle.std.specs.Int.{bit_at}
+use Rattle.gg_order.specs.Marks.{Marks}
+
+-- the marks of one out-signal
+abbrev pub marks_of : ℕ → List ℕ → List Bool
+marks_of place marks = map (λ set. bit_at set place == 1) marks
+
+-- A set is added to those of the named signals: each out-signal in it marks them too, the others mark what they did.
+pub record Adds (added : ℕ) (Named : ℕ → Type 0) (before after : List ℕ) : Type 0 where
+  pub count : length after ≡ length before
+  pub given : (place : ℕ) → bit_at added place ≡ 1 → Marks Named (marks_of place before) (marks_of place after)
+  pub kept : (place : ℕ) → bit_at added place ≡ 0 → marks_of place after ≡ marks_of place before

@@ -1,0 +1,19 @@
+//! Needs: the in-signals that each out-signal of a piece depends on in a cycle.
+//!
+//! An out-signal needs an in-signal where a path of reads leads from the one to the other (`AreNeeds` of gg_program's
+//! `specs/Cone`). The crate promises:
+//!
+//! - `needs_of` gives for each out-signal, in port order, the places of just the in-signals that it needs, ascending.
+//!
+//! It goes over the signals once for every 128 out-signals, from the last to the first. Each signal has a set of marks,
+//! one for each of those out-signals, and hands its set on to the signals that it reads.
+#![tactic(auto)]
+
+mod groups;
+mod marks;
+mod needs;
+#[cfg(test)]
+mod tests;
+mod walk;
+
+pub use needs::needs_of;
