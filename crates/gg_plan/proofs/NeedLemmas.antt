@@ -10,7 +10,7 @@ use Rattle.std.proofs.lemmas.Bool.{cases_lt}
 use Rattle.gg_flat.specs.Line.{value_at}
 use Rattle.gg_flat.specs.Reads.{Reaches}
 use Rattle.gg_program.specs.Cone.{AreNeeds}
-use Rattle.gg_needs.specs.Needs.{AreAllNeeds}
+use Rattle.gg_program.specs.Programmed.{AreNeedsOfOuts}
 use Rattle.gg_part.specs.declared.part.Part.{Part}
 use Rattle.gg_cut.specs.declared.plan.Body.{Body}
 use Rattle.gg_cut.specs.declared.plan.Body.TheVariants.{Cut, Memory}
@@ -91,7 +91,7 @@ map-ascending values places up along within = λ i j d lt inside.
 -- ---- the needs of a part's out-signals
 
 -- the places that out-signals need are the in-signals'
-pub places-within : (wires : List Wire) (part : Part) (ins outs : List ℕ) (lists : List (List ℕ)) → IsServed wires part ins outs → AreAllNeeds part.piece lists → (i : ℕ) → i < length outs → All (λ place. place < length ins) (get_or lists i [])
+pub places-within : (wires : List Wire) (part : Part) (ins outs : List ℕ) (lists : List (List ℕ)) → IsServed wires part ins outs → AreNeedsOfOuts part.piece lists → (i : ℕ) → i < length outs → All (λ place. place < length ins) (get_or lists i [])
 places-within wires part ins outs lists served all i lt = λ k d inside.
     let count : length part.piece.ins ≡ length ins = sym (length-map part.piece.ins (value_at part.globals)) ∙ ap length served.ins ∙ length-map ins (λ c. (wire_at wires c).signal) in
     let total : length part.piece.outs ≡ length outs = sym (length-map part.piece.outs (value_at part.globals)) ∙ ap length served.outs ∙ length-map outs (λ c. (wire_at wires c).signal) in
@@ -100,7 +100,7 @@ places-within wires part ins outs lists served all i lt = λ k d inside.
     let known = ((needs.exact (get_or places k d)).0 (Contains-get_or places k d inside)).0 in
     omega (arith, known, count)
 
-pub part-told : (wires : List Wire) (part : Part) (ins outs : List ℕ) (m : ℕ) (lists before table : List (List ℕ)) → IsServed wires part ins outs → ins ≡ channels_to wires m → outs ≡ channels_from wires m → AreAllNeeds part.piece lists → ArePut ins outs lists before (length outs) table
+pub part-told : (wires : List Wire) (part : Part) (ins outs : List ℕ) (m : ℕ) (lists before table : List (List ℕ)) → IsServed wires part ins outs → ins ≡ channels_to wires m → outs ≡ channels_from wires m → AreNeedsOfOuts part.piece lists → ArePut ins outs lists before (length outs) table
     → (c : ℕ) → c < length wires → (wire_at wires c).producer ≡ m → ArePartNeeds part ins (wire_at wires c).signal (get_or table c [])
 part-told wires part ins outs m lists before table served taken given all put c known gives =
     let has = given-there wires m outs given c known gives in

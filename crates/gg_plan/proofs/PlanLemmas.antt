@@ -87,22 +87,6 @@ channels-made design whole capacity wires machines table channels same given tol
           };
     }
 
--- ---- the plan
-
-pub plan-made : (design : Ordered) (request : Request) (default : ℕ) (listed : Listed) (wires : List Wire) (plan : Plan) → listed ≡ listed_of design.tree request → wires ≡ wires_of design.circuit design.tree listed
-    → AreMachines design request listed wires plan.machines → AreChannels design (capacity_of request.capacity default) wires plan.machines plan.channels → IsPlan design request default plan
-plan-made design request default listed wires plan is same machines channels =
-    let ms = subst (λ (l : Listed). AreMachines design request l (wires_of design.circuit design.tree l) plan.machines) is
-    (subst (λ (w : List Wire). AreMachines design request listed w plan.machines) same machines) in
-    let cs = subst (λ (l : Listed). AreChannels design (capacity_of request.capacity default) (wires_of design.circuit design.tree l) plan.machines plan.channels) is
-    (subst (λ (w : List Wire). AreChannels design (capacity_of request.capacity default) w plan.machines plan.channels) same channels) in
-    record {
-      machine_total = ms.total;
-      channel_total = cs.total;
-      machine = ms.each;
-      channel = cs.each;
-    }
-
 -- ---- what the channels of a request without a fault have
 
 -- each is given by a machine

@@ -21,6 +21,3 @@ returns-clause-capacities c =
     let free = faultless c.args.design.now request c.requires.faultless in
     subst (λ (l : List Channel). All (λ channel. IsCapacity channel.capacity) l) (sym c.from-2.ensures)
     (bounds-sound c.args.design.now request c.args.default_capacity c.as_slice.result.now c.deref.result.now c.in_ok-channels.channels.items c.requires.capacity free.range (c.in_ok-channels.ensures {u = tt}))
-
-pub returns-clause-plan : goal.returns-clause-plan
-returns-clause-plan c = ?
