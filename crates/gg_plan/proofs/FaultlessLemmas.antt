@@ -1,8 +1,7 @@
 -- What a request without a fault says of its channels and machines.
-use Rattle.std.proofs.Common.{◌≡◌, ℕ, zero, suc, ◌+◌, ◌^◌, ◌<◌, ◌≤◌, List, [], ◌∷◌, ◌++◌, length, map, get_or, Bool, true, false, refl, sym, ◌∙◌, ap, subst, Some, None, arith}
-use Rattle.std.specs.Prelude.{Option, option_map, find, cond, not, ◌||◌, ◌==◌, if◌then◌else◌, nat_lt, unwrap_or, bytes_eq, All}
-use Rattle.std.specs.List.{range_with_len}
-use Rattle.std.proofs.lemmas.List.{get_or-map, get_or_default, length-map, length-append}
+use Rattle.std.proofs.Common.{◌≡◌, ℕ, zero, suc, ◌+◌, ◌^◌, ◌<◌, ◌≤◌, List, [], ◌∷◌, ◌++◌, length, get_or, Bool, true, false, refl, ap, Some, None, arith}
+use Rattle.std.specs.Prelude.{Option, option_map, find, cond, ◌||◌, ◌==◌, if◌then◌else◌, nat_lt, unwrap_or, bytes_eq, All}
+use Rattle.std.proofs.lemmas.List.{get_or-map, length-map, length-append}
 use Rattle.std.proofs.lemmas.Bool.{ltb-false}
 use Rattle.gg_flat.specs.Circuit.{FlatCircuit}
 use Rattle.gg_flat.specs.WellFormed.{IsWellFormed}
@@ -13,8 +12,8 @@ use Rattle.gg_partfile.specs.declared.request.Request.{Request}
 use Rattle.gg_cut.specs.declared.listed.Listed.{Listed}
 use Rattle.gg_cut.specs.declared.wires.Wire.{Wire}
 use Rattle.gg_cut.specs.declared.fault.CutFault.TheVariants.{UnknownChannel, OutOfRange, TooManyUnits, TooManyChannels}
-use Rattle.gg_cut.specs.Listed.{place_of, instance_of, is_among, first_place, listed_of}
-use Rattle.gg_cut.specs.Channels.{wire, numbered, flattened, source_wires, first_source, first_tray, machine_count, wires_of, port_signals, channel_signals, channel_names, capacity_of}
+use Rattle.gg_cut.specs.Listed.{place_of, instance_of, is_among, listed_of}
+use Rattle.gg_cut.specs.Channels.{wire, numbered, flattened, source_wires, first_source, machine_count, wires_of, port_signals, channel_signals, channel_names, capacity_of}
 use Rattle.gg_cut.specs.Fault.{or_else, most_capacity, most_units, most_channels, out_of_range, range_fault, too_many_units, too_many_channels, channel_fault, entry_fault, kind_fault, first_fault, unknown_channel}
 use Rattle.gg_cut.specs.Plan.{wire_at}
 use Rattle.gg_plan.specs.Made.{IsCapacity}
@@ -165,9 +164,14 @@ few-machines design request free =
     let inner = flattened (port_signals tree) listed.units ++ (flattened (λ j. memory_fields circuit (memory_at tree j).memory) listed.memories ++ circuit.outs) in
     let units = ltb-false most_units (length listed.units + length listed.memories) (none-if (nat_lt most_units (length listed.units + length listed.memories)) (length listed.units + length listed.memories) free.units) in
     let channels = ltb-false most_channels (length (channel_signals circuit tree listed)) (none-if (nat_lt most_channels (length (channel_signals circuit tree listed))) (length (channel_signals circuit tree listed)) free.channels) in
-    omega (arith, units, channels, length-append circuit.ins inner,
-    length-append (flattened (port_signals tree) listed.units) (flattened (λ j. memory_fields circuit (memory_at tree j).memory) listed.memories ++ circuit.outs),
-    length-append (flattened (λ j. memory_fields circuit (memory_at tree j).memory) listed.memories) circuit.outs)
+    omega (
+      arith,
+      units,
+      channels,
+      length-append circuit.ins inner,
+      length-append (flattened (port_signals tree) listed.units) (flattened (λ j. memory_fields circuit (memory_at tree j).memory) listed.memories ++ circuit.outs),
+      length-append (flattened (λ j. memory_fields circuit (memory_at tree j).memory) listed.memories) circuit.outs,
+    )
 
 -- each channel is given by a machine
 Each-at : (P : Wire → Type 0) (wires : List Wire) (c : ℕ) → Each P wires → c < length wires → P (wire_at wires c)

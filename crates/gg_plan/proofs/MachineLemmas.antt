@@ -11,7 +11,6 @@ use Rattle.gg_part.specs.Part.{IsPart}
 use Rattle.gg_part.specs.InOrder.{IsAlong, IsInOrder}
 use Rattle.gg_cut.specs.declared.listed.Listed.{Listed}
 use Rattle.gg_cut.specs.declared.wires.Wire.{Wire}
-use Rattle.gg_cut.specs.Channels.{first_source}
 use Rattle.gg_cut.specs.Plan.{wire_at, channels_to, channels_from, signals_of, Makes, Takes, HasMemory, IsCutPart}
 use Rattle.gg_cut.proofs.RangeLemmas.{filter-below}
 use Rattle.gg_split.specs.declared.shares.Share.{Share}

@@ -1,6 +1,6 @@
 -- The needs of channels.
 use Rattle.std.proofs.Common.{◌≡◌, ◌≢◌, ℕ, zero, suc, ◌+◌, ◌<◌, ◌≤◌, List, [], ◌∷◌, length, map, get_or, Bool, true, false, true≢false, true-eqb, eq-eqb, refl, sym, ◌∙◌, ap, subst, ⊎_elim, arith}
-use Rattle.std.specs.Prelude.{filter, cond, ◌==◌, ◌↔◌, All, AllPairs, Contains, ◌⊎◌}
+use Rattle.std.specs.Prelude.{filter, cond, ◌==◌, All, AllPairs, Contains}
 use Rattle.std.specs.List.{range_with_len}
 use Rattle.std.proofs.lemmas.List.{get_or-map, get_or_default, length-map}
 use Rattle.std.proofs.lemmas.List.Elements.{Contains-get_or}
@@ -8,7 +8,6 @@ use Rattle.std.proofs.lemmas.List.FromFn.{length-range_with_len, get_or-range_wi
 use Rattle.std.proofs.lemmas.List.Kept.{AllPairs-filter}
 use Rattle.std.proofs.lemmas.Bool.{cases_lt}
 use Rattle.gg_flat.specs.Line.{value_at}
-use Rattle.gg_flat.specs.Reads.{Reaches}
 use Rattle.gg_program.specs.Cone.{AreNeeds}
 use Rattle.gg_program.specs.Programmed.{AreNeedsOfOuts}
 use Rattle.gg_part.specs.declared.part.Part.{Part}
@@ -16,7 +15,7 @@ use Rattle.gg_cut.specs.declared.plan.Body.{Body}
 use Rattle.gg_cut.specs.declared.plan.Body.TheVariants.{Cut, Memory}
 use Rattle.gg_cut.specs.declared.plan.Machine.{Machine}
 use Rattle.gg_cut.specs.declared.wires.Wire.{Wire}
-use Rattle.gg_cut.specs.Plan.{wire_at, channels_to, channels_from, signals_of, IsNeed, AreNeedsOf, NeedsIn}
+use Rattle.gg_cut.specs.Plan.{wire_at, channels_to, channels_from, IsNeed, AreNeedsOf, NeedsIn}
 use Rattle.gg_plan.specs.Made.{IsServed, ArePartNeeds, ArePut, AreGiven}
 
 -- ---- numbers that pass a test

@@ -1,5 +1,5 @@
 -- The plan of its machines and channels.
-use Rattle.std.proofs.Common.{◌≡◌, ℕ, ◌<◌, None, List, [], ◌∷◌, length, map, get_or, sym, ◌∙◌, ap, subst, arith}
+use Rattle.std.proofs.Common.{◌≡◌, ℕ, ◌<◌, None, List, [], ◌∷◌, length, get_or, sym, ◌∙◌, ap, subst, arith}
 use Rattle.std.specs.Prelude.{All, AllPairs}
 use Rattle.std.proofs.lemmas.List.{length-map}
 use Rattle.gg_flat.specs.Circuit.{FlatCircuit}
@@ -12,16 +12,15 @@ use Rattle.gg_cut.specs.declared.plan.Body.{Body}
 use Rattle.gg_cut.specs.declared.plan.Body.TheVariants.{Cut, Memory, Source, Tray}
 use Rattle.gg_cut.specs.declared.plan.Machine.{Machine}
 use Rattle.gg_cut.specs.declared.plan.Channel.{Channel}
-use Rattle.gg_cut.specs.declared.plan.Plan.{Plan}
 use Rattle.gg_cut.specs.declared.listed.Listed.{Listed}
 use Rattle.gg_cut.specs.declared.wires.Wire.{Wire}
 use Rattle.gg_cut.specs.Listed.{listed_of, instance_of}
 use Rattle.gg_cut.specs.Fault.{range_fault}
 use Rattle.gg_cut.specs.Channels.{wires_of, capacity_of, machine_count}
-use Rattle.gg_cut.specs.Plan.{wire_at, channels_to, channels_from, signals_of, IsCutPart, IsBody, IsMachine, NeedsIn, IsPlan}
+use Rattle.gg_cut.specs.Plan.{wire_at, channels_to, channels_from, signals_of, IsCutPart, IsBody, IsMachine, NeedsIn}
 use Rattle.gg_flat.specs.Tree.{IsTree, path_at}
 use Rattle.gg_plan.proofs.FaultlessLemmas.{capacity-sound, wires-given, wires-known}
-use Rattle.gg_plan.specs.Made.{IsCapacity, AreMachines, IsServed, IsServedBody, IsFit, AreGiven, AreTold, IsWired, AreWired, AreChannels}
+use Rattle.gg_plan.specs.Made.{IsCapacity, AreMachines, IsServed, IsServedBody, IsFit, AreTold, IsWired, AreWired, AreChannels}
 
 -- ---- machines
 

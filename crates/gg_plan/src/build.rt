@@ -61,7 +61,15 @@ fn plan_of(
 {
     let split = split(alloc, design, request, listed)?;
     let machines = machines_of(alloc, design, request, listed, &split)?;
-    let channels = channels_for(alloc, design, request, listed, split.wires.as_slice(), &machines, default_capacity)?;
+    let channels = channels_for(
+        alloc,
+        design,
+        request,
+        listed,
+        split.wires.as_slice(),
+        &machines,
+        default_capacity,
+    )?;
     Ok(Plan {
         machines: Items::from(machines),
         channels: Items::from(channels),

@@ -42,7 +42,11 @@ fn leaders_of(
 {
     let mut leaders = numbers(alloc, count)?;
     for step in 0..share.len() {
-        lead(units, share[share.len() - 1 - step].as_slice(), &mut leaders);
+        lead(
+            units,
+            share[share.len() - 1 - step].as_slice(),
+            &mut leaders,
+        );
     }
     Ok(leaders)
 }

@@ -9,11 +9,7 @@ use std::alloc::{AllocError, Global};
 /// # Errors
 ///
 /// Where memory is refused.
-pub(crate) fn picked(
-    alloc: Global,
-    values: &[u32],
-    places: &[u32],
-) -> Result<Vec<u32>, AllocError>
+pub(crate) fn picked(alloc: Global, values: &[u32], places: &[u32]) -> Result<Vec<u32>, AllocError>
     requires { All (λ place. place < length values.now) places.now }
     ensures { IfOk result (λ picked. picked.items ≡ map (value_at values.now) places.now) }
 {

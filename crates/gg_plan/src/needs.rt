@@ -94,13 +94,7 @@ fn tell_part(
 }
 
 // Puts lists of channels in the places of channels: of each list of places among `ins` the channels at these.
-fn put_all(
-    alloc: Global,
-    lists: &mut Vec<Ids>,
-    ins: &[u32],
-    outs: &[u32],
-    table: &mut Vec<Ids>,
-)
+fn put_all(alloc: Global, lists: &mut Vec<Ids>, ins: &[u32], outs: &[u32], table: &mut Vec<Ids>)
     requires count { length lists.old.items ≡ length outs.now }
     requires places { (i : ℕ) → i < length outs.now → All (λ place. place < length ins.now) (slice_index_or lists.old.items i []) }
     requires known { All (λ c. c < length table.old.items) outs.now }

@@ -1,5 +1,5 @@
 use Rattle.std.proofs.Common.{◌≡◌, ◌+◌, drop}
-use Rattle.std.specs.Prelude.{bytes_eq, option_map}
+use Rattle.std.specs.Prelude.{option_map}
 use Rattle.gg_cut.specs.Listed.{place_of}
 use Rattle.gg_plan.proofs.hosts.machine_of.Given as goal
 

@@ -1,4 +1,4 @@
-use Rattle.std.proofs.Common.{◌≡◌, List, subst, arith}
+use Rattle.std.proofs.Common.{List, subst, arith}
 use Rattle.std.proofs.lemmas.Grind.{common_steps}
 use Rattle.gg_cut.specs.declared.wires.Wire.{Wire}
 use Rattle.gg_cut.specs.Plan.{IsMachine}
@@ -12,7 +12,8 @@ loop-number-preserved c =
     let listed = c.args.listed.now in
     let wires = c.args.split.now.wires in
     let n = c.loop-number.number in
-    let machine = c.in_ok-machine.machine in
-    (grind (arith, common_steps),
-    each-push (IsMachine design request listed wires) c.loop-number.machines.items c.push.new.self.items machine n c.loop-number.invariant.0 c.loop-number.invariant.1
-    (subst (λ (w : List Wire). IsMachine design request listed w n machine) c.as_slice-wires.ensures (c.in_ok-machine.ensures {u = tt})) c.in_ok-push.ensures.items)
+    let machine = c.in_ok-machine.machine in (
+      grind (arith, common_steps),
+      each-push (IsMachine design request listed wires) c.loop-number.machines.items c.push.new.self.items machine n c.loop-number.invariant.0 c.loop-number.invariant.1
+          (subst (λ (w : List Wire). IsMachine design request listed w n machine) c.as_slice-wires.ensures (c.in_ok-machine.ensures {u = tt})) c.in_ok-push.ensures.items,
+    )
