@@ -13,8 +13,10 @@ use Rattle.gg_cut.specs.declared.listed.Listed.{Listed}
 use Rattle.gg_cut.specs.declared.wires.Wire.{Wire}
 use Rattle.gg_cut.specs.Plan.{wire_at, channels_to, channels_from, signals_of, Makes, Takes, HasMemory, IsCutPart}
 use Rattle.gg_cut.proofs.RangeLemmas.{filter-below}
-use Rattle.gg_split.specs.declared.shares.Share.{Share}
-use Rattle.gg_split.specs.Share.{IsShare}
+use Rattle.gg_split.specs.declared.share.Share.{Share}
+use Rattle.gg_split.specs.Share.{IsShareOf}
+use Rattle.gg_split.specs.IsShare.{AreShares}
+use Rattle.gg_cut.specs.Channels.{wires_of}
 
 -- ---- channels are numbers below their count
 
@@ -27,7 +29,7 @@ from-below wires m channels is k d lt = let below = filter-below (λ c. (wire_at
 -- ---- parts
 
 -- the part that a machine's share makes is the machine's
-pub cut-part : (design : Ordered) (listed : Listed) (wires : List Wire) (m : ℕ) (share : Share) (whole : FlatCircuit) (part : Part) → IsShare design listed wires m share → whole ≡ design.circuit → IsPart whole part.piece part.globals part.held part.memories → part.globals ≡ share.globals → part.memories ≡ share.memories
+pub cut-part : (design : Ordered) (listed : Listed) (wires : List Wire) (m : ℕ) (share : Share) (whole : FlatCircuit) (part : Part) → IsShareOf design listed wires m share.ins share.outs share.globals share.memories → whole ≡ design.circuit → IsPart whole part.piece part.globals part.held part.memories → part.globals ≡ share.globals → part.memories ≡ share.memories
     → map (value_at part.globals) part.piece.ins ≡ signals_of wires share.ins → map (value_at part.globals) part.piece.outs ≡ signals_of wires share.outs → IsOrder design.circuit design.order
     → ((whole part : FlatCircuit) (globals held memories order : List ℕ) → IsPart whole part globals held memories → IsOrder whole order → IsAlong order globals → IsInOrder part)
     → IsCutPart design listed wires m part
@@ -41,6 +43,13 @@ cut-part design listed wires m share whole part own w is g ms i o ordered law =
       memories = λ k. subst (λ (l : List ℕ). Contains l k ↔ HasMemory design.tree listed m k) (sym ms) (own.banks k);
       ordered = law design.circuit part.piece part.globals part.held part.memories design.order here ordered (subst (λ (l : List ℕ). IsAlong design.order l) (sym g) own.along);
     }
+
+-- the share of a machine, where its wires are the cut's
+pub share-at : (design : Ordered) (listed : Listed) (wires : List Wire) (shares : List Share) (m : ℕ) (share : Share) → AreShares design listed shares → wires ≡ wires_of design.circuit design.tree listed → m < length shares → share ≡ get_or shares m share
+    → IsShareOf design listed wires m share.ins share.outs share.globals share.memories
+share-at design listed wires shares m share are same lt is =
+    subst (λ (w : List Wire). IsShareOf design listed w m share.ins share.outs share.globals share.memories) (sym same)
+    (subst (λ (s : Share). IsShareOf design listed (wires_of design.circuit design.tree listed) m s.ins s.outs s.globals s.memories) (sym is) (are.each m share (omega (arith, lt, are.many))))
 
 -- ---- one more at the end
 

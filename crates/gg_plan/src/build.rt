@@ -18,8 +18,8 @@ use gg_partfile::Request;
 use gg_split::split;
 use std::alloc::{AllocError, Global};
 
-/// The plan of a design, a request and the capacity of the channels that the request doesn't name. Each channel's capacity is
-/// from 1 to 4,096.
+/// The plan of a design, a request and the capacity of the channels that the request doesn't name. Each channel's
+/// capacity is from 1 to 4,096.
 ///
 /// # Errors
 ///
@@ -108,7 +108,8 @@ fn channels_for(
     Ok(channels)
 }
 
-/// The channels that a channel of a plan needs in a cycle, ascending: those that its producer has to have taken before it gives.
+/// The channels that a channel of a plan needs in a cycle, ascending: its producer has to have taken of these before it
+/// gives.
 pub fn deps(plan: &Plan, channel: u32) -> &[u32]
     requires { channel < length plan.now.channels }
     ensures { (any : Channel) → result.now ≡ (slice_index_or plan.now.channels channel any).needs }

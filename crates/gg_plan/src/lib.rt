@@ -5,8 +5,8 @@
 //! - `cut` gives the plan of a design and a request exactly where the request has no fault, and else its first fault;
 //! - `deps` answers the channels that a channel of a plan needs, and takes no memory.
 //!
-//! The time that `cut` takes is that of gg_split, gg_part and gg_needs, and linear besides; but to find the hosts it compares
-//! each entry of `share` with the units, of which there are at most 256.
+//! The time that `cut` takes is that of gg_split, gg_part and gg_needs, and linear besides; but to find the hosts it
+//! compares each entry of `share` with the units, of which there are at most 256.
 #![tactic(auto)]
 
 mod build;

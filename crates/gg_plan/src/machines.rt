@@ -1,10 +1,11 @@
 //! The machines of a plan.
 ghost use Rattle.std.specs.Prelude.{◌≡◌, ℕ, ◌+◌, ◌<◌, ◌^◌, length, IfOk, OnOk, slice_index_or};
 ghost use Rattle.gg_cut.specs.Hosts.{host_of};
-ghost use Rattle.gg_cut.specs.Channels.{machine_count, first_memory, first_source, first_tray};
+ghost use Rattle.gg_cut.specs.Channels.{machine_count, first_memory, first_source, first_tray, wires_of};
 ghost use Rattle.gg_cut.specs.Plan.{IsMachine, IsBody};
 ghost use Rattle.gg_cut.specs.declared.plan.Machine.{Machine};
-ghost use Rattle.gg_split.specs.Share.{IsShare, AreShares};
+ghost use Rattle.gg_split.specs.Share.{IsShareOf};
+ghost use Rattle.gg_split.specs.IsShare.{AreShares};
 ghost use Rattle.gg_plan.specs.Made.{AreMachines};
 
 use crate::hosts::hosts_of;
@@ -28,7 +29,8 @@ pub(crate) fn machines_of(
     listed: &Listed,
     split: &Split,
 ) -> Result<Vec<Machine>, AllocError>
-    requires shares { AreShares design.now listed.now split.now.wires split.now.shares }
+    requires shares { AreShares design.now listed.now split.now.shares }
+    requires wires { split.now.wires ≡ wires_of design.now.circuit design.now.tree listed.now }
     requires units { length listed.now.units ≡ length request.now.units }
     requires few { machine_count design.now.circuit listed.now < 2 ^ 32 }
     ensures { IfOk result (λ machines. AreMachines design.now request.now listed.now split.now.wires machines.items) }
@@ -62,7 +64,7 @@ fn machine_at(
     host: u32,
     number: usize,
 ) -> Result<Machine, AllocError>
-    requires share { IsShare design.now listed.now wires.now number share.now }
+    requires share { IsShareOf design.now listed.now wires.now number share.now.ins share.now.outs share.now.globals share.now.memories }
     requires units { length listed.now.units ≡ length request.now.units }
     requires known { number < machine_count design.now.circuit listed.now }
     requires host { host ≡ host_of request.now.units request.now.share number }
@@ -90,7 +92,7 @@ fn body_at(
     share: &Share,
     number: usize,
 ) -> Result<Body, AllocError>
-    requires share { IsShare design.now listed.now wires.now number share.now }
+    requires share { IsShareOf design.now listed.now wires.now number share.now.ins share.now.outs share.now.globals share.now.memories }
     ensures { IfOk result (λ body. IsBody design.now listed.now wires.now number body) }
 {
     let memory = listed.units.as_slice().len() + 1;

@@ -2,7 +2,7 @@
 ghost use Rattle.std.specs.Prelude.{◌≡◌, ◌<◌, length, All, IfOk};
 ghost use Rattle.gg_cut.specs.Channels.{first_source};
 ghost use Rattle.gg_cut.specs.Plan.{signals_of, IsCutPart};
-ghost use Rattle.gg_split.specs.Share.{IsShare};
+ghost use Rattle.gg_split.specs.Share.{IsShareOf};
 
 use gg_bits::Ids;
 use gg_cut::{Listed, Wire};
@@ -24,7 +24,7 @@ pub(crate) fn cut_part(
     share: &Share,
     number: usize,
 ) -> Result<Part, AllocError>
-    requires share { IsShare design.now listed.now wires.now number share.now }
+    requires share { IsShareOf design.now listed.now wires.now number share.now.ins share.now.outs share.now.globals share.now.memories }
     requires inside { number < first_source listed.now }
     ensures { IfOk result (λ part. IsCutPart design.now listed.now wires.now number part) }
 {

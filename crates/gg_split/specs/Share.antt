@@ -1,14 +1,13 @@
 -- What each machine of a cut has.
 -- Source: MEMOCODE 2009 (a synchronous design as a network of its parts); ICCAD 2019 (a cut at the ports of instances and memories).
-use Rattle.std.specs.Prelude.{◌≡◌, ◌↔◌, ◌⊎◌, ℕ, ◌<◌, List, length, slice_index_or, Contains}
+use Rattle.std.specs.Prelude.{◌≡◌, ◌↔◌, ◌⊎◌, ℕ, ◌<◌, List, Contains}
 use Rattle.gg_order.specs.Design.{Ordered}
 use Rattle.gg_part.specs.InOrder.{IsAlong}
 use Rattle.gg_part.specs.Choice.{IsChoice}
 use Rattle.gg_cut.specs.declared.listed.Listed.{Listed}
 use Rattle.gg_cut.specs.declared.wires.Wire.{Wire}
-use Rattle.gg_cut.specs.Channels.{first_source, machine_count}
+use Rattle.gg_cut.specs.Channels.{first_source}
 use Rattle.gg_cut.specs.Plan.{channels_to, channels_from, signals_of, Makes, Takes, HasMemory}
-use Rattle.gg_split.specs.declared.shares.Share.{Share}
 
 -- What machine m has: the channels that it takes and those that it gives, in order; just the signals that it makes or takes, along
 -- the order of evaluation; and just the memories that belong to it. They make a part, where m is the hub, a unit or a memory.
@@ -19,12 +18,3 @@ pub record IsShareOf (design : Ordered) (listed : Listed) (wires : List Wire) (m
   pub along : IsAlong design.order globals
   pub banks : (k : ℕ) → Contains memories k ↔ HasMemory design.tree listed m k
   pub choice : m < first_source listed → IsChoice design.circuit globals (signals_of wires ins) (signals_of wires outs) memories
-
--- what machine m has
-abbrev pub IsShare : Ordered → Listed → List Wire → ℕ → Share → Type 0
-IsShare design listed wires m share = IsShareOf design listed wires m share.ins share.outs share.globals share.memories
-
--- a share for each machine
-pub record AreShares (design : Ordered) (listed : Listed) (wires : List Wire) (shares : List Share) : Type 0 where
-  pub count : length shares ≡ machine_count design.circuit listed
-  pub each : (m : ℕ) (any : Share) → m < length shares → IsShare design listed wires m (slice_index_or shares m any)

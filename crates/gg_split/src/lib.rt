@@ -1,8 +1,8 @@
 //! Shares of machines.
 #![tactic(auto)]
 
-mod divide;
-mod shares;
+mod parting;
+mod share;
 
-pub use divide::split;
-pub use shares::{Share, Split};
+pub use parting::split;
+pub use share::{Share, Split};

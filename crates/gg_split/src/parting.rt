@@ -2,10 +2,10 @@
 ghost use Rattle.std.specs.Prelude.{◌≡◌, None, IfOk};
 ghost use Rattle.gg_cut.specs.Listed.{listed_of};
 ghost use Rattle.gg_cut.specs.Channels.{wires_of};
-ghost use Rattle.gg_cut.specs.Fault.{IsSmall, first_fault};
-ghost use Rattle.gg_split.specs.Share.{AreShares};
+ghost use Rattle.gg_cut.specs.Fault.{first_fault};
+ghost use Rattle.gg_split.specs.IsShare.{AreShares};
 
-use crate::shares::Split;
+use crate::share::Split;
 use gg_cut::Listed;
 use gg_order::Design;
 use gg_partfile::Request;
@@ -24,9 +24,8 @@ pub fn split(
 ) -> Result<Split, AllocError>
     requires listed { listed.now ≡ listed_of design.now.tree request.now }
     requires faultless { first_fault design.now request.now ≡ None }
-    requires small { IsSmall request.now }
     ensures wires { IfOk result (λ split. split.wires ≡ wires_of design.now.circuit design.now.tree listed.now) }
-    ensures shares { IfOk result (λ split. AreShares design.now listed.now split.wires split.shares) }
+    ensures shares { IfOk result (λ split. AreShares design.now listed.now split.shares) }
 {
     let _ = alloc;
     let _ = design;
