@@ -1,3 +1,4 @@
 pub mod Part
 pub mod PartRun
 pub mod InOrder
+pub mod Choice

@@ -1,0 +1,6 @@
+pub mod ListLemmas
+pub mod TreeLemmas
+pub mod PlaceLemmas
+pub mod KindLemmas
+pub mod NameLemmas
+pub mod OnceLemmas
