@@ -139,6 +139,10 @@ module _ (readers : List Reader) (writers : List Writer) (outside number : ℕ) 
           let c = at.holds some-writer in
           inl (two c.0 at.place at.within c.1 c.2)
 
+-- a reader's data is a field
+pub word-field : (circuit : FlatCircuit) (m r : ℕ) → r < length (readers_at circuit m) → Contains (memory_fields circuit m) (reader_at (readers_at circuit m) r).word
+word-field circuit m r lt = reader-field (readers_at circuit m) (writers_at circuit m) 0 0 (reader_at (readers_at circuit m) r).word r lt (2, omega arith, refl)
+
 -- ---- kinds
 
 -- the channel of a top input

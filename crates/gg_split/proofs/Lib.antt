@@ -4,3 +4,4 @@ pub mod PlaceLemmas
 pub mod KindLemmas
 pub mod NameLemmas
 pub mod OnceLemmas
+pub mod MakerLemmas

@@ -1,3 +1,4 @@
+use Rattle.gg_split.proofs.MakerLemmas
 use Rattle.std.proofs.Common.{refl}
 use Rattle.gg_split.proofs.OnceLemmas
 use Rattle.gg_split.proofs.NameLemmas
