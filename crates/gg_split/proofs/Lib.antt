@@ -5,3 +5,5 @@ pub mod KindLemmas
 pub mod NameLemmas
 pub mod OnceLemmas
 pub mod MakerLemmas
+pub mod WrittenLemmas
+pub mod ClosedLemmas

@@ -134,7 +134,7 @@ any-contains (x ∷ xs) s e = by (x == s) refl e (λ f. any-contains xs s f)
 
 module _ (circuit : FlatCircuit) (tree : InstanceTree) (listed : Listed) where
   -- a listed memory has the signal as a field, or none has
-  find-field-in : (places : List ℕ) (s : ℕ) → Somewhere (λ j. IsFieldOf circuit tree j s) places ⊎ All (λ j. IsFieldOf circuit tree j s → ⊥) places
+  pub find-field-in : (places : List ℕ) (s : ℕ) → Somewhere (λ j. IsFieldOf circuit tree j s) places ⊎ All (λ j. IsFieldOf circuit tree j s → ⊥) places
   find-field-in [] s = inr (λ i d lt. absurd (omega (arith, lt)))
   find-field-in (j ∷ places) s = by (find-number (memory_fields circuit (memory_at tree j).memory) s) (find-field-in places s)
     where

@@ -1,3 +1,5 @@
+use Rattle.gg_split.proofs.ClosedLemmas
+use Rattle.gg_split.proofs.WrittenLemmas
 use Rattle.gg_split.proofs.MakerLemmas
 use Rattle.std.proofs.Common.{refl}
 use Rattle.gg_split.proofs.OnceLemmas
