@@ -49,7 +49,7 @@ module _ (circuit : FlatCircuit) (tree : InstanceTree) (listed : Listed) (formed
   memory_of i = (memory_at tree (value_at listed.memories i)).memory
 
   -- a memory with a reader is the circuit's
-  reader-known : (m r : ℕ) → r < length (readers_at circuit m) → m < length circuit.memories
+  pub reader-known : (m r : ℕ) → r < length (readers_at circuit m) → m < length circuit.memories
   reader-known m r lt = by (cases_lt m (length circuit.memories))
     where
       by : (m < length circuit.memories) ⊎ (length circuit.memories ≤ m) → m < length circuit.memories

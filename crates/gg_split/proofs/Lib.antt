@@ -7,3 +7,6 @@ pub mod OnceLemmas
 pub mod MakerLemmas
 pub mod WrittenLemmas
 pub mod ClosedLemmas
+pub mod CountLemmas
+pub mod ChoiceLemmas
+pub mod FaultlessLemmas

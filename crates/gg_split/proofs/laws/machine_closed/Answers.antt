@@ -1,3 +1,5 @@
+use Rattle.gg_split.proofs.FaultlessLemmas
+use Rattle.gg_split.proofs.ChoiceLemmas
 use Rattle.gg_split.proofs.ClosedLemmas
 use Rattle.gg_split.proofs.WrittenLemmas
 use Rattle.gg_split.proofs.MakerLemmas
