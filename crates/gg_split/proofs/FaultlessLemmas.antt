@@ -44,7 +44,7 @@ none-map f (Some x) e = absurd (cc)
 -- ---- none found
 
 none-found : {A : Type 0} (test : A → Bool) (xs : List A) → find (λ x. not (test x)) xs ≡ None → All (λ x. test x ≡ true) xs
-none-found test [] e k d lt = absurd (omega (arith, lt))
+none-found test [] e = λ k d lt. absurd (omega (arith, lt))
 none-found {A = A} test (x ∷ xs) e = by (cases_Bool (test x)) (λ r. none-found test xs r)
   where
     by : (test x ≡ true) ⊎ (test x ≡ false) → (find (λ x. not (test x)) xs ≡ None → All (λ x. test x ≡ true) xs) → All (λ x. test x ≡ true) (x ∷ xs)
@@ -146,7 +146,7 @@ module _ (tree : InstanceTree) where
         lower = All-mapped (λ k. 0 < k) (instance_of tree) request.units (λ k d lt. (places k d lt).0);
         known = All-mapped (λ k. k < length tree.instances) (instance_of tree) request.units (λ k d lt. let p = places k d lt in omega (arith, p.1, named));
         apart = AllPairs-map (λ a b. (lies tree a b ≡ false) × (lies tree b a ≡ false)) (instance_of tree) request.units (λ i j d less lt. flip (or-false (lies tree (instance_of tree (get_or request.units j d)) (instance_of tree (get_or request.units i d))) (lies tree (instance_of tree (get_or request.units i d)) (instance_of tree (get_or request.units j d))) (clear.among i j d less lt)));
-        memories = filter-below (λ j. is_among request.memories (path_at tree.memory_paths j)) 0 (length tree.memories) (listed_of tree request).memories refl;
+        memories = λ k d lt. (let below = filter-below (λ j. is_among request.memories (path_at tree.memory_paths j)) 0 (length tree.memories) (listed_of tree request).memories refl k d lt in omega (arith, below));
         ascending = AllPairs-filter (λ a b. a < b) (λ j. is_among request.memories (path_at tree.memory_paths j)) (range_with_len 0 (length tree.memories)) (range-ascending (length tree.memories));
       }
     where
