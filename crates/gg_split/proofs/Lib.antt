@@ -10,3 +10,4 @@ pub mod ClosedLemmas
 pub mod CountLemmas
 pub mod ChoiceLemmas
 pub mod FaultlessLemmas
+pub mod NumberedLemmas
