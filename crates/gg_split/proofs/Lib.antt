@@ -11,3 +11,4 @@ pub mod CountLemmas
 pub mod ChoiceLemmas
 pub mod FaultlessLemmas
 pub mod NumberedLemmas
+pub mod TableLemmas

@@ -4,5 +4,6 @@
 mod channels;
 mod laws;
 mod pile;
+mod tables;
 
 pub use laws::machine_closed;
