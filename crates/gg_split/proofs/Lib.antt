@@ -12,3 +12,6 @@ pub mod ChoiceLemmas
 pub mod FaultlessLemmas
 pub mod NumberedLemmas
 pub mod TableLemmas
+pub mod SpreadLemmas
+pub mod ShareLemmas
+pub mod GatherLemmas

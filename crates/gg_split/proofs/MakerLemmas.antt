@@ -43,11 +43,11 @@ pub record IsChannel (wires : List Wire) (w : Wire) : Type 0 where
 pub channel-of : (wires : List Wire) (w : Wire) → Contains wires w → IsChannel wires w
 channel-of wires w h = record { number = h.0; known = h.1; is = get_or_default wires h.0 any-wire w h.1 ∙ h.2 }
 
-in-range : (n c : ℕ) → c < n → Contains (range_with_len 0 n) c
+pub in-range : (n c : ℕ) → c < n → Contains (range_with_len 0 n) c
 in-range n c lt =
     (c, omega (arith, lt, length-range_with_len 0 n), get_or-range_with_len 0 n c c lt ∙ (let same : 0 + c ≡ c = omega arith in same))
 
-range-below : (n c : ℕ) → Contains (range_with_len 0 n) c → c < n
+pub range-below : (n c : ℕ) → Contains (range_with_len 0 n) c → c < n
 range-below n c h =
     let lt : h.0 < n = omega (arith, h.1, length-range_with_len 0 n) in
     let is = sym (get_or-range_with_len 0 n h.0 c lt) ∙ h.2 in

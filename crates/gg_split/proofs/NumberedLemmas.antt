@@ -50,6 +50,10 @@ pub instance-read : (tree : InstanceTree) (instances : List Instance) (k : ℕ) 
 instance-read tree instances k x lt same e =
     e ∙ ap (λ (l : List Instance). get_or l k x) same ∙ get_or_default tree.instances k x (record { parent = None; «module» = 0; first = 0; end = 0; ports = []; memories = [] }) lt
 
+pub memory-here : (tree : InstanceTree) (memories : List MemoryInstance) (i : ℕ) (x : MemoryInstance) → i < length tree.memories → memories ≡ tree.memories → x ≡ get_or memories i x → x ≡ memory_at tree i
+memory-here tree memories i x lt same e =
+    e ∙ ap (λ (l : List MemoryInstance). get_or l i x) same ∙ get_or_default tree.memories i x (record { instance = 0; memory = 0; ports = [] }) lt
+
 pub memory-read : (tree : InstanceTree) (memories : List MemoryInstance) (places listed : List ℕ) (i : ℕ) (x : MemoryInstance) → places ≡ listed → value_at listed i < length tree.memories → memories ≡ tree.memories → x ≡ get_or memories (get_or places i 0) x → x ≡ memory_at tree (value_at listed i)
 memory-read tree memories places listed i x are lt same e =
     e ∙ ap₂ (λ (l : List MemoryInstance) (p : List ℕ). get_or l (get_or p i 0) x) same are ∙ get_or_default tree.memories (value_at listed i) x (record { instance = 0; memory = 0; ports = [] }) lt

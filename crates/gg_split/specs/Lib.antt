@@ -1,3 +1,4 @@
 pub mod Apart
 pub mod Share
 pub mod Spread
+pub mod IsShare

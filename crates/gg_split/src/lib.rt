@@ -3,7 +3,12 @@
 
 mod channels;
 mod laws;
+mod parting;
 mod pile;
+mod share;
+mod spread;
 mod tables;
 
 pub use laws::machine_closed;
+pub use parting::split;
+pub use share::{Share, Split};

@@ -1,5 +1,6 @@
 //! `Pile`: a list that grows, one of several.
-ghost use Rattle.std.specs.Prelude.{◌≡◌, ℕ, ◌<◌, [], ◌∷◌, ◌++◌, length, set, get_or, replicate, OnOk, IfOk};
+ghost use Rattle.std.specs.Prelude.{◌≡◌, ℕ, ◌<◌, [], ◌∷◌, ◌++◌, ◌==◌, length, set, get_or, replicate, OnOk, IfOk};
+ghost use Rattle.gg_split.specs.Spread.{IsPut};
 
 use gg_bits::Ids;
 use std::alloc::{AllocError, Global};
@@ -58,8 +59,17 @@ pub(crate) fn piles(alloc: Global, count: usize) -> Result<Vec<Pile>, AllocError
     Ok(piles)
 }
 
-/// Adds a number at the end of the pile at a place.
-pub(crate) fn put(piles: &mut [Pile], place: u32, number: u32) -> Result<(), AllocError>
+/// Adds a number at the end of the pile of a machine.
+pub(crate) fn put(piles: &mut [Pile], machine: u32, number: u32) -> Result<(), AllocError>
+    requires { machine < length piles.old }
+    ensures { OnOk result (IsPut (λ m. machine == m) number piles.old piles.new) }
+{
+    push_at(piles, machine, number)?;
+    Ok(())
+}
+
+// Adds a number at the end of the pile at a place.
+fn push_at(piles: &mut [Pile], place: u32, number: u32) -> Result<(), AllocError>
     requires { place < length piles.old }
     ensures { OnOk result (piles.new ≡ set piles.old place (get_or piles.old place [] ++ number ∷ [])) }
 {

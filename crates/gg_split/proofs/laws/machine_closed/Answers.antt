@@ -1,3 +1,4 @@
+use Rattle.gg_split.proofs.ShareLemmas
 use Rattle.gg_split.proofs.FaultlessLemmas
 use Rattle.gg_split.proofs.ChoiceLemmas
 use Rattle.gg_split.proofs.ClosedLemmas
