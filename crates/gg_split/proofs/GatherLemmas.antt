@@ -29,14 +29,14 @@ pub record GatheredTo (ins outs globals memories : List (List ℕ)) (m : ℕ) (n
   pub memories_left : LeftFrom m memories now_memories
   pub made : AreGathered ins outs globals memories m shares
 
-pub GatheredTo-none : (ins outs globals memories : List (List ℕ)) → GatheredTo ins outs globals memories 0 ins outs globals memories []
-GatheredTo-none ins outs globals memories =
+pub GatheredTo-none : (ins outs globals memories : List (List ℕ)) (shares : List Share) → shares ≡ [] → GatheredTo ins outs globals memories 0 ins outs globals memories shares
+GatheredTo-none ins outs globals memories shares none =
     record {
       ins_left = LeftFrom-all ins;
       outs_left = LeftFrom-all outs;
       globals_left = LeftFrom-all globals;
       memories_left = LeftFrom-all memories;
-      made = record { many = refl; each = λ m any lt. absurd (omega (arith, lt)) };
+      made = record { many = ap length none; each = λ m any lt. absurd (omega (arith, lt)) };
     }
 
 module _ (ins outs globals memories : List (List ℕ)) (m : ℕ) (now_ins now_outs now_globals now_memories : List (List ℕ)) (shares : List Share) (before : GatheredTo ins outs globals memories m now_ins now_outs now_globals now_memories shares) where

@@ -15,3 +15,4 @@ pub mod TableLemmas
 pub mod SpreadLemmas
 pub mod ShareLemmas
 pub mod GatherLemmas
+pub mod PartingLemmas

@@ -12,7 +12,7 @@ ghost use Rattle.gg_cut.specs.Plan.{channels_to, channels_from};
 ghost use Rattle.gg_split.specs.Apart.{AreApart};
 ghost use Rattle.gg_split.specs.Share.{AreFew};
 ghost use Rattle.gg_split.specs.Spread.{AreLists, EachList, AreSignals, AreMemories};
-ghost use Rattle.gg_split.specs.IsShare.{IsShare, AreShares, IsGathered, AreGathered};
+ghost use Rattle.gg_split.specs.IsShare.{AreShares, IsGathered, AreGathered};
 
 use crate::channels::channels;
 use crate::pile::Pile;
@@ -40,11 +40,11 @@ pub fn split(
     requires listed { listed.now ≡ listed_of design.now.tree request.now }
     requires faultless { first_fault design.now request.now ≡ None }
     ensures wires { IfOk result (λ split. split.wires ≡ wires_of design.now.circuit design.now.tree listed.now) }
-    ensures count { IfOk result (λ split. length split.shares ≡ machine_count design.now.circuit listed.now) }
-    ensures shares { IfOk result (λ split. (m : ℕ) (any : Share) → m < machine_count design.now.circuit listed.now → IsShare design.now listed.now m (slice_index_or split.shares m any)) }
+    ensures shares { IfOk result (λ split. AreShares design.now listed.now split.shares) }
 {
     let _ = request;
-    split_all(alloc, design.piece(), design.tree(), design.order(), listed)
+    let split = split_all(alloc, design.piece(), design.tree(), design.order(), listed)?;
+    Ok(split)
 }
 
 // The channels, and what each machine has, where what is listed lies apart.
@@ -99,7 +99,8 @@ fn shares(
     let mut outs = given(alloc, wires, count)?;
     let mut globals = signals_of(alloc, piece, tree, order, listed, wires, count)?;
     let mut memories = memories_of(alloc, piece, tree, listed, owners, count)?;
-    gather(alloc, &mut ins, &mut outs, &mut globals, &mut memories)
+    let shares = gather(alloc, &mut ins, &mut outs, &mut globals, &mut memories)?;
+    Ok(shares)
 }
 
 // How many machines there are.

@@ -1,8 +1,8 @@
 use Rattle.gg_split.proofs.GatherLemmas.{GatheredTo-none, GatheredTo-more}
 use Rattle.gg_split.proofs.parting.gather.Goals as goal
 
-pub loop-machine-established : goal.loop-machine-established
-loop-machine-established c = GatheredTo-none c.args.ins.now c.args.outs.now c.args.globals.now c.args.memories.now
+pub loop-machine-init : goal.loop-machine-init
+loop-machine-init c = GatheredTo-none c.args.ins.now c.args.outs.now c.args.globals.now c.args.memories.now c.new-shares.result.items c.new-shares.ensures.items
 
 pub loop-machine-preserved : goal.loop-machine-preserved
 loop-machine-preserved c =
