@@ -41,6 +41,13 @@ module _ (circuit : FlatCircuit) (tree : InstanceTree) (listed : Listed) (formed
       All-contains (λ s. s < length circuit.signals) (channel_signals circuit tree listed) w.signal (signals-known circuit tree formed fits listed apart.known apart.memories)
       (subst (λ (l : List ℕ). Contains l w.signal) (wires-signals circuit tree listed) (Contains-map (λ (v : Wire). v.signal) wires w h))
 
+  -- no two channels carry the same signal
+  pub pairs-once : AllPairs (λ (v w : Wire). v.signal ≢ w.signal) (wires_of circuit tree listed)
+  pairs-once i j d less lt same =
+      let read = λ (k : ℕ) (inside : k < length (wires_of circuit tree listed)). get_or-map (λ (w : Wire). w.signal) (wires_of circuit tree listed) k d 0 inside in
+      let low : i < length (wires_of circuit tree listed) = omega (arith, less, lt) in
+      wires-once circuit tree listed fits scoped apart i j 0 less (omega (arith, lt, length-map (wires_of circuit tree listed) (λ (w : Wire). w.signal))) (read i low ∙ same ∙ sym (read j lt))
+
   pub gets-known : (m s : ℕ) → Gets circuit tree listed fits scoped apart m s → s < length circuit.signals
   gets-known m s (inl (inl own)) = own.0
   gets-known m s (inl (inr h)) = let w = chosen-out (wires_of circuit tree listed) (λ (v : Wire). v.producer == m) s h in subst (λ t. t < length circuit.signals) w.is (wire-known w.wire w.among)

@@ -1,16 +1,9 @@
-use Rattle.gg_split.proofs.ShareLemmas
-use Rattle.gg_split.proofs.FaultlessLemmas
-use Rattle.gg_split.proofs.ChoiceLemmas
-use Rattle.gg_split.proofs.ClosedLemmas
-use Rattle.gg_split.proofs.WrittenLemmas
-use Rattle.gg_split.proofs.MakerLemmas
-use Rattle.std.proofs.Common.{refl}
-use Rattle.gg_split.proofs.OnceLemmas
-use Rattle.gg_split.proofs.NameLemmas
-use Rattle.gg_split.proofs.KindLemmas
-use Rattle.gg_split.proofs.ListLemmas
-use Rattle.gg_split.proofs.PlaceLemmas
+use Rattle.gg_split.proofs.ClosedLemmas.{closed, register-closed}
 use Rattle.gg_split.proofs.laws.machine_closed.Goals as goal
 
-pub returns : goal.returns
-returns c = λ n. refl
+pub returns-clause-drivers : goal.returns-clause-drivers
+returns-clause-drivers c = λ design listed m s t is apart low makes named. closed design.circuit design.tree listed is.formed is.fitting is.scoped apart m s t low makes named
+
+pub returns-clause-registers : goal.returns-clause-registers
+returns-clause-registers c = λ design listed m s r t register is apart low makes held found named.
+    register-closed design.circuit design.tree listed is.formed is.fitting is.scoped apart m s r t register low makes held found named
