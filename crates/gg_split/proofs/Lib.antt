@@ -1,15 +1,3 @@
-pub mod ListLemmas
-pub mod TreeLemmas
-pub mod PlaceLemmas
-pub mod KindLemmas
-pub mod NameLemmas
-pub mod OnceLemmas
-pub mod MakerLemmas
-pub mod WrittenLemmas
-pub mod ClosedLemmas
-pub mod CountLemmas
-pub mod ChoiceLemmas
-pub mod FaultlessLemmas
 pub mod NumberedLemmas
 pub mod TableLemmas
 pub mod SpreadLemmas

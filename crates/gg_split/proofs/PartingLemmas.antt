@@ -18,13 +18,16 @@ use Rattle.gg_cut.specs.Fault.{first_fault}
 use Rattle.gg_cut.specs.Channels.{wires_of, machine_count}
 use Rattle.gg_cut.specs.Plan.{channels_to, channels_from, memory_owner}
 use Rattle.gg_split.specs.declared.share.Share.{Share}
-use Rattle.gg_split.specs.Apart.{AreApart}
-use Rattle.gg_split.specs.Share.{AreFew, IsShareOf}
+use Rattle.gg_closed.specs.Apart.{AreApart}
+use Rattle.gg_closed.specs.Apart.{AreFew}
+use Rattle.gg_split.specs.Share.{IsShareOf}
 use Rattle.gg_split.specs.IsShare.{IsShare, AreShares, AreGathered}
-use Rattle.gg_split.specs.Spread.{AreLists, EachList, AreEnds, AreChannels, signals_among, memories_below, AreSignals, AreMemories}
-use Rattle.gg_split.proofs.ChoiceLemmas.{wire-known}
-use Rattle.gg_split.proofs.FaultlessLemmas.{faultless-apart, faultless-few}
-use Rattle.gg_split.proofs.ShareLemmas.{machine-below, owner-few, ends, signals-are, memories-are, shared}
+use Rattle.gg_closed.specs.Apart.{AreEnds}
+use Rattle.gg_split.specs.Spread.{AreLists, EachList, AreChannels, signals_among, memories_below, AreSignals, AreMemories}
+use Rattle.gg_closed.proofs.ChoiceLemmas.{wire-known}
+use Rattle.gg_closed.proofs.FaultlessLemmas.{faultless-apart, faultless-few}
+use Rattle.gg_closed.proofs.EndLemmas.{machine-below, owner-few, ends}
+use Rattle.gg_split.proofs.ShareLemmas.{signals-are, memories-are, shared}
 
 module _ (circuit : FlatCircuit) (tree : InstanceTree) (listed : Listed) (fits : IsTree circuit tree) (apart : AreApart tree listed) where
   -- the ends of the channels, of so many machines

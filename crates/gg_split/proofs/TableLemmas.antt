@@ -11,7 +11,7 @@ use Rattle.gg_cut.specs.Listed.{first_place, unit_or_hub, has_signal, memory_or,
 use Rattle.gg_cut.specs.Plan.{wire_at, memory_owner}
 use Rattle.gg_cut.proofs.OwnerLemmas.{push-place, first_place-push}
 use Rattle.gg_split.specs.Spread.{claimed, IsChannelBelow}
-use Rattle.gg_split.proofs.PlaceLemmas.{place-none}
+use Rattle.gg_closed.proofs.PlaceLemmas.{place-none}
 
 -- ---- owners of signals
 

@@ -1,4 +1,3 @@
-pub mod Apart
 pub mod Share
-pub mod Spread
 pub mod IsShare
+pub mod Spread

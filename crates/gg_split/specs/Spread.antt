@@ -46,12 +46,6 @@ has_by wires owner m (Some c) = ((wire_at wires c).producer == m) || ((wire_at w
 abbrev pub has : List Wire → List ℕ → List (Option ℕ) → ℕ → ℕ → Bool
 has wires owners channels m s = has_by wires (value_at owners s) m (slice_index_or channels s None)
 
--- the ends of a channel are two machines, of so many
-pub record AreEnds (count : ℕ) (w : Wire) : Type 0 where
-  pub producer : w.producer < count
-  pub consumer : w.consumer < count
-  pub apart : w.producer ≢ w.consumer
-
 -- the signals of machine m among these, in order
 abbrev pub signals_among : List Wire → List ℕ → List (Option ℕ) → List ℕ → ℕ → List ℕ
 signals_among wires owners channels signals m = filter (has wires owners channels m) signals

@@ -7,20 +7,17 @@
 //! - `split` gives the channels in their order, and for each machine the channels that it takes and gives, just the signals that
 //!   it makes or takes, along the order of evaluation, and just the memories that belong to it (`IsShareOf` in `specs/Share`);
 //! - what the hub, a unit or a memory has makes a part of the circuit (`IsChoice` in gg_part): all that the driver, the register
-//!   or the memory of a signal that it makes names, it makes or takes (`machine_closed`);
-//! - each signal has at most one channel, between two machines (`channels_once`).
+//!   or the memory of a signal that it makes names, it makes or takes.
 //!
 //! One pass over the order gives all machines their signals, by a table of the channel of each signal and one of its owner.
 #![tactic(auto)]
 
 mod channels;
-mod laws;
 mod parting;
 mod pile;
 mod share;
 mod spread;
 mod tables;
 
-pub use laws::{channels_once, listed_apart, machine_closed};
 pub use parting::split;
 pub use share::{Share, Split};

@@ -9,8 +9,7 @@ ghost use Rattle.gg_cut.specs.Listed.{listed_of, owner_of_instance};
 ghost use Rattle.gg_cut.specs.Fault.{first_fault};
 ghost use Rattle.gg_cut.specs.Channels.{wires_of, machine_count};
 ghost use Rattle.gg_cut.specs.Plan.{channels_to, channels_from};
-ghost use Rattle.gg_split.specs.Apart.{AreApart};
-ghost use Rattle.gg_split.specs.Share.{AreFew};
+ghost use Rattle.gg_closed.specs.Apart.{AreApart, AreFew};
 ghost use Rattle.gg_split.specs.Spread.{AreLists, EachList, AreSignals, AreMemories};
 ghost use Rattle.gg_split.specs.IsShare.{AreShares, IsGathered, AreGathered};
 

@@ -1,7 +1,8 @@
 //! What each machine has: lists that are filled in one pass each.
 ghost use Rattle.std.specs.Prelude.{◌≡◌, ℕ, ◌<◌, ◌^◌, ◌==◌, ◌||◌, [], length, slice_index_or, All, OnOk, IfOk};
 ghost use Rattle.gg_cut.specs.Plan.{channels_to, channels_from};
-ghost use Rattle.gg_split.specs.Spread.{AreLists, IsPut, AreEnds, AreChannels, has, signals_among, memories_below};
+ghost use Rattle.gg_closed.specs.Apart.{AreEnds};
+ghost use Rattle.gg_split.specs.Spread.{AreLists, IsPut, AreChannels, has, signals_among, memories_below};
 
 use crate::pile::{piles, put, Pile};
 use gg_cut::Wire;

@@ -1,6 +1,6 @@
 use Rattle.std.proofs.Common.{arith}
 use Rattle.gg_cut.proofs.KnownLemmas.{parents-before}
-use Rattle.gg_split.proofs.ShareLemmas.{few-machines}
+use Rattle.gg_closed.proofs.EndLemmas.{few-machines}
 use Rattle.gg_split.proofs.parting.split_all.Goals as goal
 
 pub owners_of-requires-clause-parents : goal.owners_of-requires-clause-parents

@@ -1,7 +1,7 @@
 -- Which instances hold a signal: the innermost that does, and those that it lies in.
-use Rattle.std.proofs.Common.{◌≡◌, ◌≢◌, ℕ, zero, suc, ◌+◌, ◌<◌, ◌≤◌, length, Bool, true, false, refl, sym, ◌∙◌, ap, subst, Some, None, inl, inr, ◌⊎◌, true≢false, eq-eqb, true-eqb, arith}
+use Rattle.std.proofs.Common.{◌≡◌, ◌≢◌, ℕ, zero, suc, ◌<◌, ◌≤◌, length, Bool, true, false, refl, sym, ◌∙◌, ap, subst, Some, None, inl, inr, ◌⊎◌, true-eqb, arith}
 use Rattle.std.specs.Prelude.{Option, ◌||◌, ◌==◌}
-use Rattle.std.proofs.lemmas.Bool.{cases_lt, cases_eq, or_cases, ne_eqb}
+use Rattle.std.proofs.lemmas.Bool.{cases_lt, cases_eq, or_cases}
 use Rattle.gg_flat.specs.Circuit.{FlatCircuit}
 use Rattle.gg_flat.specs.Tree.{InstanceTree, IsTree, IsInnermost, Holds, instance_at, parent_place}
 use Rattle.gg_cut.specs.Listed.{lies, ParentsBefore}

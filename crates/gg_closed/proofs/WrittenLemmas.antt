@@ -1,26 +1,25 @@
 -- Where what a machine makes is written: in an instance of that machine, but for the data of a listed memory.
-use Rattle.std.proofs.Common.{◌≡◌, ◌≢◌, ℕ, zero, suc, ◌+◌, ◌<◌, ◌≤◌, List, [], ◌∷◌, length, get_or, Bool, true, false, not, refl, sym, ◌∙◌, ap, subst, Some, None, inl, inr, ◌⊎◌, true-eqb, arith}
+use Rattle.std.proofs.Common.{◌≡◌, ◌≢◌, ℕ, zero, suc, ◌+◌, ◌<◌, List, length, Bool, true, false, not, refl, sym, ◌∙◌, ap, subst, Some, inl, inr, ◌⊎◌, true-eqb, arith}
 use Rattle.std.specs.Prelude.{◌==◌, if◌then◌else◌, filter, map, Contains, All}
-use Rattle.std.proofs.lemmas.Bool.{cases_eq}
 use Rattle.std.proofs.lemmas.List.{get_or_default}
 use Rattle.gg_flat.specs.declared.tree.InstancePort.{InstancePort}
 use Rattle.gg_flat.specs.Line.{value_at}
 use Rattle.gg_flat.specs.Circuit.{FlatCircuit, readers_at, reader_at}
 use Rattle.gg_flat.specs.Tree.{InstanceTree, IsTree, IsInnermost, instance_at, memory_at, parent_place}
-use Rattle.gg_flat.specs.Scoped.{IsScoped, IsPort, IsInputOf, IsFieldOf, IsChildsInput, IsOwnSink, IsWritten, memory_fields}
+use Rattle.gg_flat.specs.Scoped.{IsScoped, IsInputOf, IsFieldOf, IsWritten, memory_fields}
 use Rattle.gg_cut.specs.declared.wires.Wire.{Wire}
 use Rattle.gg_cut.specs.declared.listed.Listed.{Listed}
 use Rattle.gg_cut.specs.Listed.{owner_of_instance, owner_of}
-use Rattle.gg_cut.specs.Channels.{wire, wires_of, first_memory, first_source, first_tray}
+use Rattle.gg_cut.specs.Channels.{wire, wires_of, first_memory, first_source}
 use Rattle.gg_cut.specs.Plan.{IsInner, Makes}
-use Rattle.gg_split.specs.Apart.{AreApart}
-use Rattle.gg_split.proofs.ListLemmas.{Somewhere, Contains-map, Contains-filter}
-use Rattle.gg_split.proofs.TreeLemmas.{Innermost, innermost}
-use Rattle.gg_split.proofs.PlaceLemmas.{owner-unit, owner-inner, owner-top}
-use Rattle.gg_split.proofs.KindLemmas.{IsPortWire, IsFieldWire, IsInto, IsWordWire, Kind, OfSource, OfPort, OfField, OfTray, outside_unit, outside_memory, kind-of, source-wire, unit-wire, memory-wire}
-use Rattle.gg_split.proofs.NameLemmas.{port-no-field}
-use Rattle.gg_split.proofs.OnceLemmas.{IsChosen, top-output, top-port, port-one}
-use Rattle.gg_split.proofs.MakerLemmas.{HasPort, HasWire, find-port, find-unit, find-field-in, IsNoField, chosen-out, no-channel, owner-signal, field-listed}
+use Rattle.gg_closed.specs.Apart.{AreApart}
+use Rattle.gg_closed.proofs.ListLemmas.{Somewhere, Contains-map, Contains-filter}
+use Rattle.gg_closed.proofs.TreeLemmas.{Innermost, innermost}
+use Rattle.gg_closed.proofs.PlaceLemmas.{owner-unit, owner-inner, owner-top}
+use Rattle.gg_closed.proofs.KindLemmas.{IsPortWire, IsFieldWire, IsInto, IsWordWire, Kind, OfSource, OfPort, OfField, OfTray, outside_unit, outside_memory, kind-of, source-wire, unit-wire, memory-wire}
+use Rattle.gg_closed.proofs.NameLemmas.{port-no-field}
+use Rattle.gg_closed.proofs.OnceLemmas.{top-output, top-port, port-one}
+use Rattle.gg_closed.proofs.MakerLemmas.{HasPort, HasWire, find-port, find-unit, find-field-in, IsNoField, chosen-out, no-channel, owner-signal}
 
 -- signal s is the data of a reader of listed memory i, whose machine is m
 pub record IsWord (circuit : FlatCircuit) (tree : InstanceTree) (listed : Listed) (m s : ℕ) : Type 0 where

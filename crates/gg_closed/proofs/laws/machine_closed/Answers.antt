@@ -1,5 +1,5 @@
-use Rattle.gg_split.proofs.ClosedLemmas.{closed, register-closed}
-use Rattle.gg_split.proofs.laws.machine_closed.Goals as goal
+use Rattle.gg_closed.proofs.ClosedLemmas.{closed, register-closed}
+use Rattle.gg_closed.proofs.laws.machine_closed.Goals as goal
 
 pub returns-clause-drivers : goal.returns-clause-drivers
 returns-clause-drivers c = λ design listed m s t is apart low makes named. closed design.circuit design.tree listed is.formed is.fitting is.scoped apart m s t low makes named

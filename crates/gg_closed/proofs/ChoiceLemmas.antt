@@ -1,34 +1,32 @@
 -- What a machine has makes a part.
-use Rattle.std.proofs.Common.{◌≡◌, ◌≢◌, ℕ, zero, suc, ◌+◌, ◌<◌, ◌≤◌, List, [], ◌∷◌, length, map, get_or, Bool, true, false, refl, sym, ◌∙◌, ap, subst, Some, inl, inr, ◌⊎◌, slice_get, arith}
+use Rattle.std.proofs.Common.{◌≡◌, ◌≢◌, ℕ, ◌+◌, ◌<◌, List, [], length, map, get_or, Bool, refl, sym, ◌∙◌, ap, subst, inl, inr, arith}
 use Rattle.std.specs.Prelude.{◌↔◌, ◌==◌, filter, Contains, All, AllPairs}
 use Rattle.std.specs.List.{range_with_len}
 use Rattle.std.proofs.lemmas.List.{get_or-map, length-map}
 use Rattle.std.proofs.lemmas.List.Elements.{All-contains, Contains-get_or}
 use Rattle.std.proofs.lemmas.List.Kept.{AllPairs-filter}
 use Rattle.std.proofs.lemmas.List.FromFn.{get_or-range_with_len, length-range_with_len}
-use Rattle.gg_flat.specs.declared.piece.Register.{Register}
 use Rattle.gg_flat.specs.declared.piece.Driver.{Driver}
-use Rattle.gg_flat.specs.declared.piece.Driver.TheVariants.{Input, Held, MemoryWord, ReadRegister}
+use Rattle.gg_flat.specs.declared.piece.Driver.TheVariants.{Input, Held, MemoryWord, ReadRegister, Computed}
 use Rattle.gg_flat.specs.declared.tree.MemoryInstance.{MemoryInstance}
-use Rattle.gg_flat.specs.Circuit.{FlatCircuit, driver_at, readers_at, reader_at}
-use Rattle.gg_flat.specs.Reads.{NamesSignal, RegisterNames}
+use Rattle.gg_flat.specs.Circuit.{FlatCircuit, driver_at}
 use Rattle.gg_flat.specs.WellFormed.{IsWellFormed, IsDataOf, MayDrive}
 use Rattle.gg_flat.specs.Tree.{InstanceTree, IsTree, memory_at}
 use Rattle.gg_flat.specs.Scoped.{IsScoped, IsFieldOf, memory_fields}
-use Rattle.gg_part.specs.Choice.{IsChoice, ReadsMemory}
+use Rattle.gg_part.specs.Choice.{IsChoice, NamesMemory}
 use Rattle.gg_cut.specs.declared.wires.Wire.{Wire}
 use Rattle.gg_cut.specs.declared.listed.Listed.{Listed}
 use Rattle.gg_cut.specs.Channels.{wires_of, channel_signals, first_source}
 use Rattle.gg_cut.specs.Plan.{wire_at, channels_to, channels_from, signals_of, Makes, Takes, HasMemory}
 use Rattle.gg_cut.proofs.ChannelLemmas.{wires-signals}
 use Rattle.gg_cut.proofs.KnownLemmas.{signals-known, memory-known}
-use Rattle.gg_split.specs.Apart.{AreApart}
-use Rattle.gg_split.proofs.ListLemmas.{Somewhere, Contains-map, map-cases, AllPairs-map}
-use Rattle.gg_split.proofs.TreeLemmas.{innermost-known}
-use Rattle.gg_split.proofs.OnceLemmas.{wires-once}
-use Rattle.gg_split.proofs.MakerLemmas.{Gets, HasWire, chosen-out}
-use Rattle.gg_split.proofs.ClosedLemmas.{closed, register-closed, input-taken, fields-closed, words-made, banks-closed, reader-known}
-use Rattle.gg_split.proofs.CountLemmas.{all-of}
+use Rattle.gg_closed.specs.Apart.{AreApart}
+use Rattle.gg_closed.proofs.ListLemmas.{Somewhere, Contains-map, map-cases, AllPairs-map}
+use Rattle.gg_closed.proofs.TreeLemmas.{innermost-known}
+use Rattle.gg_closed.proofs.OnceLemmas.{wires-once}
+use Rattle.gg_closed.proofs.MakerLemmas.{Gets, chosen-out}
+use Rattle.gg_closed.proofs.ClosedLemmas.{closed, register-closed, input-taken, fields-closed, words-made, banks-closed, reader-known}
+use Rattle.gg_closed.proofs.CountLemmas.{all-of}
 
 module _ (circuit : FlatCircuit) (tree : InstanceTree) (listed : Listed) (formed : IsWellFormed circuit) (fits : IsTree circuit tree) (scoped : IsScoped circuit tree) (apart : AreApart tree listed) where
   abbrev wires : List Wire
@@ -105,13 +103,16 @@ module _ (circuit : FlatCircuit) (tree : InstanceTree) (listed : Listed) (formed
     known : (s : ℕ) → Contains globals s → s < length circuit.signals
     known s h = gets-known m s ((signals s).0 h)
 
-    reads : (s k : ℕ) → ReadsMemory circuit s k → s < length circuit.signals → (r : ℕ) × IsDataOf circuit k r s
-    reads s k (inl (r, addr, en, e)) lt = (r, subst (MayDrive circuit s) e (formed.drivers s lt))
-    reads s k (inr (r, e)) lt = (r, subst (MayDrive circuit s) e (formed.drivers s lt))
+    reads : (s k : ℕ) (driver : Driver) → driver_at circuit s ≡ driver → NamesMemory driver k → s < length circuit.signals → (r : ℕ) × IsDataOf circuit k r s
+    reads s k (Input place) e named lt = absurd named
+    reads s k (Held register) e named lt = absurd named
+    reads s k (MemoryWord memory r addr en) e named lt = (r, subst (λ n. IsDataOf circuit n r s) named (subst (MayDrive circuit s) e (formed.drivers s lt)))
+    reads s k (ReadRegister memory r) e named lt = (r, subst (λ n. IsDataOf circuit n r s) named (subst (MayDrive circuit s) e (formed.drivers s lt)))
+    reads s k (Computed line) e named lt = absurd named
 
-    bank : (s k : ℕ) → Contains globals s → ¬ Takes (wires_of circuit tree listed) m s → ReadsMemory circuit s k → Contains memories k
+    bank : (s k : ℕ) → Contains globals s → ¬ Takes (wires_of circuit tree listed) m s → NamesMemory (driver_at circuit s) k → Contains memories k
     bank s k h not-taken read =
-        let word = reads s k read (known s h) in
+        let word = reads s k (driver_at circuit s) refl read (known s h) in
         let at = place-of-memory k (reader-known circuit tree listed formed fits scoped apart k word.0 word.1.0) in
         let same : (memory_at tree at.place).memory ≡ k = at.holds (record { instance = 0; memory = 0; ports = [] }) in
         (banks k).1
@@ -131,23 +132,23 @@ module _ (circuit : FlatCircuit) (tree : InstanceTree) (listed : Listed) (formed
           within = λ i d lt. known (get_or globals i d) (Contains-get_or globals i d lt);
           once = once;
           ins_once = chosen-once (λ c. (wire_at (wires_of circuit tree listed) c).consumer == m);
-          ins_among = λ i d lt. (signals (get_or ins i d)).1 (inr (Contains-get_or ins i d lt));
-          outs_among = λ i d lt. (signals (get_or outs i d)).1 (inl (inr (Contains-get_or outs i d lt)));
-          given = λ s place h e. given s place e (known s h) ((signals s).0 h);
+          ins = λ i d lt. (signals (get_or entries i d)).1 (inr (Contains-get_or entries i d lt));
+          outs = λ i d lt. (signals (get_or exits i d)).1 (inl (inr (Contains-get_or exits i d lt)));
+          given = λ s place e h. given s place e (known s h) ((signals s).0 h);
           closed = λ s t h not-taken named. (signals t).1 (closed circuit tree listed formed fits scoped apart m s t low (maker s h not-taken) named);
           registers = λ s r t register h not-taken held found named. (signals t).1 (register-closed circuit tree listed formed fits scoped apart m s r t register low (maker s h not-taken) held found named);
           memory_within = λ i d lt. memory-within (get_or memories i d) (Contains-get_or memories i d lt);
           memories_once = memories-once;
           banks = bank;
           fields = field-of;
-          words = λ k r h lt. words-made circuit tree listed formed fits scoped apart m k r ((banks k).0 h) lt;
+          answers = λ k r h lt. words-made circuit tree listed formed fits scoped apart m k r ((banks k).0 h) lt;
         }
       where
-        ins : List ℕ
-        ins = signals_of (wires_of circuit tree listed) (channels_to (wires_of circuit tree listed) m)
+        entries : List ℕ
+        entries = signals_of (wires_of circuit tree listed) (channels_to (wires_of circuit tree listed) m)
 
-        outs : List ℕ
-        outs = signals_of (wires_of circuit tree listed) (channels_from (wires_of circuit tree listed) m)
+        exits : List ℕ
+        exits = signals_of (wires_of circuit tree listed) (channels_from (wires_of circuit tree listed) m)
 
         given : (s place : ℕ) → driver_at circuit s ≡ Input place → s < length circuit.signals → Gets circuit tree listed fits scoped apart m s → Takes (wires_of circuit tree listed) m s
         given s place e lt (inl makes) = absurd (input-taken circuit tree listed formed fits scoped apart m s place low lt e makes)

@@ -1,31 +1,28 @@
 -- What machines make and take: what is written in an instance its machine makes, and what is visible there it makes or takes.
-use Rattle.std.proofs.Common.{◌≡◌, ◌≢◌, ℕ, zero, suc, ◌+◌, ◌<◌, ◌≤◌, List, [], ◌∷◌, ◌++◌, length, map, get_or, Bool, true, false, not, refl, sym, ◌∙◌, ap, ap₂, subst, Some, None, inl, inr, ◌⊎◌, true≢false, eq-eqb, true-eqb, arith}
-use Rattle.std.specs.Prelude.{Option, ◌||◌, ◌&&◌, ◌==◌, if◌then◌else◌, filter, Contains, All, AllPairs}
+use Rattle.std.proofs.Common.{◌≡◌, ◌≢◌, ℕ, zero, suc, ◌+◌, ◌<◌, List, [], ◌∷◌, length, map, get_or, Bool, true, false, not, refl, sym, ◌∙◌, ap, subst, Some, None, inl, inr, ◌⊎◌, eq-eqb, true-eqb, arith}
+use Rattle.std.specs.Prelude.{◌||◌, ◌==◌, if◌then◌else◌, filter, Contains, All}
 use Rattle.std.specs.List.{range_with_len, list_any}
-use Rattle.std.proofs.lemmas.Bool.{cases_lt, cases_eq, cases_Bool, and_parts, and_from}
-use Rattle.std.proofs.lemmas.List.{get_or-map, length-map, get_or_default}
+use Rattle.std.proofs.lemmas.Bool.{cases_eq}
+use Rattle.std.proofs.lemmas.List.{get_or_default}
 use Rattle.std.proofs.lemmas.List.Elements.{Contains-get_or}
 use Rattle.std.proofs.lemmas.List.FromFn.{get_or-range_with_len, length-range_with_len}
 use Rattle.gg_flat.specs.declared.tree.InstancePort.{InstancePort}
-use Rattle.gg_flat.specs.declared.memory.Reader.{Reader}
 use Rattle.gg_flat.specs.Line.{value_at}
-use Rattle.gg_flat.specs.Circuit.{FlatCircuit, readers_at, reader_at}
+use Rattle.gg_flat.specs.Circuit.{FlatCircuit, readers_at}
 use Rattle.gg_flat.specs.Tree.{InstanceTree, IsTree, IsInnermost, instance_at, memory_at, parent_place}
-use Rattle.gg_flat.specs.Scoped.{IsScoped, IsPort, IsInputOf, IsFieldOf, IsChildsInput, IsChildsPort, IsOwnSink, IsWritten, IsVisible, memory_fields}
+use Rattle.gg_flat.specs.Scoped.{IsScoped, IsPort, IsFieldOf, IsVisible, memory_fields}
 use Rattle.gg_cut.specs.declared.wires.Wire.{Wire}
 use Rattle.gg_cut.specs.declared.listed.Listed.{Listed}
 use Rattle.gg_cut.specs.Listed.{first_place, owner_of_instance, owner_of, has_field, has_signal, memory_or, unit_or_hub}
 use Rattle.gg_cut.specs.Channels.{wire, wires_of, port_wire, first_memory, first_source, first_tray}
-use Rattle.gg_cut.specs.Plan.{wire_at, channels_to, channels_from, signals_of, IsInner, Makes, Takes}
-use Rattle.gg_cut.proofs.PathLemmas.{first_place-Some, first_place-None, any-at}
-use Rattle.gg_cut.proofs.WireLemmas.{unit_or_hub-below}
-use Rattle.gg_split.specs.Apart.{AreApart}
-use Rattle.gg_split.proofs.ListLemmas.{Somewhere, Contains-map, map-cases, Contains-filter, filter-cases}
-use Rattle.gg_split.proofs.TreeLemmas.{innermost, innermost-one, innermost-known}
-use Rattle.gg_split.proofs.PlaceLemmas.{IsNoUnit, place-none, owner-unit, owner-inner, owner-top, owner-outside, place-signal}
-use Rattle.gg_split.proofs.KindLemmas.{IsSourceWire, IsPortWire, IsFieldWire, IsTrayWire, IsInto, IsWordWire, Kind, OfSource, OfPort, OfField, OfTray, outside_unit, outside_memory, kind-of, source-wire, unit-wire, memory-wire, data-wire, addr-wire, en-wire, tray-wire, word-field}
-use Rattle.gg_split.proofs.NameLemmas.{port-no-field, field-one}
-use Rattle.gg_split.proofs.OnceLemmas.{IsChosen, top-input, top-output, top-port, port-one, channel-one}
+use Rattle.gg_cut.specs.Plan.{wire_at, signals_of, IsInner, Makes, Takes}
+use Rattle.gg_closed.specs.Apart.{AreApart}
+use Rattle.gg_closed.proofs.ListLemmas.{Somewhere, Contains-map, map-cases, Contains-filter, filter-cases}
+use Rattle.gg_closed.proofs.TreeLemmas.{innermost-one, innermost-known}
+use Rattle.gg_closed.proofs.PlaceLemmas.{IsNoUnit, place-none, owner-unit, owner-inner, owner-top, place-signal}
+use Rattle.gg_closed.proofs.KindLemmas.{IsPortWire, IsFieldWire, IsInto, IsWordWire, Kind, OfSource, OfPort, OfField, OfTray, outside_unit, outside_memory, kind-of, source-wire, unit-wire, memory-wire, tray-wire, word-field}
+use Rattle.gg_closed.proofs.NameLemmas.{port-no-field}
+use Rattle.gg_closed.proofs.OnceLemmas.{top-input, top-output, top-port}
 
 -- ---- channels by number and by what they are
 

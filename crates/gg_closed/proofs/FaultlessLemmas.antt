@@ -1,30 +1,28 @@
 -- What a request without a fault lists lies apart.
-use Rattle.std.proofs.Common.{◌≡◌, ℕ, zero, suc, ◌+◌, ◌<◌, ◌≤◌, List, [], ◌∷◌, ◌++◌, length, map, get_or, Bool, true, false, not, refl, sym, ◌∙◌, ap, subst, Some, None, inl, inr, ◌⊎◌, arith}
-use Rattle.std.specs.Prelude.{Option, ◌||◌, find, cond, if◌then◌else◌, option_map, unwrap_or, filter, nat_lt, All, AllPairs}
+use Rattle.std.proofs.Common.{◌≡◌, ℕ, zero, suc, ◌+◌, ◌<◌, ◌≤◌, List, [], ◌∷◌, ◌++◌, length, map, get_or, Bool, true, false, not, refl, sym, ◌∙◌, ap, Some, None, inl, inr, ◌⊎◌, arith}
+use Rattle.std.specs.Prelude.{Option, ◌||◌, find, cond, if◌then◌else◌, option_map, unwrap_or, nat_lt, All, AllPairs}
 use Rattle.std.specs.List.{list_any, range_with_len}
 use Rattle.std.proofs.lemmas.Bool.{cases_Bool, cases_lt, lt-ltb}
-use Rattle.std.proofs.lemmas.List.{length-map, get_or_default}
+use Rattle.std.proofs.lemmas.List.{length-map}
 use Rattle.std.proofs.lemmas.List.Folds.{list_any-append}
 use Rattle.std.proofs.lemmas.List.Kept.{AllPairs-filter, AllPairs-cons}
 use Rattle.std.proofs.lemmas.List.FromFn.{get_or-range_with_len, length-range_with_len}
-use Rattle.gg_flat.specs.Circuit.{FlatCircuit}
 use Rattle.gg_flat.specs.Tree.{InstanceTree, IsTree, path_at}
 use Rattle.gg_partfile.specs.declared.request.Request.{Request}
 use Rattle.gg_order.specs.Design.{Ordered}
-use Rattle.gg_cut.specs.declared.fault.CutFault.{CutFault}
-use Rattle.gg_cut.specs.declared.fault.CutFault.TheVariants.{UnknownUnit, Doubled, OtherModule, UnknownMemory, Unmatched, UnknownChannel, TooManyUnits, TooManyChannels}
+use Rattle.gg_cut.specs.declared.fault.CutFault.TheVariants.{UnknownUnit, Doubled, UnknownChannel, TooManyUnits, TooManyChannels}
 use Rattle.gg_cut.specs.declared.listed.Listed.{Listed}
 use Rattle.gg_cut.specs.Listed.{is_among, is_lower, is_instance_path, instance_of, place_of, lies, listed_of}
 use Rattle.gg_cut.specs.Channels.{wires_of, channel_signals}
 use Rattle.gg_cut.specs.declared.wires.Wire.{Wire}
-use Rattle.gg_cut.specs.Fault.{or_else, unknown_unit, unshared, overlap, overlapping, first_clash, repeated, entries, other_module, unknown_memory, unmatched, unknown_channel, range_fault, too_many_units, too_many_channels, most_units, most_channels, entry_fault, kind_fault, channel_fault, fault_in, first_fault}
+use Rattle.gg_cut.specs.Fault.{or_else, unknown_unit, unshared, overlap, overlapping, first_clash, repeated, entries, unknown_channel, range_fault, too_many_units, too_many_channels, most_units, most_channels, entry_fault, kind_fault, channel_fault, first_fault}
 use Rattle.gg_cut.specs.Channels.{channel_names}
 use Rattle.gg_cut.proofs.ChannelLemmas.{wires-signals}
 use Rattle.gg_cut.proofs.PathLemmas.{first_place-Some}
 use Rattle.gg_cut.proofs.RangeLemmas.{filter-below}
-use Rattle.gg_split.specs.Apart.{AreApart}
-use Rattle.gg_split.specs.Share.{AreFew}
-use Rattle.gg_split.proofs.ListLemmas.{AllPairs-map}
+use Rattle.gg_closed.specs.Apart.{AreApart}
+use Rattle.gg_closed.specs.Apart.{AreFew}
+use Rattle.gg_closed.proofs.ListLemmas.{AllPairs-map}
 use Rattle.std.specs.Prelude.{bytes_eq}
 
 -- ---- no fault of two

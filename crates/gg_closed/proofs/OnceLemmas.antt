@@ -1,6 +1,6 @@
 -- Each signal has at most one channel.
-use Rattle.std.proofs.Common.{◌≡◌, ◌≢◌, ℕ, zero, suc, ◌+◌, ◌<◌, ◌≤◌, List, [], ◌∷◌, ◌++◌, length, map, get_or, Bool, true, false, not, refl, sym, ◌∙◌, ap, subst, inl, inr, ◌⊎◌, arith}
-use Rattle.std.specs.Prelude.{filter, Contains, All, AllPairs}
+use Rattle.std.proofs.Common.{◌≡◌, ◌≢◌, ℕ, ◌<◌, ◌≤◌, List, ◌++◌, length, map, get_or, Bool, true, false, not, sym, ◌∙◌, ap, subst, inl, inr, ◌⊎◌, arith}
+use Rattle.std.specs.Prelude.{filter, Contains, AllPairs}
 use Rattle.std.proofs.lemmas.Bool.{cases_lt}
 use Rattle.std.proofs.lemmas.List.{get_or-map, length-map, get_or_default}
 use Rattle.std.proofs.lemmas.List.Elements.{Contains-get_or, Contains-append_cases}
@@ -8,19 +8,19 @@ use Rattle.std.proofs.lemmas.List.Kept.{AllPairs-filter}
 use Rattle.gg_flat.specs.declared.tree.InstancePort.{InstancePort}
 use Rattle.gg_flat.specs.Line.{value_at}
 use Rattle.gg_flat.specs.Circuit.{FlatCircuit}
-use Rattle.gg_flat.specs.Tree.{InstanceTree, IsTree, IsInnermost, instance_at, memory_at}
-use Rattle.gg_flat.specs.Scoped.{IsScoped, IsPort, IsFieldOf, input_signals, output_signals, memory_fields}
+use Rattle.gg_flat.specs.Tree.{InstanceTree, IsTree, instance_at, memory_at}
+use Rattle.gg_flat.specs.Scoped.{IsScoped, IsPort, IsFieldOf, memory_fields}
 use Rattle.gg_cut.specs.declared.wires.Wire.{Wire}
 use Rattle.gg_cut.specs.declared.listed.Listed.{Listed}
 use Rattle.gg_cut.specs.Listed.{lies}
 use Rattle.gg_cut.proofs.ChainLemmas.{lies-self}
 use Rattle.gg_cut.proofs.KnownLemmas.{parents-before}
-use Rattle.gg_cut.specs.Channels.{wire, wires_of, port_signals, channel_signals, flattened}
+use Rattle.gg_cut.specs.Channels.{wires_of, port_signals, channel_signals, flattened}
 use Rattle.gg_cut.proofs.ChannelLemmas.{wires-signals}
-use Rattle.gg_split.specs.Apart.{AreApart}
-use Rattle.gg_split.proofs.ListLemmas.{Contains-map, Somewhere, map-cases, filter-cases, flattened-cases, AllPairs-append, AllPairs-flattened, AllPairs-map, one-place}
-use Rattle.gg_split.proofs.TreeLemmas.{innermost-one}
-use Rattle.gg_split.proofs.NameLemmas.{port-no-field, field-one}
+use Rattle.gg_closed.specs.Apart.{AreApart}
+use Rattle.gg_closed.proofs.ListLemmas.{Somewhere, map-cases, filter-cases, flattened-cases, AllPairs-append, AllPairs-flattened, AllPairs-map, one-place}
+use Rattle.gg_closed.proofs.TreeLemmas.{innermost-one}
+use Rattle.gg_closed.proofs.NameLemmas.{port-no-field, field-one}
 
 some-port : InstancePort
 some-port = record { signal = 0; is_input = true }

@@ -1,18 +1,18 @@
 -- The machine of an instance, and of a signal, by the instance.
-use Rattle.std.proofs.Common.{◌≡◌, ◌≢◌, ℕ, zero, suc, ◌+◌, ◌<◌, ◌≤◌, List, [], ◌∷◌, length, get_or, Bool, true, false, refl, sym, ◌∙◌, ap, ap₂, subst, Some, None, inl, inr, ◌⊎◌, true≢false, eq-eqb, true-eqb, arith}
-use Rattle.std.specs.Prelude.{Option, ◌||◌, ◌&&◌, ◌==◌, if◌then◌else◌, option_map, nat_le, nat_lt, Contains, All, AllPairs}
-use Rattle.std.proofs.lemmas.Bool.{cases_lt, ne_eqb, le-leb, lt-ltb, leb-true, ltb-true, and_parts, and_from}
-use Rattle.std.proofs.lemmas.List.Elements.{All-tail, All-head, All-contains, Contains-get_or}
+use Rattle.std.proofs.Common.{◌≡◌, ◌≢◌, ℕ, zero, suc, ◌<◌, List, [], ◌∷◌, length, get_or, Bool, true, false, refl, sym, ◌∙◌, ap, ap₂, subst, Some, None, arith}
+use Rattle.std.specs.Prelude.{Option, ◌||◌, if◌then◌else◌, option_map, nat_le, nat_lt, All}
+use Rattle.std.proofs.lemmas.Bool.{ne_eqb, le-leb, lt-ltb, leb-true, ltb-true, and_parts, and_from}
+use Rattle.std.proofs.lemmas.List.Elements.{All-tail, All-head}
 use Rattle.gg_flat.specs.Line.{value_at}
 use Rattle.gg_flat.specs.Circuit.{FlatCircuit}
-use Rattle.gg_flat.specs.Tree.{InstanceTree, IsTree, IsInnermost, Holds, instance_at}
+use Rattle.gg_flat.specs.Tree.{InstanceTree, IsTree, IsInnermost, instance_at}
 use Rattle.gg_cut.specs.Listed.{lies, first_place, unit_or_hub, owner_of_instance, has_signal, ParentsBefore}
 use Rattle.gg_cut.specs.declared.listed.Listed.{Listed}
 use Rattle.gg_cut.proofs.ChainLemmas.{lies-parent, lies-alone, lies-self}
 use Rattle.gg_cut.proofs.KnownLemmas.{parents-before}
-use Rattle.gg_cut.proofs.PathLemmas.{IsPlace, first_place-Some}
-use Rattle.gg_split.specs.Apart.{AreApart}
-use Rattle.gg_split.proofs.TreeLemmas.{above, lies-holder}
+use Rattle.gg_cut.proofs.PathLemmas.{first_place-Some}
+use Rattle.gg_closed.specs.Apart.{AreApart}
+use Rattle.gg_closed.proofs.TreeLemmas.{above, lies-holder}
 
 -- ---- first places
 

@@ -1,7 +1,7 @@
 -- A machine is closed: what the driver, the register and the memory of a signal that it makes name, it makes or takes.
-use Rattle.std.proofs.Common.{◌≡◌, ◌≢◌, ℕ, zero, suc, ◌+◌, ◌<◌, ◌≤◌, List, [], ◌∷◌, length, get_or, Bool, true, false, not, refl, sym, ◌∙◌, ap, subst, Some, None, inl, inr, ◌⊎◌, slice_get, true-eqb, arith}
-use Rattle.std.specs.Prelude.{Option, ◌==◌, if◌then◌else◌, map, Contains, All, AllPairs}
-use Rattle.std.proofs.lemmas.Bool.{cases_eq, cases_lt, ne_eqb, eq-eqb}
+use Rattle.std.proofs.Common.{◌≡◌, ◌≢◌, ℕ, ◌+◌, ◌<◌, ◌≤◌, List, [], length, get_or, true, refl, sym, ◌∙◌, ap, subst, Some, inl, inr, ◌⊎◌, slice_get, true-eqb, arith}
+use Rattle.std.specs.Prelude.{◌==◌, map, Contains, All}
+use Rattle.std.proofs.lemmas.Bool.{cases_lt, ne_eqb, eq-eqb}
 use Rattle.std.proofs.lemmas.List.{get_or_default, get_or_past, length-map}
 use Rattle.gg_flat.specs.declared.memory.Reader.{Reader}
 use Rattle.gg_flat.specs.declared.memory.Memory.{Memory}
@@ -9,28 +9,27 @@ use Rattle.gg_flat.specs.declared.memory.Latency.{Latency}
 use Rattle.gg_flat.specs.declared.memory.Latency.TheVariants.{Zero, One}
 use Rattle.gg_flat.specs.declared.piece.Register.{Register}
 use Rattle.gg_flat.specs.declared.piece.Driver.{Driver}
-use Rattle.gg_flat.specs.declared.piece.Driver.TheVariants.{Input, Held, MemoryWord, ReadRegister, Computed}
+use Rattle.gg_flat.specs.declared.piece.Driver.TheVariants.{Input, Held}
 use Rattle.gg_flat.specs.Line.{value_at}
 use Rattle.gg_flat.specs.Circuit.{FlatCircuit, driver_at, readers_at, reader_at, latency_at}
 use Rattle.gg_flat.specs.Reads.{NamesSignal, RegisterNames}
 use Rattle.gg_flat.specs.WellFormed.{IsWellFormed, IsDataOf, MayDrive, reader_driver}
-use Rattle.gg_flat.specs.Tree.{InstanceTree, IsTree, IsInnermost, instance_at, memory_at}
-use Rattle.gg_flat.specs.Scoped.{IsScoped, IsPort, IsFieldOf, memory_fields}
-use Rattle.gg_part.specs.Choice.{ReadsMemory}
+use Rattle.gg_flat.specs.Tree.{InstanceTree, IsTree, memory_at}
+use Rattle.gg_flat.specs.Scoped.{IsScoped, IsFieldOf, memory_fields}
 use Rattle.gg_cut.specs.declared.wires.Wire.{Wire}
 use Rattle.gg_cut.specs.declared.listed.Listed.{Listed}
-use Rattle.gg_cut.specs.Listed.{owner_of_instance, owner_of, first_place, memory_or}
-use Rattle.gg_cut.specs.Channels.{wire, wires_of, first_memory, first_source, first_tray}
-use Rattle.gg_cut.specs.Plan.{IsInner, Makes, Takes, HasMemory, memory_owner}
+use Rattle.gg_cut.specs.Listed.{owner_of_instance, memory_or}
+use Rattle.gg_cut.specs.Channels.{wire, wires_of, first_memory, first_source}
+use Rattle.gg_cut.specs.Plan.{Makes, Takes, HasMemory, memory_owner}
 use Rattle.gg_cut.proofs.WireLemmas.{unit_or_hub-below}
-use Rattle.gg_split.specs.Apart.{AreApart}
-use Rattle.gg_split.proofs.ListLemmas.{Somewhere, one-place}
-use Rattle.gg_split.proofs.PlaceLemmas.{place-none, place-is}
-use Rattle.gg_split.proofs.KindLemmas.{IsFieldWire, IsInto, IsWordWire, Kind, OfSource, OfPort, OfField, OfTray, outside_unit, outside_memory, kind-of, source-wire, memory-wire, data-wire, addr-wire, en-wire, word-field}
-use Rattle.gg_split.proofs.NameLemmas.{port-no-field, field-one}
-use Rattle.gg_split.proofs.OnceLemmas.{IsChosen, top-output, top-port, channel-one}
-use Rattle.gg_split.proofs.MakerLemmas.{Gets, HasWire, IsOwned, IsNoField, find-field-in, find-unit, chosen-out, no-channel, gives, takes, owned, owner-signal, field-listed, visible}
-use Rattle.gg_split.proofs.WrittenLemmas.{IsWord, IsWrittenIn, made, inner-plain}
+use Rattle.gg_closed.specs.Apart.{AreApart}
+use Rattle.gg_closed.proofs.ListLemmas.{Somewhere}
+use Rattle.gg_closed.proofs.PlaceLemmas.{place-none, place-is}
+use Rattle.gg_closed.proofs.KindLemmas.{outside_memory, source-wire, memory-wire, data-wire, addr-wire, en-wire, word-field}
+use Rattle.gg_closed.proofs.NameLemmas.{port-no-field, field-one}
+use Rattle.gg_closed.proofs.OnceLemmas.{channel-one}
+use Rattle.gg_closed.proofs.MakerLemmas.{Gets, HasWire, IsOwned, find-unit, chosen-out, no-channel, gives, takes, owned, visible}
+use Rattle.gg_closed.proofs.WrittenLemmas.{IsWord, IsWrittenIn, made}
 
 -- the driver of a reader's data names its address and its enable alone
 reader-names : (latency : Latency) (m r t : ℕ) (reader : Reader) → NamesSignal (reader_driver latency m r reader) t → (reader.addr ≡ t) ⊎ (reader.en ≡ t)

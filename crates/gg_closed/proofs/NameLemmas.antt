@@ -1,13 +1,13 @@
 -- Ports are no fields, and a field is one memory's: by the paths of their signals.
-use Rattle.std.proofs.Common.{◌≡◌, ◌≢◌, ℕ, zero, suc, ◌+◌, ◌<◌, ◌≤◌, List, [], ◌∷◌, ◌++◌, length, get_or, refl, sym, ◌∙◌, ap, subst, inl, inr, ◌⊎◌, append_assoc, arith}
-use Rattle.std.specs.Prelude.{Contains, AllPairs}
+use Rattle.std.proofs.Common.{◌≡◌, ◌≢◌, ℕ, ◌<◌, List, [], ◌∷◌, ◌++◌, length, refl, sym, ◌∙◌, ap, subst, append_assoc, arith}
+use Rattle.std.specs.Prelude.{Contains}
 use Rattle.std.proofs.lemmas.List.{append_cancel_left}
 use Rattle.gg_flat.specs.Circuit.{FlatCircuit}
-use Rattle.gg_flat.specs.Tree.{InstanceTree, IsTree, IsInnermost, IsJustBelow, IsWithin, joined, path_at, instance_at, memory_at}
-use Rattle.gg_flat.specs.Scoped.{IsScoped, IsPort, IsFieldOf, IsOwnPort, IsOwnField}
+use Rattle.gg_flat.specs.Tree.{InstanceTree, IsTree, joined, path_at, memory_at}
+use Rattle.gg_flat.specs.Scoped.{IsScoped, IsPort, IsFieldOf}
 use Rattle.gg_cut.proofs.PathLemmas.{one-place as path-one}
-use Rattle.gg_split.proofs.ListLemmas.{there}
-use Rattle.gg_split.proofs.TreeLemmas.{innermost-one}
+use Rattle.gg_closed.proofs.ListLemmas.{there}
+use Rattle.gg_closed.proofs.TreeLemmas.{innermost-one}
 
 -- ---- paths
 

@@ -1,6 +1,6 @@
 -- The kinds of channels: of a top input, of a unit's port, of a listed memory's field, of a top output.
-use Rattle.std.proofs.Common.{◌≡◌, ◌≢◌, ℕ, zero, suc, ◌+◌, ◌<◌, ◌≤◌, List, [], ◌∷◌, ◌++◌, length, map, get_or, Bool, true, false, refl, sym, ◌∙◌, ap, subst, inl, inr, ◌⊎◌, arith}
-use Rattle.std.specs.Prelude.{if◌then◌else◌, flat_map, Contains}
+use Rattle.std.proofs.Common.{◌≡◌, ℕ, zero, suc, ◌+◌, ◌<◌, List, [], ◌∷◌, ◌++◌, length, get_or, true, refl, sym, ap, subst, inl, inr, ◌⊎◌, arith}
+use Rattle.std.specs.Prelude.{flat_map, Contains}
 use Rattle.std.proofs.lemmas.List.{get_or_default}
 use Rattle.std.proofs.lemmas.List.Elements.{Contains-append_left, Contains-append_right, Contains-append_cases, Contains-get_or}
 use Rattle.gg_flat.specs.declared.tree.InstancePort.{InstancePort}
@@ -14,7 +14,7 @@ use Rattle.gg_cut.specs.declared.wires.Wire.{Wire}
 use Rattle.gg_cut.specs.declared.listed.Listed.{Listed}
 use Rattle.gg_cut.specs.Listed.{owner_of_instance}
 use Rattle.gg_cut.specs.Channels.{wire, numbered, flattened, first_memory, first_source, first_tray, port_wire, port_wires, reader_wires, writer_wires, field_wires, source_wires, tray_wires, wires_of}
-use Rattle.gg_split.proofs.ListLemmas.{here, there, Somewhere, Contains-map, map-cases, flattened-in, flattened-cases, flat_map-is, numbered-in, numbered-cases}
+use Rattle.gg_closed.proofs.ListLemmas.{Somewhere, Contains-map, map-cases, flattened-in, flattened-cases, flat_map-is, numbered-in, numbered-cases}
 
 -- ---- fields
 

@@ -1,11 +1,11 @@
 -- Distinct numbers below n: there are at most n, and n of them are all.
-use Rattle.std.proofs.Common.{◌≡◌, ◌≢◌, ℕ, zero, suc, ◌+◌, ◌<◌, ◌≤◌, List, [], ◌∷◌, length, get_or, Bool, true, false, not, refl, sym, ◌∙◌, ap, subst, inl, inr, ◌⊎◌, eq-eqb, true-eqb, arith}
+use Rattle.std.proofs.Common.{◌≡◌, ◌≢◌, ℕ, zero, suc, ◌<◌, ◌≤◌, List, [], ◌∷◌, length, get_or, Bool, true, false, not, refl, sym, ◌∙◌, ap, subst, inl, inr, ◌⊎◌, eq-eqb, true-eqb, arith}
 use Rattle.std.specs.Prelude.{◌==◌, filter, cond, Contains, All, AllPairs}
 use Rattle.std.proofs.lemmas.Bool.{cases_lt, cases_Bool, ne_eqb}
-use Rattle.std.proofs.lemmas.List.Elements.{All-filter, All-contains, Contains-get_or}
+use Rattle.std.proofs.lemmas.List.Elements.{All-contains, Contains-get_or}
 use Rattle.std.proofs.lemmas.List.Kept.{AllPairs-filter, AllPairs-cons}
-use Rattle.gg_split.proofs.ListLemmas.{here, there, filter-cases}
-use Rattle.gg_split.proofs.MakerLemmas.{find-number}
+use Rattle.gg_closed.proofs.ListLemmas.{filter-cases}
+use Rattle.gg_closed.proofs.MakerLemmas.{find-number}
 
 abbrev other_than : ℕ → ℕ → Bool
 other_than n x = not (x == n)

@@ -1,6 +1,6 @@
-use Rattle.gg_split.proofs.FaultlessLemmas.{faultless-apart, faultless-few}
-use Rattle.gg_split.proofs.ShareLemmas.{few-machines}
-use Rattle.gg_split.proofs.laws.listed_apart.Goals as goal
+use Rattle.gg_closed.proofs.FaultlessLemmas.{faultless-apart, faultless-few}
+use Rattle.gg_closed.proofs.EndLemmas.{few-machines}
+use Rattle.gg_closed.proofs.laws.listed_apart.Goals as goal
 
 pub returns-clause-apart : goal.returns-clause-apart
 returns-clause-apart c = λ design request is none. faultless-apart design request none is.fitting
