@@ -1,13 +1,13 @@
 -- The needs of channels.
-use Rattle.std.proofs.Common.{◌≡◌, ◌≢◌, ℕ, zero, suc, ◌+◌, ◌<◌, ◌≤◌, List, [], ◌∷◌, length, map, get_or, Bool, true, false, true≢false, true-eqb, eq-eqb, refl, sym, ◌∙◌, ap, subst, ⊎_elim, arith}
-use Rattle.std.specs.Prelude.{filter, cond, ◌==◌, All, AllPairs, Contains}
+use Rattle.std.proofs.Common.{◌≡◌, ◌≢◌, ℕ, ◌+◌, ◌<◌, List, [], length, map, get_or, Bool, true-eqb, eq-eqb, sym, ◌∙◌, ap, subst, arith}
+use Rattle.std.specs.Prelude.{filter, ◌==◌, All, AllPairs, Contains}
 use Rattle.std.specs.List.{range_with_len}
 use Rattle.std.proofs.lemmas.List.{get_or-map, get_or_default, length-map}
 use Rattle.std.proofs.lemmas.List.Elements.{Contains-get_or}
 use Rattle.std.proofs.lemmas.List.FromFn.{length-range_with_len, get_or-range_with_len}
 use Rattle.std.proofs.lemmas.List.Kept.{AllPairs-filter}
-use Rattle.std.proofs.lemmas.Bool.{cases_lt}
 use Rattle.gg_flat.specs.Line.{value_at}
+use Rattle.gg_closed.proofs.ListLemmas.{Contains-filter, filter-cases, one-place}
 use Rattle.gg_program.specs.Cone.{AreNeeds}
 use Rattle.gg_program.specs.Programmed.{AreNeedsOfOuts}
 use Rattle.gg_part.specs.declared.part.Part.{Part}
@@ -26,31 +26,6 @@ numbers-ascending test n = AllPairs-filter (λ a b. a < b) test (range_with_len 
     let high : j < n = omega (arith, inside, length-range_with_len 0 n) in
     omega (arith, lt, get_or-range_with_len 0 n i d (omega (arith, lt, high)), get_or-range_with_len 0 n j d high))
 
--- each number that passes is there, and each that is there passes
-number-there : (test : ℕ → Bool) (a n c : ℕ) → test c ≡ true → a ≤ c → c < a + n → Contains (filter test (range_with_len a n)) c
-number-there test a zero c passes low high = absurd (omega arith)
-number-there test a (suc n) c passes low high = ⊎_elim
-    (λ less. more (test a) (number-there test (a + 1) n c passes (omega (arith, less)) (omega (arith, high))))
-    (λ le. let same : a ≡ c = omega (arith, le, low) in here same (test a) (ap test same ∙ passes))
-    (cases_lt a c)
-  where
-    more : (b : Bool) → Contains (filter test (range_with_len (a + 1) n)) c → Contains (cond b (a ∷ filter test (range_with_len (a + 1) n)) (filter test (range_with_len (a + 1) n))) c
-    more true has = (suc has.0, omega (arith, has.1), has.2)
-    more false has = has
-
-    here : a ≡ c → (b : Bool) → b ≡ true → Contains (cond b (a ∷ filter test (range_with_len (a + 1) n)) (filter test (range_with_len (a + 1) n))) c
-    here same true e = (0, omega arith, same)
-    here same false e = absurd (true≢false (sym e))
-
-number-passes : (test : ℕ → Bool) (xs : List ℕ) (i d : ℕ) → i < length (filter test xs) → test (get_or (filter test xs) i d) ≡ true
-number-passes test [] i d lt = absurd (omega arith)
-number-passes test (x ∷ xs) i d lt = by (test x) refl i lt (number-passes test xs)
-  where
-    by : (b : Bool) → test x ≡ b → (i : ℕ) → i < length (cond b (x ∷ filter test xs) (filter test xs)) → ((i d : ℕ) → i < length (filter test xs) → test (get_or (filter test xs) i d) ≡ true) → test (get_or (cond b (x ∷ filter test xs) (filter test xs)) i d) ≡ true
-    by true e zero lt rest = e
-    by true e (suc i) lt rest = rest i d (omega arith)
-    by false e i lt rest = rest i d lt
-
 -- ---- the channels that a machine gives
 
 pub given-ascending : (wires : List Wire) (m : ℕ) (channels : List ℕ) → channels ≡ channels_from wires m → AllPairs (λ a b. a < b) channels
@@ -64,20 +39,16 @@ taken-ascending wires m channels is = subst (λ (l : List ℕ). AllPairs (λ a b
 
 given-there : (wires : List Wire) (m : ℕ) (channels : List ℕ) → channels ≡ channels_from wires m → (c : ℕ) → c < length wires → (wire_at wires c).producer ≡ m → Contains channels c
 given-there wires m channels is c lt gives =
-    subst (λ (l : List ℕ). Contains l c) (sym is) (number-there (λ k. (wire_at wires k).producer == m) 0 (length wires) c (eq-eqb (wire_at wires c).producer m gives) (omega arith) (omega (arith, lt)))
+    let among : Contains (range_with_len 0 (length wires)) c = (c, omega (arith, lt, length-range_with_len 0 (length wires)), get_or-range_with_len 0 (length wires) c c lt ∙ (let same : 0 + c ≡ c = omega arith in same)) in
+    subst (λ (l : List ℕ). Contains l c) (sym is) (Contains-filter (λ k. (wire_at wires k).producer == m) (range_with_len 0 (length wires)) c among (eq-eqb (wire_at wires c).producer m gives))
 
 given-by : (wires : List Wire) (m : ℕ) (channels : List ℕ) → channels ≡ channels_from wires m → (i : ℕ) → i < length channels → (wire_at wires (value_at channels i)).producer ≡ m
 given-by wires m channels is i lt =
-    true-eqb (wire_at wires (value_at channels i)).producer m
-    (sym (subst (λ (l : List ℕ). i < length l → ((wire_at wires (value_at l i)).producer == m) ≡ true) (sym is) (number-passes (λ k. (wire_at wires k).producer == m) (range_with_len 0 (length wires)) i 0) lt))
+    let c = value_at channels i in
+    let kept = filter-cases (λ k. (wire_at wires k).producer == m) (range_with_len 0 (length wires)) c (subst (λ (l : List ℕ). Contains l c) is (Contains-get_or channels i 0 lt)) in
+    true-eqb (wire_at wires c).producer m (sym kept.passes)
 
 -- ---- lists
-
-same-place : (xs : List ℕ) (i j : ℕ) → AllPairs (λ a b. a ≢ b) xs → i < length xs → j < length xs → value_at xs i ≡ value_at xs j → i ≡ j
-same-place xs i j once li lj same = ⊎_elim
-    (λ less. absurd (once i j 0 less lj same))
-    (λ more. ⊎_elim (λ less. absurd (once j i 0 less li (sym same))) (λ le. let joined : i ≡ j = omega (arith, more, le) in joined) (cases_lt j i))
-    (cases_lt i j)
 
 map-ascending : (values places : List ℕ) → AllPairs (λ a b. a < b) values → AllPairs (λ a b. a < b) places → All (λ p. p < length values) places → AllPairs (λ a b. a < b) (map (value_at values) places)
 map-ascending values places up along within = λ i j d lt inside.
@@ -116,7 +87,7 @@ part-told wires part ins outs m lists before table served taken given all put c 
     record {
       ascending = subst (λ (l : List ℕ). AllPairs (λ a b. a < b) l) (sym told) (map-ascending ins places (taken-ascending wires m ins taken) needs.ascending (places-within wires part ins outs lists served all i has.1));
       needs = λ out lt same.
-          let joined : own ≡ out = same-place part.globals own out served.once (served.known i inside) lt (signal ∙ sym same) in
+          let joined : own ≡ out = one-place part.globals own out served.once (served.known i inside) lt (signal ∙ sym same) in
           subst (λ (l : List ℕ). AreNeedsOf part ins out l) (sym told)
           (subst (λ (o : ℕ). AreNeedsOf part ins o (map (value_at ins) places)) joined (needs-at own places needs));
     }

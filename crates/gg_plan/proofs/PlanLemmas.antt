@@ -15,7 +15,7 @@ use Rattle.gg_cut.specs.declared.plan.Channel.{Channel}
 use Rattle.gg_cut.specs.declared.listed.Listed.{Listed}
 use Rattle.gg_cut.specs.declared.wires.Wire.{Wire}
 use Rattle.gg_cut.specs.Listed.{listed_of, instance_of}
-use Rattle.gg_cut.specs.Fault.{range_fault}
+use Rattle.gg_cut.specs.Fault.{range_fault, first_fault}
 use Rattle.gg_cut.specs.Channels.{wires_of, capacity_of, machine_count}
 use Rattle.gg_cut.specs.Plan.{wire_at, channels_to, channels_from, signals_of, IsCutPart, IsBody, IsMachine, NeedsIn}
 use Rattle.gg_flat.specs.Tree.{IsTree, path_at}
@@ -89,16 +89,16 @@ channels-made design whole capacity wires machines table channels same given tol
 -- ---- what the channels of a request without a fault have
 
 -- each is given by a machine
-pub given-below : (design : Ordered) (request : Request) (listed : Listed) (wires : List Wire) (machines : List Machine) → wires ≡ wires_of design.circuit design.tree listed → AreMachines design request listed wires machines → (c : ℕ) → c < length wires → (wire_at wires c).producer < length machines
-given-below design request listed wires machines same are c lt =
-    let below = subst (λ (w : List Wire). c < length w → (wire_at w c).producer < machine_count design.circuit listed) (sym same) (wires-given design.circuit design.tree listed c) lt in
-    omega (arith, below, are.total)
+pub given-below : (design : Ordered) (request : Request) (listed : Listed) (wires : List Wire) (machines : List Machine) → first_fault design request ≡ None → IsTree design.circuit design.tree → listed ≡ listed_of design.tree request → wires ≡ wires_of design.circuit design.tree listed → AreMachines design request listed wires machines → (c : ℕ) → c < length wires → (wire_at wires c).producer < length machines
+given-below design request listed wires machines none fitting is same are c lt =
+    let below = subst (λ (w : List Wire). c < length w → (wire_at w c).producer < machine_count design.circuit (listed_of design.tree request)) (sym (same ∙ ap (wires_of design.circuit design.tree) is)) (wires-given design request none fitting c) lt in
+    omega (arith, below, are.total, ap (machine_count design.circuit) is)
 
 -- each carries a signal of the circuit
-pub known-below : (design : Ordered) (request : Request) (listed : Listed) (wires : List Wire) (whole : FlatCircuit) → IsWellFormed design.circuit → IsTree design.circuit design.tree → listed ≡ listed_of design.tree request → wires ≡ wires_of design.circuit design.tree listed → whole ≡ design.circuit
+pub known-below : (design : Ordered) (request : Request) (listed : Listed) (wires : List Wire) (whole : FlatCircuit) → first_fault design request ≡ None → IsWellFormed design.circuit → IsTree design.circuit design.tree → listed ≡ listed_of design.tree request → wires ≡ wires_of design.circuit design.tree listed → whole ≡ design.circuit
     → (c : ℕ) → c < length wires → (wire_at wires c).signal < length whole.signals
-known-below design request listed wires whole formed fitting is same all c lt =
-    let below = subst (λ (w : List Wire). c < length w → (wire_at w c).signal < length design.circuit.signals) (sym (same ∙ ap (wires_of design.circuit design.tree) is)) (wires-known design request formed fitting c) lt in
+known-below design request listed wires whole none formed fitting is same all c lt =
+    let below = subst (λ (w : List Wire). c < length w → (wire_at w c).signal < length design.circuit.signals) (sym (same ∙ ap (wires_of design.circuit design.tree) is)) (wires-known design request none formed fitting c) lt in
     let count = ap (λ (circuit : FlatCircuit). length circuit.signals) all in
     omega (arith, below, count)
 
