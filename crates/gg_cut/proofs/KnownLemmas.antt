@@ -69,7 +69,7 @@ module _ (circuit : FlatCircuit) (tree : InstanceTree) (formed : IsWellFormed ci
   count : length (signal_shapes circuit) ≡ length circuit.signals
   count = length-map circuit.signals (λ signal. shape signal.ty)
 
-  memory-known : (j : ℕ) → j < length tree.memories → (memory_at tree j).memory < length circuit.memories
+  pub memory-known : (j : ℕ) → j < length tree.memories → (memory_at tree j).memory < length circuit.memories
   memory-known j lt =
       let held = is.held j lt in
       let own = held.own in

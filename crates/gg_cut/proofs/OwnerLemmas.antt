@@ -74,12 +74,12 @@ place-same p q (x ∷ xs) same = ap₂ (λ b rest. if b then Some 0 else option_
 -- ---- units by number
 
 -- one more item, where none before it passes
-abbrev push-place : Option ℕ → ℕ → Bool → Option ℕ
+abbrev pub push-place : Option ℕ → ℕ → Bool → Option ℕ
 push-place (Some i) n b = Some i
 push-place None n true = Some n
 push-place None n false = None
 
-first_place-push : {A : Type 0} (test : A → Bool) (xs : List A) (x : A) → first_place test (xs ++ x ∷ []) ≡ push-place (first_place test xs) (length xs) (test x)
+pub first_place-push : {A : Type 0} (test : A → Bool) (xs : List A) (x : A) → first_place test (xs ++ x ∷ []) ≡ push-place (first_place test xs) (length xs) (test x)
 first_place-push test [] x = by (test x)
   where
     by : (b : Bool) → (if b then Some 0 else option_map suc None) ≡ push-place None 0 b

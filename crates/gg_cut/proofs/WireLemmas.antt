@@ -80,7 +80,7 @@ other-number a b lt = by (a == b) refl
 abbrev Below : ℕ → Wire → Type 0
 Below n w = w.producer < n
 
-unit_or_hub-below : (tree : InstanceTree) (units : List ℕ) (k : ℕ) → owner_of_instance tree units k < suc (length units)
+pub unit_or_hub-below : (tree : InstanceTree) (units : List ℕ) (k : ℕ) → owner_of_instance tree units k < suc (length units)
 unit_or_hub-below tree units k = by (first_place (λ unit. lies tree k unit) units) refl
   where
     by : (found : Option ℕ) → first_place (λ unit. lies tree k unit) units ≡ found → unit_or_hub found < suc (length units)

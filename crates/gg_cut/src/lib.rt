@@ -28,6 +28,7 @@ mod wires;
 pub use fault::CutFault;
 pub use laws::{channels_agree, columns_solve};
 pub use listed::Listed;
+pub use owners::owners_of;
 pub use plan::{Body, Channel, Machine, Plan};
 pub use verdict::judge;
 pub use wires::Wire;

@@ -14,7 +14,7 @@ use std::alloc::{AllocError, Global};
 /// # Errors
 ///
 /// Where memory is refused.
-pub(crate) fn owners_of(alloc: Global, tree: &Tree, units: &[u32]) -> Result<Vec<u32>, AllocError>
+pub fn owners_of(alloc: Global, tree: &Tree, units: &[u32]) -> Result<Vec<u32>, AllocError>
     requires parents { ParentsBefore tree.now }
     requires known { All (λ unit. unit < length tree.now.instances) units.now }
     requires few { length units.now < 2 ^ 32 - 1 }

@@ -1,0 +1,116 @@
+-- How many machines there are, and the ends of channels.
+use Rattle.std.proofs.Common.{◌≡◌, ◌≢◌, ℕ, suc, ◌+◌, ◌<◌, ◌≤◌, ◌^◌, List, ◌++◌, length, get_or, Bool, true, false, refl, sym, ◌∙◌, ap, subst, Some, None, inl, inr, ◌⊎◌, arith}
+use Rattle.std.specs.Prelude.{Option, ◌==◌, if◌then◌else◌, All}
+use Rattle.std.proofs.lemmas.List.{length-append, length-map, get_or_default}
+use Rattle.std.proofs.lemmas.List.Elements.{Contains-get_or}
+use Rattle.gg_flat.specs.Line.{value_at}
+use Rattle.gg_flat.specs.Circuit.{FlatCircuit}
+use Rattle.gg_flat.specs.Tree.{InstanceTree, IsTree, instance_at, memory_at, parent_place}
+use Rattle.gg_cut.specs.declared.wires.Wire.{Wire}
+use Rattle.gg_cut.specs.declared.listed.Listed.{Listed}
+use Rattle.gg_cut.specs.Listed.{owner_of_instance, first_place, has_signal, unit_or_hub, memory_or}
+use Rattle.gg_flat.specs.Circuit.{readers_at}
+use Rattle.gg_flat.specs.Scoped.{memory_fields}
+use Rattle.gg_cut.specs.Channels.{wire, wires_of, channel_signals, port_signals, flattened, first_memory, machine_count}
+use Rattle.gg_cut.specs.Plan.{memory_owner}
+use Rattle.gg_cut.proofs.WireLemmas.{unit_or_hub-below}
+use Rattle.gg_cut.proofs.ChannelLemmas.{wires-signals}
+use Rattle.gg_cut.proofs.PathLemmas.{first_place-Some}
+use Rattle.gg_closed.specs.Apart.{AreApart}
+use Rattle.gg_closed.specs.Apart.{AreFew}
+use Rattle.gg_closed.specs.Apart.{AreEnds}
+use Rattle.gg_closed.proofs.PlaceLemmas.{owner-outside}
+use Rattle.gg_closed.proofs.KindLemmas.{IsInto, IsWordWire, Kind, OfSource, OfPort, OfField, OfTray, outside_unit, outside_memory, kind-of}
+
+-- ---- machines are few
+
+unit-below : (test : ℕ → Bool) (units : List ℕ) → unit_or_hub (first_place test units) < suc (length units)
+unit-below test units = by (first_place test units) refl
+  where
+    by : (found : Option ℕ) → first_place test units ≡ found → unit_or_hub found < suc (length units)
+    by None e = omega arith
+    by (Some u) e = let at = first_place-Some test units u e in omega (arith, at.within)
+
+module _ (circuit : FlatCircuit) (tree : InstanceTree) (listed : Listed) where
+  pub few-machines : AreFew circuit tree listed → machine_count circuit listed ≤ 16641
+  few-machines few = at (flattened (port_signals tree) listed.units) (flattened (λ j. memory_fields circuit (memory_at tree j).memory) listed.memories) refl
+    where
+      counted : length (wires_of circuit tree listed) ≡ length (channel_signals circuit tree listed)
+      counted = sym (length-map (wires_of circuit tree listed) (λ (w : Wire). w.signal)) ∙ ap length (wires-signals circuit tree listed)
+
+      at : (ports fields : List ℕ) → channel_signals circuit tree listed ≡ circuit.ins ++ (ports ++ (fields ++ circuit.outs)) → machine_count circuit listed ≤ 16641
+      at ports fields e =
+          omega (arith, few.units, few.channels, counted, ap length e, length-append circuit.ins (ports ++ (fields ++ circuit.outs)), length-append ports (fields ++ circuit.outs), length-append fields circuit.outs)
+
+  pub few-wires : AreFew circuit tree listed → length (wires_of circuit tree listed) < 2 ^ 32
+  few-wires few = let most = few.channels in omega (arith, most)
+
+  pub machine-below : (place : ℕ) → memory_owner tree listed place < machine_count circuit listed
+  machine-below place = by (first_place (λ j. j == place) listed.memories) refl
+    where
+      other : ℕ
+      other = owner_of_instance tree listed.units (memory_at tree place).instance
+
+      by : (found : Option ℕ) → first_place (λ j. j == place) listed.memories ≡ found → memory_or (length listed.units) (owner_of_instance tree listed.units (memory_at tree place).instance) found < machine_count circuit listed
+      by None e = let low = unit_or_hub-below tree listed.units (memory_at tree place).instance in omega (arith, low)
+      by (Some i) e = let at = first_place-Some (λ j. j == place) listed.memories i e in omega (arith, at.within)
+
+  pub owner-few : (owners : List ℕ) → ((s : ℕ) → value_at owners s ≡ unit_or_hub (first_place (has_signal tree s) listed.units)) → All (λ m. m < machine_count circuit listed) owners
+  owner-few owners owns k d lt =
+      let low = unit-below (has_signal tree k) listed.units in
+      let read = get_or_default owners k d 0 lt in
+      let is = owns k in
+      omega (arith, low, read, is)
+
+-- ---- the ends of channels
+
+module _ (circuit : FlatCircuit) (tree : InstanceTree) (listed : Listed) (fits : IsTree circuit tree) (apart : AreApart tree listed) where
+  abbrev count : ℕ
+  count = machine_count circuit listed
+
+  outside-other : (i : ℕ) → i < length listed.units → outside_unit tree listed i ≢ suc i
+  outside-other i lt e =
+      let below = fits.below (value_at listed.units i) (apart.lower i 0 lt) (apart.known i 0 lt) in
+      owner-outside circuit tree listed fits apart i below.above lt below.parent (sym (ap (λ p. owner_of_instance tree listed.units (parent_place p)) below.parent) ∙ e)
+
+  ends-of : (w : Wire) → Kind circuit tree listed w → AreEnds (machine_count circuit listed) w
+  ends-of w (OfSource f) =
+      let known = f.known in
+      subst (AreEnds (machine_count circuit listed)) (sym f.is)
+      (record { producer = omega (arith, known); consumer = omega arith; apart = λ e. absurd (omega (arith, e)) })
+  ends-of w (OfTray f) =
+      let known = f.known in
+      subst (AreEnds (machine_count circuit listed)) (sym f.is)
+      (record { producer = omega arith; consumer = omega (arith, known); apart = λ e. absurd (omega (arith, e)) })
+  ends-of w (OfPort p) = subst (AreEnds (machine_count circuit listed)) p.is (by p.port.is_input)
+    where
+      out : ℕ
+      out = outside_unit tree listed p.unit
+
+      low : outside_unit tree listed p.unit < suc (length listed.units)
+      low = unit_or_hub-below tree listed.units (parent_place (instance_at tree (value_at listed.units p.unit)).parent)
+
+      by : (b : Bool) → AreEnds (machine_count circuit listed) (if b then wire p.port.signal (outside_unit tree listed p.unit) (suc p.unit) else wire p.port.signal (suc p.unit) (outside_unit tree listed p.unit))
+      by true = record { producer = omega (arith, low); consumer = (let known = p.known in omega (arith, known)); apart = outside-other p.unit p.known }
+      by false = record { producer = (let known = p.known in omega (arith, known)); consumer = omega (arith, low); apart = λ e. outside-other p.unit p.known (sym e) }
+  ends-of w (OfField f) = by f.is
+    where
+      low : outside_memory tree listed f.place < suc (length listed.units)
+      low = unit_or_hub-below tree listed.units (memory_at tree (value_at listed.memories f.place)).instance
+
+      by : IsInto (memory_fields circuit (memory_at tree (value_at listed.memories f.place)).memory) (outside_memory tree listed f.place) (first_memory listed + f.place) w
+          ⊎ IsWordWire (readers_at circuit (memory_at tree (value_at listed.memories f.place)).memory) (outside_memory tree listed f.place) (first_memory listed + f.place) w → AreEnds (machine_count circuit listed) w
+      by (inl into) =
+          let known = f.known in
+          record {
+            producer = omega (arith, low, into.producer);
+            consumer = omega (arith, known, into.consumer);
+            apart = λ e. absurd (omega (arith, low, into.producer, into.consumer, e));
+          }
+      by (inr word) =
+          let known = f.known in
+          subst (AreEnds (machine_count circuit listed)) (sym word.is)
+          (record { producer = omega (arith, known); consumer = omega (arith, low); apart = λ e. absurd (omega (arith, low, e)) })
+
+  pub ends : All (AreEnds (machine_count circuit listed)) (wires_of circuit tree listed)
+  ends k d lt = let w = get_or (wires_of circuit tree listed) k d in ends-of w (kind-of circuit tree listed w (Contains-get_or (wires_of circuit tree listed) k d lt))

@@ -1,0 +1,214 @@
+-- What a request without a fault lists lies apart.
+use Rattle.std.proofs.Common.{◌≡◌, ℕ, zero, suc, ◌+◌, ◌<◌, ◌≤◌, List, [], ◌∷◌, ◌++◌, length, map, get_or, Bool, true, false, not, refl, sym, ◌∙◌, ap, Some, None, inl, inr, ◌⊎◌, arith}
+use Rattle.std.specs.Prelude.{Option, ◌||◌, find, cond, if◌then◌else◌, option_map, unwrap_or, nat_lt, All, AllPairs}
+use Rattle.std.specs.List.{list_any, range_with_len}
+use Rattle.std.proofs.lemmas.Bool.{cases_Bool, cases_lt, lt-ltb}
+use Rattle.std.proofs.lemmas.List.{length-map}
+use Rattle.std.proofs.lemmas.List.Folds.{list_any-append}
+use Rattle.std.proofs.lemmas.List.Kept.{AllPairs-filter, AllPairs-cons}
+use Rattle.std.proofs.lemmas.List.FromFn.{get_or-range_with_len, length-range_with_len}
+use Rattle.gg_flat.specs.Tree.{InstanceTree, IsTree, path_at}
+use Rattle.gg_partfile.specs.declared.request.Request.{Request}
+use Rattle.gg_order.specs.Design.{Ordered}
+use Rattle.gg_cut.specs.declared.fault.CutFault.TheVariants.{UnknownUnit, Doubled, UnknownChannel, TooManyUnits, TooManyChannels}
+use Rattle.gg_cut.specs.declared.listed.Listed.{Listed}
+use Rattle.gg_cut.specs.Listed.{is_among, is_lower, is_instance_path, instance_of, place_of, lies, listed_of}
+use Rattle.gg_cut.specs.Channels.{wires_of, channel_signals}
+use Rattle.gg_cut.specs.declared.wires.Wire.{Wire}
+use Rattle.gg_cut.specs.Fault.{or_else, unknown_unit, unshared, overlap, overlapping, first_clash, repeated, entries, unknown_channel, range_fault, too_many_units, too_many_channels, most_units, most_channels, entry_fault, kind_fault, channel_fault, first_fault}
+use Rattle.gg_cut.specs.Channels.{channel_names}
+use Rattle.gg_cut.proofs.ChannelLemmas.{wires-signals}
+use Rattle.gg_cut.proofs.PathLemmas.{first_place-Some}
+use Rattle.gg_cut.proofs.RangeLemmas.{filter-below}
+use Rattle.gg_closed.specs.Apart.{AreApart}
+use Rattle.gg_closed.specs.Apart.{AreFew}
+use Rattle.gg_closed.proofs.ListLemmas.{AllPairs-map}
+use Rattle.std.specs.Prelude.{bytes_eq}
+
+-- ---- no fault of two
+
+none-first : {A : Type 0} (a b : Option A) → or_else a b ≡ None → a ≡ None
+none-first None b e = refl
+none-first (Some x) b e = absurd (cc)
+
+none-second : {A : Type 0} (a b : Option A) → or_else a b ≡ None → b ≡ None
+none-second None b e = e
+none-second (Some x) b e = absurd (cc)
+
+none-map : {A B : Type 0} (f : A → B) (a : Option A) → option_map f a ≡ None → a ≡ None
+none-map f None e = refl
+none-map f (Some x) e = absurd (cc)
+
+-- ---- none found
+
+none-found : {A : Type 0} (test : A → Bool) (xs : List A) → find (λ x. not (test x)) xs ≡ None → All (λ x. test x ≡ true) xs
+none-found test [] e = λ k d lt. absurd (omega (arith, lt))
+none-found {A = A} test (x ∷ xs) e = by (cases_Bool (test x)) (λ r. none-found test xs r)
+  where
+    by : (test x ≡ true) ⊎ (test x ≡ false) → (find (λ x. not (test x)) xs ≡ None → All (λ x. test x ≡ true) xs) → All (λ x. test x ≡ true) (x ∷ xs)
+    by (inr t) later = absurd (clash (ap (λ b. cond (not b) (Some x) (find (λ x. not (test x)) xs)) (sym t) ∙ e))
+      where
+        clash : Some x ≡ None → ⊥
+        clash e = absurd (cc)
+    by (inl t) later = all
+      where
+        rest : find (λ x. not (test x)) xs ≡ None
+        rest = ap (λ b. cond (not b) (Some x) (find (λ x. not (test x)) xs)) (sym t) ∙ e
+
+        all : All (λ x. test x ≡ true) (x ∷ xs)
+        all zero d lt = t
+        all (suc k) d lt = later rest k d (omega (arith, lt))
+
+-- ---- no clash
+
+pub record Unclashed (clash : List ℕ → List ℕ → Bool) (earlier paths : List (List ℕ)) : Type 0 where
+  pub with-earlier : (k : ℕ) (d : List ℕ) → k < length paths → list_any (clash (get_or paths k d)) earlier ≡ false
+  pub among : AllPairs (λ a b. clash b a ≡ false) paths
+
+any-split : (test : List ℕ → Bool) (xs : List (List ℕ)) (x : List ℕ) → list_any test (xs ++ x ∷ []) ≡ false → (list_any test xs ≡ false) × (test x ≡ false)
+any-split test xs x e = by (list_any test xs) refl (test x) refl
+  where
+    whole : (list_any test xs || (test x || false)) ≡ false
+    whole = sym (list_any-append test xs (x ∷ [])) ∙ e
+
+    by : (a : Bool) → list_any test xs ≡ a → (b : Bool) → test x ≡ b → (list_any test xs ≡ false) × (test x ≡ false)
+    by false f false g = (f, g)
+    by true f b g = absurd (clash (ap (λ a. a || (test x || false)) (sym f) ∙ whole))
+      where
+        clash : true ≡ false → ⊥
+        clash e = absurd (cc)
+    by false f true g = absurd (clash (ap (λ a. a || (test x || false)) (sym f) ∙ whole) g)
+      where
+        clash : (test x || false) ≡ false → test x ≡ true → ⊥
+        clash h t = no (ap (λ b. b || false) (sym t) ∙ h)
+          where
+            no : true ≡ false → ⊥
+            no e = absurd (cc)
+
+unclashed : (clash : List ℕ → List ℕ → Bool) (earlier paths : List (List ℕ)) → first_clash clash earlier paths ≡ None → Unclashed clash earlier paths
+unclashed clash earlier [] e = record { with-earlier = λ k d lt. absurd (omega (arith, lt)); among = λ i j d less lt. absurd (omega (arith, lt)) }
+unclashed clash earlier (path ∷ paths) e = by (cases_Bool (list_any (clash path) earlier)) (λ f. unclashed clash (earlier ++ path ∷ []) paths f)
+  where
+    by : (list_any (clash path) earlier ≡ true) ⊎ (list_any (clash path) earlier ≡ false) → (first_clash clash (earlier ++ path ∷ []) paths ≡ None → Unclashed clash (earlier ++ path ∷ []) paths) → Unclashed clash earlier (path ∷ paths)
+    by (inl t) rest = absurd (no (ap (λ b. if b then Some path else first_clash clash (earlier ++ path ∷ []) paths) (sym t) ∙ e))
+      where
+        no : Some path ≡ None → ⊥
+        no e = absurd (cc)
+    by (inr f) rest = record { with-earlier = with-earlier; among = AllPairs-cons (λ a b. clash b a ≡ false) path paths (λ k d lt. (any-split (clash (get_or paths k d)) earlier path (later.with-earlier k d lt)).1) later.among }
+      where
+        later : Unclashed clash (earlier ++ path ∷ []) paths
+        later = rest (ap (λ b. if b then Some path else first_clash clash (earlier ++ path ∷ []) paths) (sym f) ∙ e)
+
+        with-earlier : (k : ℕ) (d : List ℕ) → k < length (path ∷ paths) → list_any (clash (get_or (path ∷ paths) k d)) earlier ≡ false
+        with-earlier zero d lt = f
+        with-earlier (suc k) d lt = (any-split (clash (get_or paths k d)) earlier path (later.with-earlier k d (omega (arith, lt)))).0
+
+-- ---- what is listed
+
+module _ (tree : InstanceTree) where
+  -- an instance path is that of an instance below the top
+  lower-place : (path : List ℕ) → is_instance_path tree path ≡ true → (0 < instance_of tree path) × (instance_of tree path < length tree.paths)
+  lower-place path e = by (place_of tree.paths path) refl (ap is_lower (sym refl) ∙ e)
+    where
+      by : (place : Option ℕ) → place_of tree.paths path ≡ place → is_lower (place_of tree.paths path) ≡ true → (0 < instance_of tree path) × (instance_of tree path < length tree.paths)
+      by None f g = absurd (clash (ap is_lower (sym f) ∙ g))
+        where
+          clash : false ≡ true → ⊥
+          clash e = absurd (cc)
+      by (Some zero) f g = absurd (clash (ap is_lower (sym f) ∙ g))
+        where
+          clash : false ≡ true → ⊥
+          clash e = absurd (cc)
+      by (Some (suc k)) f g =
+          let is : instance_of tree path ≡ suc k = ap (λ p. unwrap_or p 0) f in
+          let at = first_place-Some (bytes_eq path) tree.paths (suc k) f in
+          (omega (arith, is), omega (arith, is, at.within))
+
+  All-mapped : {A : Type 0} (P : ℕ → Type 0) (f : A → ℕ) (xs : List A) → All (λ x. P (f x)) xs → All P (map f xs)
+  All-mapped P f [] all k d lt = absurd (omega (arith, lt))
+  All-mapped P f (x ∷ xs) all zero d lt = all 0 x (omega arith)
+  All-mapped P f (x ∷ xs) all (suc k) d lt = All-mapped P f xs (λ j e inside. all (suc j) e (omega (arith, inside))) k d (omega (arith, lt))
+
+  or-false : (a b : Bool) → (a || b) ≡ false → (a ≡ false) × (b ≡ false)
+  or-false true b e = absurd (cc)
+  or-false false b e = (refl, e)
+
+  range-ascending : (n : ℕ) → AllPairs (λ a b. a < b) (range_with_len 0 n)
+  range-ascending n i j d less lt =
+      let inside : j < n = omega (arith, lt, length-range_with_len 0 n) in
+      omega (arith, less, get_or-range_with_len 0 n i d (omega (arith, less, inside)), get_or-range_with_len 0 n j d inside)
+
+  pub apart-from : (request : Request) → length tree.paths ≡ length tree.instances → unknown_unit tree request.units ≡ None → overlapping tree request.units ≡ None → AreApart tree (listed_of tree request)
+  apart-from request named known apart =
+      record {
+        lower = All-mapped (λ k. 0 < k) (instance_of tree) request.units (λ k d lt. (places k d lt).0);
+        known = All-mapped (λ k. k < length tree.instances) (instance_of tree) request.units (λ k d lt. let p = places k d lt in omega (arith, p.1, named));
+        apart = AllPairs-map (λ a b. (lies tree a b ≡ false) × (lies tree b a ≡ false)) (instance_of tree) request.units (λ i j d less lt. flip (or-false (lies tree (instance_of tree (get_or request.units j d)) (instance_of tree (get_or request.units i d))) (lies tree (instance_of tree (get_or request.units i d)) (instance_of tree (get_or request.units j d))) (clear.among i j d less lt)));
+        memories = λ k d lt. (let below = filter-below (λ j. is_among request.memories (path_at tree.memory_paths j)) 0 (length tree.memories) (listed_of tree request).memories refl k d lt in omega (arith, below));
+        ascending = AllPairs-filter (λ a b. a < b) (λ j. is_among request.memories (path_at tree.memory_paths j)) (range_with_len 0 (length tree.memories)) (range-ascending (length tree.memories));
+      }
+    where
+      all : All (λ path. is_instance_path tree path ≡ true) request.units
+      all = none-found (is_instance_path tree) request.units known
+
+      places : (k : ℕ) (d : List ℕ) → k < length request.units → (0 < instance_of tree (get_or request.units k d)) × (instance_of tree (get_or request.units k d) < length tree.paths)
+      places k d lt = lower-place (get_or request.units k d) (all k d lt)
+
+      clear : Unclashed (overlap tree) [] request.units
+      clear = unclashed (overlap tree) [] request.units apart
+
+      flip : {a b : Bool} → (a ≡ false) × (b ≡ false) → (b ≡ false) × (a ≡ false)
+      flip p = (p.1, p.0)
+
+-- a request without a fault
+module _ (design : Ordered) (request : Request) (none : first_fault design request ≡ None) where
+  abbrev tree : InstanceTree
+  tree = design.tree
+
+  abbrev listed : Listed
+  listed = listed_of design.tree request
+
+  entry-none : entry_fault design.tree request ≡ None
+  entry-none = none-first (entry_fault design.tree request) (or_else (kind_fault design.tree request) (channel_fault design.circuit request (listed_of design.tree request) (channel_signals design.circuit design.tree (listed_of design.tree request)))) none
+
+  channel-none : channel_fault design.circuit request (listed_of design.tree request) (channel_signals design.circuit design.tree (listed_of design.tree request)) ≡ None
+  channel-none =
+      none-second (kind_fault design.tree request) (channel_fault design.circuit request (listed_of design.tree request) (channel_signals design.circuit design.tree (listed_of design.tree request)))
+      (none-second (entry_fault design.tree request) (or_else (kind_fault design.tree request) (channel_fault design.circuit request (listed_of design.tree request) (channel_signals design.circuit design.tree (listed_of design.tree request)))) none)
+
+  pub faultless-apart : IsTree design.circuit design.tree → AreApart design.tree (listed_of design.tree request)
+  faultless-apart fits =
+      let units = option_map UnknownUnit (unknown_unit tree request.units) in
+      let shares = option_map UnknownUnit (unshared request.units request.share) in
+      let overlaps = option_map Doubled (overlapping tree request.units) in
+      let rest = or_else (option_map Doubled (repeated (entries request.share))) (option_map Doubled (repeated request.memories)) in
+      let later = none-second units (or_else shares (or_else overlaps rest)) entry-none in
+      apart-from tree request fits.named
+      (none-map UnknownUnit (unknown_unit tree request.units) (none-first units (or_else shares (or_else overlaps rest)) entry-none))
+      (none-map Doubled (overlapping tree request.units) (none-first overlaps rest (none-second shares (or_else overlaps rest) later)))
+
+  over : (limit n : ℕ) (m : ℕ) → (if nat_lt limit n then Some m else None) ≡ None → n ≤ limit
+  over limit n m e = by (cases_lt limit n)
+    where
+      by : (limit < n) ⊎ (n ≤ limit) → n ≤ limit
+      by (inr le) = le
+      by (inl lt) = absurd (clash (ap (λ b. if b then Some m else None) (sym (lt-ltb limit n lt)) ∙ e))
+        where
+          clash : Some m ≡ None → ⊥
+          clash e = absurd (cc)
+
+  pub faultless-few : AreFew design.circuit design.tree (listed_of design.tree request)
+  faultless-few =
+      let signals = channel_signals design.circuit design.tree (listed_of design.tree request) in
+      let names = option_map UnknownChannel (unknown_channel (channel_names design.circuit signals) request.capacity) in
+      let ranges = range_fault request.capacity in
+      let units = option_map TooManyUnits (too_many_units listed) in
+      let channels = option_map TooManyChannels (too_many_channels signals) in
+      let late = none-second ranges (or_else units channels) (none-second names (or_else ranges (or_else units channels)) channel-none) in
+      let many = over most_channels (length signals) (length signals) (none-map TooManyChannels (too_many_channels signals) (none-second units channels late)) in
+      let count : length (wires_of design.circuit design.tree listed) ≡ length signals =
+          sym (length-map (wires_of design.circuit design.tree listed) (λ (w : Wire). w.signal)) ∙ ap length (wires-signals design.circuit design.tree listed) in
+      record {
+        units = over most_units (length listed.units + length listed.memories) (length listed.units + length listed.memories) (none-map TooManyUnits (too_many_units listed) (none-first units channels late));
+        channels = omega (arith, many, count);
+      }

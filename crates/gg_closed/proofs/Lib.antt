@@ -1,0 +1,13 @@
+pub mod ListLemmas
+pub mod TreeLemmas
+pub mod PlaceLemmas
+pub mod KindLemmas
+pub mod NameLemmas
+pub mod OnceLemmas
+pub mod MakerLemmas
+pub mod WrittenLemmas
+pub mod ClosedLemmas
+pub mod CountLemmas
+pub mod ChoiceLemmas
+pub mod FaultlessLemmas
+pub mod EndLemmas

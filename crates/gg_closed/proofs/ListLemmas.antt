@@ -1,0 +1,168 @@
+-- What lists contain that are put together of others, and pairs of them.
+use Rattle.std.proofs.Common.{◌≡◌, ◌≢◌, ℕ, zero, suc, ◌+◌, ◌<◌, ◌≤◌, List, [], ◌∷◌, ◌++◌, length, map, get_or, Bool, true, false, refl, sym, ◌∙◌, ap, subst, inl, inr, ◌⊎◌, arith}
+use Rattle.std.specs.Prelude.{filter, cond, flat_map, Contains, All, AllPairs}
+use Rattle.std.proofs.lemmas.Bool.{cases_lt, cases_Bool}
+use Rattle.std.proofs.lemmas.List.Elements.{Contains-append_left, Contains-append_right, Contains-append_cases, Contains-get_or}
+use Rattle.std.proofs.lemmas.List.Kept.{AllPairs-cons}
+use Rattle.gg_cut.specs.Channels.{flattened, numbered}
+
+-- ---- what a list contains
+
+pub here : {A : Type 0} (x : A) (xs : List A) → Contains (x ∷ xs) x
+here x xs = (0, omega arith, refl)
+
+pub there : {A : Type 0} (x y : A) (xs : List A) → Contains xs y → Contains (x ∷ xs) y
+there x y xs h = (suc h.0, omega (arith, h.1), h.2)
+
+pub Contains-cases : {A : Type 0} (x y : A) (xs : List A) → Contains (x ∷ xs) y → (x ≡ y) ⊎ Contains xs y
+Contains-cases x y xs (zero, lt, is) = inl is
+Contains-cases x y xs (suc k, lt, is) = inr (k, omega (arith, lt), is)
+
+-- the item at a place of a list has a property
+pub record Somewhere {A : Type 0} (P : A → Type 0) (xs : List A) : Type 0 where
+  pub place : ℕ
+  pub within : place < length xs
+  pub holds : (d : A) → P (get_or xs place d)
+
+pub Somewhere-later : {A : Type 0} (P : A → Type 0) (x : A) (xs : List A) → Somewhere P xs → Somewhere P (x ∷ xs)
+Somewhere-later P x xs s = record { place = suc s.place; within = omega (arith, s.within); holds = s.holds }
+
+pub Contains-map : {A B : Type 0} (f : A → B) (xs : List A) (x : A) → Contains xs x → Contains (map f xs) (f x)
+Contains-map f [] x h = absurd (omega (arith, h.1))
+Contains-map f (y ∷ ys) x (zero, lt, is) = (0, omega arith, ap f is)
+Contains-map f (y ∷ ys) x (suc k, lt, is) = there (f y) (f x) (map f ys) (Contains-map f ys x (k, omega (arith, lt), is))
+
+pub map-cases : {A B : Type 0} (f : A → B) (xs : List A) (y : B) → Contains (map f xs) y → Somewhere (λ x. f x ≡ y) xs
+map-cases f [] y h = absurd (omega (arith, h.1))
+map-cases f (x ∷ xs) y h = by (Contains-cases (f x) y (map f xs) h) (λ r. map-cases f xs y r)
+  where
+    by : (f x ≡ y) ⊎ Contains (map f xs) y → (Contains (map f xs) y → Somewhere (λ x. f x ≡ y) xs) → Somewhere (λ x. f x ≡ y) (x ∷ xs)
+    by (inl e) rest = record { place = 0; within = omega arith; holds = λ d. e }
+    by (inr r) rest = Somewhere-later (λ x. f x ≡ y) x xs (rest r)
+
+pub Contains-filter : {A : Type 0} (test : A → Bool) (xs : List A) (x : A) → Contains xs x → test x ≡ true → Contains (filter test xs) x
+Contains-filter test [] x h e = absurd (omega (arith, h.1))
+Contains-filter test (y ∷ ys) x h e = by (Contains-cases y x ys h) (λ r. Contains-filter test ys x r e) (cases_Bool (test y))
+  where
+    by : (y ≡ x) ⊎ Contains ys x → (Contains ys x → Contains (filter test ys) x) → (test y ≡ true) ⊎ (test y ≡ false) → Contains (filter test (y ∷ ys)) x
+    by (inl same) rest (inl t) = subst (λ b. Contains (cond b (y ∷ filter test ys) (filter test ys)) x) (sym t) (0, omega arith, same)
+    by (inl same) rest (inr t) = absurd (clash (sym e ∙ ap test (sym same) ∙ t))
+      where
+        clash : true ≡ false → ⊥
+        clash e = absurd (cc)
+    by (inr r) rest (inl t) = subst (λ b. Contains (cond b (y ∷ filter test ys) (filter test ys)) x) (sym t) (there y x (filter test ys) (rest r))
+    by (inr r) rest (inr t) = subst (λ b. Contains (cond b (y ∷ filter test ys) (filter test ys)) x) (sym t) (rest r)
+
+-- an item of a filter is the list's, and passes
+pub record IsKept {A : Type 0} (test : A → Bool) (xs : List A) (x : A) : Type 0 where
+  pub among : Contains xs x
+  pub passes : test x ≡ true
+
+pub filter-cases : {A : Type 0} (test : A → Bool) (xs : List A) (x : A) → Contains (filter test xs) x → IsKept test xs x
+filter-cases test [] x h = absurd (omega (arith, h.1))
+filter-cases test (y ∷ ys) x h = by (cases_Bool (test y)) (λ r. filter-cases test ys x r)
+  where
+    later : IsKept test ys x → IsKept test (y ∷ ys) x
+    later k = record { among = there y x ys k.among; passes = k.passes }
+
+    by : (test y ≡ true) ⊎ (test y ≡ false) → (Contains (filter test ys) x → IsKept test ys x) → IsKept test (y ∷ ys) x
+    by (inl t) rest = at (Contains-cases y x (filter test ys) (subst (λ b. Contains (cond b (y ∷ filter test ys) (filter test ys)) x) t h))
+      where
+        at : (y ≡ x) ⊎ Contains (filter test ys) x → IsKept test (y ∷ ys) x
+        at (inl same) = record { among = (0, omega arith, same); passes = ap test (sym same) ∙ t }
+        at (inr r) = later (rest r)
+    by (inr t) rest = later (rest (subst (λ b. Contains (cond b (y ∷ filter test ys) (filter test ys)) x) t h))
+
+-- ---- lists of lists
+
+pub flattened-in : {A B : Type 0} (f : A → List B) (xs : List A) (i : ℕ) (d : A) (y : B) → i < length xs → Contains (f (get_or xs i d)) y → Contains (flattened f xs) y
+flattened-in f [] i d y lt h = absurd (omega (arith, lt))
+flattened-in f (x ∷ xs) zero d y lt h = Contains-append_left (f x) (flattened f xs) y h
+flattened-in f (x ∷ xs) (suc i) d y lt h = Contains-append_right (f x) (flattened f xs) y (flattened-in f xs i d y (omega (arith, lt)) h)
+
+pub flattened-cases : {A B : Type 0} (f : A → List B) (xs : List A) (y : B) → Contains (flattened f xs) y → Somewhere (λ x. Contains (f x) y) xs
+flattened-cases f [] y h = absurd (omega (arith, h.1))
+flattened-cases f (x ∷ xs) y h = by (Contains-append_cases (f x) (flattened f xs) y h) (λ r. flattened-cases f xs y r)
+  where
+    by : Contains (f x) y ⊎ Contains (flattened f xs) y → (Contains (flattened f xs) y → Somewhere (λ x. Contains (f x) y) xs) → Somewhere (λ x. Contains (f x) y) (x ∷ xs)
+    by (inl a) rest = record { place = 0; within = omega arith; holds = λ d. a }
+    by (inr r) rest = Somewhere-later (λ x. Contains (f x) y) x xs (rest r)
+
+pub flat_map-is : {A B : Type 0} (f : A → List B) (xs : List A) → flat_map f xs ≡ flattened f xs
+flat_map-is f [] = refl
+flat_map-is f (x ∷ xs) = ap (λ l. f x ++ l) (flat_map-is f xs)
+
+pub numbered-in : {A B : Type 0} (f : ℕ → A → List B) (n : ℕ) (xs : List A) (i : ℕ) (d : A) (y : B) → i < length xs → Contains (f (n + i) (get_or xs i d)) y → Contains (numbered f n xs) y
+numbered-in f n [] i d y lt h = absurd (omega (arith, lt))
+numbered-in f n (x ∷ xs) zero d y lt h =
+    Contains-append_left (f n x) (numbered f (suc n) xs) y (subst (λ k. Contains (f k x) y) (let same : n + 0 ≡ n = omega arith in same) h)
+numbered-in f n (x ∷ xs) (suc i) d y lt h =
+    Contains-append_right (f n x) (numbered f (suc n) xs) y
+    (numbered-in f (suc n) xs i d y (omega (arith, lt)) (subst (λ k. Contains (f k (get_or xs i d)) y) (let same : n + suc i ≡ suc n + i = omega arith in same) h))
+
+-- an item of a numbered list is made of one of its items, with its number
+pub record IsNumbered {A B : Type 0} (f : ℕ → A → List B) (n : ℕ) (xs : List A) (y : B) : Type 0 where
+  pub place : ℕ
+  pub within : place < length xs
+  pub among : (d : A) → Contains (f (n + place) (get_or xs place d)) y
+
+pub numbered-cases : {A B : Type 0} (f : ℕ → A → List B) (n : ℕ) (xs : List A) (y : B) → Contains (numbered f n xs) y → IsNumbered f n xs y
+numbered-cases f n [] y h = absurd (omega (arith, h.1))
+numbered-cases f n (x ∷ xs) y h = by (Contains-append_cases (f n x) (numbered f (suc n) xs) y h) (λ r. numbered-cases f (suc n) xs y r)
+  where
+    by : Contains (f n x) y ⊎ Contains (numbered f (suc n) xs) y → (Contains (numbered f (suc n) xs) y → IsNumbered f (suc n) xs y) → IsNumbered f n (x ∷ xs) y
+    by (inl a) rest = record { place = 0; within = omega arith; among = λ d. subst (λ k. Contains (f k x) y) (let same : n ≡ n + 0 = omega arith in same) a }
+    by (inr r) rest =
+        let k = rest r in
+        record {
+          place = suc k.place;
+          within = omega (arith, k.within);
+          among = λ d. subst (λ j. Contains (f j (get_or xs k.place d)) y) (let same : suc n + k.place ≡ n + suc k.place = omega arith in same) (k.among d);
+        }
+
+-- ---- pairs
+
+pub pairs-nil : {A : Type 0} (R : A → A → Type 0) → AllPairs R []
+pairs-nil R i j d less lt = absurd (omega (arith, lt))
+
+pub AllPairs-append : {A : Type 0} (R : A → A → Type 0) (xs ys : List A) → AllPairs R xs → AllPairs R ys → ((x y : A) → Contains xs x → Contains ys y → R x y) → AllPairs R (xs ++ ys)
+AllPairs-append R [] ys a b cross = b
+AllPairs-append R (x ∷ xs) ys a b cross =
+    AllPairs-cons R x (xs ++ ys) first
+    (AllPairs-append R xs ys (λ i j d less lt. a (suc i) (suc j) d (omega (arith, less)) (omega (arith, lt))) b (λ u v p q. cross u v (there x u xs p) q))
+  where
+    first : All (R x) (xs ++ ys)
+    first k d lt = by (Contains-append_cases xs ys (get_or (xs ++ ys) k d) (Contains-get_or (xs ++ ys) k d lt))
+      where
+        by : Contains xs (get_or (xs ++ ys) k d) ⊎ Contains ys (get_or (xs ++ ys) k d) → R x (get_or (xs ++ ys) k d)
+        by (inl p) = subst (λ y. R x y) p.2 (a 0 (suc p.0) (get_or (xs ++ ys) k d) (omega arith) (omega (arith, p.1)))
+        by (inr q) = cross x (get_or (xs ++ ys) k d) (here x xs) q
+
+pub AllPairs-flattened : {A B : Type 0} (R : B → B → Type 0) (f : A → List B) (xs : List A) → All (λ x. AllPairs R (f x)) xs → AllPairs (λ x y. (a b : B) → Contains (f x) a → Contains (f y) b → R a b) xs → AllPairs R (flattened f xs)
+AllPairs-flattened R f [] each cross = pairs-nil R
+AllPairs-flattened R f (x ∷ xs) each cross =
+    AllPairs-append R (f x) (flattened f xs) (each 0 x (omega arith))
+    (AllPairs-flattened R f xs (λ k d lt. each (suc k) d (omega (arith, lt))) (λ i j d less lt. cross (suc i) (suc j) d (omega (arith, less)) (omega (arith, lt))))
+    (λ a b p q.
+    let s = flattened-cases f xs b q in
+    cross 0 (suc s.place) x (omega arith) (omega (arith, s.within)) a b p (s.holds x))
+
+pub AllPairs-map : {A B : Type 0} (R : B → B → Type 0) (f : A → B) (xs : List A) → AllPairs (λ x y. R (f x) (f y)) xs → AllPairs R (map f xs)
+AllPairs-map {A = A} R f [] pairs = pairs-nil R
+AllPairs-map {A = A} R f (x ∷ xs) pairs =
+    AllPairs-cons R (f x) (map f xs) (each xs (λ k d lt. pairs 0 (suc k) d (omega arith) (omega (arith, lt))))
+    (AllPairs-map R f xs (λ i j d less lt. pairs (suc i) (suc j) d (omega (arith, less)) (omega (arith, lt))))
+  where
+    each : (ys : List A) → All (λ y. R (f x) (f y)) ys → All (R (f x)) (map f ys)
+    each [] all k d lt = absurd (omega (arith, lt))
+    each (y ∷ ys) all zero d lt = all 0 y (omega arith)
+    each (y ∷ ys) all (suc k) d lt = each ys (λ j e inside. all (suc j) e (omega (arith, inside))) k d (omega (arith, lt))
+
+-- in a list of distinct numbers each stands at one place
+pub one-place : (xs : List ℕ) (i j : ℕ) → AllPairs (λ a b. a ≢ b) xs → i < length xs → j < length xs → get_or xs i 0 ≡ get_or xs j 0 → i ≡ j
+one-place xs i j once li lj same = by (cases_lt i j) (cases_lt j i)
+  where
+    by : (i < j) ⊎ (j ≤ i) → (j < i) ⊎ (i ≤ j) → i ≡ j
+    by (inl lt) q = absurd (once i j 0 lt lj same)
+    by (inr le) (inl lt) = absurd (once j i 0 lt li (sym same))
+    by (inr le) (inr ge) = omega (arith, le, ge)

@@ -1,0 +1,129 @@
+-- What a request without a fault says of its capacities, channels and machines.
+use Rattle.std.proofs.Common.{◌≡◌, ℕ, zero, suc, ◌^◌, ◌<◌, ◌≤◌, List, [], ◌∷◌, length, get_or, Bool, true, false, refl, ap, Some, None, arith}
+use Rattle.std.specs.Prelude.{Option, option_map, find, cond, ◌||◌, ◌==◌, nat_lt, unwrap_or, bytes_eq, All}
+use Rattle.std.proofs.lemmas.List.{get_or-map, length-map}
+use Rattle.std.proofs.lemmas.Bool.{ltb-false}
+use Rattle.gg_flat.specs.WellFormed.{IsWellFormed}
+use Rattle.gg_flat.specs.Tree.{IsTree}
+use Rattle.gg_order.specs.Design.{Ordered}
+use Rattle.gg_partfile.specs.declared.request.Request.{Request}
+use Rattle.gg_cut.specs.declared.wires.Wire.{Wire}
+use Rattle.gg_cut.specs.declared.fault.CutFault.TheVariants.{UnknownChannel, OutOfRange, TooManyUnits, TooManyChannels}
+use Rattle.gg_cut.specs.Listed.{listed_of}
+use Rattle.gg_cut.specs.Channels.{wire, machine_count, wires_of, channel_signals, channel_names, capacity_of}
+use Rattle.gg_cut.specs.Fault.{or_else, most_capacity, out_of_range, range_fault, too_many_units, too_many_channels, channel_fault, entry_fault, kind_fault, first_fault, unknown_channel}
+use Rattle.gg_cut.specs.Plan.{wire_at}
+use Rattle.gg_cut.proofs.KnownLemmas.{signals-known}
+use Rattle.gg_cut.proofs.ChannelLemmas.{wires-signals}
+use Rattle.gg_closed.proofs.FaultlessLemmas as closed
+use Rattle.gg_closed.proofs.EndLemmas as ends
+use Rattle.gg_plan.specs.Made.{IsCapacity}
+
+-- ---- the first of several faults
+
+none-first : {A : Type 0} (a b : Option A) → or_else a b ≡ None → a ≡ None
+none-first None b e = refl
+none-first (Some x) b e = absurd (cc)
+
+none-rest : {A : Type 0} (a b : Option A) → or_else a b ≡ None → b ≡ None
+none-rest None b e = e
+none-rest (Some x) b e = absurd (cc)
+
+none-map : {A B : Type 0} (f : A → B) (a : Option A) → option_map f a ≡ None → a ≡ None
+none-map f None e = refl
+none-map f (Some x) e = absurd (cc)
+
+-- its capacities are in range
+pub range-free : (design : Ordered) (request : Request) → first_fault design request ≡ None → range_fault request.capacity ≡ None
+range-free design request none =
+    let circuit = design.circuit in
+    let tree = design.tree in
+    let listed = listed_of tree request in
+    let signals = channel_signals circuit tree listed in
+    let last = channel_fault circuit request listed signals in
+    let limits = or_else (option_map (λ n. TooManyUnits n) (too_many_units listed)) (option_map (λ n. TooManyChannels n) (too_many_channels signals)) in
+    none-first (range_fault request.capacity) limits
+    (none-rest (option_map (λ p. UnknownChannel p) (unknown_channel (channel_names circuit signals) request.capacity)) (or_else (range_fault request.capacity) limits)
+    (none-rest (kind_fault tree request) last (none-rest (entry_fault tree request) (or_else (kind_fault tree request) last) none)))
+
+-- ---- capacities
+
+in-range : (capacities : List (List ℕ × ℕ)) → out_of_range capacities ≡ None → All (λ pair. pair.1 < 2 ^ 32) capacities
+in-range [] none = λ k d lt. absurd (omega arith)
+in-range (pair ∷ capacities) none = by ((pair.1 == 0) || nat_lt most_capacity pair.1) refl none (in-range capacities)
+  where
+    or-right : (a b : Bool) → (a || b) ≡ false → b ≡ false
+    or-right true b e = absurd (cc)
+    or-right false b e = e
+
+    by : (b : Bool) → ((pair.1 == 0) || nat_lt most_capacity pair.1) ≡ b → cond b (Some pair) (out_of_range capacities) ≡ None → (out_of_range capacities ≡ None → All (λ pair. pair.1 < 2 ^ 32) capacities) → All (λ pair. pair.1 < 2 ^ 32) (pair ∷ capacities)
+    by true e none rest = absurd (cc)
+    by false e none rest = first
+      where
+        small : pair.1 ≤ most_capacity
+        small = ltb-false most_capacity pair.1 (or-right (pair.1 == 0) (nat_lt most_capacity pair.1) e)
+
+        first : All (λ pair. pair.1 < 2 ^ 32) (pair ∷ capacities)
+        first zero d lt = omega (arith, small)
+        first (suc k) d lt = rest none k d (omega arith)
+
+pub capacities-small : (capacities : List (List ℕ × ℕ)) → range_fault capacities ≡ None → All (λ pair. pair.1 < 2 ^ 32) capacities
+capacities-small capacities none = in-range capacities (none-map (λ pair. OutOfRange pair.0 pair.1) (out_of_range capacities) none)
+
+-- a capacity that the request has, or the default, is one that a channel may have
+capacity-in-range : (capacities : List (List ℕ × ℕ)) (default : ℕ) (name : List ℕ) → out_of_range capacities ≡ None → IsCapacity default → IsCapacity (capacity_of capacities default name)
+capacity-in-range [] default name none own = own
+capacity-in-range (pair ∷ capacities) default name none own =
+    by ((pair.1 == 0) || nat_lt most_capacity pair.1) refl none (λ more. capacity-in-range capacities default name more own)
+  where
+    or-left : (a b : Bool) → (a || b) ≡ false → a ≡ false
+    or-left true b e = absurd (cc)
+    or-left false b e = refl
+
+    or-right : (a b : Bool) → (a || b) ≡ false → b ≡ false
+    or-right true b e = absurd (cc)
+    or-right false b e = e
+
+    some : (n : ℕ) → (n == 0) ≡ false → 0 < n
+    some zero e = absurd (cc)
+    some (suc n) e = omega arith
+
+    either : (b : Bool) → IsCapacity pair.1 → IsCapacity (capacity_of capacities default name) → IsCapacity (unwrap_or (option_map (λ pair. pair.1) (cond b (Some pair) (find (λ pair. bytes_eq pair.0 name) capacities))) default)
+    either true here rest = here
+    either false here rest = rest
+
+    by : (b : Bool) → ((pair.1 == 0) || nat_lt most_capacity pair.1) ≡ b → cond b (Some pair) (out_of_range capacities) ≡ None → (out_of_range capacities ≡ None → IsCapacity (capacity_of capacities default name)) → IsCapacity (capacity_of (pair ∷ capacities) default name)
+    by true e none rest = absurd (cc)
+    by false e none rest =
+        either (bytes_eq pair.0 name)
+        (some pair.1 (or-left (pair.1 == 0) (nat_lt most_capacity pair.1) e), ltb-false most_capacity pair.1 (or-right (pair.1 == 0) (nat_lt most_capacity pair.1) e))
+        (rest none)
+
+pub capacity-sound : (capacities : List (List ℕ × ℕ)) (default : ℕ) (name : List ℕ) → range_fault capacities ≡ None → IsCapacity default → IsCapacity (capacity_of capacities default name)
+capacity-sound capacities default name none own = capacity-in-range capacities default name (none-map (λ pair. OutOfRange pair.0 pair.1) (out_of_range capacities) none) own
+
+-- ---- channels and machines
+
+-- the signals of channels are the circuit's
+pub wires-known : (design : Ordered) (request : Request) → first_fault design request ≡ None → IsWellFormed design.circuit → IsTree design.circuit design.tree → (c : ℕ) → c < length (wires_of design.circuit design.tree (listed_of design.tree request))
+    → (wire_at (wires_of design.circuit design.tree (listed_of design.tree request)) c).signal < length design.circuit.signals
+wires-known design request none formed is c lt =
+    let listed = listed_of design.tree request in
+    let wires = wires_of design.circuit design.tree listed in
+    let same = wires-signals design.circuit design.tree listed in
+    let apart = closed.faultless-apart design request none is in
+    let inside : c < length (channel_signals design.circuit design.tree listed) = omega (arith, lt, ap length same, length-map wires (λ (w : Wire). w.signal)) in
+    let known = signals-known design.circuit design.tree formed is listed apart.known apart.memories c 0 inside in
+    let at = get_or-map (λ (w : Wire). w.signal) wires c (wire 0 0 0) 0 lt in
+    let there = ap (λ l. get_or l c 0) same in
+    omega (arith, known, at, there)
+
+-- each channel is given by a machine
+pub wires-given : (design : Ordered) (request : Request) → first_fault design request ≡ None → IsTree design.circuit design.tree → (c : ℕ) → c < length (wires_of design.circuit design.tree (listed_of design.tree request))
+    → (wire_at (wires_of design.circuit design.tree (listed_of design.tree request)) c).producer < machine_count design.circuit (listed_of design.tree request)
+wires-given design request none is c lt = (ends.ends design.circuit design.tree (listed_of design.tree request) is (closed.faultless-apart design request none is) c (wire 0 0 0) lt).producer
+
+pub few-machines : (design : Ordered) (request : Request) → first_fault design request ≡ None → machine_count design.circuit (listed_of design.tree request) < 2 ^ 32
+few-machines design request none =
+    let most = ends.few-machines design.circuit design.tree (listed_of design.tree request) (closed.faultless-few design request none) in
+    omega (arith, most)

@@ -1,0 +1,61 @@
+-- The machines with their parts.
+use Rattle.std.proofs.Common.{◌≡◌, ℕ, ◌+◌, ◌<◌, List, [], ◌∷◌, ◌++◌, length, map, get_or, sym, ◌∙◌, ap, subst, below_more, arith}
+use Rattle.std.specs.Prelude.{Contains, ◌==◌, ◌⊎◌, ◌↔◌}
+use Rattle.std.proofs.lemmas.List.{get_or_push, get_or_append_left}
+use Rattle.gg_flat.specs.Line.{value_at}
+use Rattle.gg_flat.specs.Circuit.{FlatCircuit}
+use Rattle.gg_flat.specs.Order.{IsOrder}
+use Rattle.gg_order.specs.Design.{Ordered}
+use Rattle.gg_part.specs.declared.part.Part.{Part}
+use Rattle.gg_part.specs.Part.{IsPart}
+use Rattle.gg_part.specs.InOrder.{IsAlong, IsInOrder}
+use Rattle.gg_cut.specs.declared.listed.Listed.{Listed}
+use Rattle.gg_cut.specs.declared.wires.Wire.{Wire}
+use Rattle.gg_cut.specs.Plan.{wire_at, channels_to, channels_from, signals_of, Makes, Takes, HasMemory, IsCutPart}
+use Rattle.gg_cut.proofs.RangeLemmas.{filter-below}
+use Rattle.gg_split.specs.declared.share.Share.{Share}
+use Rattle.gg_split.specs.Share.{IsShareOf}
+use Rattle.gg_split.specs.IsShare.{AreShares}
+use Rattle.gg_cut.specs.Channels.{wires_of}
+
+-- ---- channels are numbers below their count
+
+pub to-below : (wires : List Wire) (m : ℕ) (channels : List ℕ) → channels ≡ channels_to wires m → (k d : ℕ) → k < length channels → get_or channels k d < length wires
+to-below wires m channels is k d lt = let below = filter-below (λ c. (wire_at wires c).consumer == m) 0 (length wires) channels is k d lt in omega (arith, below)
+
+pub from-below : (wires : List Wire) (m : ℕ) (channels : List ℕ) → channels ≡ channels_from wires m → (k d : ℕ) → k < length channels → get_or channels k d < length wires
+from-below wires m channels is k d lt = let below = filter-below (λ c. (wire_at wires c).producer == m) 0 (length wires) channels is k d lt in omega (arith, below)
+
+-- ---- parts
+
+-- the part that a machine's share makes is the machine's
+pub cut-part : (design : Ordered) (listed : Listed) (wires : List Wire) (m : ℕ) (share : Share) (whole : FlatCircuit) (part : Part) → IsShareOf design listed wires m share.ins share.outs share.globals share.memories → whole ≡ design.circuit → IsPart whole part.piece part.globals part.held part.memories → part.globals ≡ share.globals → part.memories ≡ share.memories
+    → map (value_at part.globals) part.piece.ins ≡ signals_of wires share.ins → map (value_at part.globals) part.piece.outs ≡ signals_of wires share.outs → IsOrder design.circuit design.order
+    → ((whole part : FlatCircuit) (globals held memories order : List ℕ) → IsPart whole part globals held memories → IsOrder whole order → IsAlong order globals → IsInOrder part)
+    → IsCutPart design listed wires m part
+cut-part design listed wires m share whole part own w is g ms i o ordered law =
+    let here = subst (λ (all : FlatCircuit). IsPart all part.piece part.globals part.held part.memories) w is in
+    record {
+      is = here;
+      signals = λ s. subst (λ (l : List ℕ). Contains l s ↔ (Makes design.circuit design.tree listed wires m s ⊎ Takes wires m s)) (sym g) (own.signals s);
+      ins = i ∙ ap (signals_of wires) own.takes;
+      outs = o ∙ ap (signals_of wires) own.gives;
+      memories = λ k. subst (λ (l : List ℕ). Contains l k ↔ HasMemory design.tree listed m k) (sym ms) (own.banks k);
+      ordered = law design.circuit part.piece part.globals part.held part.memories design.order here ordered (subst (λ (l : List ℕ). IsAlong design.order l) (sym g) own.along);
+    }
+
+-- the share of a machine, where its wires are the cut's
+pub share-at : (design : Ordered) (listed : Listed) (wires : List Wire) (shares : List Share) (m : ℕ) (share : Share) → AreShares design listed shares → wires ≡ wires_of design.circuit design.tree listed → m < length shares → share ≡ get_or shares m share
+    → IsShareOf design listed wires m share.ins share.outs share.globals share.memories
+share-at design listed wires shares m share are same lt is =
+    subst (λ (w : List Wire). IsShareOf design listed w m share.ins share.outs share.globals share.memories) (sym same)
+    (subst (λ (s : Share). IsShareOf design listed (wires_of design.circuit design.tree listed) m s.ins s.outs s.globals s.memories) (sym is) (are.each m share (omega (arith, lt, are.many))))
+
+-- ---- one more at the end
+
+pub each-push : {A : Type 0} (P : ℕ → A → Type 0) (xs ys : List A) (x : A) (n : ℕ) → length xs ≡ n → ((k : ℕ) (any : A) → k < n → P k (get_or xs k any)) → P n x → ys ≡ xs ++ x ∷ [] → (k : ℕ) (any : A) → k < n + 1 → P k (get_or ys k any)
+each-push P xs ys x n count each here made k any lt =
+    below_more (λ i. P i (get_or ys i any)) n
+    (λ i below. subst (P i) (sym (ap (λ l. get_or l i any) made ∙ get_or_append_left xs (x ∷ []) any i (omega (arith, below, count)))) (each i any below))
+    (subst (P n) (sym (ap (λ l. get_or l n any) made ∙ get_or_push xs x any n count)) here)
+    k lt

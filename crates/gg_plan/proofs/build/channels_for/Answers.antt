@@ -1,0 +1,32 @@
+use Rattle.std.proofs.Common.{ℕ, List, ◌<◌, ◌^◌, sym, subst, get_or}
+use Rattle.std.specs.Prelude.{All}
+use Rattle.gg_cut.specs.Channels.{capacity_of}
+use Rattle.gg_plan.specs.Made.{AreWired}
+use Rattle.gg_plan.proofs.FaultlessLemmas.{range-free, capacities-small}
+use Rattle.gg_plan.proofs.PlanLemmas.{machine-fit, given-below, known-below, channels-made}
+use Rattle.gg_plan.proofs.build.channels_for.Goals as goal
+
+pub needs_table-requires-clause-fit : goal.needs_table-requires-clause-fit
+needs_table-requires-clause-fit c = λ m any lt.
+    machine-fit c.args.design.now c.args.request.now c.args.listed.now c.args.wires.now m (get_or c.args.machines.now m any) c.piece.ensures.formed c.part_formed.ensures (c.requires.machines.each m any lt)
+
+pub needs_table-requires-clause-given : goal.needs_table-requires-clause-given
+needs_table-requires-clause-given c = given-below c.args.design.now c.args.request.now c.args.listed.now c.args.wires.now c.args.machines.now c.requires.faultless c.tree.ensures.fitting c.requires.listed c.requires.wires c.requires.machines
+
+pub channels_of-requires-clause-known : goal.channels_of-requires-clause-known
+channels_of-requires-clause-known c = known-below c.args.design.now c.args.request.now c.args.listed.now c.args.wires.now c.piece-2.result.now c.requires.faultless c.piece.ensures.formed c.tree.ensures.fitting c.requires.listed c.requires.wires c.piece-2.ensures.circuit
+
+pub channels_of-requires-clause-range : goal.channels_of-requires-clause-range
+channels_of-requires-clause-range c =
+    subst (λ (l : List (List ℕ × ℕ)). All (λ pair. pair.1 < 2 ^ 32) l) (sym c.as_slice.ensures) (capacities-small c.args.request.now.capacity (range-free c.args.design.now c.args.request.now c.requires.faultless))
+
+pub returns : goal.returns
+returns c =
+    let design = c.args.design.now in
+    let wires = c.args.wires.now in
+    let machines = c.args.machines.now in
+    let table = c.in_ok-table.table.items in
+    let channels = c.in_ok-channels.channels.items in
+    channels-made design c.piece-2.result.now (capacity_of c.args.request.now.capacity c.args.default_capacity) wires machines table channels c.piece-2.ensures.circuit
+    (given-below design c.args.request.now c.args.listed.now wires machines c.requires.faultless c.tree.ensures.fitting c.requires.listed c.requires.wires c.requires.machines) (c.in_ok-table.ensures {u = tt})
+    (subst (λ (l : List (List ℕ × ℕ)). AreWired c.piece-2.result.now (capacity_of l c.args.default_capacity) wires table channels) c.as_slice.ensures (c.in_ok-channels.ensures {u = tt}))

@@ -1,0 +1,94 @@
+-- The parts of a plan while it is made: its machines, its channels but for their needs, and the needs of each channel.
+-- Source: MEMOCODE 2009 (a network of machines that are latency-insensitive); ICCAD 2019 (instances and memories of a target as
+-- models of their own).
+use Rattle.std.specs.Prelude.{◌≡◌, ◌≢◌, ℕ, ◌<◌, ◌≤◌, List, [], length, map, slice_index_or, AllPairs}
+use Rattle.gg_bits.specs.Shape.{shape}
+use Rattle.gg_flat.specs.Line.{value_at, shape_at}
+use Rattle.gg_flat.specs.Circuit.{FlatCircuit, signal_shapes}
+use Rattle.gg_flat.specs.WellFormed.{IsWellFormed}
+use Rattle.gg_flat.specs.Tree.{path_at}
+use Rattle.gg_order.specs.Design.{Ordered}
+use Rattle.gg_part.specs.declared.part.Part.{Part}
+use Rattle.gg_part.specs.InOrder.{IsInOrder}
+use Rattle.gg_partfile.specs.declared.request.Request.{Request}
+use Rattle.gg_cut.specs.declared.plan.Body.{Body}
+use Rattle.gg_cut.specs.declared.plan.Body.TheVariants.{Cut, Memory, Source, Tray}
+use Rattle.gg_cut.specs.declared.plan.Machine.{Machine}
+use Rattle.gg_cut.specs.declared.plan.Channel.{Channel}
+use Rattle.gg_cut.specs.declared.listed.Listed.{Listed}
+use Rattle.gg_cut.specs.declared.wires.Wire.{Wire}
+use Rattle.gg_cut.specs.Channels.{machine_count}
+use Rattle.gg_cut.specs.Fault.{most_capacity}
+use Rattle.gg_cut.specs.Plan.{wire_at, channels_to, channels_from, signals_of, IsMachine, AreNeedsOf, NeedsIn, IsChannel}
+
+-- how many tokens a channel may hold
+abbrev pub IsCapacity : ℕ → Type 0
+IsCapacity n = (0 < n) × (n ≤ most_capacity)
+
+-- the machines of a plan
+pub record AreMachines (design : Ordered) (request : Request) (listed : Listed) (wires : List Wire) (machines : List Machine) : Type 0 where
+  pub total : length machines ≡ machine_count design.circuit listed
+  pub each : (m : ℕ) (any : Machine) → m < length machines → IsMachine design request listed wires m (slice_index_or machines m any)
+
+-- A part whose needs can be told: a well-formed piece in an order of evaluation, whose ports are a machine's channels.
+pub record IsServed (wires : List Wire) (part : Part) (taken given : List ℕ) : Type 0 where
+  pub formed : IsWellFormed part.piece
+  pub ordered : IsInOrder part.piece
+  pub once : AllPairs (λ a b. a ≢ b) part.globals
+  pub known : (place : ℕ) → place < length part.piece.outs → value_at part.piece.outs place < length part.globals
+  pub ins : map (value_at part.globals) part.piece.ins ≡ signals_of wires taken
+  pub outs : map (value_at part.globals) part.piece.outs ≡ signals_of wires given
+
+abbrev pub IsServedBody : List Wire → Body → List ℕ → List ℕ → Type 0
+IsServedBody wires (Cut part) taken given = IsServed wires part taken given
+IsServedBody wires (Memory part) taken given = IsServed wires part taken given
+IsServedBody wires Source taken given = Unit {0}
+IsServedBody wires Tray taken given = Unit {0}
+
+-- machine m has its channels, and its needs can be told
+pub record IsFit (wires : List Wire) (m : ℕ) (machine : Machine) : Type 0 where
+  pub ins : machine.ins ≡ channels_to wires m
+  pub outs : machine.outs ≡ channels_from wires m
+  pub body : IsServedBody wires machine.body machine.ins machine.outs
+
+-- The needs of the channel of signal s that a part gives, ascending.
+pub record ArePartNeeds (part : Part) (channels : List ℕ) (s : ℕ) (told : List ℕ) : Type 0 where
+  pub ascending : AllPairs (λ a b. a < b) told
+  pub needs : (out : ℕ) → out < length part.globals → value_at part.globals out ≡ s → AreNeedsOf part channels out told
+
+-- The first n of the channels `given` have in a table the channels at the places of their lists among `taken`; every other channel
+-- has what it had before.
+pub record ArePut (taken given : List ℕ) (lists before : List (List ℕ)) (n : ℕ) (table : List (List ℕ)) : Type 0 where
+  pub count : length table ≡ length before
+  pub put : (i : ℕ) → i < n → slice_index_or table (value_at given i) [] ≡ map (value_at taken) (slice_index_or lists i [])
+  pub others : (c : ℕ) → ((i : ℕ) → i < n → value_at given i ≢ c) → slice_index_or table c [] ≡ slice_index_or before c []
+
+-- the needs of a channel that a machine gives
+pub record AreGiven (machine : Machine) (w : Wire) (told : List ℕ) : Type 0 where
+  pub ascending : AllPairs (λ a b. a < b) told
+  pub needs : NeedsIn machine.body machine.ins w.signal told
+
+-- a list of needs for each channel
+pub record AreTold (wires : List Wire) (machines : List Machine) (table : List (List ℕ)) : Type 0 where
+  pub count : length table ≡ length wires
+  pub each : (c : ℕ) (any : Machine) → c < length wires → AreGiven (slice_index_or machines (wire_at wires c).producer any) (wire_at wires c) (slice_index_or table c [])
+
+-- a channel, but for its needs
+pub record IsWired (circuit : FlatCircuit) (capacity : List ℕ → ℕ) (w : Wire) (channel : Channel) : Type 0 where
+  pub signal : channel.signal ≡ w.signal
+  pub name : channel.name ≡ path_at circuit.paths w.signal
+  pub type : shape channel.ty ≡ shape_at (signal_shapes circuit) w.signal
+  pub producer : channel.producer ≡ w.producer
+  pub consumer : channel.consumer ≡ w.consumer
+  pub bound : channel.capacity ≡ capacity (path_at circuit.paths w.signal)
+
+-- the channels with the needs of a table
+pub record AreWired (circuit : FlatCircuit) (capacity : List ℕ → ℕ) (wires : List Wire) (table : List (List ℕ)) (channels : List Channel) : Type 0 where
+  pub count : length channels ≡ length wires
+  pub each : (c : ℕ) (any : Channel) → c < length channels → IsWired circuit capacity (wire_at wires c) (slice_index_or channels c any)
+  pub needs : (c : ℕ) (any : Channel) → c < length channels → (slice_index_or channels c any).needs ≡ slice_index_or table c []
+
+-- the channels of a plan
+pub record AreChannels (design : Ordered) (capacity : List ℕ → ℕ) (wires : List Wire) (machines : List Machine) (channels : List Channel) : Type 0 where
+  pub total : length channels ≡ length wires
+  pub each : (c : ℕ) (any : Channel) → c < length channels → IsChannel design capacity machines (wire_at wires c) (slice_index_or channels c any)

@@ -1,0 +1,156 @@
+//! The hosts of the machines.
+ghost use Rattle.std.specs.Prelude.{◌≡◌, ℕ, ◌+◌, ◌-◌, ◌<◌, ◌≤◌, ◌^◌, ◌==◌, min, if◌then◌else◌, length, filter, IfOk};
+ghost use Rattle.std.specs.List.{list_any, range_with_len};
+ghost use Rattle.gg_flat.specs.Line.{value_at};
+ghost use Rattle.gg_cut.specs.Hosts.{machine_of, least_machine, leader, host_of};
+
+use crate::lists::picked;
+use gg_bits::{Name, Names};
+use std::alloc::{AllocError, Global};
+
+/// The hosts of this many machines, by their numbers.
+///
+/// # Errors
+///
+/// Where memory is refused.
+pub(crate) fn hosts_of(
+    alloc: Global,
+    units: &[Name],
+    share: &[Names],
+    count: usize,
+) -> Result<Vec<u32>, AllocError>
+    requires units { length units.now < count }
+    requires few { count < 2 ^ 32 }
+    ensures count { IfOk result (λ hosts. length hosts.items ≡ count) }
+    ensures hosts { IfOk result (λ hosts. (m : ℕ) → m < count → value_at hosts.items m ≡ host_of units.now share.now m) }
+{
+    let leaders = leaders_of(alloc, units, share, count)?;
+    number_hosts(alloc, units, share, &leaders)
+}
+
+// The first machine of each machine's host.
+fn leaders_of(
+    alloc: Global,
+    units: &[Name],
+    share: &[Names],
+    count: usize,
+) -> Result<Vec<u32>, AllocError>
+    requires units { length units.now < count }
+    requires few { count < 2 ^ 32 }
+    ensures count { IfOk result (λ leaders. length leaders.items ≡ count) }
+    ensures leaders { IfOk result (λ leaders. (m : ℕ) → m < count → value_at leaders.items m ≡ leader units.now share.now m) }
+{
+    let mut leaders = numbers(alloc, count)?;
+    for step in 0..share.len() {
+        lead(
+            units,
+            share[share.len() - 1 - step].as_slice(),
+            &mut leaders,
+        );
+    }
+    Ok(leaders)
+}
+
+// The numbers below a count.
+fn numbers(alloc: Global, count: usize) -> Result<Vec<u32>, AllocError>
+    requires { count < 2 ^ 32 }
+    ensures count { IfOk result (λ numbers. length numbers.items ≡ count) }
+    ensures same { IfOk result (λ numbers. (m : ℕ) → m < count → value_at numbers.items m ≡ m) }
+{
+    let mut numbers = Vec::new(alloc);
+    for number in 0..count {
+        numbers.push(number as u32)?;
+    }
+    Ok(numbers)
+}
+
+// Gives the machines of a list the least of them.
+fn lead(units: &[Name], group: &[Name], leaders: &mut Vec<u32>)
+    requires units { length units.now < length leaders.old.items }
+    requires few { length leaders.old.items < 2 ^ 32 }
+    ensures count { length leaders.new.items ≡ length leaders.old.items }
+    ensures led { (m : ℕ) → m < length leaders.old.items → value_at leaders.new.items m ≡ (if list_any (λ path. machine_of units.now path == m) group.now then least_machine units.now group.now m else value_at leaders.old.items m) }
+{
+    let least = least_of(units, group, leaders.len() as u32);
+    set_all(units, group, least, leaders);
+}
+
+// Gives the machines of a list a number.
+fn set_all(units: &[Name], group: &[Name], number: u32, leaders: &mut Vec<u32>)
+    requires units { length units.now < length leaders.old.items }
+    requires few { length leaders.old.items < 2 ^ 32 }
+    ensures count { length leaders.new.items ≡ length leaders.old.items }
+    ensures set { (m : ℕ) → m < length leaders.old.items → value_at leaders.new.items m ≡ (if list_any (λ path. machine_of units.now path == m) group.now then number else value_at leaders.old.items m) }
+{
+    for path in group {
+        leaders[machine_of(units, path) as usize] = number;
+    }
+}
+
+// The least of the machines of a list and a number.
+fn least_of(units: &[Name], group: &[Name], number: u32) -> u32
+    requires { length units.now < 2 ^ 32 - 1 }
+    ensures { result ≡ least_machine units.now group.now number }
+{
+    let mut least = number;
+    for path in group {
+        least = machine_of(units, path).min(least);
+    }
+    least
+}
+
+// The machine of a unit's path; the hub, where it is none.
+fn machine_of(units: &[Name], path: &Name) -> u32
+    requires few { length units.now < 2 ^ 32 - 1 }
+    ensures machine { result ≡ machine_of units.now path.now }
+    ensures within { result ≤ length units.now }
+{
+    for number in 0..units.len() {
+        if *path == units[number] {
+            return number as u32 + 1;
+        }
+    }
+    0
+}
+
+// The number of each machine's host, from the first machine of its host.
+fn number_hosts(
+    alloc: Global,
+    units: &[Name],
+    share: &[Names],
+    leaders: &[u32],
+) -> Result<Vec<u32>, AllocError>
+    requires few { length leaders.now < 2 ^ 32 }
+    requires leaders { (m : ℕ) → m < length leaders.now → value_at leaders.now m ≡ leader units.now share.now m }
+    ensures count { IfOk result (λ hosts. length hosts.items ≡ length leaders.now) }
+    ensures hosts { IfOk result (λ hosts. (m : ℕ) → m < length leaders.now → value_at hosts.items m ≡ host_of units.now share.now m) }
+{
+    let _ = units;
+    let _ = share;
+    let before = firsts_before(alloc, leaders)?;
+    let hosts = picked(alloc, &before, leaders)?;
+    Ok(hosts)
+}
+
+// How many machines before each lead.
+fn firsts_before(alloc: Global, leaders: &[u32]) -> Result<Vec<u32>, AllocError>
+    requires few { length leaders.now < 2 ^ 32 }
+    ensures count { IfOk result (λ before. length before.items ≡ length leaders.now) }
+    ensures before { IfOk result (λ before. (m : ℕ) → m < length leaders.now → value_at before.items m ≡ length (filter (λ k. value_at leaders.now k == k) (range_with_len 0 m))) }
+{
+    let mut before = Vec::new(alloc);
+    let mut total = 0;
+    for number in 0..leaders.len() {
+        before.push(total)?;
+        total += one_if(leaders[number] == number as u32);
+    }
+    Ok(before)
+}
+
+// One, if a fact holds; else nothing.
+fn one_if(holds: bool) -> u32
+    ensures one { result ≡ (if holds then 1 else 0) }
+    ensures small { result ≤ 1 }
+{
+    if holds { 1 } else { 0 }
+}

@@ -1,0 +1,82 @@
+//! The names of the machines.
+ghost use Rattle.std.specs.Prelude.{◌≡◌, ◌<◌, length, codes, ◌++◌, IfOk};
+ghost use Rattle.gg_flat.specs.Tree.{path_at};
+ghost use Rattle.gg_cut.specs.Plan.{machine_names};
+
+use gg_bits::Name;
+use gg_cut::Listed;
+use gg_flat::{Piece, Tree};
+use gg_order::Design;
+use gg_partfile::Request;
+use std::alloc::{AllocError, Global};
+
+/// The name of a machine, by its number.
+///
+/// # Errors
+///
+/// Where memory is refused.
+pub(crate) fn machine_name(
+    alloc: Global,
+    design: &Design,
+    request: &Request,
+    listed: &Listed,
+    number: usize,
+) -> Result<Name, AllocError>
+    requires { number < length (machine_names design.now request.now listed.now) }
+    ensures { IfOk result (λ name. name ≡ path_at (machine_names design.now request.now listed.now) number) }
+{
+    let units = request.units.as_slice();
+    let memories = listed.memories.as_slice();
+    let ins = design.piece().ins();
+    let outs = design.piece().outs();
+    if number == 0 {
+        return Name::from_str(alloc, "hub:");
+    }
+    let unit = number - 1;
+    if unit < units.len() {
+        return units[unit].clone();
+    }
+    let memory = unit - units.len();
+    if memory < memories.len() {
+        return memory_name(alloc, design.tree(), memories[memory]);
+    }
+    let source = memory - memories.len();
+    if source < ins.len() {
+        return port_name(alloc, "in:", design.piece(), ins[source]);
+    }
+    port_name(alloc, "out:", design.piece(), outs[source - ins.len()])
+}
+
+// The path of a memory, by its place in the tree; the empty path, where there is none.
+fn memory_name(alloc: Global, tree: &Tree, place: u32) -> Result<Name, AllocError>
+    ensures { IfOk result (λ name. name ≡ path_at tree.now.memory_paths place) }
+{
+    match tree.memory_path(place) {
+        Some(path) => path.clone(),
+        None => Name::from_str(alloc, ""),
+    }
+}
+
+// A word and the path of a signal behind it.
+fn port_name(alloc: Global, word: &str, piece: &Piece, signal: u32) -> Result<Name, AllocError>
+    ensures { IfOk result (λ name. name ≡ word.now ++ path_at piece.now.paths signal) }
+{
+    let path = signal_name(alloc, piece, signal)?;
+    let mut text = String::from_str(alloc, word)?;
+    text.push_str(path.as_str())?;
+    Ok(Name::from(text))
+}
+
+/// The path of a signal; the empty path, where there is none.
+///
+/// # Errors
+///
+/// Where memory is refused.
+pub(crate) fn signal_name(alloc: Global, piece: &Piece, signal: u32) -> Result<Name, AllocError>
+    ensures { IfOk result (λ name. name ≡ path_at piece.now.paths signal) }
+{
+    match piece.path(signal) {
+        Some(path) => path.clone(),
+        None => Name::from_str(alloc, ""),
+    }
+}

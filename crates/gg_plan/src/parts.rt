@@ -1,0 +1,68 @@
+//! The parts of the circuit that machines run.
+ghost use Rattle.std.specs.Prelude.{◌≡◌, ◌<◌, length, All, IfOk};
+ghost use Rattle.gg_cut.specs.Channels.{first_source};
+ghost use Rattle.gg_cut.specs.Plan.{signals_of, IsCutPart};
+ghost use Rattle.gg_split.specs.Share.{IsShareOf};
+
+use gg_bits::Ids;
+use gg_cut::{Listed, Wire};
+use gg_order::Design;
+use gg_part::{Part, part_in_order, part_of};
+use gg_split::Share;
+use std::alloc::{AllocError, Global};
+
+/// The part of a machine that runs one, by its number.
+///
+/// # Errors
+///
+/// Where memory is refused.
+pub(crate) fn cut_part(
+    alloc: Global,
+    design: &Design,
+    listed: &Listed,
+    wires: &[Wire],
+    share: &Share,
+    number: usize,
+) -> Result<Part, AllocError>
+    requires share { IsShareOf design.now listed.now wires.now number share.now.ins share.now.outs share.now.globals share.now.memories }
+    requires inside { number < first_source listed.now }
+    ensures { IfOk result (λ part. IsCutPart design.now listed.now wires.now number part) }
+{
+    let _ = listed;
+    let _ = design.order();
+    part_in_order();
+    let ins = signals(alloc, wires, share.ins.as_slice())?;
+    let outs = signals(alloc, wires, share.outs.as_slice())?;
+    let part = part_of(
+        alloc,
+        design.piece(),
+        share.globals.as_slice(),
+        &ins,
+        &outs,
+        share.memories.as_slice(),
+    )?;
+    Ok(part)
+}
+
+// The signals of channels.
+fn signals(alloc: Global, wires: &[Wire], channels: &[u32]) -> Result<Vec<u32>, AllocError>
+    requires { All (λ channel. channel < length wires.now) channels.now }
+    ensures { IfOk result (λ signals. signals.items ≡ signals_of wires.now channels.now) }
+{
+    let mut signals = Vec::new(alloc);
+    for channel in channels {
+        signals.push(wires[*channel as usize].signal)?;
+    }
+    Ok(signals)
+}
+
+/// A copy of a list of numbers.
+///
+/// # Errors
+///
+/// Where memory is refused.
+pub(crate) fn copied(alloc: Global, numbers: &[u32]) -> Result<Ids, AllocError>
+    ensures { IfOk result (λ copy. copy ≡ numbers.now) }
+{
+    Ok(Ids::from(Vec::from_slice(alloc, numbers)?))
+}

@@ -1,0 +1,6 @@
+pub mod NumberedLemmas
+pub mod TableLemmas
+pub mod SpreadLemmas
+pub mod ShareLemmas
+pub mod GatherLemmas
+pub mod PartingLemmas

@@ -1,0 +1,115 @@
+-- What the steps of the split ask for and give, from what is read.
+use Rattle.std.proofs.Common.{◌≡◌, ◌≢◌, ℕ, zero, suc, ◌+◌, ◌<◌, ◌≤◌, List, [], length, get_or, refl, sym, ◌∙◌, ap, ap₂, subst, None, arith}
+use Rattle.std.specs.Prelude.{Option, slice_index_or, Contains, All}
+use Rattle.std.proofs.lemmas.List.{get_or_default}
+use Rattle.std.proofs.lemmas.List.Elements.{Contains-get_or}
+use Rattle.gg_flat.specs.Line.{value_at}
+use Rattle.gg_flat.specs.Circuit.{FlatCircuit}
+use Rattle.gg_flat.specs.WellFormed.{IsWellFormed}
+use Rattle.gg_flat.specs.Tree.{InstanceTree, IsTree}
+use Rattle.gg_flat.specs.Scoped.{IsScoped}
+use Rattle.gg_flat.specs.Order.{IsOrder}
+use Rattle.gg_order.specs.Design.{Ordered}
+use Rattle.gg_partfile.specs.declared.request.Request.{Request}
+use Rattle.gg_cut.specs.declared.wires.Wire.{Wire}
+use Rattle.gg_cut.specs.declared.listed.Listed.{Listed}
+use Rattle.gg_cut.specs.Listed.{first_place, has_signal, unit_or_hub, listed_of}
+use Rattle.gg_cut.specs.Fault.{first_fault}
+use Rattle.gg_cut.specs.Channels.{wires_of, machine_count}
+use Rattle.gg_cut.specs.Plan.{channels_to, channels_from, memory_owner}
+use Rattle.gg_split.specs.declared.share.Share.{Share}
+use Rattle.gg_closed.specs.Apart.{AreApart}
+use Rattle.gg_closed.specs.Apart.{AreFew}
+use Rattle.gg_split.specs.Share.{IsShareOf}
+use Rattle.gg_split.specs.IsShare.{IsShare, AreShares, AreGathered}
+use Rattle.gg_closed.specs.Apart.{AreEnds}
+use Rattle.gg_split.specs.Spread.{AreLists, EachList, AreChannels, signals_among, memories_below, AreSignals, AreMemories}
+use Rattle.gg_closed.proofs.ChoiceLemmas.{wire-known}
+use Rattle.gg_closed.proofs.FaultlessLemmas.{faultless-apart, faultless-few}
+use Rattle.gg_closed.proofs.EndLemmas.{machine-below, owner-few, ends}
+use Rattle.gg_split.proofs.ShareLemmas.{signals-are, memories-are, shared}
+
+module _ (circuit : FlatCircuit) (tree : InstanceTree) (listed : Listed) (fits : IsTree circuit tree) (apart : AreApart tree listed) where
+  -- the ends of the channels, of so many machines
+  pub ends-known : (wires : List Wire) (count : ℕ) → wires ≡ wires_of circuit tree listed → count ≡ machine_count circuit listed → All (AreEnds count) wires
+  ends-known wires count is many =
+      subst (λ n. All (AreEnds n) wires) (sym many) (subst (λ (l : List Wire). All (AreEnds (machine_count circuit listed)) l) (sym is) (ends circuit tree listed fits apart))
+
+  pub owners-known : (owners now : List ℕ) (count : ℕ) → now ≡ owners → count ≡ machine_count circuit listed → ((s : ℕ) → value_at owners s ≡ unit_or_hub (first_place (has_signal tree s) listed.units)) → All (λ m. m < count) now
+  owners-known owners now count is many owns =
+      subst (λ n. All (λ m. m < n) now) (sym many) (subst (λ (l : List ℕ). All (λ m. m < machine_count circuit listed) l) (sym is) (owner-few circuit tree listed owners owns))
+
+  pub machines-known : (machines now : List ℕ) (count : ℕ) → now ≡ machines → count ≡ machine_count circuit listed → length machines ≡ length tree.memories → ((place : ℕ) → place < length tree.memories → value_at machines place ≡ memory_owner tree listed place) → All (λ m. m < count) now
+  machines-known machines now count is many as-many owns =
+      subst (λ n. All (λ m. m < n) now) (sym many) (subst (λ (l : List ℕ). All (λ m. m < machine_count circuit listed) l) (sym is) each)
+    where
+      each : All (λ m. m < machine_count circuit listed) machines
+      each k d lt =
+          let low = machine-below circuit tree listed k in
+          let is = owns k (omega (arith, lt, as-many)) in
+          let read = get_or_default machines k d 0 lt in
+          omega (arith, low, is, read)
+
+  pub each-memories : (machines now : List ℕ) (count : ℕ) (lists : List (List ℕ)) → now ≡ machines → ((place : ℕ) → place < length tree.memories → value_at machines place ≡ memory_owner tree listed place) → AreLists (memories_below tree now (length tree.memories)) count lists → EachList (AreMemories tree listed) count lists
+  each-memories machines now count lists is owns are =
+      record {
+        many = are.many;
+        each = λ m lt.
+            subst (AreMemories tree listed m) (sym (are.each m lt ∙ ap (λ (l : List ℕ). memories_below tree l (length tree.memories) m) is))
+            (memories-are circuit tree listed fits machines owns m);
+      }
+
+module _ (circuit : FlatCircuit) (tree : InstanceTree) (order : List ℕ) (listed : Listed) (formed : IsWellFormed circuit) (fits : IsTree circuit tree) (scoped : IsScoped circuit tree) (ordered : IsOrder circuit order) (apart : AreApart tree listed) where
+  pub wires-known : (wires : List Wire) (n : ℕ) → wires ≡ wires_of circuit tree listed → n ≡ length circuit.signals → All (λ w. w.signal < n) wires
+  wires-known wires n is many k d lt =
+      subst (λ j. (get_or wires k d).signal < j) (sym many)
+      (wire-known circuit tree listed formed fits scoped apart (get_or wires k d) (subst (λ (l : List Wire). Contains l (get_or wires k d)) is (Contains-get_or wires k d lt)))
+
+  pub order-known : (owners now : List ℕ) → now ≡ owners → length owners ≡ length circuit.signals → All (λ s. s < length now) order
+  order-known owners now is many k d lt =
+      let known = ordered.signals k lt in
+      let read = get_or_default order k d 0 lt in
+      let same = ap length is in
+      omega (arith, known, read, same, many)
+
+  pub each-signals : (owners now_owners : List ℕ) (channels now_channels : List (Option ℕ)) (wires : List Wire) (count : ℕ) (lists : List (List ℕ)) → now_owners ≡ owners → now_channels ≡ channels → wires ≡ wires_of circuit tree listed → ((s : ℕ) → value_at owners s ≡ unit_or_hub (first_place (has_signal tree s) listed.units)) → AreChannels wires channels → length channels ≡ length circuit.signals → AreLists (signals_among wires now_owners now_channels order) count lists → EachList (AreSignals circuit tree order listed) count lists
+  each-signals owners now_owners channels now_channels wires count lists is_owners is_channels is owns marked many are =
+      record {
+        many = are.many;
+        each = λ m lt.
+            subst (AreSignals circuit tree order listed m) (sym (are.each m lt ∙ ap (λ (w : List Wire). signals_among w now_owners now_channels order m) is ∙ ap₂ (λ (o : List ℕ) (l : List (Option ℕ)). signals_among (wires_of circuit tree listed) o l order m) is_owners is_channels))
+            (signals-are circuit tree order listed formed fits scoped ordered apart owners channels owns (subst (λ (w : List Wire). AreChannels w channels) is marked) many m);
+      }
+
+  pub all-shares : (ins outs globals memories now_ins now_outs now_globals now_memories : List (List ℕ)) (count : ℕ) (shares : List Share) (wires : List Wire) → wires ≡ wires_of circuit tree listed → count ≡ machine_count circuit listed → AreLists (channels_to wires) count ins → AreLists (channels_from wires) count outs → EachList (AreSignals circuit tree order listed) count globals → EachList (AreMemories tree listed) count memories → now_ins ≡ ins → now_outs ≡ outs → now_globals ≡ globals → now_memories ≡ memories → AreGathered now_ins now_outs now_globals now_memories (length now_ins) shares → AreShares (record { circuit = circuit; tree = tree; order = order }) listed shares
+  all-shares ins outs globals memories now_ins now_outs now_globals now_memories count shares wires is many takes gives signals banks i o g b gathered =
+      record { many = gathered.many ∙ machines; each = each }
+    where
+      machines : length now_ins ≡ machine_count circuit listed
+      machines = ap length i ∙ takes.many ∙ many
+
+      each : (m : ℕ) (any : Share) → m < machine_count circuit listed → IsShare (record { circuit = circuit; tree = tree; order = order }) listed m (slice_index_or shares m any)
+      each m any lt =
+          let at = gathered.each m any (omega (arith, lt, machines)) in
+          let share = slice_index_or shares m any in
+          let low : m < count = omega (arith, lt, many) in
+          shared circuit tree order listed formed fits scoped ordered apart m share.ins share.outs share.globals share.memories
+          (at.takes ∙ ap (λ (l : List (List ℕ)). slice_index_or l m []) i ∙ takes.each m low ∙ ap (λ (w : List Wire). channels_to w m) is)
+          (at.gives ∙ ap (λ (l : List (List ℕ)). slice_index_or l m []) o ∙ gives.each m low ∙ ap (λ (w : List Wire). channels_from w m) is)
+          (subst (AreSignals circuit tree order listed m) (sym (at.signals ∙ ap (λ (l : List (List ℕ)). slice_index_or l m []) g)) (signals.each m low))
+          (subst (AreMemories tree listed m) (sym (at.banks ∙ ap (λ (l : List (List ℕ)). slice_index_or l m []) b)) (banks.each m low))
+
+-- ---- a design and its request
+
+pub apart-of : (design : Ordered) (request : Request) (tree : InstanceTree) (listed : Listed) → tree ≡ design.tree → listed ≡ listed_of design.tree request → IsTree design.circuit design.tree → first_fault design request ≡ None → AreApart tree listed
+apart-of design request tree listed is lists fits none =
+    subst (λ t. AreApart t listed) (sym is) (subst (AreApart design.tree) (sym lists) (faultless-apart design request none fits))
+
+pub few-of : (design : Ordered) (request : Request) (circuit : FlatCircuit) (tree : InstanceTree) (listed : Listed) → circuit ≡ design.circuit → tree ≡ design.tree → listed ≡ listed_of design.tree request → first_fault design request ≡ None → AreFew circuit tree listed
+few-of design request circuit tree listed is fits lists none =
+    subst (λ k. AreFew k tree listed) (sym is) (subst (λ t. AreFew design.circuit t listed) (sym fits) (subst (AreFew design.circuit design.tree) (sym lists) (faultless-few design request none)))
+
+pub shares-of : (design : Ordered) (circuit : FlatCircuit) (tree : InstanceTree) (order : List ℕ) (listed : Listed) (shares : List Share) → circuit ≡ design.circuit → tree ≡ design.tree → order ≡ design.order → AreShares (record { circuit = circuit; tree = tree; order = order }) listed shares → AreShares design listed shares
+shares-of design circuit tree order listed shares is fits along are =
+    subst (λ o. AreShares (record { circuit = design.circuit; tree = design.tree; order = o }) listed shares) along
+    (subst (λ t. AreShares (record { circuit = design.circuit; tree = t; order = order }) listed shares) fits (subst (λ k. AreShares (record { circuit = k; tree = tree; order = order }) listed shares) is are))

@@ -1,0 +1,25 @@
+//! `Share` and `Split`: what machines have.
+use gg_bits::{Ids, Items};
+use gg_cut::Wire;
+
+/// What a machine has, all by numbers of the whole.
+#[derive(Drop)]
+pub struct Share {
+    /// The channels that it takes, ascending.
+    pub ins: Ids,
+    /// The channels that it gives, ascending.
+    pub outs: Ids,
+    /// The signals of the circuit that it makes or takes, in the order of evaluation.
+    pub globals: Ids,
+    /// The memories of the circuit that belong to it, in the order of the tree.
+    pub memories: Ids,
+}
+
+/// The channels of a cut, and what each machine has.
+#[derive(Drop)]
+pub struct Split {
+    /// The channels, by number.
+    pub wires: Items<Wire>,
+    /// What each machine has, by its number.
+    pub shares: Items<Share>,
+}

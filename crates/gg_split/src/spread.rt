@@ -1,0 +1,177 @@
+//! What each machine has: lists that are filled in one pass each.
+ghost use Rattle.std.specs.Prelude.{◌≡◌, ℕ, ◌<◌, ◌^◌, ◌==◌, ◌||◌, [], length, slice_index_or, All, OnOk, IfOk};
+ghost use Rattle.gg_cut.specs.Plan.{channels_to, channels_from};
+ghost use Rattle.gg_closed.specs.Apart.{AreEnds};
+ghost use Rattle.gg_split.specs.Spread.{AreLists, IsPut, AreChannels, has, signals_among, memories_below};
+
+use crate::pile::{piles, put, Pile};
+use gg_cut::Wire;
+use gg_flat::Tree;
+use std::alloc::{AllocError, Global};
+
+/// The channels that each of so many machines takes, in order.
+///
+/// # Errors
+///
+/// Where memory is refused.
+pub(crate) fn taken(alloc: Global, wires: &[Wire], count: usize) -> Result<Vec<Pile>, AllocError>
+    requires few { length wires.now < 2 ^ 32 }
+    requires ends { All (AreEnds count) wires.now }
+    ensures { IfOk result (λ lists. AreLists (channels_to wires.now) count lists.items) }
+{
+    let mut lists = piles(alloc, count)?;
+    put_taken(wires, &mut lists)?;
+    Ok(lists)
+}
+
+// Adds each channel to those that its consumer takes, where all have none.
+fn put_taken(wires: &[Wire], lists: &mut [Pile]) -> Result<(), AllocError>
+    requires few { length wires.now < 2 ^ 32 }
+    requires ends { All (AreEnds (length lists.old)) wires.now }
+    requires empty { (m : ℕ) → slice_index_or lists.old m [] ≡ [] }
+    ensures { OnOk result (AreLists (channels_to wires.now) (length lists.old) lists.new) }
+{
+    for channel in 0..wires.len() {
+        put(lists, wires[channel].consumer, channel as u32)?;
+    }
+    Ok(())
+}
+
+/// The channels that each of so many machines gives, in order.
+///
+/// # Errors
+///
+/// Where memory is refused.
+pub(crate) fn given(alloc: Global, wires: &[Wire], count: usize) -> Result<Vec<Pile>, AllocError>
+    requires few { length wires.now < 2 ^ 32 }
+    requires ends { All (AreEnds count) wires.now }
+    ensures { IfOk result (λ lists. AreLists (channels_from wires.now) count lists.items) }
+{
+    let mut lists = piles(alloc, count)?;
+    put_given(wires, &mut lists)?;
+    Ok(lists)
+}
+
+// Adds each channel to those that its producer gives, where all have none.
+fn put_given(wires: &[Wire], lists: &mut [Pile]) -> Result<(), AllocError>
+    requires few { length wires.now < 2 ^ 32 }
+    requires ends { All (AreEnds (length lists.old)) wires.now }
+    requires empty { (m : ℕ) → slice_index_or lists.old m [] ≡ [] }
+    ensures { OnOk result (AreLists (channels_from wires.now) (length lists.old) lists.new) }
+{
+    for channel in 0..wires.len() {
+        put(lists, wires[channel].producer, channel as u32)?;
+    }
+    Ok(())
+}
+
+/// The signals of each of so many machines among those of an order: each signal is that of the machines at the ends of its
+/// channel, or of its owner, where it has none.
+///
+/// # Errors
+///
+/// Where memory is refused.
+pub(crate) fn spread(
+    alloc: Global,
+    wires: &[Wire],
+    owners: &[u32],
+    channels: &[Option<u32>],
+    order: &[u32],
+    count: usize,
+) -> Result<Vec<Pile>, AllocError>
+    requires ends { All (AreEnds count) wires.now }
+    requires owned { All (λ m. m < count) owners.now }
+    requires same { length channels.now ≡ length owners.now }
+    requires marked { AreChannels wires.now channels.now }
+    requires known { All (λ s. s < length owners.now) order.now }
+    ensures { IfOk result (λ lists. AreLists (signals_among wires.now owners.now channels.now order.now) count lists.items) }
+{
+    let mut lists = piles(alloc, count)?;
+    put_signals(wires, owners, channels, order, &mut lists)?;
+    Ok(lists)
+}
+
+// Adds each signal of an order to those of its machines, where all have none.
+fn put_signals(
+    wires: &[Wire],
+    owners: &[u32],
+    channels: &[Option<u32>],
+    order: &[u32],
+    lists: &mut [Pile],
+) -> Result<(), AllocError>
+    requires ends { All (AreEnds (length lists.old)) wires.now }
+    requires owned { All (λ m. m < length lists.old) owners.now }
+    requires same { length channels.now ≡ length owners.now }
+    requires marked { AreChannels wires.now channels.now }
+    requires known { All (λ s. s < length owners.now) order.now }
+    requires empty { (m : ℕ) → slice_index_or lists.old m [] ≡ [] }
+    ensures { OnOk result (AreLists (signals_among wires.now owners.now channels.now order.now) (length lists.old) lists.new) }
+{
+    for place in 0..order.len() {
+        put_signal(wires, owners, channels, order[place], lists)?;
+    }
+    Ok(())
+}
+
+// Adds a signal to those of its machines.
+fn put_signal(
+    wires: &[Wire],
+    owners: &[u32],
+    channels: &[Option<u32>],
+    signal: u32,
+    lists: &mut [Pile],
+) -> Result<(), AllocError>
+    requires ends { All (AreEnds (length lists.old)) wires.now }
+    requires owned { All (λ m. m < length lists.old) owners.now }
+    requires same { length channels.now ≡ length owners.now }
+    requires marked { AreChannels wires.now channels.now }
+    requires known { signal < length owners.now }
+    ensures { OnOk result (IsPut (λ m. has wires.now owners.now channels.now m signal) signal lists.old lists.new) }
+{
+    match channels[signal as usize] {
+        Some(channel) => put_both(&wires[channel as usize], signal, lists),
+        None => put(lists, owners[signal as usize], signal),
+    }
+}
+
+// Adds a signal to those of the machines at both ends of a channel.
+fn put_both(wire: &Wire, signal: u32, lists: &mut [Pile]) -> Result<(), AllocError>
+    requires { AreEnds (length lists.old) wire.now }
+    ensures { OnOk result (IsPut (λ m. (wire.now.producer == m) || (wire.now.consumer == m)) signal lists.old lists.new) }
+{
+    put(lists, wire.producer, signal)?;
+    put(lists, wire.consumer, signal)
+}
+
+/// The memories of each of so many machines, by their numbers in the circuit.
+///
+/// # Errors
+///
+/// Where memory is refused.
+pub(crate) fn memories(
+    alloc: Global,
+    tree: &Tree,
+    owners: &[u32],
+    count: usize,
+) -> Result<Vec<Pile>, AllocError>
+    requires owned { All (λ m. m < count) owners.now }
+    requires same { length owners.now ≡ length tree.now.memories }
+    ensures { IfOk result (λ lists. AreLists (memories_below tree.now owners.now (length tree.now.memories)) count lists.items) }
+{
+    let mut lists = piles(alloc, count)?;
+    put_memories(tree, owners, &mut lists)?;
+    Ok(lists)
+}
+
+// Adds each memory to those of its machine, where all have none.
+fn put_memories(tree: &Tree, owners: &[u32], lists: &mut [Pile]) -> Result<(), AllocError>
+    requires owned { All (λ m. m < length lists.old) owners.now }
+    requires same { length owners.now ≡ length tree.now.memories }
+    requires empty { (m : ℕ) → slice_index_or lists.old m [] ≡ [] }
+    ensures { OnOk result (AreLists (memories_below tree.now owners.now (length tree.now.memories)) (length lists.old) lists.new) }
+{
+    for place in 0..tree.memory_count() {
+        put(lists, owners[place], tree.memories()[place].memory)?;
+    }
+    Ok(())
+}

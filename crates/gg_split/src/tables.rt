@@ -1,0 +1,176 @@
+//! Tables: the machine of each signal, the channel of each signal, the machine of each memory.
+ghost use Rattle.std.specs.Prelude.{◌≡◌, ℕ, ◌<◌, ◌≤◌, ◌+◌, ◌-◌, ◌^◌, ◌==◌, ◌&&◌, nat_le, nat_lt, None, length, replicate, slice_index_or, All, AllPairs, IfOk};
+ghost use Rattle.gg_flat.specs.Line.{value_at};
+ghost use Rattle.gg_flat.specs.Tree.{IsTree, instance_at, memory_at};
+ghost use Rattle.gg_cut.specs.Listed.{first_place, unit_or_hub, has_signal, memory_or, owner_of_instance};
+ghost use Rattle.gg_cut.specs.Plan.{memory_owner, wire_at};
+ghost use Rattle.gg_split.specs.Spread.{claimed, AreChannels, IsChannelBelow};
+
+use gg_cut::{Listed, Wire};
+use gg_flat::Tree;
+use std::alloc::{AllocError, Global};
+
+/// The machine that each signal belongs to by the instance that has it: the unit, else the hub.
+///
+/// # Errors
+///
+/// Where memory is refused.
+pub(crate) fn signal_owners(
+    alloc: Global,
+    tree: &Tree,
+    units: &[u32],
+    count: usize,
+) -> Result<Vec<u32>, AllocError>
+    requires known { All (λ unit. unit < length tree.now.instances) units.now }
+    requires inside { All (λ unit. ((instance_at tree.now unit).first ≤ (instance_at tree.now unit).end) × ((instance_at tree.now unit).end ≤ count)) units.now }
+    requires few { length units.now < 2 ^ 32 - 1 }
+    ensures count { IfOk result (λ owners. length owners.items ≡ count) }
+    ensures owners { IfOk result (λ owners. (s : ℕ) → value_at owners.items s ≡ unit_or_hub (first_place (has_signal tree.now s) units.now)) }
+{
+    let mut owners = zeros(alloc, count)?;
+    claim_units(tree, units, &mut owners);
+    Ok(owners)
+}
+
+// This many zeros.
+fn zeros(alloc: Global, count: usize) -> Result<Vec<u32>, AllocError>
+    ensures { IfOk result (λ zeros. zeros.items ≡ replicate count 0) }
+{
+    vec![in alloc; 0; count]
+}
+
+// Gives each unit its signals, where all are the hub's.
+fn claim_units(tree: &Tree, units: &[u32], owners: &mut [u32])
+    requires known { All (λ unit. unit < length tree.now.instances) units.now }
+    requires inside { All (λ unit. ((instance_at tree.now unit).first ≤ (instance_at tree.now unit).end) × ((instance_at tree.now unit).end ≤ length owners.old)) units.now }
+    requires few { length units.now < 2 ^ 32 - 1 }
+    requires zeros { (s : ℕ) → value_at owners.old s ≡ 0 }
+    ensures count { length owners.new ≡ length owners.old }
+    ensures owners { (s : ℕ) → value_at owners.new s ≡ unit_or_hub (first_place (has_signal tree.now s) units.now) }
+{
+    for number in 0..units.len() {
+        claim_unit(tree, units[number], number as u32 + 1, owners);
+    }
+}
+
+// Gives a unit its signals, where they are the hub's.
+fn claim_unit(tree: &Tree, unit: u32, number: u32, owners: &mut [u32])
+    requires known { unit < length tree.now.instances }
+    requires range { (instance_at tree.now unit).first ≤ (instance_at tree.now unit).end }
+    requires inside { (instance_at tree.now unit).end ≤ length owners.old }
+    ensures count { length owners.new ≡ length owners.old }
+    ensures owners { (s : ℕ) → value_at owners.new s ≡ claimed (has_signal tree.now s unit) number (value_at owners.old s) }
+{
+    let instance = &tree.instances()[unit as usize];
+    claim(owners, instance.first, instance.end, number);
+}
+
+// Gives a machine the signals from first on, up to end, that are the hub's.
+fn claim(owners: &mut [u32], first: u32, end: u32, number: u32)
+    requires range { first ≤ end }
+    requires inside { end ≤ length owners.old }
+    ensures count { length owners.new ≡ length owners.old }
+    ensures owners { (s : ℕ) → value_at owners.new s ≡ claimed (nat_le first s && nat_lt s end) number (value_at owners.old s) }
+{
+    for signal in first..end {
+        if owners[signal as usize] == 0 {
+            owners[signal as usize] = number;
+        }
+    }
+}
+
+/// The channel of each signal, where it has one.
+///
+/// # Errors
+///
+/// Where memory is refused.
+pub(crate) fn channels_of(
+    alloc: Global,
+    wires: &[Wire],
+    count: usize,
+) -> Result<Vec<Option<u32>>, AllocError>
+    requires few { length wires.now < 2 ^ 32 }
+    requires known { All (λ w. w.signal < count) wires.now }
+    ensures count { IfOk result (λ channels. length channels.items ≡ count) }
+    ensures channels { IfOk result (λ channels. AreChannels wires.now channels.items) }
+{
+    let mut channels = nones(alloc, count)?;
+    mark_channels(wires, &mut channels);
+    Ok(channels)
+}
+
+// This many times none.
+fn nones(alloc: Global, count: usize) -> Result<Vec<Option<u32>>, AllocError>
+    ensures { IfOk result (λ nones. nones.items ≡ replicate count None) }
+{
+    let mut nones = Vec::new(alloc);
+    for _ in 0..count {
+        nones.push(None)?;
+    }
+    Ok(nones)
+}
+
+// Gives each signal its channel, where all have none.
+fn mark_channels(wires: &[Wire], channels: &mut [Option<u32>])
+    requires few { length wires.now < 2 ^ 32 }
+    requires known { All (λ w. w.signal < length channels.old) wires.now }
+    requires nones { (s : ℕ) → slice_index_or channels.old s None ≡ None }
+    ensures count { length channels.new ≡ length channels.old }
+    ensures channels { AreChannels wires.now channels.new }
+{
+    for channel in 0..wires.len() {
+        channels[wires[channel].signal as usize] = Some(channel as u32);
+    }
+}
+
+/// The machine of each memory, by its place in the tree. `owners` has the machine of each instance.
+///
+/// # Errors
+///
+/// Where memory is refused.
+pub(crate) fn memory_owners(
+    alloc: Global,
+    tree: &Tree,
+    listed: &Listed,
+    owners: &[u32],
+) -> Result<Vec<u32>, AllocError>
+    requires held { (k : ℕ) → k < length tree.now.memories → (memory_at tree.now k).instance < length owners.now }
+    requires known { All (λ place. place < length tree.now.memories) listed.now.memories }
+    requires ascending { AllPairs (λ a b. a < b) listed.now.memories }
+    requires few { length listed.now.units + length listed.now.memories < 2 ^ 32 - 1 }
+    requires owners { (k : ℕ) → k < length owners.now → value_at owners.now k ≡ owner_of_instance tree.now listed.now.units k }
+    ensures count { IfOk result (λ found. length found.items ≡ length tree.now.memories) }
+    ensures owners { IfOk result (λ found. (place : ℕ) → place < length tree.now.memories → value_at found.items place ≡ memory_owner tree.now listed.now place) }
+{
+    let mut found = holders(alloc, tree, owners)?;
+    let first = listed.units.as_slice().len() as u32 + 1;
+    number_memories(listed.memories.as_slice(), first, &mut found);
+    Ok(found)
+}
+
+// The machine of the instance of each memory.
+fn holders(alloc: Global, tree: &Tree, owners: &[u32]) -> Result<Vec<u32>, AllocError>
+    requires { (k : ℕ) → k < length tree.now.memories → (memory_at tree.now k).instance < length owners.now }
+    ensures count { IfOk result (λ found. length found.items ≡ length tree.now.memories) }
+    ensures owners { IfOk result (λ found. (place : ℕ) → place < length tree.now.memories → value_at found.items place ≡ value_at owners.now (memory_at tree.now place).instance) }
+{
+    let mut found = Vec::new(alloc);
+    for place in 0..tree.memory_count() {
+        found.push(owners[tree.memories()[place].instance as usize])?;
+    }
+    Ok(found)
+}
+
+// Gives each listed memory its machine's number, from `first` on.
+fn number_memories(memories: &[u32], first: u32, found: &mut [u32])
+    requires known { All (λ place. place < length found.old) memories.now }
+    requires ascending { AllPairs (λ a b. a < b) memories.now }
+    requires few { first + length memories.now < 2 ^ 32 }
+    requires some { 0 < first }
+    ensures count { length found.new ≡ length found.old }
+    ensures numbers { (place : ℕ) → value_at found.new place ≡ memory_or (first - 1) (value_at found.old place) (first_place (λ j. j == place) memories.now) }
+{
+    for number in 0..memories.len() {
+        found[memories[number] as usize] = first + number as u32;
+    }
+}
