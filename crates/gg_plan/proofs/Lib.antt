@@ -5,3 +5,9 @@ pub mod MachineLemmas
 pub mod NeedLemmas
 pub mod FaultlessLemmas
 pub mod PlanLemmas
+pub mod WorkedTests
+pub mod WorkedPlan
+pub mod WorkedNest
+pub mod WorkedMemory
+pub mod WorkedShare
+pub mod WorkedCore
