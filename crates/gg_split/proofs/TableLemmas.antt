@@ -1,14 +1,12 @@
 -- Tables that are filled item by item.
-use Rattle.std.proofs.Common.{◌≡◌, ◌≢◌, ℕ, zero, suc, ◌+◌, ◌-◌, ◌<◌, ◌≤◌, List, [], ◌∷◌, ◌++◌, length, get_or, set, take, Bool, true, false, refl, sym, ◌∙◌, ap, ap₂, subst, Some, None, inl, inr, ◌⊎◌, eq-eqb, arith}
-use Rattle.std.specs.Prelude.{Option, ◌&&◌, ◌==◌, nat_le, nat_lt, slice_index_or, All, AllPairs}
-use Rattle.std.proofs.lemmas.Bool.{cases_eq, cases_lt, cases_Bool, le-leb, lt-leb, lt-ltb, le-ltb, ne_eqb, and_right}
+use Rattle.std.proofs.Common.{◌≡◌, ◌≢◌, ℕ, zero, suc, ◌+◌, ◌-◌, ◌<◌, ◌≤◌, List, length, get_or, set, take, Bool, true, false, refl, sym, ◌∙◌, ap, ap₂, subst, Some, None, inl, inr, ◌⊎◌, eq-eqb, arith}
+use Rattle.std.specs.Prelude.{Option, ◌&&◌, ◌==◌, nat_le, nat_lt, slice_index_or, AllPairs}
+use Rattle.std.proofs.lemmas.Bool.{cases_eq, cases_lt, le-leb, lt-leb, lt-ltb, le-ltb, ne_eqb, and_right}
 use Rattle.std.proofs.lemmas.List.{get_or-set_same, get_or-set_other, length-set, take_more, length-take-le, get_or-take, get_or_default}
 use Rattle.gg_flat.specs.Line.{value_at}
-use Rattle.gg_flat.specs.Tree.{InstanceTree, instance_at, memory_at}
+use Rattle.gg_flat.specs.Tree.{InstanceTree}
 use Rattle.gg_cut.specs.declared.wires.Wire.{Wire}
-use Rattle.gg_cut.specs.declared.listed.Listed.{Listed}
-use Rattle.gg_cut.specs.Listed.{first_place, unit_or_hub, has_signal, memory_or, owner_of_instance}
-use Rattle.gg_cut.specs.Plan.{wire_at, memory_owner}
+use Rattle.gg_cut.specs.Listed.{first_place, unit_or_hub, has_signal, memory_or}
 use Rattle.gg_cut.proofs.OwnerLemmas.{push-place, first_place-push}
 use Rattle.gg_split.specs.Spread.{claimed, IsChannelBelow}
 use Rattle.gg_closed.proofs.PlaceLemmas.{place-none}
