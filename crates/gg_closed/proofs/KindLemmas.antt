@@ -223,7 +223,7 @@ module _ (circuit : FlatCircuit) (tree : InstanceTree) (listed : Listed) where
           let n = numbered-cases (port_wires tree listed.units) 1 listed.units w r in
           let unit = value_at listed.units n.place in
           let s = map-cases (port_wire (outside_unit tree listed n.place) (suc n.place)) (instance_at tree unit).ports w
-              (subst (λ k. Contains (port_wires tree listed.units k unit) w) (one-plus n.place) (n.among 0)) in
+          (subst (λ k. Contains (port_wires tree listed.units k unit) w) (one-plus n.place) (n.among 0)) in
           let any : InstancePort = record { signal = 0; is_input = true } in
           OfPort
           (record {

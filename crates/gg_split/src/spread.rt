@@ -4,7 +4,7 @@ ghost use Rattle.gg_cut.specs.Plan.{channels_to, channels_from};
 ghost use Rattle.gg_closed.specs.Apart.{AreEnds};
 ghost use Rattle.gg_split.specs.Spread.{AreLists, IsPut, AreChannels, has, signals_among, memories_below};
 
-use crate::pile::{piles, put, Pile};
+use crate::pile::{Pile, piles, put};
 use gg_cut::Wire;
 use gg_flat::Tree;
 use std::alloc::{AllocError, Global};
