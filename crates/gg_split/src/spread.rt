@@ -65,8 +65,8 @@ fn put_given(wires: &[Wire], lists: &mut [Pile]) -> Result<(), AllocError>
     Ok(())
 }
 
-/// The signals of each of so many machines among those of an order: each signal is that of the machines at the ends of its
-/// channel, or of its owner, where it has none.
+/// The signals of each of so many machines among those of an order: each signal is that of the machines at the ends
+/// of its channel, or of its owner, where it has none.
 ///
 /// # Errors
 ///
