@@ -109,9 +109,6 @@ module _ (readers : List Reader) (writers : List Writer) (outside number : ℕ) 
   pub field-wire : (s : ℕ) → Contains (fields-of readers writers) s → Contains (wires-for outside number readers writers) (wire s outside number) ⊎ Contains (wires-for outside number readers writers) (wire s number outside)
   field-wire s h = by (Contains-append_cases (flat_map (λ reader. reader_fields reader) readers) (flat_map (λ writer. writer_fields writer) writers) s h)
     where
-      ws : List Wire
-      ws = wires-for outside number readers writers
-
       one : (k i : ℕ) → i < length readers → (k < 3) → get_or (reader_fields (reader_at readers i)) k s ≡ s → Contains (wires-for outside number readers writers) (wire s outside number) ⊎ Contains (wires-for outside number readers writers) (wire s number outside)
       one zero i lt less e = inl (subst (λ t. Contains (wires-for outside number readers writers) (wire t outside number)) e (address-wire i lt))
       one (suc zero) i lt less e = inl (subst (λ t. Contains (wires-for outside number readers writers) (wire t outside number)) e (enable-wire i lt))

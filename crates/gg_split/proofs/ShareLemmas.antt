@@ -43,9 +43,6 @@ along-once order globals once along i j d less lt same =
     once p.first p.second 0 p.before p.within (p.first_is ∙ same ∙ sym p.second_is)
 
 module _ (circuit : FlatCircuit) (tree : InstanceTree) (order : List ℕ) (listed : Listed) (formed : IsWellFormed circuit) (fits : IsTree circuit tree) (scoped : IsScoped circuit tree) (ordered : IsOrder circuit order) (apart : AreApart tree listed) where
-  abbrev wires : List Wire
-  wires = wires_of circuit tree listed
-
   known-in : (s : ℕ) → Contains order s → s < length circuit.signals
   known-in s h = let lt = ordered.signals h.0 h.1 in subst (λ t. t < length circuit.signals) (get_or_default order h.0 0 s h.1 ∙ h.2) lt
 
@@ -116,12 +113,6 @@ module _ (circuit : FlatCircuit) (tree : InstanceTree) (order : List ℕ) (liste
 -- ---- memories
 
 module _ (circuit : FlatCircuit) (tree : InstanceTree) (listed : Listed) (fits : IsTree circuit tree) (machines : List ℕ) (owns : (place : ℕ) → place < length tree.memories → value_at machines place ≡ memory_owner tree listed place) (m : ℕ) where
-  abbrev memory_of : ℕ → ℕ
-  memory_of place = (memory_at tree place).memory
-
-  chosen : List ℕ
-  chosen = filter (λ place. value_at machines place == m) (range_with_len 0 (length tree.memories))
-
   pub memories-are : AreMemories tree listed m (memories_below tree machines (length tree.memories) m)
   memories-are = record { just = λ k. (forth k, back k); once = once }
     where
