@@ -1,6 +1,6 @@
 -- The parts of a plan while it is made: its machines, its channels but for their needs, and the needs of each channel.
--- Source: MEMOCODE 2009 (a network of machines that are latency-insensitive); ICCAD 2019 (instances and memories of a target as
--- models of their own).
+-- Source: MEMOCODE 2009 (a network of machines that are latency-insensitive); ICCAD 2019 (instances and memories of a
+-- target as models of their own).
 use Rattle.std.specs.Prelude.{◌≡◌, ◌≢◌, ℕ, ◌<◌, ◌≤◌, List, [], length, map, slice_index_or, AllPairs}
 use Rattle.gg_bits.specs.Shape.{shape}
 use Rattle.gg_flat.specs.Line.{value_at, shape_at}
@@ -56,8 +56,8 @@ pub record ArePartNeeds (part : Part) (channels : List ℕ) (s : ℕ) (told : Li
   pub ascending : AllPairs (λ a b. a < b) told
   pub needs : (out : ℕ) → out < length part.globals → value_at part.globals out ≡ s → AreNeedsOf part channels out told
 
--- The first n of the channels `given` have in a table the channels at the places of their lists among `taken`; every other channel
--- has what it had before.
+-- The first n of the channels `given` have in a table the channels at the places of their lists among `taken`; every other
+-- channel has what it had before.
 pub record ArePut (taken given : List ℕ) (lists before : List (List ℕ)) (n : ℕ) (table : List (List ℕ)) : Type 0 where
   pub count : length table ≡ length before
   pub put : (i : ℕ) → i < n → slice_index_or table (value_at given i) [] ≡ map (value_at taken) (slice_index_or lists i [])
