@@ -16,11 +16,12 @@ use Rattle.gg_flat.specs.declared.piece.Register.{Register}
 use Rattle.gg_flat.specs.declared.piece.Signal.{Signal}
 use Rattle.gg_flat.specs.Circuit.{FlatCircuit, signal_shapes, driver_at, no_circuit}
 use Rattle.gg_flat.specs.Line.{shape_at, HasType}
-use Rattle.gg_elab.specs.Flat.{Drive, Outside, Gets, Holds, Answers, FlatSignal}
-use Rattle.gg_elab.specs.IsFlat.{IsComputed, IsHeld, IsRegisterOf, IsDrivenBy, answer, is_outside, is_register, drive_at, count_before}
-use Rattle.gg_elab.specs.Meaning.{Signals}
-use Rattle.gg_elab.specs.Signals.{Types}
+use Rattle.gg_digest.specs.Flat.{Drive, Outside, Gets, Holds, Answers, FlatSignal}
+use Rattle.gg_digest.specs.IsFlat.{IsComputed, IsHeld, IsRegisterOf, IsDrivenBy, answer, is_outside, is_register, drive_at, count_before}
+use Rattle.gg_digest.specs.Meaning.{Signals}
+use Rattle.gg_digest.specs.Signals.{Types}
 use Rattle.gg_elab.specs.Building.{IsMade, with_made, is_input_driver, IsSoFar}
+use Rattle.gg_elab.proofs.HeldLemmas.{one_if}
 
 abbrev drives : List FlatSignal → List Drive
 drives xs = map (λ (x : FlatSignal). x.drive) xs
@@ -29,10 +30,6 @@ abbrev shapes : List FlatSignal → List Shape
 shapes xs = map (λ (x : FlatSignal). x.shape) xs
 
 -- ---- counts
-
--- one, where the test passes
-abbrev one_if : Bool → ℕ
-one_if b = cond b 1 0
 
 before-push : (p : Drive → Bool) (xs : List FlatSignal) (x : FlatSignal) (s : ℕ) → s ≤ length xs → count_before p (xs ++ x ∷ []) s ≡ count_before p xs s
 before-push p xs x s le =

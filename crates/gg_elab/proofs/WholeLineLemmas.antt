@@ -18,9 +18,10 @@ use Rattle.gg_flat.specs.declared.line.Op.TheVariants.{Ref, Literal}
 use Rattle.gg_flat.specs.Line.{shape_at, value_at, shapes_of, HasType, HasShape, IsLine, IsSource, IsCondition, line_shape, line_value, node_values, connected_value}
 use Rattle.gg_flat.specs.Reads.{Names}
 use Rattle.gg_elab.specs.Growing.{Where, shape_of, value_of, NamesIn, HaveShapes, StandsFor, Added, IsZeroOf, IsCut}
-use Rattle.gg_elab.specs.IsFlat.{IsLineFor, IsLineOf, IsConditionOf}
-use Rattle.gg_elab.specs.Meaning.{takes, taken_value, condition_value}
-use Rattle.gg_elab.proofs.LineLemmas.{length-push, shape_at-last, value_at-last, Names-push, Names-push_cases, HaveShapes-push}
+use Rattle.gg_digest.specs.IsFlat.{IsLineFor, IsLineOf, IsConditionOf}
+use Rattle.gg_digest.specs.Meaning.{takes, taken_value, condition_value}
+use Rattle.gg_flat.proofs.NameLemmas.{Names-push, Names-push_cases}
+use Rattle.gg_elab.proofs.LineLemmas.{length-push, shape_at-last, value_at-last, HaveShapes-push}
 
 last_node : (n k : ℕ) → n ≡ k + 1 → n - 1 ≡ k
 last_node n k e = omega arith

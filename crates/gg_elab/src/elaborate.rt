@@ -2,26 +2,23 @@
 ghost use Rattle.std.specs.Prelude.{◌≡◌, ◌≢◌, ◌<◌, ◌^◌, [], length, map, Some, None, Err, IfOk, IfErr, All};
 ghost use Rattle.gg_ast.specs.Places.{place_of};
 ghost use Rattle.gg_ast.specs.Tree.{module_names};
-ghost use Rattle.gg_elab.specs.Building.{IsPlaceIn};
-ghost use Rattle.gg_elab.specs.IsFlat.{IsFlat, IsFlatWith};
+ghost use Rattle.gg_digest.specs.Views.{IsPlaceIn, AreDigests, site_of};
+ghost use Rattle.gg_digest.specs.IsFlat.{IsFlat, IsFlatWith};
 ghost use Rattle.gg_elab.specs.Fitting.{AreFitting};
 ghost use Rattle.gg_flat.specs.Scoped.{IsScoped};
 ghost use Rattle.gg_flat.specs.Tree.{IsTree};
 ghost use Rattle.gg_flat.specs.WellFormed.{IsWellFormed};
-ghost use Rattle.gg_elab.specs.IsTreeOf.{IsTreeOf};
-ghost use Rattle.gg_elab.specs.Known.{types_of};
+ghost use Rattle.gg_tree.specs.IsTreeOf.{IsTreeOf};
+ghost use Rattle.gg_digest.specs.Known.{types_of};
 ghost use Rattle.gg_elab.specs.Limits.{excess_over, IsAnswered};
-ghost use Rattle.gg_elab.specs.Views.{AreDigests, site_of};
 
 use crate::build::add_sites;
-use crate::digest::{Digest, digests};
 use crate::fault::ElabFault;
 use crate::ports::{add_all_memories, add_ports};
-use crate::sites::{Place, places};
-use crate::table::table_of;
-use crate::tree::tree_of;
 use gg_count::count;
+use gg_digest::{Digest, Place, digests, places, table_of};
 use gg_flat::{Piece, Tree};
+use gg_tree::{fits, tree_of};
 use gg_types::Typed;
 use std::alloc::{AllocError, Global};
 
@@ -73,10 +70,7 @@ fn joined(typed: &Typed, piece: Piece, tree: Tree) -> Result<(Piece, Tree), Allo
     ensures fitting { IfOk result (λ both. IsTree both.0 both.1) }
     ensures scoped { IfOk result (λ both. IsScoped both.0 both.1) }
 {
-    let circuit = typed.names().circuit();
-    circuit.names_are_words();
-    let _ = tree.len();
-    let _ = tree.memory_count();
+    fits(typed, &piece, &tree);
     if piece.check() {
         Ok((piece, tree))
     } else {

@@ -4,7 +4,7 @@ ghost use Rattle.gg_ast.specs.Tree.{CircuitTree};
 ghost use Rattle.gg_flat.specs.Circuit.{FlatCircuit};
 ghost use Rattle.gg_flat.specs.Reads.{Reads, IsLoop};
 ghost use Rattle.gg_flat.specs.Run.{IsRun};
-ghost use Rattle.gg_elab.specs.IsFlat.{IsFlat};
+ghost use Rattle.gg_digest.specs.IsFlat.{IsFlat};
 
 /// All flat circuits of a circuit do the same: they have the same in-signals and the same out-signals, and what is a run of
 /// one of them is a run of each.

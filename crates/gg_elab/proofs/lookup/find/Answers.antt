@@ -5,7 +5,7 @@ use Rattle.gg_bits.specs.Shape.{Shape, shape}
 use Rattle.gg_ast.specs.Places.{place_of}
 use Rattle.gg_flat.specs.Tree.{joined}
 use Rattle.gg_names.specs.Scope.{written}
-use Rattle.gg_elab.specs.Meaning.{named_if}
+use Rattle.gg_digest.specs.Meaning.{named_if}
 use Rattle.gg_elab.proofs.ScopeLemmas.{found-path, is-known}
 use Rattle.gg_elab.proofs.lookup.find.Goals as goal
 

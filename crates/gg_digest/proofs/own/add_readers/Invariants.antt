@@ -1,0 +1,10 @@
+use Rattle.std.proofs.Common.{◌≡◌, ℕ, ◌<◌, ◌≤◌, ◌++◌, List, length, map, take, drop, Option}
+use Rattle.std.specs.Prelude.{filter_map, flat_map}
+use Rattle.gg_digest.specs.Views.{own_of, bank_seen, held_of, own_bank_of}
+use Rattle.gg_digest.specs.Signals.{readers_signals}
+use Rattle.gg_digest.proofs.own.add_readers.Given as goal
+
+abbrev pub invariant-loop-port : goal.invariant-loop-port
+invariant-loop-port l =
+    map own_of l.signals.items ++ readers_signals l.memory (bank_seen l.bank) l.place (map (λ n. n.now) (drop l.port-index l.ports))
+    ≡ map own_of l.fn.signals.items ++ readers_signals l.memory (bank_seen l.bank) 0 (map (λ n. n.now) l.ports)
