@@ -31,7 +31,10 @@ pub struct Sinks<'a> {
 }
 
 /// The connections that statements make.
-pub fn connections<'a>(alloc: Global, statements: &'a [Stmt]) -> Result<Sinks<'a>, AllocError>
+pub(crate) fn connections<'a>(
+    alloc: Global,
+    statements: &'a [Stmt],
+) -> Result<Sinks<'a>, AllocError>
     ensures tells { IfOk result (λ sinks. TellsConnections statements.now sinks.names sinks.sources.items) }
     ensures count { IfOk result (λ sinks. length sinks.sources.items ≡ length sinks.names) }
 {

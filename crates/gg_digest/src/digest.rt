@@ -157,6 +157,10 @@ fn digest_of<'a>(
 }
 
 /// What each module of a circuit says, by the modules' places.
+///
+/// # Errors
+///
+/// `AllocError` where memory is refused.
 pub fn digests<'a>(alloc: Global, typed: &Typed<'a>) -> Result<Vec<Digest<'a>>, AllocError>
     requires { length typed.now.circuit.modules < 2 ^ 32 }
     ensures { IfOk result (λ digests. AreDigests (types_of typed.now.circuit) typed.now.circuit.modules digests.items) }

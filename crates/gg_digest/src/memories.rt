@@ -171,7 +171,10 @@ fn bank_with<'a>(
 }
 
 /// The memory that fields make.
-pub fn bank_of<'a>(alloc: Global, fields: &'a [Field]) -> Result<Option<Bank<'a>>, AllocError>
+pub(crate) fn bank_of<'a>(
+    alloc: Global,
+    fields: &'a [Field],
+) -> Result<Option<Bank<'a>>, AllocError>
     ensures { IfOk result (λ bank. option_map bank_seen bank ≡ bank_of fields.now) }
 {
     let word = match said_type(fields) {

@@ -7,6 +7,10 @@ use gg_bits::Name;
 use std::alloc::{AllocError, Global};
 
 /// Two names with a dot between them.
+///
+/// # Errors
+///
+/// `AllocError` where memory is refused.
 pub fn dotted(alloc: Global, a: &str, b: &str) -> Result<Name, AllocError>
     ensures { IfOk result (λ name. name ≡ dotted_text a.now b.now) }
 {
@@ -17,6 +21,10 @@ pub fn dotted(alloc: Global, a: &str, b: &str) -> Result<Name, AllocError>
 }
 
 /// A name behind a path: a dot stands between them, where the path isn't empty.
+///
+/// # Errors
+///
+/// `AllocError` where memory is refused.
 pub fn joined(alloc: Global, outer: &Name, name: &Name) -> Result<Name, AllocError>
     ensures { IfOk result (λ path. path ≡ joined_text outer.now name.now) }
 {
@@ -27,6 +35,10 @@ pub fn joined(alloc: Global, outer: &Name, name: &Name) -> Result<Name, AllocErr
 }
 
 /// A field of a memory's port, as it is written.
+///
+/// # Errors
+///
+/// `AllocError` where memory is refused.
 pub fn field_name(
     alloc: Global,
     memory: &Name,

@@ -250,7 +250,7 @@ fn add_statements<'a>(
 }
 
 /// The signals of a module, which stands at this place: its ports, and then what its statements declare.
-pub fn own_signals<'a>(
+pub(crate) fn own_signals<'a>(
     alloc: Global,
     typed: &Typed,
     number: u32,

@@ -94,6 +94,10 @@ fn add_site<'a>(
 }
 
 /// The sites of a circuit whose top is the module at this place.
+///
+/// # Errors
+///
+/// `AllocError` where memory is refused, or there would be more than 4,294,967,295 sites.
 pub fn places<'a>(
     alloc: Global,
     typed: &Typed,

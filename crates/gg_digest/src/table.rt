@@ -24,7 +24,11 @@ pub struct Table {
     pub memories: Paths,
 }
 
-/// Adds a path. No path comes twice; more than 4,294,967,295 are refused as want of memory.
+/// Adds a path.
+///
+/// # Errors
+///
+/// `AllocError` where memory is refused; so are a path that is there already, and more than 4,294,967,295 of them.
 pub fn add_path(paths: &mut Paths, path: Name) -> Result<(), AllocError>
     ensures { OnOk result (paths.new ≡ paths.old ++ path ∷ []) }
 {
@@ -74,6 +78,10 @@ fn add_memories(
 }
 
 /// The signals and memories of all sites.
+///
+/// # Errors
+///
+/// `AllocError` where memory is refused.
 pub fn table_of(
     alloc: Global,
     typed: &Typed,

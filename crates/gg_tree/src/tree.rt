@@ -375,7 +375,12 @@ fn add_memories(
     Ok(())
 }
 
-/// The tree of a circuit: the instances of its sites with their signals, ports and memories.
+/// The tree of a circuit: the instances of its sites with their signals, ports and memories. The table has the circuit's signals and
+/// memories, and the places are its sites.
+///
+/// # Errors
+///
+/// `AllocError` where memory is refused.
 pub fn tree_of(
     alloc: Global,
     typed: &Typed,
