@@ -1,6 +1,6 @@
 -- The signals and memories of a circuit: those of the top and of every instance below it, by their paths.
--- Source: FIRRTL Specification, "Circuits and Modules", "Instances", "Memories", "Connects". An instance's input is connected in
--- the module that holds the instance, as i.p; every other sink in its own module.
+-- Source: FIRRTL Specification, "Circuits and Modules", "Instances", "Memories", "Connects". An instance's input is
+-- connected in the module that holds the instance, as i.p; every other sink in its own module.
 use Rattle.std.specs.Prelude.{ℕ, List, [], ◌∷◌, Option, Some, None, map, flat_map, codes}
 use Rattle.gg_bits.specs.Shape.{Shape}
 use Rattle.gg_ast.specs.declared.statement.Reset.{Reset}
@@ -23,8 +23,9 @@ scope_at site = record { path = site.path; number = site.number }
 abbrev pub scope_around : Outer → Scope
 scope_around outer = record { path = outer.path; number = outer.number }
 
--- What gives a signal of the circuit its value: the outside; what it is connected to, with where that is written; the state of a
--- register; or what the reader at this place of the memory of this path answers, whose address and enable have these paths.
+-- What gives a signal of the circuit its value: the outside; what it is connected to, with where that is written; the
+-- state of a register; or what the reader at this place of the memory of this path answers, whose address and enable
+-- have these paths.
 pub data Drive : Type 0 where
   Outside : Drive
   Gets : Scope → Option Connection → Drive

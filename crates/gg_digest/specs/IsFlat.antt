@@ -1,7 +1,7 @@
 -- When a flat circuit is that of a circuit.
--- Source: FIRRTL Specification, "Circuits and Modules", "Instances", "Statements", "Memories", "Connects", "Invalidates". It has the
--- signals, registers, memories and ports of the circuit's sites, and nothing more. How a line is laid out is left open: only what
--- it comes to, and which signals it names, is said.
+-- Source: FIRRTL Specification, "Circuits and Modules", "Instances", "Statements", "Memories", "Connects",
+-- "Invalidates". It has the signals, registers, memories and ports of the circuit's sites, and nothing more. How a
+-- line is laid out is left open: only what it comes to, and which signals it names, is said.
 use Rattle.std.specs.Prelude.{◌≡◌, ℕ, ◌<◌, ◌↔◌, List, [], ◌∷◌, Option, Some, None, Bool, true, false, MatchOption, length, map, take, filter_map, count_by, slice_index_or, unwrap_or, option_map, if◌then◌else◌, ◌&&◌, is_some, codes}
 use Rattle.gg_bits.specs.Shape.{Shape, shape}
 use Rattle.gg_ast.specs.declared.module.Direction.{Direction}
@@ -180,8 +180,8 @@ signals_of all = record { paths = map (λ x. x.path) all; shapes = map (λ x. x.
 abbrev pub memory_paths : List FlatMemory → List (List ℕ)
 memory_paths banks = map (λ x. x.path) banks
 
--- The flat circuit of these signals and memories, with these ports of the top: just these signals, each with its driver; the
--- registers that they hold, in turn; these memories; and the ports, in port order.
+-- The flat circuit of these signals and memories, with these ports of the top: just these signals, each with its
+-- driver; the registers that they hold, in turn; these memories; and the ports, in port order.
 pub record IsFlatOf (types : Types) (all : List FlatSignal) (banks : List FlatMemory) (ports : List Port) (flat : FlatCircuit) : Type 0 where
   pub paths : flat.paths ≡ (signals_of all).paths
   pub shapes : signal_shapes flat ≡ (signals_of all).shapes

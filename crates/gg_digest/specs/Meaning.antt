@@ -1,9 +1,10 @@
--- What an expression means at a site of the circuit: its shape and its value, by the signals of the whole circuit. A name stands for
--- the signal whose path is the site's path with the name behind it.
+-- What an expression means at a site of the circuit: its shape and its value, by the signals of the whole circuit. A
+-- name stands for the signal whose path is the site's path with the name behind it.
 -- Source: FIRRTL Specification, "Expressions" (references, literals, primitive operations, multiplexers), "Primitive
 -- Operations", "Connects". The shape and the value of each operation are those of the values' crate.
--- The definitions are total: what names nothing, a literal that doesn't fit and an operation that doesn't take its operands
--- are the UInt<1> 0, and a source that a sink can't take is 0. In a circuit that the checks pass there is none of these.
+-- The definitions are total: what names nothing, a literal that doesn't fit and an operation that doesn't take its
+-- operands are the UInt<1> 0, and a source that a sink can't take is 0. In a circuit that the checks pass there is
+-- none of these.
 use Rattle.std.specs.Prelude.{◌≡◌, ℕ, List, Option, Some, None, Bool, ◌&&◌, Result, Ok, Err, nat_le, is_some, unwrap_or, ◌⊎◌, if◌then◌else◌}
 use Rattle.gg_bits.specs.declared.types.Bad.{Bad}
 use Rattle.gg_bits.specs.Shape.{Shape, uint}

@@ -1,6 +1,6 @@
 -- What the fields of a memory say.
--- Source: FIRRTL Specification, "Memories" (data type, depth, latencies, ports, read-under-write). Where a field stands twice the
--- first counts; where read-under-write is missing it is `undefined`: this program's profile.
+-- Source: FIRRTL Specification, "Memories" (data type, depth, latencies, ports, read-under-write). Where a field
+-- stands twice the first counts; where read-under-write is missing it is `undefined`: this program's profile.
 use Rattle.std.specs.Prelude.{ℕ, zero, suc, List, [], ◌∷◌, Option, Some, None, Bool, ◌&&◌, nat_le, nat_lt, flat_map, if◌then◌else◌, option_and_then, unwrap_or}
 use Rattle.gg_bits.specs.Shape.{Shape, uint, sint}
 use Rattle.gg_ast.specs.declared.module.GroundType.{GroundType}
@@ -99,8 +99,8 @@ writers_said (field.ReadUnderWrite said) = []
 
 -- ---- a memory
 
--- the shape of a memory's words, how many there are, its latency, and the names of its readers and writers, each in the order of
--- the file
+-- the shape of a memory's words, how many there are, its latency, and the names of its readers and writers, each in
+-- the order of the file
 pub record Bank : Type 0 where
   pub word : Shape
   pub depth : ℕ

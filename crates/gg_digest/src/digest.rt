@@ -31,7 +31,8 @@ pub struct OwnMemory<'a> {
     pub bank: Bank<'a>,
 }
 
-/// A module: its signals, the instances that it holds, its memories, each in the order of the file, and its connections.
+/// A module: its signals, the instances that it holds, its memories, each in the order of the file, and its
+/// connections.
 #[derive(Drop)]
 pub struct Digest<'a> {
     pub signals: Vec<OwnSignal<'a>>,

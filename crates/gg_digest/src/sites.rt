@@ -19,8 +19,8 @@ pub struct Around<'a> {
     pub name: &'a Name,
 }
 
-/// A site: its path, its module's place, how many sites it lies below, and, of an instance, what holds it and that one's place
-/// among the sites.
+/// A site: its path, its module's place, how many sites it lies below, and, of an instance, what holds it and that
+/// one's place among the sites.
 #[derive(Drop)]
 pub struct Place<'a> {
     pub path: Name,

@@ -59,8 +59,8 @@ fn build<'a>(
     Ok((piece, tree))
 }
 
-// The flat circuit with its tree, where it is well formed. That no other is made here isn't proved: it would be refused as
-// want of memory.
+// The flat circuit with its tree, where it is well formed. That no other is made here isn't proved: it would be
+// refused as want of memory.
 fn joined(typed: &Typed, piece: Piece, tree: Tree) -> Result<(Piece, Tree), AllocError>
     requires top { (place_of typed.now.circuit.name (module_names typed.now.circuit)) ≢ None }
     requires flat { IsFlat typed.now.circuit piece }
@@ -82,7 +82,8 @@ fn joined(typed: &Typed, piece: Piece, tree: Tree) -> Result<(Piece, Tree), Allo
 ///
 /// # Errors
 ///
-/// `TooLarge` with the first count that is above its limit, exactly where there is one; `NoMemory`, where memory is refused.
+/// `TooLarge` with the first count that is above its limit, exactly where there is one; `NoMemory`, where memory is
+/// refused.
 pub fn flatten(alloc: Global, typed: &Typed) -> Result<(Piece, Tree), ElabFault>
     ensures flat { IfOk result (λ both. IsFlat typed.now.circuit both.0) }
     ensures fits { IfOk result (λ both. AreFitting both.0) }

@@ -72,8 +72,8 @@ signal_count circuit all = length (flat_signals (types_of circuit) circuit.modul
 abbrev pub sites_within : CircuitTree → Site → List Site
 sites_within circuit site = sites (length circuit.modules - site.depth) circuit.modules site
 
--- An instance: what holds it, its module, its signals with those below it, which are the next from `first` on, its ports in
--- port order, and its own memories.
+-- An instance: what holds it, its module, its signals with those below it, which are the next from `first` on, its
+-- ports in port order, and its own memories.
 pub record IsInstanceFor (circuit : CircuitTree) (first : ℕ) (site : Site) (instance : Instance) : Type 0 where
   pub parent : IsParent circuit site.outer instance.parent
   pub number : instance.«module» ≡ site.number

@@ -375,8 +375,8 @@ fn add_memories(
     Ok(())
 }
 
-/// The tree of a circuit: the instances of its sites with their signals, ports and memories. The table has the circuit's signals and
-/// memories, and the places are its sites.
+/// The tree of a circuit: the instances of its sites with their signals, ports and memories. The table has the
+/// circuit's signals and memories, and the places are its sites.
 ///
 /// # Errors
 ///
