@@ -8,8 +8,8 @@
 //! order of the signals; these memories, a module's before those of its instances; and the ports of the top. How a
 //! line is laid out is left open. The crate promises:
 //!
-//! - `digests` tells of each module the signals that it has of its own, the instances that it holds, its memories, and what each
-//!   sink is connected to (`AreDigests`);
+//! - `digests` tells of each module the signals that it has of its own, the instances that it holds, its memories, and
+//!   what each sink is connected to (`AreDigests`);
 //! - `places` lists the top and the instances below it, each behind what holds it (`all_sites`);
 //! - `table_of` has the paths and the types of all their signals, and the paths of all their memories, in order;
 //! - `value_type` is the type of what a reference names, where that is a value.

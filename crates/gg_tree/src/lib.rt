@@ -5,8 +5,8 @@
 //! memories; and each memory with the instance that has it and the names of its ports. The crate promises:
 //!
 //! - `tree_of` is the circuit's tree;
-//! - `fits` says that this tree is one of the circuit's flat circuit (`IsTree`), which keeps to its scopes (`IsScoped`): what a
-//!   signal reads stands in its own instance, or is a port of one that this holds, or of what holds it.
+//! - `fits` says that this tree is one of the circuit's flat circuit (`IsTree`), which keeps to its scopes
+//!   (`IsScoped`): what a driver names is visible where the driver is written.
 #![tactic(auto)]
 
 mod fitting;
