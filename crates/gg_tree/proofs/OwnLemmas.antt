@@ -1,7 +1,7 @@
 -- The own signals of a site by their places: their paths, and the ports among them.
 use Rattle.std.proofs.Common.{◌≡◌, ◌≢◌, ℕ, zero, suc, ◌+◌, ◌-◌, ◌<◌, ◌≤◌, List, [], ◌∷◌, ◌++◌, Option, Some, None, Bool, true, false, length, take, drop, get_or, map, filter, slice_get, is_some, refl, sym, ap, ◌∙◌, subst, arith, length-append, drop_at, take-suc}
 use Rattle.std.specs.Prelude.{flat_map, filter_map}
-use Rattle.std.proofs.lemmas.List.{length-map, get_or-map, map-append}
+use Rattle.std.proofs.lemmas.List.{length-map, get_or-map, map-append, get_or_append_left}
 use Rattle.std.proofs.lemmas.List.Concat.{get_or-flat_map}
 use Rattle.std.proofs.lemmas.List.Folds.{length-flat_map-take}
 use Rattle.std.proofs.lemmas.Option.{slice_get-get_or}
@@ -53,9 +53,7 @@ port-names (p ∷ ps) = go (type_shape p.ty) refl (port-names ps)
     go (Some s) e rest = rw e (ap (λ l. p.name ∷ l) rest)
 
 pub front : {A : Type 0} (xs ys : List A) (i : ℕ) (d : A) → i < length xs → get_or (xs ++ ys) i d ≡ get_or xs i d
-front [] ys i d lt = absurd (omega (arith, lt))
-front (x ∷ xs) ys zero d lt = refl
-front (x ∷ xs) ys (suc i) d lt = front xs ys i d (omega (arith, lt))
+front xs ys i d lt = get_or_append_left xs ys d i lt
 
 -- the port at a place among those that are signals has the own signal at that place
 pub port-own : (circuit : CircuitTree) (x : Site) (i : ℕ) (p : Port) → i < length (signal_ports (module_at circuit.modules x.number)) → (i < length (own_in circuit x)) × ((d : Own) → (get_or (own_in circuit x) i d).name ≡ (get_or (signal_ports (module_at circuit.modules x.number)) i p).name)

@@ -3,6 +3,7 @@ use Rattle.std.proofs.Common.{◌≡◌, ◌≢◌, ◌⊎◌, inl, inr, ℕ, ze
 use Rattle.std.specs.Prelude.{flat_map, filter_map, Contains, All}
 use Rattle.std.proofs.lemmas.Bool.{cases_lt}
 use Rattle.std.proofs.Math.Seq.{get_or-append_right}
+use Rattle.std.proofs.lemmas.List.Elements.{All-contains}
 use Rattle.gg_ast.specs.Names.{IsPortNamed, AreNamesOfStatement, AreNamesOfCircuit}
 use Rattle.gg_ast.specs.declared.module.Port.{Port}
 use Rattle.gg_ast.specs.declared.statement.Stmt.{Stmt}
@@ -26,7 +27,7 @@ use Rattle.gg_tree.proofs.OwnLemmas.{own_in, port-own}
 use Rattle.gg_tree.proofs.ScopeOfTreeLemmas.{HasApartNames}
 use Rattle.gg_tree.proofs.TreeLemmas.{HasPlainNames, no_own}
 use Rattle.gg_tree.proofs.VisibleLemmas.{IsPlain, HasKnownNames}
-use Rattle.gg_tree.proofs.WordLemmas.{ports-named, of-each, held-word, BankWords, bank-word, DeclaredIn, statement-own}
+use Rattle.gg_tree.proofs.WordLemmas.{ports-named, held-word, BankWords, bank-word, DeclaredIn, statement-own}
 
 -- ---- lists
 
@@ -53,7 +54,7 @@ module _ (circuit : CircuitTree) (are_names : AreNamesOfCircuit circuit) (once :
   }
 
   port-plain : (x : Site) (p : Port) → Contains (module_at circuit.modules x.number).ports p → ¬ Contains p.name 46
-  port-plain x p c = name-dotless p.name (of-each IsPortNamed (module_at circuit.modules x.number).ports p (ports-named circuit.modules x.number are_names.of_modules) c)
+  port-plain x p c = name-dotless p.name (All-contains IsPortNamed (module_at circuit.modules x.number).ports p (ports-named circuit.modules x.number are_names.of_modules) c)
 
   -- an own signal is a port's, or has the name of a statement, or is a field of a memory
   pub own-is : (x : Site) (o : ℕ) → o < length (own_in circuit x) → (o < length (signal_ports (module_at circuit.modules x.number))) ⊎ (((d : Own) → DeclaredIn (module_at circuit.modules x.number).statements (get_or (own_in circuit x) o d)) ⊎ ((d : Own) → FieldPlace (module_at circuit.modules x.number).statements (get_or (own_in circuit x) o d)))

@@ -3,6 +3,7 @@ use Rattle.std.proofs.Common.{◌≡◌, ◌≢◌, ℕ, zero, suc, ◌+◌, ◌
 use Rattle.std.specs.Prelude.{flat_map}
 use Rattle.std.proofs.lemmas.Bool.{cases_lt}
 use Rattle.std.proofs.lemmas.List.{take_more, length-map, take-map, get_or-map, map-append}
+use Rattle.std.proofs.lemmas.List.Elements.{filter-append}
 use Rattle.gg_ast.specs.declared.module.Port.{Port}
 use Rattle.gg_ast.specs.Places.{place_of}
 use Rattle.gg_ast.specs.Tree.{CircuitTree, module_names}
@@ -32,14 +33,6 @@ use Rattle.gg_tree.proofs.PairwiseLemmas.{Pairwise-push, Pairwise-append}
 pub Pairwise-next : {A B : Type 0} (R : A → B → Type 0) (all : List A) (i : ℕ) (a : A) (ys : List B) (y : B) → i < length all → a ≡ get_or all i a → Pairwise R (take i all) ys → R a y → Pairwise R (take (i + 1) all) (ys ++ y ∷ [])
 Pairwise-next R all i a ys y lt is h k =
     subst (λ l. Pairwise R l (ys ++ y ∷ [])) (ap (λ x. take i all ++ x ∷ []) is ∙ sym (take_more all i a lt)) (Pairwise-push R (take i all) a ys y h k)
-
-filter-append : {A : Type 0} (test : A → Bool) (xs ys : List A) → filter test (xs ++ ys) ≡ filter test xs ++ filter test ys
-filter-append test [] ys = refl
-filter-append test (x ∷ xs) ys = go (test x) refl (filter-append test xs ys)
-  where
-    go : (b : Bool) → test x ≡ b → filter test (xs ++ ys) ≡ filter test xs ++ filter test ys → filter test (x ∷ (xs ++ ys)) ≡ filter test (x ∷ xs) ++ filter test ys
-    go true e rest = rw e (ap (λ l. x ∷ l) rest)
-    go false e rest = rw e rest
 
 -- one element more, if it passes
 pub Pairwise-filter : {A B : Type 0} (R : A → B → Type 0) (test : A → Bool) (all : List A) (i : ℕ) (a : A) (ys more : List B) → i < length all → a ≡ get_or all i a → Pairwise R (filter test (take i all)) ys → Pairwise R (filter test (a ∷ [])) more → Pairwise R (filter test (take (i + 1) all)) (ys ++ more)

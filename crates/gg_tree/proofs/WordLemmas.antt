@@ -4,7 +4,7 @@ use Rattle.std.proofs.Common.{◌≡◌, ◌≢◌, ◌⊎◌, inl, inr, ℕ, ze
 use Rattle.std.specs.Prelude.{flat_map, filter_map, Contains, All, option_map, option_to_list, option_and_then, unwrap_or}
 use Rattle.std.specs.List.{cons_option}
 use Rattle.std.proofs.lemmas.Bool.{cases_lt}
-use Rattle.std.proofs.lemmas.List.Elements.{Contains-append_cases, Contains-append_right}
+use Rattle.std.proofs.lemmas.List.Elements.{Contains-append_cases, Contains-append_right, All-contains}
 use Rattle.std.proofs.Math.Seq.{get_or-append_right}
 use Rattle.std.proofs.lemmas.List.{get_or_default}
 use Rattle.gg_bits.specs.Shape.{Shape}
@@ -37,10 +37,6 @@ ports-named [] n h = λ i d lt. absurd (omega (arith, lt))
 ports-named (m ∷ ms) zero h = (h 0 m (omega arith)).of_ports
 ports-named (m ∷ ms) (suc n) h = ports-named ms n (λ i d lt. h (suc i) d (omega (arith, lt)))
 
--- what holds of all holds of each
-pub of-each : {A : Type 0} (P : A → Type 0) (xs : List A) (x : A) → All P xs → Contains xs x → P x
-of-each P xs x h c = subst P c.2 (h c.0 x c.1)
-
 held-name : (modules : List ModuleTree) (kind : StmtKind) (h : Held) → held_by_kind modules kind ≡ Some h → AreNamesOfKind kind → IsName h.name
 held-name modules (says.Wire name ty) h e n = absurd (cc)
 held-name modules (says.Node name value) h e n = absurd (cc)
@@ -61,7 +57,7 @@ held-name modules (says.Report word arguments label) h e n = absurd (cc)
 pub held-word : (modules : List ModuleTree) (ss : List Stmt) (h : Held) → All AreNamesOfStatement ss → Contains (held_by modules ss) h → IsName h.name
 held-word modules ss h n c =
     let m = made-by (held_by_kind modules) ss h c in
-    held-name modules m.statement.kind h m.makes (of-each AreNamesOfStatement ss m.statement n (m.place, m.inside, m.at))
+    held-name modules m.statement.kind h m.makes (All-contains AreNamesOfStatement ss m.statement n (m.place, m.inside, m.at))
 
 -- ---- memories
 
@@ -74,7 +70,7 @@ readers-words (f ∷ fs) p h c = go (Contains-append_cases (readers_said f.kind)
     here (field.Depth k) n c = absurd (omega (arith, c.1))
     here (field.ReadLatency k) n c = absurd (omega (arith, c.1))
     here (field.WriteLatency k) n c = absurd (omega (arith, c.1))
-    here (field.Readers names) n c = of-each IsName names p n c
+    here (field.Readers names) n c = All-contains IsName names p n c
     here (field.Writers names) n c = absurd (omega (arith, c.1))
     here (field.ReadUnderWrite word) n c = absurd (omega (arith, c.1))
 
@@ -92,7 +88,7 @@ writers-words (f ∷ fs) p h c = go (Contains-append_cases (writers_said f.kind)
     here (field.ReadLatency k) n c = absurd (omega (arith, c.1))
     here (field.WriteLatency k) n c = absurd (omega (arith, c.1))
     here (field.Readers names) n c = absurd (omega (arith, c.1))
-    here (field.Writers names) n c = of-each IsName names p n c
+    here (field.Writers names) n c = All-contains IsName names p n c
     here (field.ReadUnderWrite word) n c = absurd (omega (arith, c.1))
 
     go : Contains (writers_said f.kind) p ⊎ Contains (flat_map (λ (f : Field). writers_said f.kind) fs) p → (Contains (flat_map (λ (f : Field). writers_said f.kind) fs) p → IsName p) → IsName p
@@ -144,7 +140,7 @@ bank-words (says.Report word arguments label) b e n = absurd (cc)
 pub bank-word : (ss : List Stmt) (b : OwnBank) → All AreNamesOfStatement ss → Contains (own_banks ss) b → BankWords b
 bank-word ss b n c =
     let m = made-by bank_of_kind ss b c in
-    bank-words m.statement.kind b m.makes (of-each AreNamesOfStatement ss m.statement n (m.place, m.inside, m.at))
+    bank-words m.statement.kind b m.makes (All-contains AreNamesOfStatement ss m.statement n (m.place, m.inside, m.at))
 
 -- ---- the signals of statements
 
