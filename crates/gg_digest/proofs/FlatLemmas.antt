@@ -1,13 +1,13 @@
 -- The signals and memories of sites, one site more.
-use Rattle.std.proofs.Common.{◌≡◌, ℕ, zero, suc, ◌+◌, ◌<◌, List, [], ◌∷◌, ◌++◌, length, map, take, get_or, refl, sym, ap, ◌∙◌, subst, arith, append_assoc}
-use Rattle.std.specs.Prelude.{flat_map, slice_index_or}
+use Rattle.std.proofs.Common.{◌≡◌, ℕ, ◌+◌, ◌<◌, List, [], ◌∷◌, ◌++◌, length, map, take, get_or, refl, sym, ap, ◌∙◌, subst, append_assoc}
+use Rattle.std.specs.Prelude.{flat_map}
 use Rattle.std.proofs.lemmas.List.{map-append, take_more, append-nil, length-map}
 use Rattle.std.proofs.lemmas.Grind.{flat_map-append}
 use Rattle.gg_bits.specs.declared.types.Ty.{Ty}
-use Rattle.gg_bits.specs.Shape.{Shape, shape}
+use Rattle.gg_bits.specs.Shape.{shape}
 use Rattle.gg_ast.specs.Tree.{ModuleTree}
 use Rattle.gg_flat.specs.Tree.{joined}
-use Rattle.gg_count.specs.Sites.{Site, module_at}
+use Rattle.gg_count.specs.Sites.{Site}
 use Rattle.gg_digest.specs.declared.digest.Digest.{Digest}
 use Rattle.gg_digest.specs.declared.digest.OwnMemory.{OwnMemory}
 use Rattle.gg_digest.specs.declared.own.OwnSignal.{OwnSignal}
@@ -17,7 +17,7 @@ use Rattle.gg_digest.specs.Flat.{FlatSignal, flat_signal, signals_at, flat_signa
 use Rattle.gg_digest.specs.Views.{table_signals, own_of, own_bank_of, site_of, IsDigest, AreDigests}
 use Rattle.gg_digest.specs.IsFlat.{signals_of, memory_paths}
 use Rattle.gg_digest.specs.Meaning.{Signals}
-use Rattle.gg_digest.specs.Signals.{Types, Own, OwnBank, own_signals, own_banks}
+use Rattle.gg_digest.specs.Signals.{Types}
 
 pub map-twice : {A B C : Type 0} (f : B → C) (g : A → B) (xs : List A) → map f (map g xs) ≡ map (λ x. f (g x)) xs
 map-twice f g [] = refl

@@ -1,7 +1,7 @@
 -- The sites while they are made.
-use Rattle.std.proofs.Common.{◌≡◌, ℕ, zero, suc, ◌+◌, ◌-◌, ◌<◌, List, [], ◌∷◌, ◌++◌, length, map, take, get_or, Option, Some, None, refl, sym, ap, ◌∙◌, subst, arith, append_assoc}
+use Rattle.std.proofs.Common.{◌≡◌, ℕ, zero, suc, ◌+◌, ◌-◌, ◌<◌, List, [], ◌∷◌, ◌++◌, length, map, take, get_or, Option, Some, None, sym, ap, ◌∙◌, subst, arith, append_assoc}
 use Rattle.std.specs.Prelude.{flat_map, Contains, IfSome}
-use Rattle.std.proofs.lemmas.List.{append-nil, flat_map_more, map-append, take_more, length-map, get_or-map}
+use Rattle.std.proofs.lemmas.List.{flat_map_more, map-append, take_more, length-map, get_or-map}
 use Rattle.gg_ast.specs.Tree.{ModuleTree}
 use Rattle.gg_count.specs.Sites.{Held, Site, site_below, sites, held_at, module_at}
 use Rattle.gg_count.proofs.CountLemmas.{held_by-below}

@@ -30,11 +30,11 @@
 --     28      m.r.en <= x
 --     29      m.r.clk <= clk
 --     30      y <= m.r.data
-use Rattle.std.proofs.Common.{◌≡◌, ◌≢◌, ℕ, zero, suc, ◌<◌, ◌≤◌, List, [], ◌∷◌, length, map, Option, Some, None, codes, refl, sym, ap, ◌∙◌, subst, arith, lit≤, ◌++◌}
+use Rattle.std.proofs.Common.{◌≡◌, ℕ, zero, suc, List, [], ◌∷◌, length, map, Option, Some, codes, refl, sym, ap, subst, arith, lit≤, ◌++◌}
 use Rattle.std.specs.Prelude.{Contains}
 use Rattle.gg_bits.specs.declared.types.Kind.TheVariants as kinds
 use Rattle.gg_bits.specs.declared.types.Ty.{Ty}
-use Rattle.gg_bits.specs.Shape.{Shape, uint}
+use Rattle.gg_bits.specs.Shape.{uint}
 use Rattle.gg_ast.specs.declared.expression.Reference.{Reference}
 use Rattle.gg_ast.specs.declared.expression.Reference.TheVariants as name
 use Rattle.gg_ast.specs.declared.module.Direction.TheVariants as direction
@@ -45,12 +45,11 @@ use Rattle.gg_ast.specs.declared.statement.MemoryField.TheVariants as field
 use Rattle.gg_ast.specs.declared.statement.Stmt.{Stmt}
 use Rattle.gg_ast.specs.declared.statement.StmtKind.{StmtKind}
 use Rattle.gg_ast.specs.declared.statement.StmtKind.TheVariants as says
-use Rattle.gg_ast.specs.Term.{Term, NamedTerm}
+use Rattle.gg_ast.specs.Term.{NamedTerm}
 use Rattle.gg_ast.specs.Tree.{ModuleTree, CircuitTree}
 use Rattle.gg_flat.specs.declared.line.Node.{Node}
-use Rattle.gg_flat.specs.declared.line.Op.{Op}
 use Rattle.gg_flat.specs.declared.line.Op.TheVariants.{Ref}
-use Rattle.gg_flat.specs.declared.memory.Latency.TheVariants.{Zero, One}
+use Rattle.gg_flat.specs.declared.memory.Latency.TheVariants.{One}
 use Rattle.gg_flat.specs.declared.memory.UnderWrite.TheVariants.{Undefined}
 use Rattle.gg_flat.specs.declared.piece.Driver.TheVariants.{Computed}
 use Rattle.gg_flat.specs.Circuit.{FlatCircuit}
@@ -58,8 +57,8 @@ use Rattle.gg_flat.specs.Reads.{Names}
 use Rattle.gg_count.specs.Sites.{sites_of}
 use Rattle.gg_digest.specs.Signals.{Types}
 use Rattle.gg_digest.specs.Connection.{Connection, ConnectedTo, Zeroed}
-use Rattle.gg_digest.specs.Flat.{Scope, Drive, Outside, Gets, Answers, FlatSignal, FlatMemory, flat_signals, flat_memories}
-use Rattle.gg_digest.specs.IsFlat.{IsFlatWith, IsComputed, IsDrivenBy, signals_of}
+use Rattle.gg_digest.specs.Flat.{Scope, Drive, Gets, Answers, FlatSignal, FlatMemory, flat_signals, flat_memories}
+use Rattle.gg_digest.specs.IsFlat.{IsFlatWith, IsComputed, signals_of}
 
 -- ---- the circuit
 

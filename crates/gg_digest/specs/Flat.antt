@@ -1,7 +1,7 @@
 -- The signals and memories of a circuit: those of the top and of every instance below it, by their paths.
 -- Source: FIRRTL Specification, "Circuits and Modules", "Instances", "Memories", "Connects". An instance's input is
 -- connected in the module that holds the instance, as i.p; every other sink in its own module.
-use Rattle.std.specs.Prelude.{ℕ, List, [], ◌∷◌, Option, Some, None, map, flat_map, codes}
+use Rattle.std.specs.Prelude.{ℕ, List, Option, Some, None, map, flat_map, codes}
 use Rattle.gg_bits.specs.Shape.{Shape}
 use Rattle.gg_ast.specs.declared.statement.Reset.{Reset}
 use Rattle.gg_ast.specs.Tree.{ModuleTree}
@@ -10,7 +10,7 @@ use Rattle.gg_flat.specs.Tree.{joined}
 use Rattle.gg_count.specs.Sites.{Site, Outer, module_at}
 use Rattle.gg_digest.specs.Memories.{Bank}
 use Rattle.gg_digest.specs.Signals.{Cause, FromOutside, Connected, Expressed, Kept, Answered, Own, Types, own_signals, OwnBank, own_banks, dotted, field_name}
-use Rattle.gg_digest.specs.Connection.{Connection, ConnectedTo, Zeroed, connection_in}
+use Rattle.gg_digest.specs.Connection.{Connection, ConnectedTo, connection_in}
 
 -- where a name stands: the path before it, and the place of the module in which it is written
 pub record Scope : Type 0 where

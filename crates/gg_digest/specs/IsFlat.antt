@@ -2,7 +2,7 @@
 -- Source: FIRRTL Specification, "Circuits and Modules", "Instances", "Statements", "Memories", "Connects",
 -- "Invalidates". It has the signals, registers, memories and ports of the circuit's sites, and nothing more. How a
 -- line is laid out is left open: only what it comes to, and which signals it names, is said.
-use Rattle.std.specs.Prelude.{◌≡◌, ℕ, ◌<◌, ◌↔◌, List, [], ◌∷◌, Option, Some, None, Bool, true, false, MatchOption, length, map, take, filter_map, count_by, slice_index_or, unwrap_or, option_map, if◌then◌else◌, ◌&&◌, is_some, codes}
+use Rattle.std.specs.Prelude.{◌≡◌, ℕ, ◌<◌, ◌↔◌, List, [], Option, Some, None, Bool, true, false, MatchOption, length, map, take, filter_map, count_by, slice_index_or, unwrap_or, if◌then◌else◌, ◌&&◌, is_some, codes}
 use Rattle.gg_bits.specs.Shape.{Shape, shape}
 use Rattle.gg_ast.specs.declared.module.Direction.{Direction}
 use Rattle.gg_ast.specs.declared.module.Direction.TheVariants as direction
@@ -24,8 +24,8 @@ use Rattle.gg_flat.specs.declared.piece.Driver.TheVariants.{Input, Held, MemoryW
 use Rattle.gg_flat.specs.Circuit.{FlatCircuit, signal_shapes, driver_at}
 use Rattle.gg_flat.specs.Line.{shape_at, line_value, connected_value as line_connected}
 use Rattle.gg_flat.specs.Reads.{Names}
-use Rattle.gg_count.specs.Sites.{Site, module_at, sites_of}
-use Rattle.gg_digest.specs.Memories.{Bank, type_shape}
+use Rattle.gg_count.specs.Sites.{module_at, sites_of}
+use Rattle.gg_digest.specs.Memories.{type_shape}
 use Rattle.gg_digest.specs.Signals.{Types, field_name}
 use Rattle.gg_digest.specs.Connection.{Connection}
 use Rattle.gg_digest.specs.Flat.{Scope, Drive, Outside, Gets, Holds, Answers, FlatSignal, FlatMemory, flat_signals, flat_memories}

@@ -2,7 +2,6 @@
 -- Source: FIRRTL Specification, "Ground Types", "Expressions" (references).
 use Rattle.std.specs.Prelude.{Option, Some, None}
 use Rattle.gg_bits.specs.Shape.{Shape, of_kind}
-use Rattle.gg_ast.specs.declared.expression.Reference.{Reference}
 use Rattle.gg_ast.specs.Tree.{CircuitTree}
 use Rattle.gg_names.specs.Modules.{module_at}
 use Rattle.gg_types.specs.declared.sort.Sort.{Sort}

@@ -1,7 +1,7 @@
 -- The signals that a module has of its own.
 -- Source: FIRRTL Specification, "Circuits and Modules" (ports), "Statements" (wires, registers, nodes), "Memories"
 -- (the fields of ports). What is a Clock is no signal.
-use Rattle.std.specs.Prelude.{ℕ, zero, suc, List, [], ◌∷◌, ◌++◌, Option, Some, None, option_map, option_to_list, filter_map, flat_map, codes}
+use Rattle.std.specs.Prelude.{ℕ, suc, List, [], ◌∷◌, ◌++◌, Option, Some, None, option_map, option_to_list, filter_map, flat_map, codes}
 use Rattle.gg_bits.specs.Shape.{Shape, uint}
 use Rattle.gg_ast.specs.declared.expression.Reference.{Reference}
 use Rattle.gg_ast.specs.declared.expression.Reference.TheVariants as reference
@@ -16,7 +16,6 @@ use Rattle.gg_ast.specs.Term.{Term}
 use Rattle.gg_ast.specs.Tree.{ModuleTree}
 use Rattle.gg_flat.specs.declared.memory.Latency.{Latency}
 use Rattle.gg_flat.specs.Memory.{address_width}
-use Rattle.gg_count.specs.Sites.{module_at}
 use Rattle.gg_digest.specs.Memories.{Bank, bank_of, type_shape}
 
 -- What gives a signal its value, as its module says it: whoever holds the module, for an input port; a connection; a

@@ -1,7 +1,6 @@
 -- What the program keeps of a module, as a contract sees it.
-use Rattle.std.specs.Prelude.{◌≡◌, ℕ, List, [], ◌∷◌, Option, Some, None, map, option_map, slice_get, slice_index_or, length, ◌<◌, IfSome}
-use Rattle.gg_bits.specs.Shape.{Shape, shape}
-use Rattle.gg_ast.specs.declared.statement.Reset.{Reset}
+use Rattle.std.specs.Prelude.{◌≡◌, ℕ, List, Option, Some, None, map, option_map, slice_get, slice_index_or, length, ◌<◌, IfSome}
+use Rattle.gg_bits.specs.Shape.{shape}
 use Rattle.gg_ast.specs.declared.statement.Stmt.{Stmt}
 use Rattle.gg_ast.specs.Places.{place_of}
 use Rattle.gg_ast.specs.Tree.{ModuleTree}
@@ -18,7 +17,7 @@ use Rattle.gg_digest.specs.declared.own.OwnSignal.{OwnSignal}
 use Rattle.gg_digest.specs.declared.sites.Around.{Around}
 use Rattle.gg_digest.specs.declared.sites.Place.{Place}
 use Rattle.gg_digest.specs.declared.table.Table.{Table}
-use Rattle.gg_digest.specs.Memories.{Bank, bank_of}
+use Rattle.gg_digest.specs.Memories.{Bank}
 use Rattle.gg_digest.specs.Signals.{Cause, FromOutside, Connected, Expressed, Kept, Answered, Own, Types, own_signals, OwnBank, own_banks}
 use Rattle.gg_digest.specs.Connection.{Connection, ConnectedTo, Zeroed, connection_in}
 use Rattle.gg_digest.specs.Meaning.{Signals}

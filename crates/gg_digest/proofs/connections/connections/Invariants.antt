@@ -1,4 +1,4 @@
-use Rattle.std.proofs.Common.{◌≡◌, ℕ, ◌<◌, ◌≤◌, ◌++◌, List, length, map, take, drop, Option}
+use Rattle.std.proofs.Common.{◌≡◌, length, take}
 use Rattle.gg_digest.specs.Views.{TellsConnections}
 use Rattle.gg_digest.proofs.connections.connections.Given as goal
 

@@ -1,6 +1,4 @@
-use Rattle.std.proofs.Common.{◌≡◌, ℕ, ◌<◌, ◌+◌, List, [], ◌∷◌, ◌++◌, length, get_or, ◌∙◌, ap, sym, subst, arith, below_more}
-use Rattle.std.proofs.lemmas.List.{get_or_append_left, get_or_push, length-append}
-use Rattle.gg_digest.specs.declared.digest.Digest.{Digest}
+use Rattle.std.proofs.Common.{ℕ, subst, arith}
 use Rattle.gg_digest.specs.Known.{types_of}
 use Rattle.gg_digest.specs.Views.{IsDigest}
 use Rattle.gg_digest.proofs.DigestLemmas.{digests-more}

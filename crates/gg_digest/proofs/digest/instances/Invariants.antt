@@ -1,5 +1,5 @@
-use Rattle.std.proofs.Common.{◌≡◌, ℕ, ◌<◌, ◌≤◌, ◌++◌, List, length, map, take, drop, Option}
-use Rattle.gg_digest.specs.Views.{own_of, bank_seen, held_of, own_bank_of}
+use Rattle.std.proofs.Common.{◌≡◌, map, take}
+use Rattle.gg_digest.specs.Views.{held_of}
 use Rattle.gg_count.specs.Sites.{held_by}
 use Rattle.gg_digest.proofs.digest.instances.Given as goal
 

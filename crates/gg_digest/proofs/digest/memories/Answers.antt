@@ -1,4 +1,4 @@
-use Rattle.std.proofs.Common.{◌∙◌, ap, ◌++◌, option_to_list, map, [], arith}
+use Rattle.std.proofs.Common.{map, [], arith}
 use Rattle.gg_ast.specs.declared.statement.Stmt.{Stmt}
 use Rattle.gg_digest.specs.Signals.{bank_of_kind}
 use Rattle.gg_digest.specs.Views.{own_bank_of}

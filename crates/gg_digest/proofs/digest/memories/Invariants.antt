@@ -1,5 +1,5 @@
-use Rattle.std.proofs.Common.{◌≡◌, ℕ, ◌<◌, ◌≤◌, ◌++◌, List, length, map, take, drop, Option}
-use Rattle.gg_digest.specs.Views.{own_of, bank_seen, held_of, own_bank_of}
+use Rattle.std.proofs.Common.{◌≡◌, map, take}
+use Rattle.gg_digest.specs.Views.{own_bank_of}
 use Rattle.gg_digest.specs.Signals.{own_banks}
 use Rattle.gg_digest.proofs.digest.memories.Given as goal
 

@@ -1,4 +1,4 @@
-use Rattle.std.proofs.Common.{◌≡◌, ℕ, ◌<◌, ◌≤◌, ◌++◌, List, length, map, take, drop, Option}
+use Rattle.std.proofs.Common.{◌≡◌, ◌++◌, map, take}
 use Rattle.gg_digest.proofs.memories.add_names.Given as goal
 
 abbrev pub invariant-loop-name : goal.invariant-loop-name

@@ -1,5 +1,5 @@
-use Rattle.std.proofs.Common.{◌≡◌, ℕ, ◌<◌, ◌≤◌, ◌++◌, List, length, map, take, drop, Option}
-use Rattle.std.specs.Prelude.{filter_map, flat_map}
+use Rattle.std.proofs.Common.{◌≡◌, map, take}
+use Rattle.std.specs.Prelude.{flat_map}
 use Rattle.gg_ast.specs.declared.statement.Field.{Field}
 use Rattle.gg_digest.specs.Memories.{readers_said}
 use Rattle.gg_digest.proofs.memories.readers.Given as goal

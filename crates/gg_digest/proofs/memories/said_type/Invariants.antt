@@ -1,4 +1,4 @@
-use Rattle.std.proofs.Common.{◌≡◌, ℕ, ◌<◌, ◌≤◌, ◌++◌, List, length, map, take, drop, Option}
+use Rattle.std.proofs.Common.{◌≡◌, drop}
 use Rattle.gg_digest.specs.Memories.{first_said, type_said}
 use Rattle.gg_digest.proofs.memories.said_type.Given as goal
 

@@ -1,6 +1,6 @@
-use Rattle.std.proofs.Common.{◌≡◌, ℕ, ◌<◌, ◌≤◌, ◌++◌, List, length, map, take, drop, Option}
-use Rattle.std.specs.Prelude.{filter_map, flat_map}
-use Rattle.gg_digest.specs.Views.{own_of, bank_seen, held_of, own_bank_of}
+use Rattle.std.proofs.Common.{◌≡◌, ◌++◌, map, take}
+use Rattle.std.specs.Prelude.{flat_map}
+use Rattle.gg_digest.specs.Views.{own_of}
 use Rattle.gg_ast.specs.declared.statement.Stmt.{Stmt}
 use Rattle.gg_digest.specs.Known.{types_of}
 use Rattle.gg_digest.specs.Signals.{own_of_kind}

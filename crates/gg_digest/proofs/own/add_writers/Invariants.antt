@@ -1,6 +1,6 @@
-use Rattle.std.proofs.Common.{◌≡◌, ℕ, ◌<◌, ◌≤◌, ◌++◌, List, length, map, take, drop, Option}
-use Rattle.std.specs.Prelude.{filter_map, flat_map}
-use Rattle.gg_digest.specs.Views.{own_of, bank_seen, held_of, own_bank_of}
+use Rattle.std.proofs.Common.{◌≡◌, ◌++◌, map, take}
+use Rattle.std.specs.Prelude.{flat_map}
+use Rattle.gg_digest.specs.Views.{own_of, bank_seen}
 use Rattle.gg_digest.specs.Signals.{writer_signals}
 use Rattle.gg_digest.proofs.own.add_writers.Given as goal
 

@@ -1,4 +1,4 @@
-use Rattle.std.proofs.Common.{rules, ◌≡◌, ℕ, ◌+◌, ◌-◌, ◌<◌, List, [], ◌∷◌, ◌++◌, map, take, length, ◌∙◌, ap, sym, subst, arith, refl}
+use Rattle.std.proofs.Common.{rules, ◌≡◌, ◌-◌, ◌<◌, List, [], ◌∷◌, ◌++◌, map, take, length, ◌∙◌, ap, sym, subst, arith}
 use Rattle.std.specs.Prelude.{All}
 use Rattle.std.proofs.lemmas.List.{map-append, take_all, append-nil}
 use Rattle.std.proofs.lemmas.List.Elements.{All-push}
@@ -6,7 +6,6 @@ use Rattle.gg_count.specs.Sites.{Held, Site, site_below, sites, held_at}
 use Rattle.gg_digest.specs.Views.{IsPlaceIn, site_of, held_of}
 use Rattle.gg_digest.specs.Known.{types_of}
 use Rattle.gg_digest.specs.declared.digest.Digest.{Digest}
-use Rattle.gg_digest.specs.declared.digest.Instance.{Instance}
 use Rattle.gg_digest.specs.declared.sites.Place.{Place}
 use Rattle.gg_digest.proofs.FlatLemmas.{digest-at}
 use Rattle.gg_digest.proofs.SiteLemmas.{Grown, grown-more, grown-all, next-site, held-below, around-below, held-more}

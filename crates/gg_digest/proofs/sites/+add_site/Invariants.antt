@@ -1,7 +1,5 @@
-use Rattle.std.proofs.Common.{◌≡◌, ℕ, ◌<◌, ◌≤◌, ◌++◌, List, length, map, take, drop, Option}
-use Rattle.std.specs.Prelude.{filter_map, flat_map}
-use Rattle.gg_digest.specs.Views.{own_of, bank_seen, held_of, own_bank_of, site_of, IsPlaceIn}
-use Rattle.gg_count.specs.Sites.{Held, sites}
+use Rattle.std.proofs.Common.{length, map, take}
+use Rattle.gg_digest.specs.Views.{held_of, site_of, IsPlaceIn}
 use Rattle.std.specs.Prelude.{All}
 use Rattle.gg_digest.proofs.SiteLemmas.{Grown}
 use Rattle.gg_digest.proofs.sites.+add_site.Given as goal

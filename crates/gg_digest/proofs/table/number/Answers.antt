@@ -1,4 +1,4 @@
-use Rattle.std.proofs.Common.{◌≡◌, ap, sym}
+use Rattle.std.proofs.Common.{ap, sym}
 use Rattle.std.specs.Prelude.{unwrap_or}
 use Rattle.gg_digest.proofs.NameLemmas.{place_of-at, place_of-missing}
 use Rattle.gg_digest.proofs.table.number.Goals as goal

@@ -1,7 +1,7 @@
-use Rattle.std.proofs.Common.{◌≡◌, ℕ, ◌<◌, List, ◌++◌, map, take, length, refl, sym, ap, ◌∙◌, subst, arith}
+use Rattle.std.proofs.Common.{◌≡◌, ◌<◌, List, ◌++◌, map, take, length, sym, ap, ◌∙◌, subst, arith}
 use Rattle.gg_bits.specs.Shape.{shape}
 use Rattle.gg_flat.specs.Tree.{joined}
-use Rattle.gg_digest.specs.Flat.{FlatSignal, FlatMemory, flat_signals, flat_memories}
+use Rattle.gg_digest.specs.Flat.{flat_signals, flat_memories}
 use Rattle.gg_digest.specs.Views.{table_signals, site_of}
 use Rattle.gg_digest.specs.IsFlat.{signals_of, memory_paths}
 use Rattle.gg_digest.specs.Known.{types_of}

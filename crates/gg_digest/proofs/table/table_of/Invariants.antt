@@ -1,4 +1,4 @@
-use Rattle.std.proofs.Common.{◌≡◌, ℕ, ◌<◌, ◌≤◌, ◌++◌, ◌∷◌, [], List, length, map, take, drop, Option}
+use Rattle.std.proofs.Common.{◌≡◌, map, take}
 use Rattle.gg_digest.specs.Known.{types_of}
 use Rattle.gg_digest.specs.Flat.{flat_signals, flat_memories}
 use Rattle.gg_digest.specs.Views.{table_signals, site_of}
