@@ -1,5 +1,5 @@
 -- Laws of a line that gets one more node.
-use Rattle.std.proofs.Common.{◌≡◌, ℕ, zero, suc, ◌+◌, ◌-◌, ◌<◌, ◌≤◌, List, [], ◌∷◌, ◌++◌, length, map, refl, sym, ap, ◌∙◌, subst, arith, inl, inr, ◌⊎◌, append_assoc, below_more, Result, Ok, Err, Option, Some, None}
+use Rattle.std.proofs.Common.{◌≡◌, ℕ, zero, ◌+◌, ◌-◌, ◌<◌, ◌≤◌, List, [], ◌∷◌, ◌++◌, length, map, refl, sym, ap, ◌∙◌, subst, arith, inl, inr, ◌⊎◌, append_assoc, below_more, Result, Ok, Err, Some, None}
 use Rattle.std.specs.Prelude.{fold, slice_index_or}
 use Rattle.std.proofs.lemmas.List.{map-append, length-append, length-map, get_or_append_left}
 use Rattle.std.proofs.Math.Seq.{get_or-append_seam}
@@ -12,7 +12,6 @@ use Rattle.gg_bits.specs.declared.ops.Op1.{Op1}
 use Rattle.gg_bits.specs.declared.ops.Op2.{Op2}
 use Rattle.gg_bits.specs.declared.ops.OpN.{OpN}
 use Rattle.gg_bits.specs.ResultType.{type1, type2, type_const, type_mux}
-use Rattle.gg_bits.specs.Meaning.{value1, value2, value_const, value_mux}
 use Rattle.gg_bits.specs.Shape.{Shape, shape, shape_of as shape_found, uint, Fits}
 use Rattle.gg_ast.specs.declared.expression.Reference.{Reference}
 use Rattle.gg_ast.specs.declared.expression.Literal as literals
@@ -26,7 +25,7 @@ use Rattle.gg_flat.specs.Reads.{Names}
 use Rattle.gg_flat.proofs.NameLemmas.{Names-push, Names-new, Names-push_cases}
 use Rattle.gg_types.specs.Literal.{literal_value}
 use Rattle.gg_types.specs.Types.{literal_shape}
-use Rattle.gg_digest.specs.Meaning.{named, accepted, value_if}
+use Rattle.gg_digest.specs.Meaning.{named, accepted}
 use Rattle.gg_elab.specs.Growing.{Where, shape_of, value_of, NamesIn, IsZeroNode, IsResultNode, HaveShapes, StandsFor, Added}
 
 -- ---- lists

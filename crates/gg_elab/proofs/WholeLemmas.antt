@@ -1,7 +1,7 @@
 -- The whole flat circuit: its signals, then its memories, then its ports.
-use Rattle.std.proofs.Common.{◌≡◌, ℕ, ◌<◌, List, [], ◌∷◌, ◌++◌, length, map, take, get_or, ◌+◌, append_assoc, Option, Some, None, refl, sym, ap, ◌∙◌, subst, arith}
+use Rattle.std.proofs.Common.{◌≡◌, ℕ, ◌<◌, List, [], ◌∷◌, ◌++◌, length, map, take, get_or, ◌+◌, append_assoc, Option, Some, refl, sym, ap, ◌∙◌, subst, arith}
 use Rattle.std.specs.Prelude.{slice_index_or, All}
-use Rattle.std.proofs.lemmas.List.{append-nil, get_or_append_left, get_or_push, length-append, length-map, map-append, take_more}
+use Rattle.std.proofs.lemmas.List.{get_or_append_left, get_or_push, length-append, length-map, map-append, take_more}
 use Rattle.std.proofs.Common.{below_more}
 use Rattle.gg_ast.specs.declared.module.Direction.TheVariants as direction
 use Rattle.std.proofs.lemmas.List.Elements.{filter_map-append}

@@ -1,5 +1,5 @@
 -- A flat circuit while it is built, signal by signal.
-use Rattle.std.specs.Prelude.{◌≡◌, ℕ, ◌<◌, List, [], ◌∷◌, ◌++◌, Option, Some, None, MatchOption, IfSome, All, Bool, true, false, length, map, option_to_list, slice_index_or}
+use Rattle.std.specs.Prelude.{◌≡◌, ℕ, ◌<◌, List, [], ◌∷◌, ◌++◌, Option, None, MatchOption, All, Bool, true, false, length, map, option_to_list, slice_index_or}
 use Rattle.gg_bits.specs.Shape.{Shape, shape}
 use Rattle.gg_bits.specs.declared.types.Ty.{Ty}
 use Rattle.gg_flat.specs.declared.piece.Driver.{Driver}
@@ -10,7 +10,6 @@ use Rattle.gg_flat.specs.Circuit.{FlatCircuit, signal_shapes, driver_at}
 use Rattle.gg_flat.specs.Line.{shape_at, HasType}
 use Rattle.gg_flat.specs.WellFormed.{IsRegister}
 use Rattle.gg_elab.specs.Fitting.{FitsDriver}
-use Rattle.gg_digest.specs.declared.sites.Place.{Place}
 use Rattle.gg_digest.specs.Flat.{Drive, Outside, Gets, Holds, Answers, FlatSignal, FlatMemory}
 use Rattle.gg_digest.specs.IsFlat.{IsComputed, IsRegisterOf, IsDrivenBy, answer, number_of, is_outside, is_register, drive_at, count_before, IsMemoryOf}
 use Rattle.gg_digest.specs.Meaning.{Signals}

@@ -1,5 +1,5 @@
 -- A line while it grows, node by node.
-use Rattle.std.specs.Prelude.{◌≡◌, ℕ, ◌+◌, ◌<◌, List, [], ◌∷◌, ◌++◌, Result, Ok, Err, length, map, ◌⊎◌, Bool, true, false}
+use Rattle.std.specs.Prelude.{◌≡◌, ℕ, ◌+◌, ◌<◌, List, [], ◌∷◌, ◌++◌, Result, Ok, Err, length, ◌⊎◌, Bool, true, false}
 use Rattle.gg_bits.specs.declared.types.Bad.{Bad}
 use Rattle.gg_bits.specs.declared.types.Ty.{Ty}
 use Rattle.gg_bits.specs.Shape.{Shape, shape, uint}
@@ -11,7 +11,6 @@ use Rattle.gg_flat.specs.Line.{shape_at, value_at, shapes_of, op_at, HasShape, H
 use Rattle.gg_flat.specs.Reads.{Names}
 use Rattle.gg_elab.specs.declared.expression.Stand.{Stand}
 use Rattle.gg_elab.specs.declared.scope.Scope as kept
-use Rattle.gg_digest.specs.declared.table.Table.{Table}
 use Rattle.gg_digest.specs.Flat.{Scope}
 use Rattle.gg_digest.specs.Known.{types_of}
 use Rattle.gg_digest.specs.Meaning.{Signals, term_shape, term_value, TermNames}

@@ -1,8 +1,8 @@
 //! `flatten`: from a circuit to its flat circuit.
-ghost use Rattle.std.specs.Prelude.{◌≡◌, ◌≢◌, ◌<◌, ◌^◌, [], length, map, Some, None, Err, IfOk, IfErr, All};
+ghost use Rattle.std.specs.Prelude.{◌≡◌, ◌≢◌, ◌<◌, ◌^◌, length, map, Some, None, Err, IfOk};
 ghost use Rattle.gg_ast.specs.Places.{place_of};
 ghost use Rattle.gg_ast.specs.Tree.{module_names};
-ghost use Rattle.gg_digest.specs.Views.{IsPlaceIn, AreDigests, site_of};
+ghost use Rattle.gg_digest.specs.Views.{AreDigests};
 ghost use Rattle.gg_digest.specs.IsFlat.{IsFlat, IsFlatWith};
 ghost use Rattle.gg_elab.specs.Fitting.{AreFitting};
 ghost use Rattle.gg_flat.specs.Scoped.{IsScoped};

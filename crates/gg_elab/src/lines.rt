@@ -1,8 +1,8 @@
 //! The lines of the flat circuit.
-ghost use Rattle.std.specs.Prelude.{◌≡◌, ◌∷◌, [], Some, None, IfOk, OnOk};
+ghost use Rattle.std.specs.Prelude.{◌≡◌, Some, None, IfOk, OnOk};
 ghost use Rattle.gg_bits.specs.Shape.{shape};
 ghost use Rattle.gg_flat.specs.Line.{HasType, IsSource, IsCondition};
-ghost use Rattle.gg_elab.specs.Growing.{where_of, shape_of, Added, IsCut, IsZeroOf};
+ghost use Rattle.gg_elab.specs.Growing.{where_of, IsCut, IsZeroOf};
 ghost use Rattle.gg_digest.specs.IsFlat.{IsLineFor, IsLineOf, IsConditionOf};
 ghost use Rattle.gg_bits.specs.ResultType.{is_condition};
 ghost use Rattle.gg_digest.specs.Meaning.{takes as takes_shape};

@@ -4,7 +4,7 @@ ghost use Rattle.gg_digest.specs.declared.sites.Place.{Place};
 ghost use Rattle.gg_ast.specs.declared.module.Direction.TheVariants as direction;
 ghost use Rattle.gg_digest.specs.Views.{IsPlaceIn, own_bank_of, site_of, AreDigests};
 ghost use Rattle.gg_elab.specs.Building.{HasMemories};
-ghost use Rattle.gg_digest.specs.Flat.{FlatMemory, flat_memory, memories_at, flat_memories};
+ghost use Rattle.gg_digest.specs.Flat.{FlatMemory, flat_memory, flat_memories};
 ghost use Rattle.gg_digest.specs.IsFlat.{IsMemoryOf, reader_of, writer_of, number_of, field_number, port_names};
 ghost use Rattle.gg_digest.specs.Known.{types_of};
 

@@ -1,29 +1,24 @@
 -- What gives the signals of a module their values: what its statements say names names of the module alone.
-use Rattle.std.proofs.Common.{◌≡◌, ◌≢◌, ◌⊎◌, inl, inr, ℕ, zero, suc, ◌+◌, ◌-◌, ◌<◌, ◌≤◌, Bool, true, false, ◌&&◌, List, [], ◌∷◌, ◌++◌, Option, Some, None, is_some, length, get_or, map, filter, refl, sym, ap, ◌∙◌, subst, arith, codes, length-append, true≢false, if◌then◌else◌}
-use Rattle.std.specs.Prelude.{flat_map, filter_map, option_map, option_to_list, Contains, All, IfSome, IsTrue}
+use Rattle.std.proofs.Common.{◌≡◌, ◌≢◌, ℕ, zero, suc, ◌+◌, ◌-◌, ◌<◌, Bool, true, false, ◌&&◌, List, [], ◌∷◌, ◌++◌, Option, Some, None, is_some, length, get_or, map, filter, refl, sym, ap, ◌∙◌, subst, arith, codes, length-append, true≢false, if◌then◌else◌}
+use Rattle.std.specs.Prelude.{flat_map, filter_map, option_map, option_to_list, Contains, All, IfSome}
 use Rattle.std.specs.List.{list_all}
 use Rattle.std.specs.Str.{bytes_eq}
-use Rattle.std.proofs.lemmas.Bool.{cases_lt}
-use Rattle.std.proofs.lemmas.List.{length-map, get_or-map, map-append}
+use Rattle.std.proofs.lemmas.List.{length-map, get_or-map}
 use Rattle.std.proofs.Math.Seq.{get_or-append-add}
-use Rattle.gg_bits.specs.Shape.{Shape, uint}
-use Rattle.gg_ast.specs.Names.{IsName, is_name, is_name_byte, begins_name, AreNamesOfTerm, AreNamesOfReset, AreNamesOfKind, AreNamesOfStatement, AreNamesOfModule, AreNamesOfCircuit}
-use Rattle.gg_ast.specs.declared.expression.Reference.{Reference}
+use Rattle.gg_bits.specs.Shape.{Shape}
+use Rattle.gg_ast.specs.Names.{IsName, is_name_byte, begins_name, AreNamesOfTerm, AreNamesOfReset, AreNamesOfKind, AreNamesOfStatement, AreNamesOfModule}
 use Rattle.gg_ast.specs.declared.expression.Reference.TheVariants as reference
-use Rattle.gg_ast.specs.declared.module.Direction.{Direction}
 use Rattle.gg_ast.specs.declared.module.Direction.TheVariants as direction
 use Rattle.gg_ast.specs.declared.module.Port.{Port}
-use Rattle.gg_ast.specs.declared.statement.Reset.{Reset}
 use Rattle.gg_ast.specs.declared.statement.Stmt.{Stmt}
 use Rattle.gg_ast.specs.declared.statement.StmtKind.{StmtKind}
 use Rattle.gg_ast.specs.declared.statement.StmtKind.TheVariants as says
-use Rattle.gg_ast.specs.Term.{Term}
-use Rattle.gg_ast.specs.Tree.{ModuleTree, CircuitTree, empty_module}
+use Rattle.gg_ast.specs.Tree.{ModuleTree, empty_module}
 use Rattle.gg_names.specs.Scope.{written}
 use Rattle.gg_tree.proofs.OwnLemmas.{front}
 use Rattle.gg_digest.specs.Connection.{Connection, ConnectedTo, Zeroed, connection_by, connection_in}
 use Rattle.gg_digest.specs.Memories.{Bank, bank_of, type_shape, or_later}
-use Rattle.gg_digest.specs.Signals.{Types, Cause, FromOutside, Connected, Expressed, Kept, Answered, Own, own, own_of_port, own_of_kind, cause_of_port, field_name, memory_signals, reader_signals, readers_signals, writer_signals}
+use Rattle.gg_digest.specs.Signals.{Types, Cause, FromOutside, Connected, Expressed, Kept, Answered, Own, own, own_of_port, own_of_kind, cause_of_port, field_name, memory_signals, readers_signals, writer_signals}
 
 -- ---- names
 

@@ -1,11 +1,9 @@
 -- What is known of a reference to a port of an instance, and to a field of a memory: which statement brings it.
-use Rattle.std.proofs.Common.{◌≡◌, ◌≢◌, ◌⊎◌, inl, inr, ℕ, zero, suc, ◌+◌, ◌-◌, ◌<◌, ◌≤◌, Bool, true, false, ◌&&◌, List, [], ◌∷◌, ◌++◌, Option, Some, None, is_some, length, get_or, map, refl, sym, ap, ◌∙◌, subst, arith, true≢false, if◌then◌else◌}
+use Rattle.std.proofs.Common.{◌≡◌, ◌≢◌, ◌⊎◌, inl, inr, ℕ, zero, suc, ◌-◌, ◌<◌, Bool, true, false, ◌&&◌, List, [], ◌∷◌, Option, Some, None, is_some, length, get_or, map, refl, sym, ap, ◌∙◌, subst, arith, true≢false, if◌then◌else◌}
 use Rattle.std.specs.Prelude.{flat_map, Contains, option_map}
-use Rattle.std.specs.Bool.{Decides}
 use Rattle.std.specs.Str.{bytes_eq}
 use Rattle.std.proofs.lemmas.List.Elements.{Contains-append_cases}
 use Rattle.std.proofs.lemmas.Slice.Eq.{bytes_eq-Decides}
-use Rattle.gg_bits.specs.Shape.{Shape}
 use Rattle.gg_ast.specs.declared.expression.Reference.{Reference}
 use Rattle.gg_ast.specs.declared.expression.Reference.TheVariants.{Local, PortOf, FieldOf}
 use Rattle.gg_ast.specs.declared.module.Port.{Port}
@@ -21,13 +19,12 @@ use Rattle.gg_names.specs.declared.role.PortKind.{PortKind}
 use Rattle.gg_names.specs.declared.role.PortField.{PortField}
 use Rattle.gg_names.specs.Memory.{memory_ports, port_fields, field_name}
 use Rattle.gg_names.specs.Scope.{same_reference, entry_of, first_name}
-use Rattle.gg_names.specs.Namespace.{module_named, entry_by_port, entries_by, entries_by_kind, scope_of, meaning_of, instance_port, instance_ports, memory_entries, port_entries, port_field, name_by, name_by_kind}
+use Rattle.gg_names.specs.Namespace.{module_named, entry_by_port, entries_by, entries_by_kind, scope_of, instance_port, instance_ports, port_entries, port_field, name_by, name_by_kind}
 use Rattle.gg_names.proofs.BlockLemmas.{at-place}
 use Rattle.gg_types.specs.declared.sort.Own.{Own}
-use Rattle.gg_types.specs.declared.sort.Sort.{Sort}
 use Rattle.gg_types.specs.Named.{find_named}
 use Rattle.gg_types.specs.Owned.{typed, known_sort, sort_of_reference}
-use Rattle.gg_types.specs.Types.{known_in, sort_named}
+use Rattle.gg_types.specs.Types.{known_in}
 use Rattle.gg_count.specs.Sites.{Held, held, held_by, held_by_kind, module_at}
 use Rattle.gg_digest.specs.Known.{types_of, value_shape}
 use Rattle.gg_digest.proofs.NameLemmas.{Differ}

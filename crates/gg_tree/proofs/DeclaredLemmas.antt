@@ -1,12 +1,12 @@
 -- What a module declares: where no name comes twice, its names are distinct, and each is declared by one statement.
-use Rattle.std.proofs.Common.{◌≡◌, ◌≢◌, ◌⊎◌, inl, inr, ℕ, zero, suc, ◌+◌, ◌-◌, ◌<◌, ◌≤◌, Bool, true, false, ◌||◌, List, [], ◌∷◌, ◌++◌, Option, Some, None, length, get_or, map, refl, sym, ap, ap₂, ◌∙◌, subst, arith, append_assoc, append-nil, length-append, true≢false}
-use Rattle.std.specs.Prelude.{flat_map, filter_map, Contains, AllPairs, option_map}
+use Rattle.std.proofs.Common.{◌≡◌, ◌≢◌, ◌⊎◌, inl, inr, ℕ, zero, suc, ◌+◌, ◌-◌, ◌<◌, ◌≤◌, Bool, true, false, ◌||◌, List, [], ◌∷◌, ◌++◌, Option, Some, None, length, get_or, refl, sym, ap, ◌∙◌, subst, arith, append_assoc, append-nil, length-append, true≢false}
+use Rattle.std.specs.Prelude.{flat_map, filter_map, Contains, option_map}
 use Rattle.std.specs.List.{list_any, cons_option}
 use Rattle.std.specs.Bool.{Decides}
 use Rattle.std.specs.Str.{bytes_eq}
 use Rattle.std.proofs.lemmas.Bool.{cases_lt}
 use Rattle.std.proofs.lemmas.List.{map-append}
-use Rattle.std.proofs.lemmas.List.Elements.{Contains-append_left, Contains-append_right, Contains-append_cases}
+use Rattle.std.proofs.lemmas.List.Elements.{Contains-append_left, Contains-append_right}
 use Rattle.std.proofs.lemmas.Grind.{flat_map-append}
 use Rattle.std.proofs.lemmas.Slice.Eq.{bytes_eq-Decides}
 use Rattle.std.proofs.Math.Seq.{get_or-append_right}
@@ -16,11 +16,10 @@ use Rattle.gg_ast.specs.declared.statement.Stmt.{Stmt}
 use Rattle.gg_ast.specs.declared.statement.StmtKind.{StmtKind}
 use Rattle.gg_ast.specs.declared.statement.StmtKind.TheVariants as says
 use Rattle.gg_ast.specs.Places.{place_of}
-use Rattle.gg_ast.specs.Tree.{ModuleTree, CircuitTree, empty_module, names_of}
-use Rattle.gg_names.specs.declared.fault.Repetition.{Repetition}
+use Rattle.gg_ast.specs.Tree.{ModuleTree, empty_module, names_of}
 use Rattle.gg_names.specs.Along.{along, along_from}
 use Rattle.gg_names.specs.Namespace.{name_by, name_by_kind, port_names, names_after, names_in}
-use Rattle.gg_names.specs.Repetitions.{repetition_if, repeated_in, repeated_in_field, repeated_port, repeated_by_kind, repeated_by, repeated_declarations, repeated_module, repetitions}
+use Rattle.gg_names.specs.Repetitions.{repetition_if, repeated_in, repeated_in_field, repeated_port, repeated_by_kind, repeated_by, repeated_declarations, repeated_module}
 use Rattle.gg_count.specs.Sites.{Held, held, held_by, held_by_kind}
 use Rattle.gg_digest.specs.Memories.{Bank, bank_of}
 use Rattle.gg_digest.specs.Signals.{OwnBank, own_bank, own_banks, bank_of_kind}

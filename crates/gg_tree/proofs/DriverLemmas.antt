@@ -1,8 +1,8 @@
 -- A flat circuit keeps to the scopes of its circuit's tree: what drivers and registers name is visible where they are written.
-use Rattle.std.proofs.Common.{◌≡◌, ◌≢◌, ◌⊎◌, inl, inr, ℕ, zero, suc, ◌+◌, ◌-◌, ◌<◌, ◌≤◌, Bool, true, false, List, [], ◌∷◌, ◌++◌, Option, Some, None, is_some, length, get_or, map, filter, refl, sym, ap, ◌∙◌, subst, arith, codes, unwrap_or, true≢false, length-append, MatchOption, slice_get, slice_index_or}
-use Rattle.std.specs.Prelude.{flat_map, filter_map, Contains, All, IfSome}
+use Rattle.std.proofs.Common.{◌≡◌, ◌≢◌, ◌⊎◌, inl, inr, ℕ, zero, suc, ◌+◌, ◌-◌, ◌<◌, ◌≤◌, Bool, true, false, List, [], ◌∷◌, Option, Some, None, is_some, length, get_or, refl, sym, ap, ◌∙◌, subst, arith, codes, unwrap_or, true≢false, length-append, slice_get, slice_index_or}
+use Rattle.std.specs.Prelude.{flat_map, filter_map, All, IfSome}
 use Rattle.std.proofs.lemmas.Bool.{cases_lt}
-use Rattle.std.proofs.lemmas.List.{length-map, get_or-map}
+use Rattle.std.proofs.lemmas.List.{get_or-map}
 use Rattle.std.proofs.lemmas.Option.{get_or_from_slice_get}
 use Rattle.std.proofs.Math.Seq.{get_or-append_right, get_or-append-add}
 use Rattle.std.proofs.lemmas.List.Elements.{Contains-get_or}
@@ -20,7 +20,7 @@ use Rattle.gg_ast.specs.Term.{Term, NamedTerm, ConstantTerm, UnaryTerm, BinaryTe
 use Rattle.gg_ast.specs.Tree.{CircuitTree, module_names}
 use Rattle.gg_flat.specs.Circuit.{FlatCircuit, driver_at}
 use Rattle.gg_flat.specs.Line.{shape_at}
-use Rattle.gg_flat.specs.Reads.{Names, NamesSignal, ResetNames, NextNames, RegisterNames}
+use Rattle.gg_flat.specs.Reads.{NamesSignal, ResetNames, NextNames, RegisterNames}
 use Rattle.gg_flat.specs.declared.line.Node.{Node}
 use Rattle.gg_flat.specs.declared.memory.Latency.{Latency}
 use Rattle.gg_flat.specs.declared.memory.Latency.TheVariants.{Zero, One}
@@ -34,12 +34,11 @@ use Rattle.gg_flat.specs.Scoped.{IsScoped, IsVisible, IsWritten, IsOwnSink, IsCh
 use Rattle.gg_names.specs.Scope.{written}
 use Rattle.gg_count.specs.Sites.{Site, site_below, module_at, sites_of}
 use Rattle.gg_digest.specs.Connection.{Connection, ConnectedTo, Zeroed, connection_in}
-use Rattle.gg_digest.specs.Flat.{Scope, scope_at, Drive, Outside, Gets, Holds, Answers, FlatSignal, flat_signal, flat_signals, drive_of}
-use Rattle.gg_digest.specs.IsFlat.{IsFlat, IsDrivenBy, IsRegisterOf, IsLineFor, IsLineOf, IsConditionOf, HasReset, HasNext, answer, number_of, drive_at, signals_of, memory_paths, count_before, is_outside, is_register}
+use Rattle.gg_digest.specs.Flat.{scope_at, Drive, Outside, FlatSignal, flat_signal, flat_signals, drive_of}
+use Rattle.gg_digest.specs.IsFlat.{IsFlat, IsDrivenBy, IsRegisterOf, HasReset, HasNext, answer, number_of, drive_at, signals_of, memory_paths, count_before, is_outside, is_register}
 use Rattle.gg_tree.specs.IsTreeOf.{IsTreeOf, Pairwise, IsPortFor, signal_paths, signal_ports, is_input, memories_of}
 use Rattle.gg_digest.specs.Known.{types_of}
 use Rattle.gg_digest.specs.Meaning.{Signals, named_if, TermNames, ConnectionNames}
-use Rattle.gg_digest.specs.Memories.{type_shape}
 use Rattle.gg_digest.specs.Signals.{Cause, FromOutside, Connected, Expressed, Kept, Answered, Own, own_of_port, own_of_kind, cause_of_port, field_name, dotted}
 use Rattle.gg_tree.proofs.ElementLemmas.{element-at}
 use Rattle.gg_tree.proofs.PairwiseLemmas.{Pairwise-length}
@@ -47,7 +46,7 @@ use Rattle.gg_tree.proofs.PlaceLemmas.{Placed, Under}
 use Rattle.gg_tree.proofs.RangeLemmas.{Ranges, count_to}
 use Rattle.gg_tree.proofs.InstanceLemmas.{signals_in, ranges, instance-for}
 use Rattle.gg_tree.proofs.OwnLemmas.{own_in, own-signal, own-inside, own-place, placed-known, Pairwise-at, front}
-use Rattle.gg_tree.proofs.TreeLemmas.{HasDistinctPaths, HasPlainNames, no_own, no_port, Pairwise-other, OwnPlace, own-place-of, port-at}
+use Rattle.gg_tree.proofs.TreeLemmas.{HasDistinctPaths, HasPlainNames, no_own, no_port, OwnPlace, own-place-of, port-at}
 use Rattle.gg_tree.proofs.ScopeOfTreeLemmas.{HasApartNames, own-is-innermost, ins-of, outs-of, port-of, ports_once-of, field-of, fields_once-of}
 use Rattle.gg_tree.proofs.NamedLemmas.{named-of, apart-of}
 use Rattle.gg_tree.proofs.VisibleLemmas.{HasKnownNames, IsPlain, IsPlainReference, visible}

@@ -1,9 +1,9 @@
 -- Where the sites below one end: at the next site that lies no deeper.
-use Rattle.std.proofs.Common.{◌≡◌, ◌⊎◌, inl, inr, ℕ, zero, suc, ◌+◌, ◌-◌, ◌<◌, ◌≤◌, List, Option, Some, length, get_or, refl, sym, ap, ◌∙◌, subst, arith}
+use Rattle.std.proofs.Common.{◌≡◌, ◌⊎◌, inl, inr, ℕ, zero, suc, ◌+◌, ◌-◌, ◌<◌, ◌≤◌, Some, length, get_or, refl, ap, subst, arith}
 use Rattle.std.proofs.lemmas.Bool.{cases_lt}
 use Rattle.gg_ast.specs.Places.{place_of}
 use Rattle.gg_ast.specs.Tree.{CircuitTree, module_names}
-use Rattle.gg_flat.specs.Tree.{InstanceTree, no_tree}
+use Rattle.gg_flat.specs.Tree.{no_tree}
 use Rattle.gg_count.specs.Sites.{Site, site_below, sites_of}
 use Rattle.gg_tree.proofs.PlaceLemmas.{within, within-some, Placed, Under, HeldFrom, held_from}
 use Rattle.gg_tree.proofs.RangeLemmas.{placed-at, placed-same, placed-inside}

@@ -1,11 +1,10 @@
 -- The fields of a memory among the own signals of its site.
-use Rattle.std.proofs.Common.{◌≡◌, ◌≢◌, ◌⊎◌, inl, inr, ℕ, zero, suc, ◌+◌, ◌-◌, ◌<◌, ◌≤◌, List, [], ◌∷◌, ◌++◌, Option, Some, None, length, get_or, map, refl, sym, ap, ap₂, ◌∙◌, subst, arith, append_assoc, append-nil, length-append, codes, Bool, true, false, not, nat_eq}
-use Rattle.std.specs.Prelude.{flat_map, filter_map, Contains, option_map, option_to_list}
+use Rattle.std.proofs.Common.{◌≡◌, ◌⊎◌, inl, inr, ℕ, zero, suc, ◌+◌, ◌-◌, ◌<◌, ◌≤◌, List, [], ◌∷◌, ◌++◌, Option, Some, None, length, get_or, map, refl, sym, ap, ap₂, ◌∙◌, subst, arith, append_assoc, length-append, codes, true, not, nat_eq}
+use Rattle.std.specs.Prelude.{flat_map, Contains, option_map}
 use Rattle.std.specs.List.{cons_option, list_all}
 use Rattle.std.proofs.lemmas.Bool.{cases_lt}
-use Rattle.std.proofs.Math.Seq.{get_or-append_right, get_or-append-add}
-use Rattle.std.proofs.lemmas.List.{length-map, get_or-map, map-append}
-use Rattle.gg_bits.specs.Shape.{Shape}
+use Rattle.std.proofs.Math.Seq.{get_or-append_right}
+use Rattle.std.proofs.lemmas.List.{map-append}
 use Rattle.gg_ast.specs.declared.statement.Stmt.{Stmt}
 use Rattle.gg_ast.specs.declared.statement.StmtKind.{StmtKind}
 use Rattle.gg_ast.specs.declared.statement.StmtKind.TheVariants as says
@@ -13,7 +12,7 @@ use Rattle.gg_flat.specs.Tree.{joined}
 use Rattle.gg_flat.specs.Scoped.{reader_fields, writer_fields}
 use Rattle.gg_digest.specs.IsFlat.{number_of, reader_of, writer_of}
 use Rattle.gg_digest.specs.Memories.{Bank, bank_of}
-use Rattle.gg_digest.specs.Signals.{Types, Own, own, OwnBank, own_bank, own_banks, own_of_kind, bank_of_kind, memory_signals, readers_signals, reader_signals, writer_signals, field_name}
+use Rattle.gg_digest.specs.Signals.{Types, Own, OwnBank, own_bank, own_banks, own_of_kind, bank_of_kind, memory_signals, readers_signals, writer_signals, field_name}
 use Rattle.gg_tree.proofs.ElementLemmas.{value_or}
 use Rattle.gg_tree.proofs.JoinLemmas.{joined-behind}
 use Rattle.gg_tree.proofs.OwnLemmas.{front}

@@ -1,5 +1,5 @@
 -- The memories of a circuit's tree by their places.
-use Rattle.std.proofs.Common.{◌≡◌, ◌≢◌, ℕ, zero, suc, ◌+◌, ◌-◌, ◌<◌, ◌≤◌, List, [], ◌∷◌, ◌++◌, Option, Some, None, length, take, get_or, map, slice_get, refl, sym, ap, ◌∙◌, subst, arith, length-append}
+use Rattle.std.proofs.Common.{◌≡◌, ℕ, suc, ◌+◌, ◌-◌, ◌<◌, List, [], ◌∷◌, ◌++◌, Some, length, get_or, map, refl, sym, ap, ◌∙◌, subst, arith}
 use Rattle.std.specs.Prelude.{flat_map}
 use Rattle.std.proofs.lemmas.List.{length-map, get_or-map, map-append}
 use Rattle.std.proofs.lemmas.List.Concat.{get_or-flat_map}
@@ -7,19 +7,19 @@ use Rattle.std.proofs.lemmas.Option.{slice_get-get_or}
 use Rattle.gg_ast.specs.Places.{place_of}
 use Rattle.gg_ast.specs.Tree.{ModuleTree, CircuitTree, module_names}
 use Rattle.gg_flat.specs.declared.tree.MemoryInstance.{MemoryInstance}
-use Rattle.gg_flat.specs.Tree.{InstanceTree, instance_at, memory_at, joined}
+use Rattle.gg_flat.specs.Tree.{InstanceTree, memory_at}
 use Rattle.gg_count.specs.Sites.{Site, module_at, sites_of}
 use Rattle.gg_digest.specs.Flat.{FlatMemory, flat_memory, memories_at, flat_memories}
 use Rattle.gg_digest.specs.IsFlat.{memory_paths}
-use Rattle.gg_tree.specs.IsTreeOf.{Pairwise, IsAt, site_paths, memories_of, IsMemoryAt, IsMemoryFor, HeldMemory, held_memory, held_memories, IsTreeOf}
+use Rattle.gg_tree.specs.IsTreeOf.{site_paths, memories_of, IsMemoryFor, HeldMemory, held_memory, held_memories, IsTreeOf}
 use Rattle.gg_digest.specs.Signals.{OwnBank, own_banks}
 use Rattle.gg_digest.proofs.NameLemmas.{Differ, place_of-at}
 use Rattle.gg_tree.proofs.ElementLemmas.{some-same, element}
 use Rattle.gg_tree.proofs.PairwiseLemmas.{Pairwise-length}
 use Rattle.gg_tree.proofs.PlaceLemmas.{Placed}
-use Rattle.gg_tree.proofs.RangeLemmas.{count_to, count-le, Owner, owner, placed-at}
-use Rattle.gg_tree.proofs.InstanceLemmas.{stands, path-place, instance-for}
-use Rattle.gg_tree.proofs.OwnLemmas.{count-next, Pairwise-at, placed-known}
+use Rattle.gg_tree.proofs.RangeLemmas.{count_to, Owner, owner, placed-at}
+use Rattle.gg_tree.proofs.InstanceLemmas.{stands, path-place}
+use Rattle.gg_tree.proofs.OwnLemmas.{count-next, Pairwise-at}
 
 -- the memories of the module of a site
 abbrev pub banks_in : CircuitTree → Site → List OwnBank

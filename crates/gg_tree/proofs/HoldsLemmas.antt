@@ -1,5 +1,5 @@
 -- The tree of a circuit fits its flat circuit, and this keeps to its scopes.
-use Rattle.std.proofs.Common.{◌≡◌, ℕ, List, [], Option, Some, subst, sym}
+use Rattle.std.proofs.Common.{◌≡◌, ℕ, [], Some, subst}
 use Rattle.gg_ast.specs.Names.{AreNamesOfCircuit}
 use Rattle.gg_ast.specs.Places.{place_of}
 use Rattle.gg_ast.specs.Tree.{CircuitTree, module_names}

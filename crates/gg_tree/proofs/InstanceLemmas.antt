@@ -1,15 +1,15 @@
 -- The instances of a circuit's tree: their ranges, and their parents.
-use Rattle.std.proofs.Common.{◌≡◌, ℕ, zero, suc, ◌+◌, ◌-◌, ◌<◌, ◌≤◌, List, [], ◌∷◌, ◌++◌, Option, Some, None, length, take, drop, get_or, map, slice_get, refl, sym, ap, ◌∙◌, subst, arith, length-append, append-nil}
+use Rattle.std.proofs.Common.{◌≡◌, ℕ, zero, suc, ◌+◌, ◌-◌, ◌<◌, List, [], ◌∷◌, Option, Some, None, length, take, get_or, refl, sym, ap, ◌∙◌, subst, arith, length-append, append-nil}
 use Rattle.std.specs.Prelude.{flat_map}
 use Rattle.std.proofs.lemmas.List.{length-map, get_or-map}
 use Rattle.std.proofs.lemmas.Option.{slice_get-get_or}
 use Rattle.gg_ast.specs.Places.{place_of}
-use Rattle.gg_ast.specs.Tree.{ModuleTree, CircuitTree, module_names}
+use Rattle.gg_ast.specs.Tree.{CircuitTree, module_names}
 use Rattle.gg_flat.specs.declared.tree.Instance.{Instance}
 use Rattle.gg_flat.specs.Tree.{InstanceTree, instance_at}
-use Rattle.gg_count.specs.Sites.{Held, Site, Outer, site_below, sites, sites_of, sites_from, top_site}
-use Rattle.gg_digest.specs.Flat.{FlatSignal, signals_at, flat_signals}
-use Rattle.gg_tree.specs.IsTreeOf.{IsAt, site_paths, IsParent, IsInstanceFor, AreInstances, IsTreeOf}
+use Rattle.gg_count.specs.Sites.{Site, Outer, site_below, sites, sites_of, sites_from, top_site}
+use Rattle.gg_digest.specs.Flat.{FlatSignal, signals_at}
+use Rattle.gg_tree.specs.IsTreeOf.{site_paths, IsParent, IsInstanceFor, AreInstances, IsTreeOf}
 use Rattle.gg_digest.specs.Known.{types_of}
 use Rattle.gg_digest.proofs.NameLemmas.{Differ, place_of-at}
 use Rattle.gg_tree.proofs.PlaceLemmas.{within, within-some, Placed, Under, HeldFrom, held_from}

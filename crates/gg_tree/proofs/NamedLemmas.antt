@@ -1,29 +1,29 @@
 -- How the signals of a circuit's tree are named: just below their instance, or as a field of a memory; and no memory has the path of an
 -- instance.
-use Rattle.std.proofs.Common.{◌≡◌, ◌≢◌, ◌⊎◌, inl, inr, ℕ, zero, suc, ◌+◌, ◌-◌, ◌<◌, ◌≤◌, List, [], ◌∷◌, ◌++◌, Option, Some, None, length, take, get_or, map, refl, sym, ap, ap₂, ◌∙◌, subst, subst₂, arith, take_all, unwrap_or}
+use Rattle.std.proofs.Common.{◌≡◌, ◌≢◌, ◌⊎◌, inl, inr, ℕ, zero, suc, ◌+◌, ◌-◌, ◌<◌, ◌≤◌, List, Some, length, get_or, map, refl, sym, ap, ap₂, ◌∙◌, subst, arith, take_all, unwrap_or}
 use Rattle.std.specs.Prelude.{flat_map, Contains}
 use Rattle.std.proofs.lemmas.Bool.{cases_lt}
 use Rattle.std.proofs.lemmas.List.{length-map, get_or-map}
 use Rattle.gg_ast.specs.Places.{place_of}
 use Rattle.gg_ast.specs.Tree.{CircuitTree, module_names}
 use Rattle.gg_flat.specs.Circuit.{FlatCircuit}
-use Rattle.gg_flat.specs.Tree.{InstanceTree, IsInnermost, IsJustBelow, instance_at, memory_at, path_at, joined}
-use Rattle.gg_flat.specs.Scoped.{IsMemoryField, IsFieldOf, memory_fields}
-use Rattle.gg_count.specs.Sites.{Held, Site, site_below, module_at, held_at, sites_of, top_site}
-use Rattle.gg_digest.specs.Flat.{FlatMemory, flat_memory, memories_at}
+use Rattle.gg_flat.specs.Tree.{InstanceTree, IsInnermost, IsJustBelow, memory_at, path_at, joined}
+use Rattle.gg_flat.specs.Scoped.{IsMemoryField, memory_fields}
+use Rattle.gg_count.specs.Sites.{Site, site_below, module_at, held_at, sites_of, top_site}
+use Rattle.gg_digest.specs.Flat.{flat_memory, memories_at}
 use Rattle.gg_digest.specs.IsFlat.{IsFlat, number_of}
-use Rattle.gg_tree.specs.IsTreeOf.{IsTreeOf, HeldMemory, held_memory, held_memories, signal_paths, site_paths}
+use Rattle.gg_tree.specs.IsTreeOf.{IsTreeOf, held_memory, held_memories, signal_paths, site_paths}
 use Rattle.gg_digest.specs.Signals.{Own, OwnBank, memory_signals}
 use Rattle.gg_tree.proofs.ElementLemmas.{some-same}
 use Rattle.gg_tree.proofs.JoinLemmas.{joined-once, joined-some}
-use Rattle.gg_tree.proofs.PlaceLemmas.{Placed, Under}
+use Rattle.gg_tree.proofs.PlaceLemmas.{Placed}
 use Rattle.gg_tree.proofs.RangeLemmas.{count_to, count-le, placed-at, placed-same}
 use Rattle.gg_tree.proofs.InstanceLemmas.{signals_in, top_placed, held_at-place, path-place, ranges}
 use Rattle.gg_tree.proofs.OwnLemmas.{own_in, own-place, placed-known, count-next}
 use Rattle.gg_tree.proofs.HeldMemoryLemmas.{banks_in, MemoryPlace, memory-place, memory-count, held-count}
 use Rattle.gg_tree.proofs.TreeLemmas.{HasDistinctPaths, HasPlainNames, no_own, path-is, OwnPlace, own-place-of, memory-path, holder-is}
 use Rattle.gg_tree.proofs.FieldLemmas.{FieldPlace, number_behind}
-use Rattle.gg_tree.proofs.ScopeOfTreeLemmas.{HasApartNames, site-there, just-below, fields-are}
+use Rattle.gg_tree.proofs.ScopeOfTreeLemmas.{HasApartNames, just-below, fields-are}
 
 module _ (circuit : CircuitTree) (tree : InstanceTree) (top : ℕ) (known_top : place_of circuit.name (module_names circuit) ≡ Some top) (is_tree : IsTreeOf circuit tree) where
   abbrev Stands : ℕ → Site → Type 0

@@ -1,7 +1,7 @@
 -- The own signals of a site by their places: their paths, and the ports among them.
-use Rattle.std.proofs.Common.{◌≡◌, ◌≢◌, ℕ, zero, suc, ◌+◌, ◌-◌, ◌<◌, ◌≤◌, List, [], ◌∷◌, ◌++◌, Option, Some, None, Bool, true, false, length, take, drop, get_or, map, filter, slice_get, is_some, refl, sym, ap, ◌∙◌, subst, arith, length-append, drop_at, take-suc}
+use Rattle.std.proofs.Common.{◌≡◌, ℕ, zero, suc, ◌+◌, ◌-◌, ◌<◌, List, [], ◌∷◌, ◌++◌, Option, Some, None, length, take, get_or, map, filter, is_some, refl, sym, ap, ◌∙◌, arith, length-append}
 use Rattle.std.specs.Prelude.{flat_map, filter_map}
-use Rattle.std.proofs.lemmas.List.{length-map, get_or-map, map-append, get_or_append_left}
+use Rattle.std.proofs.lemmas.List.{length-map, get_or-map, get_or_append_left}
 use Rattle.std.proofs.lemmas.List.Concat.{get_or-flat_map}
 use Rattle.std.proofs.lemmas.List.Folds.{length-flat_map-take}
 use Rattle.std.proofs.lemmas.Option.{slice_get-get_or}
@@ -9,20 +9,19 @@ use Rattle.gg_bits.specs.Shape.{Shape}
 use Rattle.gg_ast.specs.declared.module.Port.{Port}
 use Rattle.gg_ast.specs.declared.statement.Stmt.{Stmt}
 use Rattle.gg_ast.specs.Places.{place_of}
-use Rattle.gg_ast.specs.Tree.{ModuleTree, CircuitTree, module_names}
+use Rattle.gg_ast.specs.Tree.{CircuitTree}
 use Rattle.gg_flat.specs.declared.tree.InstancePort.{InstancePort}
-use Rattle.gg_flat.specs.Tree.{InstanceTree, instance_at, joined}
+use Rattle.gg_flat.specs.Tree.{joined}
 use Rattle.gg_count.specs.Sites.{Site, module_at, sites_of}
-use Rattle.gg_digest.specs.Flat.{FlatSignal, flat_signal, signals_at, flat_signals}
-use Rattle.gg_tree.specs.IsTreeOf.{Pairwise, IsAt, signal_paths, signal_ports, IsPortFor, is_input, IsTreeOf, site_paths}
+use Rattle.gg_digest.specs.Flat.{FlatSignal, flat_signal, flat_signals}
+use Rattle.gg_tree.specs.IsTreeOf.{Pairwise, signal_paths, signal_ports, IsPortFor}
 use Rattle.gg_digest.specs.Known.{types_of}
 use Rattle.gg_digest.specs.Memories.{type_shape}
 use Rattle.gg_digest.specs.Signals.{Own, own_of_port, own_of_kind, own_signals}
 use Rattle.gg_digest.proofs.NameLemmas.{Differ, place_of-at}
-use Rattle.gg_tree.proofs.PairwiseLemmas.{Pairwise-length}
-use Rattle.gg_tree.proofs.PlaceLemmas.{within, within-some, Placed}
-use Rattle.gg_tree.proofs.RangeLemmas.{count_to, count-le, placed-at, placed-inside}
-use Rattle.gg_tree.proofs.InstanceLemmas.{signals_in, instance-for}
+use Rattle.gg_tree.proofs.PlaceLemmas.{within-some, Placed}
+use Rattle.gg_tree.proofs.RangeLemmas.{count_to, placed-at, placed-inside}
+use Rattle.gg_tree.proofs.InstanceLemmas.{signals_in}
 
 -- the own signals of the module of a site
 abbrev pub own_in : CircuitTree → Site → List Own

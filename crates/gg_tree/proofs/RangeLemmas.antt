@@ -1,12 +1,12 @@
 -- What sites have of their own stands in turn: the ranges of a tree's instances, and what is an instance's own.
-use Rattle.std.proofs.Common.{◌≡◌, ℕ, zero, suc, ◌+◌, ◌-◌, ◌<◌, ◌≤◌, ◌⊎◌, inl, inr, List, [], ◌∷◌, ◌++◌, Option, Some, None, length, take, drop, get_or, refl, sym, ap, ◌∙◌, subst, arith, length-append, length-drop, get_or-drop, take-add, take_all}
+use Rattle.std.proofs.Common.{◌≡◌, ℕ, zero, suc, ◌+◌, ◌-◌, ◌<◌, ◌≤◌, ◌⊎◌, inl, inr, List, [], ◌∷◌, ◌++◌, Some, length, take, drop, get_or, refl, sym, ap, ◌∙◌, arith, length-append, length-drop, get_or-drop, take-add, take_all}
 use Rattle.std.specs.Prelude.{flat_map}
 use Rattle.std.proofs.lemmas.Bool.{cases_lt}
 use Rattle.std.proofs.lemmas.Grind.{flat_map-append}
 use Rattle.std.proofs.Math.Seq.{take-append_seam}
 use Rattle.gg_ast.specs.Tree.{ModuleTree}
 use Rattle.gg_flat.specs.Tree.{InstanceTree, instance_at, Holds, IsInnermost}
-use Rattle.gg_count.specs.Sites.{Held, Site, site_below, sites}
+use Rattle.gg_count.specs.Sites.{Site, site_below, sites}
 use Rattle.gg_tree.proofs.PlaceLemmas.{within, within-some, Placed, Under, HeldFrom, held_from}
 
 -- how much the sites before a place have

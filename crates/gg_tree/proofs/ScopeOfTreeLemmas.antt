@@ -1,7 +1,6 @@
 -- A flat circuit keeps to the scopes of its circuit's tree: ports, the fields of memories, and how signals are named.
-use Rattle.std.proofs.Common.{◌≡◌, ◌≢◌, ◌⊎◌, inl, inr, ℕ, zero, suc, ◌+◌, ◌-◌, ◌<◌, ◌≤◌, Bool, true, false, not, List, [], ◌∷◌, ◌++◌, Option, Some, None, length, get_or, map, filter, is_some, refl, sym, ap, ap₂, ◌∙◌, subst, subst₂, arith, append_assoc, length-append, slice_index_or, unwrap_or, true≢false, if◌then◌else◌, ◌&&◌}
+use Rattle.std.proofs.Common.{◌≡◌, ◌≢◌, ◌⊎◌, ℕ, ◌+◌, ◌-◌, ◌<◌, true, false, List, [], ◌∷◌, ◌++◌, Option, Some, None, length, get_or, map, filter, is_some, refl, sym, ap, ap₂, ◌∙◌, subst, subst₂, arith, append_assoc, length-append, unwrap_or}
 use Rattle.std.specs.Prelude.{flat_map, filter_map, Contains, AllPairs}
-use Rattle.std.proofs.lemmas.Bool.{cases_lt}
 use Rattle.std.proofs.lemmas.List.{length-map, get_or-map}
 use Rattle.std.proofs.Math.Seq.{get_or-append-add}
 use Rattle.std.proofs.lemmas.List.Elements.{Contains-get_or}
@@ -9,32 +8,28 @@ use Rattle.gg_bits.specs.Shape.{Shape}
 use Rattle.gg_ast.specs.declared.module.Direction.{Direction}
 use Rattle.gg_ast.specs.declared.module.Direction.TheVariants as direction
 use Rattle.gg_ast.specs.declared.module.Port.{Port}
-use Rattle.gg_ast.specs.declared.statement.Stmt.{Stmt}
 use Rattle.gg_ast.specs.Places.{place_of}
 use Rattle.gg_ast.specs.Tree.{CircuitTree, module_names}
 use Rattle.gg_flat.specs.Circuit.{FlatCircuit, readers_at}
 use Rattle.gg_flat.specs.declared.memory.Memory.{Memory}
-use Rattle.gg_flat.specs.declared.memory.Reader.{Reader}
-use Rattle.gg_flat.specs.declared.memory.Writer.{Writer}
 use Rattle.gg_flat.specs.declared.tree.InstancePort.{InstancePort}
 use Rattle.gg_flat.specs.Tree.{InstanceTree, IsInnermost, IsWithin, IsJustBelow, instance_at, memory_at, path_at, joined}
-use Rattle.gg_flat.specs.Scoped.{IsPort, IsOwnPort, IsOwnField, IsFieldOf, IsMemoryField, input_signals, output_signals, reader_fields, writer_fields, writers_at, memory_fields}
-use Rattle.gg_count.specs.Sites.{Held, Site, site_below, module_at, held_at, sites_of, top_site}
-use Rattle.gg_digest.specs.Flat.{FlatMemory, flat_memory, flat_signals}
-use Rattle.gg_digest.specs.IsFlat.{IsFlat, number_of, reader_of, writer_of, port_name, port_names, top_ports}
+use Rattle.gg_flat.specs.Scoped.{IsPort, IsOwnPort, IsOwnField, IsFieldOf, input_signals, output_signals, reader_fields, writer_fields, writers_at, memory_fields}
+use Rattle.gg_count.specs.Sites.{Held, Site, module_at, held_at, sites_of, top_site}
+use Rattle.gg_digest.specs.IsFlat.{IsFlat, number_of, reader_of, writer_of, port_names, top_ports}
 use Rattle.gg_tree.specs.IsTreeOf.{IsTreeOf, IsPortFor, signal_paths, signal_ports, is_input, Pairwise}
 use Rattle.gg_digest.specs.Known.{types_of}
 use Rattle.gg_digest.specs.Memories.{type_shape}
-use Rattle.gg_digest.specs.Signals.{Own, own_of_port, own_of_kind, own_banks, OwnBank, memory_signals, field_name}
+use Rattle.gg_digest.specs.Signals.{Own, own_of_port, OwnBank, memory_signals}
 use Rattle.gg_tree.proofs.ElementLemmas.{element-at, filter-in}
 use Rattle.gg_tree.proofs.PairwiseLemmas.{Pairwise-length}
-use Rattle.gg_tree.proofs.PlaceLemmas.{Placed, Under}
-use Rattle.gg_tree.proofs.RangeLemmas.{count_to, count-le, own-innermost}
-use Rattle.gg_tree.proofs.InstanceLemmas.{signals_in, top_placed, held_at-place, instance-for, path-place, ranges}
-use Rattle.gg_tree.proofs.OwnLemmas.{own_in, own-count, own-place, placed-known, port-own, Pairwise-at, front}
-use Rattle.gg_tree.proofs.HeldMemoryLemmas.{banks_in, MemoryPlace, memory-place, memory-count}
-use Rattle.gg_tree.proofs.TreeLemmas.{HasDistinctPaths, HasPlainNames, no_own, no_port, Pairwise-other, instance-count, path-is, port-at, OwnPlace, own-place-of, signal-path, memory-path, holder-is, number-is, memory-is, flat-memory-count}
-use Rattle.gg_tree.proofs.JoinLemmas.{joined-behind, joined-once, joined-some, within-dot}
+use Rattle.gg_tree.proofs.PlaceLemmas.{Placed}
+use Rattle.gg_tree.proofs.RangeLemmas.{count_to, own-innermost}
+use Rattle.gg_tree.proofs.InstanceLemmas.{signals_in, top_placed, instance-for, ranges}
+use Rattle.gg_tree.proofs.OwnLemmas.{own_in, own-count, own-place, placed-known, port-own, front}
+use Rattle.gg_tree.proofs.HeldMemoryLemmas.{banks_in, MemoryPlace, memory-place}
+use Rattle.gg_tree.proofs.TreeLemmas.{HasDistinctPaths, HasPlainNames, no_own, Pairwise-other, path-is, port-at, signal-path, memory-path, holder-is, number-is, memory-is, flat-memory-count}
+use Rattle.gg_tree.proofs.JoinLemmas.{joined-behind, within-dot}
 use Rattle.gg_tree.proofs.FieldLemmas.{StandTogether, bank-together, number_behind, field-numbers, FieldName, memory-field, FieldPlace}
 
 -- What is said of the names of a module: those of its ports have no dots; each of its signals has a name without a dot or is a

@@ -1,5 +1,5 @@
 -- Where no name of a circuit comes twice and all are words, its modules' names are as the tree's laws want them.
-use Rattle.std.proofs.Common.{◌≡◌, ◌≢◌, ◌⊎◌, inl, inr, ℕ, zero, suc, ◌+◌, ◌-◌, ◌<◌, ◌≤◌, Bool, true, false, List, [], ◌∷◌, ◌++◌, Option, Some, None, is_some, length, get_or, map, filter, refl, sym, ap, ◌∙◌, subst, arith, length-append, if◌then◌else◌}
+use Rattle.std.proofs.Common.{◌≡◌, ◌⊎◌, inl, inr, ℕ, zero, suc, ◌+◌, ◌-◌, ◌<◌, ◌≤◌, List, [], ◌∷◌, ◌++◌, is_some, length, get_or, refl, sym, ap, ◌∙◌, subst, arith, length-append}
 use Rattle.std.specs.Prelude.{flat_map, filter_map, Contains, All}
 use Rattle.std.proofs.lemmas.Bool.{cases_lt}
 use Rattle.std.proofs.Math.Seq.{get_or-append_right}
@@ -7,21 +7,20 @@ use Rattle.std.proofs.lemmas.List.Elements.{All-contains}
 use Rattle.gg_ast.specs.Names.{IsPortNamed, AreNamesOfStatement, AreNamesOfCircuit}
 use Rattle.gg_ast.specs.declared.module.Port.{Port}
 use Rattle.gg_ast.specs.declared.statement.Stmt.{Stmt}
-use Rattle.gg_ast.specs.Tree.{CircuitTree, ModuleTree}
+use Rattle.gg_ast.specs.Tree.{CircuitTree}
 use Rattle.gg_names.specs.Namespace.{name_by, port_names, names_in}
 use Rattle.gg_names.specs.Repetitions.{repetitions}
-use Rattle.gg_count.specs.Sites.{Held, Site, module_at, held_at}
+use Rattle.gg_count.specs.Sites.{Site, module_at}
 use Rattle.gg_tree.specs.IsTreeOf.{signal_ports}
 use Rattle.gg_digest.specs.Known.{types_of}
 use Rattle.gg_digest.specs.Memories.{type_shape}
-use Rattle.gg_digest.specs.Signals.{Own, OwnBank, own_of_port, own_of_kind, own_banks, memory_signals}
+use Rattle.gg_digest.specs.Signals.{Own, OwnBank, own_of_port, own_of_kind}
 use Rattle.gg_digest.proofs.NameLemmas.{Differ}
 use Rattle.gg_tree.proofs.ElementLemmas.{element, filter-in}
 use Rattle.gg_tree.proofs.CauseLemmas.{name-some, name-dotless, statements-named, port-count}
 use Rattle.gg_tree.proofs.ChildLemmas.{child-known, field-known}
 use Rattle.gg_tree.proofs.DeclaredLemmas.{names-differ, module-declared, Differ-behind, Differ-parts, held-no-bank}
-use Rattle.gg_tree.proofs.FieldLemmas.{FieldPlace, FieldName, memory-field}
-use Rattle.gg_tree.proofs.HeldMemoryLemmas.{banks_in}
+use Rattle.gg_tree.proofs.FieldLemmas.{FieldPlace, memory-field}
 use Rattle.gg_tree.proofs.JoinLemmas.{dot-within}
 use Rattle.gg_tree.proofs.OwnLemmas.{own_in, port-own}
 use Rattle.gg_tree.proofs.ScopeOfTreeLemmas.{HasApartNames}

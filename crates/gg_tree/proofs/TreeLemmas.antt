@@ -1,6 +1,6 @@
 -- The tree of a circuit is a tree of its flat circuit.
-use Rattle.std.proofs.Common.{◌≡◌, ◌≢◌, ◌⊎◌, inl, inr, ℕ, zero, suc, ◌+◌, ◌-◌, ◌<◌, ◌≤◌, false, List, [], ◌∷◌, ◌++◌, Option, Some, None, length, take, get_or, map, refl, sym, ap, ◌∙◌, subst, subst₂, arith, length-append, take_all, slice_index_or}
-use Rattle.std.specs.Prelude.{flat_map, Contains, All, AllPairs}
+use Rattle.std.proofs.Common.{◌≡◌, ◌≢◌, ◌⊎◌, inl, inr, ℕ, zero, suc, ◌+◌, ◌-◌, ◌<◌, ◌≤◌, false, List, [], ◌∷◌, Some, length, get_or, refl, sym, ap, ◌∙◌, subst, arith, length-append, take_all, slice_index_or}
+use Rattle.std.specs.Prelude.{flat_map, Contains, AllPairs}
 use Rattle.std.proofs.lemmas.Bool.{cases_lt}
 use Rattle.std.proofs.lemmas.List.{length-map, get_or-map}
 use Rattle.gg_bits.specs.Shape.{uint, shape}
@@ -12,10 +12,9 @@ use Rattle.gg_flat.specs.declared.memory.Memory.{Memory}
 use Rattle.gg_flat.specs.declared.memory.Reader.{Reader}
 use Rattle.gg_flat.specs.declared.memory.Writer.{Writer}
 use Rattle.gg_flat.specs.declared.piece.Signal.{Signal}
-use Rattle.gg_flat.specs.declared.tree.Instance.{Instance}
 use Rattle.gg_flat.specs.declared.tree.InstancePort.{InstancePort}
 use Rattle.gg_flat.specs.declared.tree.MemoryInstance.{MemoryInstance}
-use Rattle.gg_flat.specs.Tree.{InstanceTree, IsTree, IsTop, IsBelow, IsInstance, IsHeld, IsInnermost, IsWithin, IsJustBelow, Holds, instance_at, memory_at, parent_place, path_at, joined, port_count}
+use Rattle.gg_flat.specs.Tree.{InstanceTree, IsTree, IsTop, IsBelow, IsInstance, IsHeld, IsInnermost, IsWithin, Holds, instance_at, memory_at, parent_place, path_at, joined, port_count}
 use Rattle.gg_count.specs.Sites.{Held, Site, site_below, module_at, held_at, sites_of, top_site}
 use Rattle.gg_digest.specs.Flat.{FlatSignal, FlatMemory, flat_memory, memories_at, flat_signals}
 use Rattle.gg_digest.specs.IsFlat.{IsFlat, IsMemoryOf, signals_of, reader_of, writer_of, memory_paths}
@@ -25,11 +24,11 @@ use Rattle.gg_digest.specs.Signals.{Own, own, FromOutside, OwnBank}
 use Rattle.gg_digest.proofs.NameLemmas.{Differ, place_of-path}
 use Rattle.gg_tree.proofs.ElementLemmas.{some-same, element-at}
 use Rattle.gg_tree.proofs.PairwiseLemmas.{Pairwise-length}
-use Rattle.gg_tree.proofs.PlaceLemmas.{within, within-some, Placed, Under, HeldFrom, held_from}
-use Rattle.gg_tree.proofs.RangeLemmas.{count_to, count-le, Ranges, placed-at, placed-inside, own-innermost, innermost-own}
-use Rattle.gg_tree.proofs.InstanceLemmas.{signals_in, top_placed, top_whole, sites-some, held_at-place, stands, instance-for, path-place, ranges, top_parent}
+use Rattle.gg_tree.proofs.PlaceLemmas.{within, within-some, Placed, Under, held_from}
+use Rattle.gg_tree.proofs.RangeLemmas.{count_to, count-le, Ranges, placed-at, placed-inside, innermost-own}
+use Rattle.gg_tree.proofs.InstanceLemmas.{signals_in, top_placed, top_whole, sites-some, held_at-place, stands, instance-for, ranges, top_parent}
 use Rattle.gg_tree.proofs.OwnLemmas.{own_in, own-count, own-path, placed-known, port-own, port-signals, Pairwise-at}
-use Rattle.gg_tree.proofs.HeldMemoryLemmas.{banks_in, MemoryPlace, memory-place, memory-count, memory-holder, memory-number, memory_path-place}
+use Rattle.gg_tree.proofs.HeldMemoryLemmas.{banks_in, MemoryPlace, memory-place, memory-count, memory-holder, memory-number}
 
 -- No two instances, signals or memories of the circuit have the same path.
 pub record HasDistinctPaths (circuit : CircuitTree) : Type 0 where

@@ -1,6 +1,6 @@
 -- What a reference names at a site is visible in its instance: a signal of its own, or a port of an instance that it holds.
-use Rattle.std.proofs.Common.{◌≡◌, ◌≢◌, ◌⊎◌, inl, inr, ℕ, zero, suc, ◌+◌, ◌-◌, ◌<◌, ◌≤◌, Bool, true, false, not, ◌&&◌, nat_eq, List, [], ◌∷◌, ◌++◌, Option, Some, None, is_some, length, get_or, map, refl, sym, ap, ◌∙◌, subst, arith, true≢false}
-use Rattle.std.specs.Prelude.{Contains, flat_map}
+use Rattle.std.proofs.Common.{◌≡◌, ◌≢◌, ◌⊎◌, inl, inr, ℕ, zero, suc, ◌+◌, ◌-◌, ◌<◌, Bool, true, false, not, ◌&&◌, nat_eq, List, [], ◌∷◌, ◌++◌, Some, is_some, length, get_or, refl, sym, ap, ◌∙◌, subst, arith, true≢false}
+use Rattle.std.specs.Prelude.{Contains}
 use Rattle.std.specs.List.{list_all}
 use Rattle.std.proofs.lemmas.List.{length-map}
 use Rattle.std.proofs.lemmas.List.Elements.{Contains-get_or}
@@ -10,17 +10,16 @@ use Rattle.gg_ast.specs.declared.module.Port.{Port}
 use Rattle.gg_ast.specs.Places.{place_of}
 use Rattle.gg_ast.specs.Tree.{CircuitTree, module_names}
 use Rattle.gg_flat.specs.Circuit.{FlatCircuit}
-use Rattle.gg_flat.specs.declared.tree.InstancePort.{InstancePort}
 use Rattle.gg_flat.specs.Tree.{InstanceTree, IsInnermost, instance_at, joined}
-use Rattle.gg_flat.specs.Scoped.{IsVisible, IsChildsPort, IsPort}
+use Rattle.gg_flat.specs.Scoped.{IsVisible}
 use Rattle.gg_names.specs.Scope.{written}
 use Rattle.gg_count.specs.Sites.{Held, Site, site_below, module_at, held_at, sites_of, top_site}
 use Rattle.gg_digest.specs.Flat.{FlatSignal, flat_signals}
 use Rattle.gg_digest.specs.IsFlat.{IsFlat}
 use Rattle.gg_tree.specs.IsTreeOf.{IsTreeOf, IsPortFor, signal_paths, signal_ports, site_paths}
 use Rattle.gg_digest.specs.Known.{types_of}
-use Rattle.gg_digest.specs.Signals.{Own, OwnBank, field_name}
-use Rattle.gg_digest.proofs.NameLemmas.{Differ, place_of-path}
+use Rattle.gg_digest.specs.Signals.{Own, OwnBank}
+use Rattle.gg_digest.proofs.NameLemmas.{place_of-path}
 use Rattle.gg_tree.proofs.ElementLemmas.{some-same}
 use Rattle.gg_tree.proofs.PairwiseLemmas.{Pairwise-length}
 use Rattle.gg_tree.proofs.JoinLemmas.{joined-once, joined-some, joined-twice}
@@ -29,7 +28,7 @@ use Rattle.gg_tree.proofs.RangeLemmas.{count_to, Ranges, owner, placed-same, own
 use Rattle.gg_tree.proofs.InstanceLemmas.{signals_in, top_placed, held_at-place, path-place, ranges, instance-for, stands}
 use Rattle.gg_tree.proofs.OwnLemmas.{own_in, own-count, own-path, placed-known}
 use Rattle.gg_tree.proofs.HeldMemoryLemmas.{banks_in}
-use Rattle.gg_tree.proofs.TreeLemmas.{HasDistinctPaths, HasPlainNames, no_own, no_port, port-at, instance-count}
+use Rattle.gg_tree.proofs.TreeLemmas.{HasDistinctPaths, HasPlainNames, no_own, no_port, port-at}
 use Rattle.gg_tree.proofs.FieldLemmas.{FieldPlace, FieldName, memory-field}
 use Rattle.gg_tree.proofs.ScopeOfTreeLemmas.{HasApartNames}
 

@@ -1,16 +1,15 @@
 -- The names of a circuit are words without dots: of its ports and instances, of its memories and their ports, and of its signals but
 -- the fields of memories.
-use Rattle.std.proofs.Common.{◌≡◌, ◌≢◌, ◌⊎◌, inl, inr, ℕ, zero, suc, ◌+◌, ◌-◌, ◌<◌, ◌≤◌, Bool, true, false, List, [], ◌∷◌, ◌++◌, Option, Some, None, length, get_or, map, refl, sym, ap, ap₂, ◌∙◌, subst, arith, length-append, is_some, filter, if◌then◌else◌, nat_lt}
-use Rattle.std.specs.Prelude.{flat_map, filter_map, Contains, All, option_map, option_to_list, option_and_then, unwrap_or}
+use Rattle.std.proofs.Common.{◌≡◌, ◌⊎◌, inl, inr, ℕ, zero, suc, ◌+◌, ◌-◌, ◌<◌, ◌≤◌, Bool, true, false, List, [], ◌∷◌, ◌++◌, Option, Some, None, length, get_or, refl, sym, ap, subst, arith, length-append, if◌then◌else◌, nat_lt}
+use Rattle.std.specs.Prelude.{flat_map, Contains, All, option_map, option_to_list, option_and_then, unwrap_or}
 use Rattle.std.specs.List.{cons_option}
 use Rattle.std.proofs.lemmas.Bool.{cases_lt}
 use Rattle.std.proofs.lemmas.List.Elements.{Contains-append_cases, Contains-append_right, All-contains}
 use Rattle.std.proofs.Math.Seq.{get_or-append_right}
 use Rattle.std.proofs.lemmas.List.{get_or_default}
 use Rattle.gg_bits.specs.Shape.{Shape}
-use Rattle.gg_ast.specs.Names.{IsName, IsPortNamed, AreNamesOfKind, AreNamesOfField, AreNamesOfMemoryField, AreNamesOfStatement, AreNamesOfModule, AreNamesOfCircuit}
+use Rattle.gg_ast.specs.Names.{IsName, IsPortNamed, AreNamesOfKind, AreNamesOfField, AreNamesOfMemoryField, AreNamesOfStatement, AreNamesOfModule}
 use Rattle.gg_ast.specs.declared.expression.Reference.TheVariants as reference
-use Rattle.gg_ast.specs.declared.module.Port.{Port}
 use Rattle.gg_ast.specs.declared.statement.Field.{Field}
 use Rattle.gg_ast.specs.declared.statement.MemoryField.{MemoryField}
 use Rattle.gg_ast.specs.declared.statement.MemoryField.TheVariants as field
@@ -18,7 +17,7 @@ use Rattle.gg_ast.specs.declared.statement.Stmt.{Stmt}
 use Rattle.gg_ast.specs.declared.statement.StmtKind.{StmtKind}
 use Rattle.gg_ast.specs.declared.statement.StmtKind.TheVariants as says
 use Rattle.gg_ast.specs.Places.{place_of}
-use Rattle.gg_ast.specs.Tree.{ModuleTree, CircuitTree, empty_module, names_of}
+use Rattle.gg_ast.specs.Tree.{ModuleTree, empty_module, names_of}
 use Rattle.gg_flat.specs.declared.memory.Latency.{Latency}
 use Rattle.gg_flat.specs.declared.memory.UnderWrite.TheVariants.{Undefined}
 use Rattle.gg_names.specs.Namespace.{name_by, name_by_kind}
@@ -26,8 +25,8 @@ use Rattle.gg_count.specs.Sites.{Held, held, held_by, held_by_kind}
 use Rattle.gg_digest.specs.Memories.{Bank, bank_of, bank_with, readers_said, writers_said, type_shape, first_said, type_said, depth_said, latency_said, under_said, latency_of}
 use Rattle.gg_digest.specs.Signals.{Types, Cause, Connected, Expressed, Kept, Own, own, OwnBank, own_bank, own_banks, bank_of_kind, own_of_kind, memory_signals}
 use Rattle.gg_tree.proofs.ElementLemmas.{value_or}
-use Rattle.gg_tree.proofs.CauseLemmas.{name-dotless, name-some}
-use Rattle.gg_tree.proofs.DeclaredLemmas.{MadeBy, made-by}
+use Rattle.gg_tree.proofs.CauseLemmas.{name-dotless}
+use Rattle.gg_tree.proofs.DeclaredLemmas.{made-by}
 use Rattle.gg_tree.proofs.FieldLemmas.{FieldPlace}
 use Rattle.gg_tree.proofs.OwnLemmas.{front}
 

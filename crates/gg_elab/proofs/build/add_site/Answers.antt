@@ -1,4 +1,4 @@
-use Rattle.std.proofs.Common.{◌≡◌, ℕ, List, ◌++◌, take, map, length, ◌∙◌, ap, sym, subst, arith}
+use Rattle.std.proofs.Common.{◌≡◌, List, ◌++◌, take, map, ◌∙◌, ap, sym, subst, arith}
 use Rattle.std.proofs.lemmas.List.{append-nil, take_all}
 use Rattle.gg_elab.specs.Building.{IsSoFar}
 use Rattle.gg_digest.specs.Flat.{FlatSignal, flat_signal, signals_at}

@@ -1,5 +1,5 @@
-use Rattle.std.proofs.Common.{◌≡◌, ℕ, ◌<◌, length, ◌∙◌, ap, refl, sym, Some, None, arith}
-use Rattle.std.proofs.lemmas.List.{length-map, get_or-map, get_or_default}
+use Rattle.std.proofs.Common.{◌≡◌, ◌<◌, length, ◌∙◌, ap, refl, sym, Some, None, arith}
+use Rattle.std.proofs.lemmas.List.{length-map, get_or-map}
 use Rattle.gg_bits.specs.declared.types.Ty.{Ty}
 use Rattle.gg_bits.specs.Shape.{shape, uint}
 use Rattle.gg_ast.specs.Term.{NamedTerm}

@@ -1,4 +1,4 @@
-use Rattle.std.proofs.Common.{◌≡◌, ap, sym, subst, Option, Some}
+use Rattle.std.proofs.Common.{◌≡◌, ap, sym, subst, Some}
 use Rattle.std.proofs.lemmas.Result.{IfOk-weaker}
 use Rattle.gg_bits.specs.Shape.{shape}
 use Rattle.gg_digest.specs.Connection.{Connection, ConnectedTo}

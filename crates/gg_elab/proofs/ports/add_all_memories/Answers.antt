@@ -1,4 +1,4 @@
-use Rattle.std.proofs.Common.{◌≡◌, ℕ, ◌<◌, List, ◌++◌, map, take, length, refl, sym, ap, ◌∙◌, subst, arith}
+use Rattle.std.proofs.Common.{◌<◌, List, ◌++◌, map, take, length, refl, sym, ap, ◌∙◌, subst, arith}
 use Rattle.gg_digest.specs.Views.{IsPlaceIn, own_bank_of, site_of}
 use Rattle.gg_elab.specs.Building.{HasMemories}
 use Rattle.gg_digest.specs.Flat.{FlatMemory, flat_memory, flat_memories}

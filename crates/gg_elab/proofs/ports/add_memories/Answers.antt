@@ -1,4 +1,4 @@
-use Rattle.std.proofs.Common.{◌≡◌, List, ◌++◌, map, take, subst, arith}
+use Rattle.std.proofs.Common.{List, ◌++◌, map, take, subst, arith}
 use Rattle.std.proofs.lemmas.List.{take_all}
 use Rattle.gg_elab.specs.Building.{HasMemories}
 use Rattle.gg_digest.specs.Flat.{FlatMemory, flat_memory}

@@ -1,7 +1,7 @@
-use Rattle.std.proofs.Common.{◌≡◌, ℕ, ◌<◌, ◌≤◌, ◌++◌, ◌∷◌, [], List, length, map, take, drop, Option}
-use Rattle.gg_digest.specs.Flat.{FlatSignal, flat_signal, flat_signals, FlatMemory, flat_memory, flat_memories}
-use Rattle.gg_digest.specs.Views.{site_of, own_of, own_bank_of}
-use Rattle.gg_elab.specs.Building.{IsSoFar, HasMemories}
+use Rattle.std.proofs.Common.{◌≡◌, ◌++◌, List, map, take}
+use Rattle.gg_digest.specs.Flat.{FlatMemory, flat_memory}
+use Rattle.gg_digest.specs.Views.{site_of, own_bank_of}
+use Rattle.gg_elab.specs.Building.{HasMemories}
 use Rattle.gg_digest.specs.declared.sites.Place.{Place}
 use Rattle.gg_elab.proofs.ports.add_memories.Given as goal
 

@@ -1,4 +1,4 @@
-use Rattle.std.proofs.Common.{◌≡◌, ℕ, ◌<◌, ◌≤◌, ◌+◌, ◌++◌, ◌∷◌, [], List, length, map, take}
+use Rattle.std.proofs.Common.{◌≡◌, [], map, take}
 use Rattle.gg_tree.specs.IsTreeOf.{AreInstances}
 use Rattle.gg_tree.specs.TreeParts.{place_paths}
 use Rattle.gg_digest.specs.Views.{site_of}

@@ -1,4 +1,4 @@
-use Rattle.std.proofs.Common.{◌≡◌, ℕ, ◌<◌, ◌≤◌, ◌+◌, ◌++◌, ◌∷◌, [], List, length, map, flat_map, take}
+use Rattle.std.proofs.Common.{◌≡◌, map, flat_map, take}
 use Rattle.gg_digest.specs.Flat.{flat_memories}
 use Rattle.gg_digest.specs.IsFlat.{memory_paths}
 use Rattle.gg_tree.specs.IsTreeOf.{Pairwise, held_memories}

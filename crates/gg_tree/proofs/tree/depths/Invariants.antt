@@ -1,4 +1,4 @@
-use Rattle.std.proofs.Common.{◌≡◌, ℕ, ◌<◌, ◌≤◌, ◌+◌, ◌++◌, ◌∷◌, [], List, length, map, take, drop, Option, slice_index}
+use Rattle.std.proofs.Common.{◌≡◌, map, take}
 use Rattle.gg_tree.proofs.tree.depths.Given as goal
 
 abbrev pub invariant-loop-place : goal.invariant-loop-place

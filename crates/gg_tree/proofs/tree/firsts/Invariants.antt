@@ -1,4 +1,4 @@
-use Rattle.std.proofs.Common.{◌≡◌, ℕ, ◌<◌, ◌≤◌, ◌+◌, ◌++◌, ◌∷◌, [], List, length, map, take, drop, Option, slice_index}
+use Rattle.std.proofs.Common.{◌≡◌}
 use Rattle.gg_tree.specs.TreeParts.{signals_to}
 use Rattle.gg_tree.proofs.TreePartLemmas.{TellsFirsts}
 use Rattle.gg_tree.proofs.tree.firsts.Given as goal

@@ -1,4 +1,4 @@
-use Rattle.std.proofs.Common.{◌≡◌, ℕ, ◌+◌, List, ◌++◌, ◌∷◌, [], take, subst, sym, ap, ◌∙◌, arith, option_to_list}
+use Rattle.std.proofs.Common.{◌+◌, List, take, subst, sym, arith, option_to_list}
 use Rattle.gg_flat.specs.declared.tree.InstancePort.{InstancePort}
 use Rattle.gg_tree.specs.IsTreeOf.{Pairwise}
 use Rattle.gg_tree.specs.TreeParts.{IsPortAt, is_signal, signals_among}

@@ -1,4 +1,4 @@
-use Rattle.std.proofs.Common.{◌≡◌, ℕ, ◌<◌, ◌≤◌, ◌+◌, ◌++◌, ◌∷◌, [], List, length, map, take, drop, Option, slice_index}
+use Rattle.std.proofs.Common.{take}
 use Rattle.gg_tree.specs.IsTreeOf.{Pairwise}
 use Rattle.gg_tree.specs.TreeParts.{IsPortAt, signals_among}
 use Rattle.gg_tree.proofs.tree.ports.Given as goal

@@ -1,4 +1,4 @@
-use Rattle.std.proofs.Common.{◌≡◌, ℕ, List, map, flat_map, subst, sym, ap, ◌∙◌}
+use Rattle.std.proofs.Common.{List, flat_map, subst, sym, ap, ◌∙◌}
 use Rattle.gg_ast.specs.Places.{place_of}
 use Rattle.gg_ast.specs.Tree.{module_names}
 use Rattle.gg_flat.specs.declared.tree.Instance.{Instance}
