@@ -1,5 +1,5 @@
 -- What gives the signals of a module their values: what its statements say names names of the module alone.
-use Rattle.std.proofs.Common.{◌≡◌, ◌≢◌, ℕ, zero, suc, ◌+◌, ◌-◌, ◌<◌, Bool, true, false, ◌&&◌, List, [], ◌∷◌, ◌++◌, Option, Some, None, is_some, length, get_or, map, filter, refl, sym, ap, ◌∙◌, subst, arith, codes, length-append, true≢false, if◌then◌else◌}
+use Rattle.std.proofs.Common.{◌≡◌, ◌≢◌, ℕ, zero, suc, ◌+◌, ◌<◌, Bool, true, false, ◌&&◌, List, [], ◌∷◌, ◌++◌, Option, Some, None, is_some, length, get_or, map, filter, refl, sym, ap, ◌∙◌, subst, arith, codes, length-append, true≢false, if◌then◌else◌}
 use Rattle.std.specs.Prelude.{flat_map, filter_map, option_map, option_to_list, Contains, All, IfSome}
 use Rattle.std.specs.List.{list_all}
 use Rattle.std.specs.Str.{bytes_eq}
@@ -8,7 +8,6 @@ use Rattle.std.proofs.Math.Seq.{get_or-append-add}
 use Rattle.gg_bits.specs.Shape.{Shape}
 use Rattle.gg_ast.specs.Names.{IsName, is_name_byte, begins_name, AreNamesOfTerm, AreNamesOfReset, AreNamesOfKind, AreNamesOfStatement, AreNamesOfModule}
 use Rattle.gg_ast.specs.declared.expression.Reference.TheVariants as reference
-use Rattle.gg_ast.specs.declared.module.Direction.TheVariants as direction
 use Rattle.gg_ast.specs.declared.module.Port.{Port}
 use Rattle.gg_ast.specs.declared.statement.Stmt.{Stmt}
 use Rattle.gg_ast.specs.declared.statement.StmtKind.{StmtKind}

@@ -1,5 +1,5 @@
 -- What is known of a reference to a port of an instance, and to a field of a memory: which statement brings it.
-use Rattle.std.proofs.Common.{◌≡◌, ◌≢◌, ◌⊎◌, inl, inr, ℕ, zero, suc, ◌-◌, ◌<◌, Bool, true, false, ◌&&◌, List, [], ◌∷◌, Option, Some, None, is_some, length, get_or, map, refl, sym, ap, ◌∙◌, subst, arith, true≢false, if◌then◌else◌}
+use Rattle.std.proofs.Common.{◌≡◌, ◌⊎◌, inl, inr, ℕ, zero, suc, ◌<◌, Bool, true, false, ◌&&◌, List, [], ◌∷◌, Option, Some, None, is_some, length, get_or, map, refl, sym, ap, ◌∙◌, subst, arith, true≢false, if◌then◌else◌}
 use Rattle.std.specs.Prelude.{flat_map, Contains, option_map}
 use Rattle.std.specs.Str.{bytes_eq}
 use Rattle.std.proofs.lemmas.List.Elements.{Contains-append_cases}

@@ -1,5 +1,5 @@
 -- A flat circuit keeps to the scopes of its circuit's tree: what drivers and registers name is visible where they are written.
-use Rattle.std.proofs.Common.{◌≡◌, ◌≢◌, ◌⊎◌, inl, inr, ℕ, zero, suc, ◌+◌, ◌-◌, ◌<◌, ◌≤◌, Bool, true, false, List, [], ◌∷◌, Option, Some, None, is_some, length, get_or, refl, sym, ap, ◌∙◌, subst, arith, codes, unwrap_or, true≢false, length-append, slice_get, slice_index_or}
+use Rattle.std.proofs.Common.{◌≡◌, ◌⊎◌, inl, inr, ℕ, zero, suc, ◌+◌, ◌-◌, ◌<◌, ◌≤◌, Bool, true, false, List, [], ◌∷◌, Option, Some, None, is_some, length, get_or, refl, sym, ap, ◌∙◌, subst, arith, codes, unwrap_or, true≢false, length-append, slice_get, slice_index_or}
 use Rattle.std.specs.Prelude.{flat_map, filter_map, All, IfSome}
 use Rattle.std.proofs.lemmas.Bool.{cases_lt}
 use Rattle.std.proofs.lemmas.List.{get_or-map}

@@ -1,5 +1,5 @@
 -- The fields of a memory among the own signals of its site.
-use Rattle.std.proofs.Common.{◌≡◌, ◌⊎◌, inl, inr, ℕ, zero, suc, ◌+◌, ◌-◌, ◌<◌, ◌≤◌, List, [], ◌∷◌, ◌++◌, Option, Some, None, length, get_or, map, refl, sym, ap, ap₂, ◌∙◌, subst, arith, append_assoc, length-append, codes, true, not, nat_eq}
+use Rattle.std.proofs.Common.{◌≡◌, ◌⊎◌, inl, inr, ℕ, zero, suc, ◌-◌, ◌<◌, ◌≤◌, List, [], ◌∷◌, ◌++◌, Option, Some, None, length, get_or, map, refl, sym, ap, ap₂, ◌∙◌, subst, arith, append_assoc, length-append, codes, true, not, nat_eq}
 use Rattle.std.specs.Prelude.{flat_map, Contains, option_map}
 use Rattle.std.specs.List.{cons_option, list_all}
 use Rattle.std.proofs.lemmas.Bool.{cases_lt}

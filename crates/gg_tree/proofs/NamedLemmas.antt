@@ -1,6 +1,6 @@
 -- How the signals of a circuit's tree are named: just below their instance, or as a field of a memory; and no memory has the path of an
 -- instance.
-use Rattle.std.proofs.Common.{◌≡◌, ◌≢◌, ◌⊎◌, inl, inr, ℕ, zero, suc, ◌+◌, ◌-◌, ◌<◌, ◌≤◌, List, Some, length, get_or, map, refl, sym, ap, ap₂, ◌∙◌, subst, arith, take_all, unwrap_or}
+use Rattle.std.proofs.Common.{◌≡◌, ◌≢◌, ◌⊎◌, inl, inr, ℕ, zero, suc, ◌+◌, ◌<◌, ◌≤◌, List, Some, length, get_or, map, sym, ap, ap₂, ◌∙◌, subst, arith, take_all, unwrap_or}
 use Rattle.std.specs.Prelude.{flat_map, Contains}
 use Rattle.std.proofs.lemmas.Bool.{cases_lt}
 use Rattle.std.proofs.lemmas.List.{length-map, get_or-map}

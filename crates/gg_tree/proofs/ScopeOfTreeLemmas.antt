@@ -1,5 +1,5 @@
 -- A flat circuit keeps to the scopes of its circuit's tree: ports, the fields of memories, and how signals are named.
-use Rattle.std.proofs.Common.{◌≡◌, ◌≢◌, ◌⊎◌, ℕ, ◌+◌, ◌-◌, ◌<◌, true, false, List, [], ◌∷◌, ◌++◌, Option, Some, None, length, get_or, map, filter, is_some, refl, sym, ap, ap₂, ◌∙◌, subst, subst₂, arith, append_assoc, length-append, unwrap_or}
+use Rattle.std.proofs.Common.{◌≡◌, ◌≢◌, ◌⊎◌, ℕ, ◌+◌, ◌<◌, true, false, List, [], ◌∷◌, ◌++◌, Option, Some, None, length, get_or, map, filter, is_some, refl, sym, ap, ap₂, ◌∙◌, subst, subst₂, arith, append_assoc, length-append, unwrap_or}
 use Rattle.std.specs.Prelude.{flat_map, filter_map, Contains, AllPairs}
 use Rattle.std.proofs.lemmas.List.{length-map, get_or-map}
 use Rattle.std.proofs.Math.Seq.{get_or-append-add}

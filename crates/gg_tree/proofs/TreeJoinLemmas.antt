@@ -1,5 +1,5 @@
 -- What the tree is built of is the circuit's: its top is known, and its sites are those of the top's module.
-use Rattle.std.proofs.Common.{◌≡◌, ◌≢◌, ℕ, List, Option, Some, None, refl, sym, ap, ◌∙◌}
+use Rattle.std.proofs.Common.{◌≡◌, ◌≢◌, ℕ, List, Option, Some, None, sym, ap, ◌∙◌}
 use Rattle.gg_ast.specs.Tree.{ModuleTree}
 use Rattle.gg_count.specs.Sites.{Site, all_sites, sites_from}
 

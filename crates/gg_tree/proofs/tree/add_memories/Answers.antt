@@ -1,9 +1,8 @@
-use Rattle.std.proofs.Common.{◌<◌, ◌+◌, List, ◌++◌, length, map, flat_map, take, subst, sym, ap, ◌∙◌, refl, arith}
+use Rattle.std.proofs.Common.{◌<◌, List, ◌++◌, length, map, flat_map, take, subst, sym, ap, ◌∙◌, refl, arith}
 use Rattle.gg_flat.specs.Tree.{joined}
 use Rattle.gg_digest.specs.declared.digest.OwnMemory.{OwnMemory}
 use Rattle.gg_digest.specs.declared.sites.Place.{Place}
 use Rattle.gg_digest.specs.Views.{IsPlaceIn, site_of}
-use Rattle.gg_digest.specs.IsFlat.{memory_paths}
 use Rattle.gg_tree.specs.IsTreeOf.{Pairwise, HeldMemory, held_memories}
 use Rattle.gg_digest.specs.Known.{types_of}
 use Rattle.gg_tree.specs.TreeParts.{IsHeldFor, held_at_place}

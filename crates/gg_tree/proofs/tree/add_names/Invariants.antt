@@ -1,4 +1,4 @@
-use Rattle.std.proofs.Common.{◌≡◌, ◌+◌, ◌++◌, map, take}
+use Rattle.std.proofs.Common.{◌≡◌, ◌++◌, map, take}
 use Rattle.gg_tree.proofs.tree.add_names.Given as goal
 
 abbrev pub invariant-loop-name : goal.invariant-loop-name
