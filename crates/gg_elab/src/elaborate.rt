@@ -1,27 +1,24 @@
 //! `flatten`: from a circuit to its flat circuit.
-ghost use Rattle.std.specs.Prelude.{◌≡◌, ◌≢◌, ◌<◌, ◌^◌, [], length, map, Some, None, Err, IfOk, IfErr, All};
+ghost use Rattle.std.specs.Prelude.{◌≡◌, ◌≢◌, ◌<◌, ◌^◌, length, map, Some, None, Err, IfOk};
 ghost use Rattle.gg_ast.specs.Places.{place_of};
 ghost use Rattle.gg_ast.specs.Tree.{module_names};
-ghost use Rattle.gg_elab.specs.Building.{IsPlaceIn};
-ghost use Rattle.gg_elab.specs.IsFlat.{IsFlat, IsFlatWith};
+ghost use Rattle.gg_digest.specs.Views.{AreDigests};
+ghost use Rattle.gg_digest.specs.IsFlat.{IsFlat, IsFlatWith};
 ghost use Rattle.gg_elab.specs.Fitting.{AreFitting};
 ghost use Rattle.gg_flat.specs.Scoped.{IsScoped};
 ghost use Rattle.gg_flat.specs.Tree.{IsTree};
 ghost use Rattle.gg_flat.specs.WellFormed.{IsWellFormed};
-ghost use Rattle.gg_elab.specs.IsTreeOf.{IsTreeOf};
-ghost use Rattle.gg_elab.specs.Known.{types_of};
+ghost use Rattle.gg_tree.specs.IsTreeOf.{IsTreeOf};
+ghost use Rattle.gg_digest.specs.Known.{types_of};
 ghost use Rattle.gg_elab.specs.Limits.{excess_over, IsAnswered};
-ghost use Rattle.gg_elab.specs.Views.{AreDigests, site_of};
 
 use crate::build::add_sites;
-use crate::digest::{Digest, digests};
 use crate::fault::ElabFault;
 use crate::ports::{add_all_memories, add_ports};
-use crate::sites::{Place, places};
-use crate::table::table_of;
-use crate::tree::tree_of;
 use gg_count::count;
+use gg_digest::{Digest, Place, digests, places, table_of};
 use gg_flat::{Piece, Tree};
+use gg_tree::{fits, tree_of};
 use gg_types::Typed;
 use std::alloc::{AllocError, Global};
 
@@ -62,8 +59,8 @@ fn build<'a>(
     Ok((piece, tree))
 }
 
-// The flat circuit with its tree, where it is well formed. That no other is made here isn't proved: it would be refused as
-// want of memory.
+// The flat circuit with its tree, where it is well formed. That no other is made here isn't proved: it would be
+// refused as want of memory.
 fn joined(typed: &Typed, piece: Piece, tree: Tree) -> Result<(Piece, Tree), AllocError>
     requires top { (place_of typed.now.circuit.name (module_names typed.now.circuit)) ≢ None }
     requires flat { IsFlat typed.now.circuit piece }
@@ -73,10 +70,7 @@ fn joined(typed: &Typed, piece: Piece, tree: Tree) -> Result<(Piece, Tree), Allo
     ensures fitting { IfOk result (λ both. IsTree both.0 both.1) }
     ensures scoped { IfOk result (λ both. IsScoped both.0 both.1) }
 {
-    let circuit = typed.names().circuit();
-    circuit.names_are_words();
-    let _ = tree.len();
-    let _ = tree.memory_count();
+    fits(typed, &piece, &tree);
     if piece.check() {
         Ok((piece, tree))
     } else {
@@ -88,7 +82,8 @@ fn joined(typed: &Typed, piece: Piece, tree: Tree) -> Result<(Piece, Tree), Allo
 ///
 /// # Errors
 ///
-/// `TooLarge` with the first count that is above its limit, exactly where there is one; `NoMemory`, where memory is refused.
+/// `TooLarge` with the first count that is above its limit, exactly where there is one; `NoMemory`, where memory is
+/// refused.
 pub fn flatten(alloc: Global, typed: &Typed) -> Result<(Piece, Tree), ElabFault>
     ensures flat { IfOk result (λ both. IsFlat typed.now.circuit both.0) }
     ensures fits { IfOk result (λ both. AreFitting both.0) }
