@@ -44,3 +44,8 @@ pub mod EndLemmas
 pub mod TreePartLemmas
 pub mod HoldsLemmas
 mod TreeJoinLemmas
+mod PassingLemmas
+mod AmongLemmas
+mod BankFieldLemmas
+mod OutsideLemmas
+mod FormedLemmas
