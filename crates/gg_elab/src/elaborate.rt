@@ -62,26 +62,23 @@ fn build<'a>(
     Ok((piece, tree))
 }
 
-// The flat circuit with its tree, where it is well formed. That no other is made here isn't proved: it would be refused as
-// want of memory.
-fn joined(typed: &Typed, piece: Piece, tree: Tree) -> Result<(Piece, Tree), AllocError>
+// The flat circuit with its tree: it is well formed, the tree fits it, and it keeps to the tree's scopes.
+fn joined(typed: &Typed, piece: Piece, tree: Tree) -> (Piece, Tree)
     requires top { (place_of typed.now.circuit.name (module_names typed.now.circuit)) ≢ None }
     requires flat { IsFlat typed.now.circuit piece }
+    requires fits { AreFitting piece }
     requires tree { IsTreeOf typed.now.circuit tree }
-    ensures same { IfOk result (λ both. both.0 ≡ piece) }
-    ensures formed { IfOk result (λ both. IsWellFormed both.0) }
-    ensures fitting { IfOk result (λ both. IsTree both.0 both.1) }
-    ensures scoped { IfOk result (λ both. IsScoped both.0 both.1) }
+    ensures same { result.0 ≡ piece }
+    ensures formed { IsWellFormed result.0 }
+    ensures fitting { IsTree result.0 result.1 }
+    ensures scoped { IsScoped result.0 result.1 }
 {
     let circuit = typed.names().circuit();
     circuit.names_are_words();
+    let _ = piece.signal_count();
     let _ = tree.len();
     let _ = tree.memory_count();
-    if piece.check() {
-        Ok((piece, tree))
-    } else {
-        Err(AllocError)
-    }
+    (piece, tree)
 }
 
 /// The flat circuit of a circuit that the checks passed, and the tree of its instances, to whose scopes it keeps.
@@ -109,7 +106,7 @@ pub fn flatten(alloc: Global, typed: &Typed) -> Result<(Piece, Tree), ElabFault>
         Some(excess) => Err(ElabFault::TooLarge(excess)),
         None => {
             let (piece, tree) = build(alloc, typed, digests.as_slice(), top)?;
-            Ok(joined(typed, piece, tree)?)
+            Ok(joined(typed, piece, tree))
         }
     }
 }

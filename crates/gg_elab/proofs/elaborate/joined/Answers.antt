@@ -1,29 +1,35 @@
-use Rattle.std.proofs.Common.{◌≡◌, [], rules, ◌∙◌, subst}
+use Rattle.std.proofs.Common.{◌≡◌, [], ◌∙◌, subst}
 use Rattle.gg_ast.specs.Names.{AreNamesOfCircuit}
 use Rattle.gg_ast.specs.Places.{place_of}
 use Rattle.gg_ast.specs.Tree.{CircuitTree, module_names}
-use Rattle.gg_flat.specs.WellFormed.{IsWellFormed}
 use Rattle.gg_names.specs.Repetitions.{repetitions}
+use Rattle.gg_elab.proofs.FormedLemmas.{circuit-formed}
 use Rattle.gg_elab.proofs.HoldsLemmas.{tree-holds, scopes-hold}
+use Rattle.gg_elab.proofs.NameLemmas.{Differ}
 use Rattle.gg_elab.proofs.TreeJoinLemmas.{some-of}
 use Rattle.gg_elab.proofs.elaborate.joined.Goals as goal
 
-pub returns-then-check-clause-fitting : goal.returns-then-check-clause-fitting
-returns-then-check-clause-fitting c =
+pub returns-clause-formed : goal.returns-clause-formed
+returns-clause-formed c =
     let circuit = c.args.typed.now.circuit in
     let t = some-of (place_of circuit.name (module_names circuit)) c.requires.top in
-    let formed : IsWellFormed c.args.piece = search rules in
+    circuit-formed circuit c.args.piece t.0 t.1 c.requires.flat c.requires.fits c.signal_count.ensures.distinct
+    (subst Differ c.requires.tree.memory_names c.memory_count.ensures.distinct)
+
+pub returns-clause-fitting : goal.returns-clause-fitting
+returns-clause-fitting c =
+    let circuit = c.args.typed.now.circuit in
+    let t = some-of (place_of circuit.name (module_names circuit)) c.requires.top in
     let same : c.circuit-circuit.result.now ≡ circuit = c.circuit-circuit.ensures.circuit ∙ c.names.ensures.names in
-    tree-holds circuit c.args.piece c.args.tree t.0 t.1 c.requires.flat c.requires.tree formed.distinct c.len.ensures.distinct c.memory_count.ensures.distinct
+    tree-holds circuit c.args.piece c.args.tree t.0 t.1 c.requires.flat c.requires.tree c.signal_count.ensures.distinct c.len.ensures.distinct c.memory_count.ensures.distinct
     (subst (λ (k : CircuitTree). AreNamesOfCircuit k) same c.names_are_words.ensures)
     (subst (λ (k : CircuitTree). repetitions k ≡ []) c.names.ensures.names c.circuit-circuit.ensures.once)
 
-pub returns-then-check-clause-scoped : goal.returns-then-check-clause-scoped
-returns-then-check-clause-scoped c =
+pub returns-clause-scoped : goal.returns-clause-scoped
+returns-clause-scoped c =
     let circuit = c.args.typed.now.circuit in
     let t = some-of (place_of circuit.name (module_names circuit)) c.requires.top in
-    let formed : IsWellFormed c.args.piece = search rules in
     let same : c.circuit-circuit.result.now ≡ circuit = c.circuit-circuit.ensures.circuit ∙ c.names.ensures.names in
-    scopes-hold circuit c.args.piece c.args.tree t.0 t.1 c.requires.flat c.requires.tree formed.distinct c.len.ensures.distinct c.memory_count.ensures.distinct
+    scopes-hold circuit c.args.piece c.args.tree t.0 t.1 c.requires.flat c.requires.tree c.signal_count.ensures.distinct c.len.ensures.distinct c.memory_count.ensures.distinct
     (subst (λ (k : CircuitTree). AreNamesOfCircuit k) same c.names_are_words.ensures)
     (subst (λ (k : CircuitTree). repetitions k ≡ []) c.names.ensures.names c.circuit-circuit.ensures.once)
