@@ -49,3 +49,4 @@ mod AmongLemmas
 mod BankFieldLemmas
 mod OutsideLemmas
 mod FormedLemmas
+mod TopLemmas

@@ -25,6 +25,14 @@ use gg_flat::{Piece, Tree};
 use gg_types::Typed;
 use std::alloc::{AllocError, Global};
 
+// The place of the top, which a checked circuit has.
+fn top_of(typed: &Typed) -> u32
+    ensures { place_of typed.now.circuit.name (module_names typed.now.circuit) ≡ Some result }
+{
+    let circuit = typed.names().circuit();
+    circuit.module(circuit.name().as_str()).unwrap()
+}
+
 // How many signals each module has of its own.
 fn own_counts(alloc: Global, digests: &[Digest]) -> Result<Vec<u64>, AllocError>
     ensures { IfOk result (λ counts. counts.items ≡ map (λ d. length d.signals.items) digests.now) }
@@ -95,10 +103,7 @@ pub fn flatten(alloc: Global, typed: &Typed) -> Result<(Piece, Tree), ElabFault>
     ensures limits { IsAnswered (excess_over (types_of typed.now.circuit) typed.now.circuit.modules (place_of typed.now.circuit.name (module_names typed.now.circuit))) result }
 {
     let circuit = typed.names().circuit();
-    // A circuit without a top isn't checked: it has the fault F1.
-    let Some(top) = circuit.module(circuit.name().as_str()) else {
-        return Err(ElabFault::NoMemory);
-    };
+    let top = top_of(typed);
     let digests = digests(alloc, typed)?;
     let own = own_counts(alloc, digests.as_slice())?;
     let counts = count(alloc, circuit, typed.order(), top, own.as_slice())?;
