@@ -13,11 +13,11 @@ use Rattle.gg_flat.specs.Memory.{Bank, next_bank, opening_bank}
 use Rattle.gg_flat.specs.Reads.{NamesSignal}
 use Rattle.gg_flat.specs.Settled.{driver_value}
 use Rattle.gg_flat.specs.State.{State, connected_or, reset_or, next_register}
-use Rattle.gg_elab.specs.Connection.{Connection}
-use Rattle.gg_elab.specs.Flat.{Scope, Drive, Outside, Gets, Holds, Answers, FlatMemory}
-use Rattle.gg_elab.specs.IsFlat.{IsComputed, IsHeld, IsDrivenBy, HasReset, HasNext, IsRegisterOf, IsMemoryOf}
-use Rattle.gg_elab.specs.Meaning.{Signals}
-use Rattle.gg_elab.specs.Signals.{Types}
+use Rattle.gg_digest.specs.Connection.{Connection}
+use Rattle.gg_digest.specs.Flat.{Scope, Drive, Outside, Gets, Holds, Answers, FlatMemory}
+use Rattle.gg_digest.specs.IsFlat.{IsComputed, IsHeld, IsDrivenBy, HasReset, HasNext, IsRegisterOf, IsMemoryOf}
+use Rattle.gg_digest.specs.Meaning.{Signals}
+use Rattle.gg_digest.specs.Signals.{Types}
 
 -- ---- drivers
 

@@ -1,26 +1,26 @@
 -- A flat circuit that gets one more signal.
-use Rattle.std.proofs.Common.{◌≡◌, ℕ, zero, suc, ◌+◌, ◌<◌, ◌≤◌, List, [], ◌∷◌, ◌++◌, length, map, take, get_or, Option, Some, None, option_to_list, Bool, true, false, cond, if◌then◌else◌, refl, sym, ap, ◌∙◌, subst, arith, below_more}
-use Rattle.std.specs.Prelude.{slice_index_or, count_by, sum_by, All, MatchOption, ⊤}
+use Rattle.std.proofs.Common.{◌≡◌, ℕ, ◌+◌, ◌<◌, ◌≤◌, List, [], ◌∷◌, ◌++◌, length, map, take, get_or, Option, Some, None, option_to_list, Bool, true, false, cond, if◌then◌else◌, refl, sym, ap, ◌∙◌, subst, arith, below_more}
+use Rattle.std.specs.Prelude.{count_by, All, MatchOption, ⊤}
 use Rattle.std.proofs.lemmas.List.Elements.{All-nil, All-push}
 use Rattle.gg_flat.specs.WellFormed.{IsRegister}
-use Rattle.gg_elab.specs.Fitting.{FitsDriver, IsFitting}
+use Rattle.gg_formed.specs.Fitting.{FitsDriver, IsFitting}
 use Rattle.std.proofs.lemmas.List.{map-append, length-append, length-map, get_or_append_left, get_or_push, take-append-le, take_all, append-nil}
 use Rattle.std.proofs.lemmas.List.Sums.{sum_by_push}
 use Rattle.gg_bits.specs.Shape.{Shape, shape, uint}
 use Rattle.gg_bits.specs.declared.types.Ty.{Ty}
-use Rattle.gg_flat.specs.declared.memory.Latency.{Latency}
 use Rattle.gg_flat.specs.declared.memory.Latency.TheVariants as latency
 use Rattle.gg_flat.specs.declared.piece.Driver.{Driver}
-use Rattle.gg_flat.specs.declared.piece.Driver.TheVariants.{Input, Held, MemoryWord, ReadRegister, Computed}
+use Rattle.gg_flat.specs.declared.piece.Driver.TheVariants.{Input}
 use Rattle.gg_flat.specs.declared.piece.Register.{Register}
 use Rattle.gg_flat.specs.declared.piece.Signal.{Signal}
-use Rattle.gg_flat.specs.Circuit.{FlatCircuit, signal_shapes, driver_at, no_circuit}
+use Rattle.gg_flat.specs.Circuit.{FlatCircuit, driver_at, no_circuit}
 use Rattle.gg_flat.specs.Line.{shape_at, HasType}
-use Rattle.gg_elab.specs.Flat.{Drive, Outside, Gets, Holds, Answers, FlatSignal}
-use Rattle.gg_elab.specs.IsFlat.{IsComputed, IsHeld, IsRegisterOf, IsDrivenBy, answer, is_outside, is_register, drive_at, count_before}
-use Rattle.gg_elab.specs.Meaning.{Signals}
-use Rattle.gg_elab.specs.Signals.{Types}
+use Rattle.gg_digest.specs.Flat.{Drive, Outside, Gets, Holds, Answers, FlatSignal}
+use Rattle.gg_digest.specs.IsFlat.{IsRegisterOf, IsDrivenBy, is_outside, is_register, drive_at, count_before}
+use Rattle.gg_digest.specs.Meaning.{Signals}
+use Rattle.gg_digest.specs.Signals.{Types}
 use Rattle.gg_elab.specs.Building.{IsMade, with_made, is_input_driver, IsSoFar}
+use Rattle.gg_elab.proofs.HeldLemmas.{one_if}
 
 abbrev drives : List FlatSignal → List Drive
 drives xs = map (λ (x : FlatSignal). x.drive) xs
@@ -29,10 +29,6 @@ abbrev shapes : List FlatSignal → List Shape
 shapes xs = map (λ (x : FlatSignal). x.shape) xs
 
 -- ---- counts
-
--- one, where the test passes
-abbrev one_if : Bool → ℕ
-one_if b = cond b 1 0
 
 before-push : (p : Drive → Bool) (xs : List FlatSignal) (x : FlatSignal) (s : ℕ) → s ≤ length xs → count_before p (xs ++ x ∷ []) s ≡ count_before p xs s
 before-push p xs x s le =

@@ -2,8 +2,8 @@
 use Rattle.std.proofs.Common.{◌≡◌, ℕ, zero, suc, ◌+◌, ◌<◌, List, [], ◌∷◌, length, take, Bool, true, false, cond, refl, sym, ap, ◌∙◌, arith}
 use Rattle.std.specs.Prelude.{slice_index_or, count_by}
 use Rattle.std.proofs.lemmas.List.Sums.{sum_by-cons}
-use Rattle.gg_elab.specs.Flat.{Drive, Outside}
-use Rattle.gg_elab.specs.IsFlat.{is_register}
+use Rattle.gg_digest.specs.Flat.{Drive, Outside}
+use Rattle.gg_digest.specs.IsFlat.{is_register}
 
 -- The signal at this place holds register r.
 pub record HoldsRegister (drives : List Drive) (r : ℕ) : Type 0 where
@@ -12,7 +12,8 @@ pub record HoldsRegister (drives : List Drive) (r : ℕ) : Type 0 where
   pub holds : is_register (slice_index_or drives place Outside) ≡ true
   pub number : count_by is_register (take place drives) ≡ r
 
-abbrev one_if : Bool → ℕ
+-- one, where a test passes
+abbrev pub one_if : Bool → ℕ
 one_if b = cond b 1 0
 
 counted : (d : Drive) (drives : List Drive) (b : Bool) → is_register d ≡ b → count_by is_register (d ∷ drives) ≡ one_if b + count_by is_register drives

@@ -1,10 +1,9 @@
 -- Laws of a line that gets one more node.
-use Rattle.std.proofs.Common.{◌≡◌, ℕ, zero, suc, ◌+◌, ◌-◌, ◌<◌, ◌≤◌, List, [], ◌∷◌, ◌++◌, length, map, refl, sym, ap, ◌∙◌, subst, arith, inl, inr, ◌⊎◌, append_assoc, below_more, Result, Ok, Err, Option, Some, None}
-use Rattle.std.specs.Prelude.{fold, slice_index_or, Contains}
+use Rattle.std.proofs.Common.{◌≡◌, ℕ, zero, ◌+◌, ◌-◌, ◌<◌, ◌≤◌, List, [], ◌∷◌, ◌++◌, length, map, refl, sym, ap, ◌∙◌, subst, arith, inl, inr, ◌⊎◌, append_assoc, below_more, Result, Ok, Err, Some, None}
+use Rattle.std.specs.Prelude.{fold, slice_index_or}
 use Rattle.std.proofs.lemmas.List.{map-append, length-append, length-map, get_or_append_left}
 use Rattle.std.proofs.Math.Seq.{get_or-append_seam}
 use Rattle.std.proofs.lemmas.List.Sums.{fold-append}
-use Rattle.std.proofs.lemmas.List.Elements.{Contains-append_left, Contains-append_right, Contains-append_cases}
 use Rattle.std.proofs.lemmas.Nat.{pow_pos}
 use Rattle.gg_bits.specs.declared.types.Bad.{Bad}
 use Rattle.gg_bits.specs.declared.types.Ty.{Ty}
@@ -13,7 +12,6 @@ use Rattle.gg_bits.specs.declared.ops.Op1.{Op1}
 use Rattle.gg_bits.specs.declared.ops.Op2.{Op2}
 use Rattle.gg_bits.specs.declared.ops.OpN.{OpN}
 use Rattle.gg_bits.specs.ResultType.{type1, type2, type_const, type_mux}
-use Rattle.gg_bits.specs.Meaning.{value1, value2, value_const, value_mux}
 use Rattle.gg_bits.specs.Shape.{Shape, shape, shape_of as shape_found, uint, Fits}
 use Rattle.gg_ast.specs.declared.expression.Reference.{Reference}
 use Rattle.gg_ast.specs.declared.expression.Literal as literals
@@ -24,9 +22,10 @@ use Rattle.gg_flat.specs.declared.line.Op.TheVariants.{Ref, Literal, Mux}
 use Rattle.gg_flat.specs.declared.line.Op.TheVariants as flat
 use Rattle.gg_flat.specs.Line.{shape_at, value_at, shapes_of, op_at, op_value, with_node, node_values, HasShape, HasType}
 use Rattle.gg_flat.specs.Reads.{Names}
+use Rattle.gg_flat.proofs.NameLemmas.{Names-push, Names-new, Names-push_cases}
 use Rattle.gg_types.specs.Literal.{literal_value}
 use Rattle.gg_types.specs.Types.{literal_shape}
-use Rattle.gg_elab.specs.Meaning.{named, accepted, value_if}
+use Rattle.gg_digest.specs.Meaning.{named, accepted}
 use Rattle.gg_elab.specs.Growing.{Where, shape_of, value_of, NamesIn, IsZeroNode, IsResultNode, HaveShapes, StandsFor, Added}
 
 -- ---- lists
@@ -68,30 +67,6 @@ op_at-last nodes n =
     ap (λ (l : List Op). slice_index_or l (length nodes) (Ref 0)) (map-append (λ (m : Node). m.op) nodes (n ∷ []))
     ∙ ap (λ k. slice_index_or (ops ++ n.op ∷ []) k (Ref 0)) (sym (length-map nodes (λ (m : Node). m.op)))
     ∙ get_or-append_seam ops n.op [] (Ref 0)
-
--- ---- names
-
-pub Names-push : (nodes : List Node) (n : Node) (s : ℕ) → Names nodes s → Names (nodes ++ n ∷ []) s
-Names-push nodes n s h =
-    let P : List Op → Type 0 = λ l. Contains l (Ref s) in
-    subst P (sym (map-append (λ (m : Node). m.op) nodes (n ∷ []))) (Contains-append_left (map (λ (m : Node). m.op) nodes) (n.op ∷ []) (Ref s) h)
-
-pub Names-new : (nodes : List Node) (n : Node) (s : ℕ) → n.op ≡ Ref s → Names (nodes ++ n ∷ []) s
-Names-new nodes n s is =
-    let P : List Op → Type 0 = λ l. Contains l (Ref s) in
-    subst P (sym (map-append (λ (m : Node). m.op) nodes (n ∷ []))) (Contains-append_right (map (λ (m : Node). m.op) nodes) (n.op ∷ []) (Ref s) (0, omega arith, is))
-
-Contains-one : {X : Type 0} (y x : X) → Contains (y ∷ []) x → y ≡ x
-Contains-one y x (zero, lt, is) = is
-Contains-one y x (suc k, lt, is) = absurd (omega arith)
-
-pub Names-push_cases : (nodes : List Node) (n : Node) (s : ℕ) → Names (nodes ++ n ∷ []) s → Names nodes s ⊎ (n.op ≡ Ref s)
-Names-push_cases nodes n s h =
-    let P : List Op → Type 0 = λ l. Contains l (Ref s) in
-    elim (Contains-append_cases (map (λ (m : Node). m.op) nodes) (n.op ∷ []) (Ref s) (subst P (map-append (λ (m : Node). m.op) nodes (n ∷ [])) h)) [
-      | inl a ↦ inl a
-      | inr b ↦ inr (Contains-one n.op (Ref s) b)
-    ]
 
 -- ---- values
 

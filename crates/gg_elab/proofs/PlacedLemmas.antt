@@ -1,10 +1,9 @@
 -- A node that was added stands for its expression, in the terms of the call that adds it.
 use Rattle.std.proofs.Common.{◌≡◌, ℕ, List, [], ◌∷◌, ◌++◌, length, refl, sym, ap, ◌∙◌, subst, Result, Ok, Err}
 use Rattle.std.specs.Prelude.{IfOk}
-use Rattle.gg_bits.specs.Shape.{Shape, shape}
+use Rattle.gg_bits.specs.Shape.{shape}
 use Rattle.gg_ast.specs.Term.{Term}
 use Rattle.gg_flat.specs.declared.line.Node.{Node}
-use Rattle.gg_flat.specs.Line.{shape_at, shapes_of}
 use Rattle.gg_elab.specs.declared.expression.Stand.{Stand}
 use Rattle.gg_elab.specs.Growing.{Where, shape_of, IsPlaced, Added}
 use Rattle.gg_elab.proofs.LineLemmas.{shape_at-last}

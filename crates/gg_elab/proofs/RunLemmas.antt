@@ -9,13 +9,13 @@ use Rattle.gg_flat.specs.declared.memory.Memory.{Memory}
 use Rattle.gg_flat.specs.declared.piece.Driver.{Driver}
 use Rattle.gg_flat.specs.Circuit.{FlatCircuit, signal_shapes, driver_at}
 use Rattle.gg_flat.specs.Line.{shape_at}
-use Rattle.gg_elab.specs.Flat.{Drive, Outside, Gets, Holds, Answers, FlatSignal, FlatMemory}
-use Rattle.gg_elab.specs.IsFlat.{IsDrivenBy, IsFlatOf, is_register, is_outside, count_before, drive_at, signals_of, memory_paths}
-use Rattle.gg_elab.specs.IsTreeOf.{Pairwise}
-use Rattle.gg_elab.specs.Signals.{Types}
+use Rattle.gg_digest.specs.Flat.{Drive, Outside, Gets, Holds, Answers, FlatSignal, FlatMemory}
+use Rattle.gg_digest.specs.IsFlat.{IsDrivenBy, IsFlatOf, is_register, is_outside, count_before, drive_at, signals_of, memory_paths}
+use Rattle.gg_tree.specs.IsTreeOf.{Pairwise}
+use Rattle.gg_digest.specs.Signals.{Types}
 use Rattle.gg_elab.proofs.AlikeLemmas.{AlikeDrivers, AlikeRegisters, AlikeAt, AlikeMemories, drivers_alike, held_alike, memories_alike}
 use Rattle.gg_elab.proofs.HeldLemmas.{held_by}
-use Rattle.gg_elab.proofs.PairwiseLemmas.{Pairwise-each}
+use Rattle.gg_tree.proofs.PairwiseLemmas.{Pairwise-each}
 
 -- Two flat circuits do the same, part by part.
 pub record AlikeCircuits (f g : FlatCircuit) : Type 0 where

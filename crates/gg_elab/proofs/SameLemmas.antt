@@ -12,10 +12,10 @@ use Rattle.gg_flat.specs.Reads.{Reads, ReadsInTurn, IsLoop}
 use Rattle.gg_flat.specs.Run.{row_at, inputs_at, opening_start, state_at, IsRun}
 use Rattle.gg_flat.specs.Settled.{driver_value, Settled}
 use Rattle.gg_flat.specs.State.{State, opening, next_register, next_registers, next_state}
-use Rattle.gg_elab.specs.IsFlat.{IsFlat}
-use Rattle.gg_elab.specs.IsTreeOf.{Pairwise}
+use Rattle.gg_digest.specs.IsFlat.{IsFlat}
+use Rattle.gg_tree.specs.IsTreeOf.{Pairwise}
 use Rattle.gg_elab.proofs.AlikeLemmas.{AlikeRegisters, AlikeMemories}
-use Rattle.gg_elab.proofs.PairwiseLemmas.{Pairwise-length}
+use Rattle.gg_tree.proofs.PairwiseLemmas.{Pairwise-length}
 use Rattle.gg_elab.proofs.RunLemmas.{AlikeCircuits, circuits_alike}
 
 alike : (circuit : CircuitTree) (f g : FlatCircuit) → IsFlat circuit f → IsFlat circuit g → AlikeCircuits f g

@@ -1,5 +1,5 @@
 -- The signal that a reference names.
-use Rattle.std.proofs.Common.{◌≡◌, ℕ, ◌<◌, List, length, Option, Some, None, Bool, true, false, true≢false, refl, sym, ap, ◌∙◌}
+use Rattle.std.proofs.Common.{◌≡◌, ℕ, ◌<◌, List, length, Option, Some, None, Bool, true, false, true≢false, refl, sym, ap}
 use Rattle.std.specs.Prelude.{is_some, option_map, slice_get, Contains, IfSome, IfNone}
 use Rattle.gg_bits.specs.declared.types.Ty.{Ty}
 use Rattle.gg_bits.specs.Shape.{Shape, shape}
@@ -8,10 +8,10 @@ use Rattle.gg_ast.specs.Places.{place_of}
 use Rattle.gg_ast.proofs.NamePlaces.{place_of-below}
 use Rattle.gg_flat.specs.Tree.{joined}
 use Rattle.gg_names.specs.Scope.{written}
-use Rattle.gg_elab.specs.Flat.{Scope}
-use Rattle.gg_elab.specs.Meaning.{Signals, named, named_if}
-use Rattle.gg_elab.specs.Signals.{Types}
-use Rattle.gg_elab.proofs.NameLemmas.{Differ, place_of-at, place_of-missing}
+use Rattle.gg_digest.specs.Flat.{Scope}
+use Rattle.gg_digest.specs.Meaning.{Signals, named, named_if}
+use Rattle.gg_digest.specs.Signals.{Types}
+use Rattle.gg_digest.proofs.NameLemmas.{Differ, place_of-at, place_of-missing}
 
 -- what a search for a path answers is its place
 pub found-path : (paths : List (List ℕ)) (path : List ℕ) (r : Option ℕ) → Differ paths → IfSome r (λ s. slice_get paths s ≡ Some path) → IfNone r (¬ Contains paths path) → r ≡ place_of path paths

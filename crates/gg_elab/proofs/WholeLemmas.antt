@@ -1,7 +1,7 @@
 -- The whole flat circuit: its signals, then its memories, then its ports.
-use Rattle.std.proofs.Common.{◌≡◌, ℕ, ◌<◌, List, [], ◌∷◌, ◌++◌, length, map, take, get_or, ◌+◌, append_assoc, Option, Some, None, refl, sym, ap, ◌∙◌, subst, arith}
+use Rattle.std.proofs.Common.{◌≡◌, ℕ, ◌<◌, List, [], ◌∷◌, ◌++◌, length, map, take, get_or, ◌+◌, append_assoc, Option, Some, refl, sym, ap, ◌∙◌, subst, arith}
 use Rattle.std.specs.Prelude.{slice_index_or, All}
-use Rattle.std.proofs.lemmas.List.{append-nil, get_or_append_left, get_or_push, length-append, length-map, map-append, take_more}
+use Rattle.std.proofs.lemmas.List.{get_or_append_left, get_or_push, length-append, length-map, map-append, take_more}
 use Rattle.std.proofs.Common.{below_more}
 use Rattle.gg_ast.specs.declared.module.Direction.TheVariants as direction
 use Rattle.std.proofs.lemmas.List.Elements.{filter_map-append}
@@ -17,13 +17,13 @@ use Rattle.gg_flat.specs.declared.piece.Signal.{Signal}
 use Rattle.gg_flat.specs.Circuit.{FlatCircuit, signal_shapes, driver_at}
 use Rattle.gg_flat.specs.Line.{shape_at, HasType}
 use Rattle.gg_flat.specs.WellFormed.{IsRegister}
-use Rattle.gg_elab.specs.Fitting.{FitsDriver, AreFitting}
+use Rattle.gg_formed.specs.Fitting.{FitsDriver, AreFitting}
 use Rattle.gg_elab.specs.Building.{IsSoFar, HasMemories}
-use Rattle.gg_elab.specs.Flat.{FlatSignal, FlatMemory, flat_signals, flat_memories}
-use Rattle.gg_elab.specs.IsFlat.{IsFlatOf, IsMemoryOf, signals_of, memory_paths, number_of, port_name, port_names, top_ports}
-use Rattle.gg_elab.specs.Meaning.{Signals}
-use Rattle.gg_elab.proofs.FlatLemmas.{map-twice}
-use Rattle.gg_elab.specs.Signals.{Types}
+use Rattle.gg_digest.specs.Flat.{FlatSignal, FlatMemory, flat_signals, flat_memories}
+use Rattle.gg_digest.specs.IsFlat.{IsFlatOf, IsMemoryOf, signals_of, memory_paths, number_of, port_name, port_names, top_ports}
+use Rattle.gg_digest.specs.Meaning.{Signals}
+use Rattle.gg_digest.proofs.FlatLemmas.{map-twice}
+use Rattle.gg_digest.specs.Signals.{Types}
 
 pub whole : (types : Types) (all : List FlatSignal) (banks : List FlatMemory) (ports : List Port) (table : Signals) (memories : List (List ℕ)) (one two three : FlatCircuit) (inputs : ℕ) → table ≡ signals_of all → memories ≡ memory_paths banks → IsSoFar types table memories all one inputs → HasMemories table.paths banks one two → three.ins ≡ two.ins ++ map (number_of table.paths) (port_names direction.Input ports) → three.outs ≡ two.outs ++ map (number_of table.paths) (port_names direction.Output ports) → three ≡ record two { ins = three.ins; outs = three.outs } → IsFlatOf types all banks ports three
 whole types all banks ports table memories one two three inputs same listed far has ins outs rest =

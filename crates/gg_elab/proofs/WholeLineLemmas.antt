@@ -1,26 +1,26 @@
 -- Laws of a whole line.
-use Rattle.std.proofs.Common.{◌≡◌, ℕ, zero, suc, ◌+◌, ◌-◌, ◌<◌, ◌≤◌, ◌^◌, List, [], ◌∷◌, ◌++◌, length, refl, sym, ap, ◌∙◌, subst, arith, inl, inr, Some, None, Bool, true, false, ◌&&◌, if◌then◌else◌}
-use Rattle.std.specs.Prelude.{nat_le, nat_lt, ◌==◌, ℤ, pos, unsigned_abs, ◌-ℤ◌}
+use Rattle.std.proofs.Common.{◌≡◌, ℕ, zero, ◌+◌, ◌-◌, ◌≤◌, ◌^◌, List, [], ◌∷◌, ◌++◌, length, refl, sym, ap, ◌∙◌, subst, arith, inl, inr, Bool, true, false, ◌&&◌, if◌then◌else◌}
+use Rattle.std.specs.Prelude.{nat_le, nat_lt, ◌==◌, pos, ◌-ℤ◌}
 use Rattle.std.proofs.lemmas.List.{append-nil}
 use Rattle.std.proofs.lemmas.Nat.{pow_pos}
 use Rattle.std.proofs.lemmas.Bool.Decides.{nat_tests}
 use Rattle.std.proofs.Math.Nat.{zero-mod}
 use Rattle.gg_bits.specs.declared.types.Kind.{Kind}
 use Rattle.gg_bits.specs.declared.types.Kind.TheVariants.{UInt, SInt}
-use Rattle.gg_bits.specs.Shape.{Shape, shape, uint, of_kind, number}
+use Rattle.gg_bits.specs.Shape.{Shape, uint, of_kind}
 use Rattle.gg_bits.specs.Value.{pattern_of, number_of}
 use Rattle.gg_bits.specs.Meaning.{extended}
 use Rattle.gg_bits.specs.ResultType.{same_kind, is_condition, is_uint}
 use Rattle.gg_ast.specs.Term.{Term}
 use Rattle.gg_flat.specs.declared.line.Node.{Node}
-use Rattle.gg_flat.specs.declared.line.Op.{Op}
 use Rattle.gg_flat.specs.declared.line.Op.TheVariants.{Ref, Literal}
-use Rattle.gg_flat.specs.Line.{shape_at, value_at, shapes_of, HasType, HasShape, IsLine, IsSource, IsCondition, line_shape, line_value, node_values, connected_value}
+use Rattle.gg_flat.specs.Line.{shape_at, value_at, shapes_of, HasType, IsLine, IsSource, IsCondition, line_shape, line_value, node_values, connected_value}
 use Rattle.gg_flat.specs.Reads.{Names}
-use Rattle.gg_elab.specs.Growing.{Where, shape_of, value_of, NamesIn, HaveShapes, StandsFor, Added, IsZeroOf, IsCut}
-use Rattle.gg_elab.specs.IsFlat.{IsLineFor, IsLineOf, IsConditionOf}
-use Rattle.gg_elab.specs.Meaning.{takes, taken_value, condition_value}
-use Rattle.gg_elab.proofs.LineLemmas.{length-push, shape_at-last, value_at-last, Names-push, Names-push_cases, HaveShapes-push}
+use Rattle.gg_elab.specs.Growing.{Where, shape_of, value_of, NamesIn, HaveShapes, Added, IsZeroOf, IsCut}
+use Rattle.gg_digest.specs.IsFlat.{IsLineOf, IsConditionOf}
+use Rattle.gg_digest.specs.Meaning.{takes}
+use Rattle.gg_flat.proofs.NameLemmas.{Names-push, Names-push_cases}
+use Rattle.gg_elab.proofs.LineLemmas.{length-push, shape_at-last, value_at-last, HaveShapes-push}
 
 last_node : (n k : ℕ) → n ≡ k + 1 → n - 1 ≡ k
 last_node n k e = omega arith

@@ -1,5 +1,5 @@
 -- A flat circuit while it is built, signal by signal.
-use Rattle.std.specs.Prelude.{◌≡◌, ℕ, ◌<◌, List, [], ◌∷◌, ◌++◌, Option, Some, None, MatchOption, IfSome, All, Bool, true, false, length, map, option_to_list, slice_index_or}
+use Rattle.std.specs.Prelude.{◌≡◌, ℕ, ◌<◌, List, [], ◌∷◌, ◌++◌, Option, None, MatchOption, All, Bool, true, false, length, map, option_to_list, slice_index_or}
 use Rattle.gg_bits.specs.Shape.{Shape, shape}
 use Rattle.gg_bits.specs.declared.types.Ty.{Ty}
 use Rattle.gg_flat.specs.declared.piece.Driver.{Driver}
@@ -9,12 +9,11 @@ use Rattle.gg_flat.specs.declared.memory.Memory.{Memory}
 use Rattle.gg_flat.specs.Circuit.{FlatCircuit, signal_shapes, driver_at}
 use Rattle.gg_flat.specs.Line.{shape_at, HasType}
 use Rattle.gg_flat.specs.WellFormed.{IsRegister}
-use Rattle.gg_elab.specs.Fitting.{FitsDriver}
-use Rattle.gg_elab.specs.declared.sites.Place.{Place}
-use Rattle.gg_elab.specs.Flat.{Drive, Outside, Gets, Holds, Answers, FlatSignal, FlatMemory}
-use Rattle.gg_elab.specs.IsFlat.{IsComputed, IsRegisterOf, IsDrivenBy, answer, number_of, is_outside, is_register, drive_at, count_before, IsMemoryOf}
-use Rattle.gg_elab.specs.Meaning.{Signals}
-use Rattle.gg_elab.specs.Signals.{Types}
+use Rattle.gg_formed.specs.Fitting.{FitsDriver}
+use Rattle.gg_digest.specs.Flat.{Drive, Outside, Gets, Holds, Answers, FlatSignal, FlatMemory}
+use Rattle.gg_digest.specs.IsFlat.{IsComputed, IsRegisterOf, IsDrivenBy, answer, number_of, is_outside, is_register, drive_at, count_before, IsMemoryOf}
+use Rattle.gg_digest.specs.Meaning.{Signals}
+use Rattle.gg_digest.specs.Signals.{Types}
 
 -- A driver and a register, if there is one, are made for a signal that has this drive.
 abbrev pub IsMade : Types → Signals → List (List ℕ) → ℕ → ℕ → Shape → Drive → Driver → Option Register → Type 0
@@ -31,11 +30,6 @@ is_input_driver (Held register) = false
 is_input_driver (MemoryWord memory reader addr en) = false
 is_input_driver (ReadRegister memory reader) = false
 is_input_driver (Computed line) = false
-
--- the modules of a site, and of what holds it, are among so many
-pub record IsPlaceIn (count : ℕ) (place : Place) : Type 0 where
-  pub own : place.number < count
-  pub around : IfSome place.outer (λ a. a.number < count)
 
 -- a flat circuit with one more signal, and the register that it holds, if it holds one
 abbrev pub with_made : FlatCircuit → List ℕ → Ty → Driver → Option Register → FlatCircuit

@@ -1,5 +1,5 @@
 -- A line while it grows, node by node.
-use Rattle.std.specs.Prelude.{◌≡◌, ℕ, ◌+◌, ◌<◌, List, [], ◌∷◌, ◌++◌, Result, Ok, Err, length, map, ◌⊎◌, Bool, true, false}
+use Rattle.std.specs.Prelude.{◌≡◌, ℕ, ◌+◌, ◌<◌, List, [], ◌∷◌, ◌++◌, Result, Ok, Err, length, ◌⊎◌, Bool, true, false}
 use Rattle.gg_bits.specs.declared.types.Bad.{Bad}
 use Rattle.gg_bits.specs.declared.types.Ty.{Ty}
 use Rattle.gg_bits.specs.Shape.{Shape, shape, uint}
@@ -11,15 +11,10 @@ use Rattle.gg_flat.specs.Line.{shape_at, value_at, shapes_of, op_at, HasShape, H
 use Rattle.gg_flat.specs.Reads.{Names}
 use Rattle.gg_elab.specs.declared.expression.Stand.{Stand}
 use Rattle.gg_elab.specs.declared.scope.Scope as kept
-use Rattle.gg_elab.specs.declared.table.Table.{Table}
-use Rattle.gg_elab.specs.Flat.{Scope}
-use Rattle.gg_elab.specs.Known.{types_of}
-use Rattle.gg_elab.specs.Meaning.{Signals, term_shape, term_value, TermNames}
-use Rattle.gg_elab.specs.Signals.{Types}
-
--- the signals of the program's table
-abbrev pub table_signals : Table → Signals
-table_signals table = record { paths = table.paths; shapes = map (λ t. shape t) table.types.items }
+use Rattle.gg_digest.specs.Flat.{Scope}
+use Rattle.gg_digest.specs.Known.{types_of}
+use Rattle.gg_digest.specs.Meaning.{Signals, term_shape, term_value, TermNames}
+use Rattle.gg_digest.specs.Signals.{Types}
 
 -- what an expression is read by: what the type checks say, the circuit's signals, and where it stands
 pub record Where : Type 0 where

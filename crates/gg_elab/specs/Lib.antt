@@ -1,15 +1,4 @@
-pub mod Memories
-pub mod Signals
-pub mod Connection
-pub mod Flat
-pub mod Meaning
-pub mod IsFlat
-pub mod IsTreeOf
-pub mod Known
-pub mod Views
 pub mod Growing
-pub mod Fitting
 pub mod Building
 pub mod Limits
 pub mod ElabText
-pub mod TreeParts

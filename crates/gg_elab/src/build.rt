@@ -3,27 +3,24 @@ ghost use Rattle.std.specs.Prelude.{◌≡◌, ◌<◌, ◌-◌, ◌^◌, ℕ, L
 ghost use Rattle.gg_bits.specs.Shape.{Shape, shape};
 ghost use Rattle.gg_flat.specs.Line.{HasType, IsSource};
 ghost use Rattle.gg_flat.specs.WellFormed.{IsRegister, IsReset};
-ghost use Rattle.gg_elab.specs.Fitting.{FitsDriver, IsFitting};
-ghost use Rattle.gg_elab.specs.Flat.{drive_of, input_drive, FlatSignal, flat_signal, signals_at, flat_signals, Gets};
+ghost use Rattle.gg_formed.specs.Fitting.{FitsDriver, IsFitting};
+ghost use Rattle.gg_digest.specs.Flat.{drive_of, input_drive, FlatSignal, flat_signal, signals_at, flat_signals, Gets};
 ghost use Rattle.gg_flat.specs.Circuit.{no_circuit};
 ghost use Rattle.gg_flat.specs.Tree.{joined as joined_text};
-ghost use Rattle.gg_elab.specs.Signals.{field_name as field_text};
-ghost use Rattle.gg_elab.specs.Growing.{where_of, table_signals};
-ghost use Rattle.gg_elab.specs.IsFlat.{IsRegisterOf, HasReset, HasNext, number_of, answer as answer_of};
-ghost use Rattle.gg_elab.specs.Known.{types_of};
-ghost use Rattle.gg_elab.specs.Views.{seen, cause_of, own_of, site_of, AreDigests};
-ghost use Rattle.gg_elab.specs.Building.{IsMade, with_made, is_input_driver, IsPlaceIn, IsSoFar};
+ghost use Rattle.gg_digest.specs.Signals.{field_name as field_text};
+ghost use Rattle.gg_digest.specs.Views.{table_signals, seen, cause_of, own_of, site_of, AreDigests, IsPlaceIn};
+ghost use Rattle.gg_elab.specs.Growing.{where_of};
+ghost use Rattle.gg_digest.specs.IsFlat.{IsRegisterOf, HasReset, HasNext, number_of, answer as answer_of};
+ghost use Rattle.gg_digest.specs.Known.{types_of};
+ghost use Rattle.gg_elab.specs.Building.{IsMade, with_made, is_input_driver, IsSoFar};
 
-use crate::connections::Source;
-use crate::digest::Digest;
 use crate::lines::{condition_line, source_line, value_line};
-use crate::names::{dotted, field_name, joined};
-use crate::own::{Origin, OwnSignal};
 use crate::scope::Scope;
-use crate::sites::{Around, Place};
-use crate::table::{Table, number};
 use gg_ast::Reset;
 use gg_bits::{Name, Ty};
+use gg_digest::{
+    Around, Digest, Origin, OwnSignal, Place, Source, Table, dotted, field_name, joined, number,
+};
 use gg_flat::{AddError, Driver, Latency, Line, Piece, Register, Signal};
 use gg_types::Typed;
 use std::alloc::{AllocError, Global};

@@ -1,37 +1,27 @@
 //! `flatten`: from a circuit to its flat circuit.
-ghost use Rattle.std.specs.Prelude.{◌≡◌, ◌≢◌, ◌<◌, ◌^◌, [], length, map, Some, None, Err, IfOk, IfErr, All};
+ghost use Rattle.std.specs.Prelude.{◌≡◌, ◌≢◌, ◌<◌, ◌^◌, length, map, Some, None, Err, IfOk};
 ghost use Rattle.gg_ast.specs.Places.{place_of};
 ghost use Rattle.gg_ast.specs.Tree.{module_names};
-ghost use Rattle.gg_elab.specs.Building.{IsPlaceIn};
-ghost use Rattle.gg_elab.specs.IsFlat.{IsFlat, IsFlatWith};
-ghost use Rattle.gg_elab.specs.Fitting.{AreFitting};
+ghost use Rattle.gg_digest.specs.Views.{AreDigests};
+ghost use Rattle.gg_digest.specs.IsFlat.{IsFlat, IsFlatWith};
+ghost use Rattle.gg_formed.specs.Fitting.{AreFitting};
 ghost use Rattle.gg_flat.specs.Scoped.{IsScoped};
 ghost use Rattle.gg_flat.specs.Tree.{IsTree};
 ghost use Rattle.gg_flat.specs.WellFormed.{IsWellFormed};
-ghost use Rattle.gg_elab.specs.IsTreeOf.{IsTreeOf};
-ghost use Rattle.gg_elab.specs.Known.{types_of};
+ghost use Rattle.gg_tree.specs.IsTreeOf.{IsTreeOf};
+ghost use Rattle.gg_digest.specs.Known.{types_of};
 ghost use Rattle.gg_elab.specs.Limits.{excess_over, IsAnswered};
-ghost use Rattle.gg_elab.specs.Views.{AreDigests, site_of};
 
 use crate::build::add_sites;
-use crate::digest::{Digest, digests};
 use crate::fault::ElabFault;
 use crate::ports::{add_all_memories, add_ports};
-use crate::sites::{Place, places};
-use crate::table::table_of;
-use crate::tree::tree_of;
 use gg_count::count;
+use gg_digest::{Digest, Place, digests, places, table_of};
 use gg_flat::{Piece, Tree};
+use gg_formed::{formed, top_of};
+use gg_tree::{fits, tree_of};
 use gg_types::Typed;
 use std::alloc::{AllocError, Global};
-
-// The place of the top, which a checked circuit has.
-fn top_of(typed: &Typed) -> u32
-    ensures { place_of typed.now.circuit.name (module_names typed.now.circuit) ≡ Some result }
-{
-    let circuit = typed.names().circuit();
-    circuit.module(circuit.name().as_str()).unwrap()
-}
 
 // How many signals each module has of its own.
 fn own_counts(alloc: Global, digests: &[Digest]) -> Result<Vec<u64>, AllocError>
@@ -81,11 +71,8 @@ fn joined(typed: &Typed, piece: Piece, tree: Tree) -> (Piece, Tree)
     ensures fitting { IsTree result.0 result.1 }
     ensures scoped { IsScoped result.0 result.1 }
 {
-    let circuit = typed.names().circuit();
-    circuit.names_are_words();
-    let _ = piece.signal_count();
-    let _ = tree.len();
-    let _ = tree.memory_count();
+    fits(typed, &piece, &tree);
+    formed(typed, &piece, &tree);
     (piece, tree)
 }
 
@@ -93,7 +80,8 @@ fn joined(typed: &Typed, piece: Piece, tree: Tree) -> (Piece, Tree)
 ///
 /// # Errors
 ///
-/// `TooLarge` with the first count that is above its limit, exactly where there is one; `NoMemory`, where memory is refused.
+/// `TooLarge` with the first count that is above its limit, exactly where there is one; `NoMemory`, where memory is
+/// refused.
 pub fn flatten(alloc: Global, typed: &Typed) -> Result<(Piece, Tree), ElabFault>
     ensures flat { IfOk result (λ both. IsFlat typed.now.circuit both.0) }
     ensures fits { IfOk result (λ both. AreFitting both.0) }

@@ -1,5 +1,5 @@
 //! Expressions as nodes of a line.
-ghost use Rattle.std.specs.Prelude.{◌≡◌, ◌≢◌, ◌<◌, ◌∷◌, [], ◌++◌, length, OnOk, IfOk};
+ghost use Rattle.std.specs.Prelude.{◌≡◌, ◌<◌, IfOk};
 ghost use Rattle.gg_bits.specs.Shape.{shape};
 ghost use Rattle.gg_ast.specs.Term.{NamedTerm, ConstantTerm};
 ghost use Rattle.gg_elab.specs.Growing.{where_of, shape_of, IsZeroNode, IsResultNode, IsPlaced, Added};

@@ -4,10 +4,10 @@ ghost use Rattle.gg_ast.specs.Tree.{CircuitTree};
 ghost use Rattle.gg_flat.specs.Circuit.{FlatCircuit};
 ghost use Rattle.gg_flat.specs.Reads.{Reads, IsLoop};
 ghost use Rattle.gg_flat.specs.Run.{IsRun};
-ghost use Rattle.gg_elab.specs.IsFlat.{IsFlat};
+ghost use Rattle.gg_digest.specs.IsFlat.{IsFlat};
 
-/// All flat circuits of a circuit do the same: they have the same in-signals and the same out-signals, and what is a run of
-/// one of them is a run of each.
+/// All flat circuits of a circuit do the same: they have the same in-signals and the same out-signals, and what is a
+/// run of one of them is a run of each.
 pub fn one_run()
     ensures ins { (circuit : CircuitTree) (one other : FlatCircuit) → IsFlat circuit one → IsFlat circuit other → one.ins ≡ other.ins }
     ensures outs { (circuit : CircuitTree) (one other : FlatCircuit) → IsFlat circuit one → IsFlat circuit other → one.outs ≡ other.outs }

@@ -1,36 +1,23 @@
-//! The elaboration: from a circuit to its flat circuit.
+//! The elaboration: from a circuit to its flat circuit and the tree of its instances.
 //!
-//! The signals of a circuit are those of its top and of every instance below it, by their paths (`flat_signals`); so are its
-//! memories (`flat_memories`). A name that is written at a site stands for the signal whose path is the site's with the
-//! name behind it (`named`); an instance's input is connected where the instance is held. The crate promises:
+//! The crate promises of `flatten`:
 //!
-//! - what `flatten` gives is the flat circuit of the circuit (`IsFlatWith`): just these signals, each with its type and a driver
-//!   that means what its connection, expression, register or memory says and names what that names; the registers in the
-//!   order of the signals; these memories, a module's before those of its instances; and the ports of the top;
+//! - the circuit that it gives is the flat circuit of the circuit (`IsFlat`), and is well formed;
+//! - the tree that it gives is one of it (`IsTree`), and the circuit keeps to the tree's scopes (`IsScoped`);
 //! - it refuses a circuit exactly where a count is above its limit, with the first that is (`IsAnswered`).
 //!
-//! The definitions are total: what isn't known, or doesn't fit, is 0. In a circuit that the checks pass there is none of it. How a
-//! line is laid out is left open.
+//! All flat circuits of a circuit have the same runs and the same combinational loops (`one_run`, `one_reads`).
 #![tactic(auto)]
 
 mod build;
-mod connections;
-mod digest;
 mod elaborate;
 mod expression;
 mod fault;
-mod known;
 mod laws;
 mod lines;
 mod lookup;
-mod memories;
-mod names;
-mod own;
 mod ports;
 mod scope;
-mod sites;
-mod table;
-mod tree;
 
 pub use elaborate::flatten;
 pub use fault::{ElabFault, limit_of};

@@ -1,19 +1,19 @@
 //! The lines of the flat circuit.
-ghost use Rattle.std.specs.Prelude.{◌≡◌, ◌∷◌, [], Some, None, IfOk, OnOk};
+ghost use Rattle.std.specs.Prelude.{◌≡◌, Some, None, IfOk, OnOk};
 ghost use Rattle.gg_bits.specs.Shape.{shape};
 ghost use Rattle.gg_flat.specs.Line.{HasType, IsSource, IsCondition};
-ghost use Rattle.gg_elab.specs.Growing.{where_of, shape_of, Added, IsCut, IsZeroOf};
-ghost use Rattle.gg_elab.specs.IsFlat.{IsLineFor, IsLineOf, IsConditionOf};
+ghost use Rattle.gg_elab.specs.Growing.{where_of, IsCut, IsZeroOf};
+ghost use Rattle.gg_digest.specs.IsFlat.{IsLineFor, IsLineOf, IsConditionOf};
 ghost use Rattle.gg_bits.specs.ResultType.{is_condition};
-ghost use Rattle.gg_elab.specs.Meaning.{takes as takes_shape};
-ghost use Rattle.gg_elab.specs.Views.{seen, connection};
-ghost use Rattle.gg_elab.specs.Connection.{Zeroed};
+ghost use Rattle.gg_digest.specs.Meaning.{takes as takes_shape};
+ghost use Rattle.gg_digest.specs.Views.{seen, connection};
+ghost use Rattle.gg_digest.specs.Connection.{Zeroed};
 
-use crate::connections::Source;
 use crate::expression::add_expression;
 use crate::scope::Scope;
 use gg_ast::Expr;
 use gg_bits::{Kind, Ty, Val};
+use gg_digest::Source;
 use gg_flat::{Line, Node, Op};
 use std::alloc::{AllocError, Global};
 

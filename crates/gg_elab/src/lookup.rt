@@ -1,12 +1,12 @@
 //! The signal that a reference names.
 ghost use Rattle.std.specs.Prelude.{◌≡◌, IfOk};
-ghost use Rattle.gg_elab.specs.Meaning.{named};
+ghost use Rattle.gg_digest.specs.Meaning.{named};
 ghost use Rattle.gg_elab.specs.Growing.{where_of};
 
-use crate::known::value_type;
-use crate::names::{joined, written};
 use crate::scope::Scope;
 use gg_ast::Reference;
+use gg_digest::{joined, value_type};
+use gg_names::written;
 use std::alloc::{AllocError, Global};
 
 /// The signal that a reference names, by its number.

@@ -7,7 +7,7 @@ use Rattle.gg_bits.specs.declared.types.Kind.{Kind}
 use Rattle.gg_bits.specs.declared.types.Ty.{Ty}
 use Rattle.gg_bits.specs.Shape.{Shape, shape}
 use Rattle.gg_ast.specs.Tree.{CircuitTree}
-use Rattle.gg_elab.specs.IsFlat.{IsFlat}
+use Rattle.gg_digest.specs.IsFlat.{IsFlat}
 use Rattle.gg_flat.specs.Circuit.{FlatCircuit, signal_shapes}
 use Rattle.gg_flat.specs.declared.piece.Signal.{Signal}
 use Rattle.gg_flat.specs.declared.ports.Port.{Port}

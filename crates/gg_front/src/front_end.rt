@@ -1,7 +1,7 @@
 //! `front`: from the bytes of a circuit file to a design.
 ghost use Rattle.std.specs.Prelude.{◌≡◌, ◌<◌, ◌^◌, ℕ, List, [], None, IfOk, IfErr, length, map};
 ghost use Rattle.std.specs.List.{All};
-ghost use Rattle.gg_elab.specs.IsFlat.{IsFlat};
+ghost use Rattle.gg_digest.specs.IsFlat.{IsFlat};
 ghost use Rattle.gg_flat.specs.Reads.{IsLoop};
 ghost use Rattle.gg_flat.specs.Scoped.{IsScoped};
 ghost use Rattle.gg_flat.specs.Tree.{IsTree, path_at};

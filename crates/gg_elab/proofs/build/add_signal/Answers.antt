@@ -1,11 +1,10 @@
-use Rattle.std.proofs.Common.{◌≡◌, ℕ, List, [], ◌∷◌, ◌++◌, length, ◌∙◌, ap, refl, sym, subst, arith}
+use Rattle.std.proofs.Common.{◌≡◌, ℕ, [], ◌∷◌, ◌++◌, length, ap, refl, sym, subst, arith}
 use Rattle.gg_bits.specs.Shape.{shape}
 use Rattle.gg_flat.specs.Circuit.{FlatCircuit}
 use Rattle.gg_elab.specs.Building.{IsMade, IsSoFar}
-use Rattle.gg_elab.specs.Flat.{FlatSignal, flat_signal, drive_of}
-use Rattle.gg_elab.specs.Growing.{table_signals}
-use Rattle.gg_elab.specs.Known.{types_of}
-use Rattle.gg_elab.specs.Views.{own_of, site_of, cause_of}
+use Rattle.gg_digest.specs.Flat.{FlatSignal, flat_signal}
+use Rattle.gg_digest.specs.Views.{table_signals, own_of, site_of}
+use Rattle.gg_digest.specs.Known.{types_of}
 use Rattle.gg_elab.proofs.BuildLemmas.{so_far-more}
 use Rattle.gg_elab.proofs.build.add_signal.Goals as goal
 

@@ -1,13 +1,12 @@
-use Rattle.std.proofs.Common.{◌≡◌, ℕ, List, ◌++◌, take, map, length, ◌∙◌, ap, sym, subst, arith}
+use Rattle.std.proofs.Common.{◌≡◌, List, ◌++◌, take, map, ◌∙◌, ap, sym, subst, arith}
 use Rattle.std.proofs.lemmas.List.{append-nil, take_all}
 use Rattle.gg_elab.specs.Building.{IsSoFar}
-use Rattle.gg_elab.specs.Flat.{FlatSignal, flat_signal, signals_at}
-use Rattle.gg_elab.specs.Growing.{table_signals}
-use Rattle.gg_elab.specs.Known.{types_of}
-use Rattle.gg_elab.specs.Views.{own_of, site_of}
-use Rattle.gg_elab.specs.declared.digest.Digest.{Digest}
-use Rattle.gg_elab.specs.declared.own.OwnSignal.{OwnSignal}
-use Rattle.gg_elab.proofs.FlatLemmas.{seam, signals-kept, digest-at}
+use Rattle.gg_digest.specs.Flat.{FlatSignal, flat_signal, signals_at}
+use Rattle.gg_digest.specs.Views.{table_signals, own_of, site_of}
+use Rattle.gg_digest.specs.Known.{types_of}
+use Rattle.gg_digest.specs.declared.digest.Digest.{Digest}
+use Rattle.gg_digest.specs.declared.own.OwnSignal.{OwnSignal}
+use Rattle.gg_digest.proofs.FlatLemmas.{seam, signals-kept, digest-at}
 use Rattle.gg_elab.proofs.build.add_site.Goals as goal
 
 pub loop-signal-init : goal.loop-signal-init

@@ -1,9 +1,8 @@
-use Rattle.std.proofs.Common.{◌≡◌, ℕ, ◌<◌, ◌≤◌, ◌++◌, ◌∷◌, [], List, length, map, take, drop, Option}
-use Rattle.gg_elab.specs.Known.{types_of}
-use Rattle.gg_elab.specs.Flat.{FlatSignal, flat_signal, flat_signals, FlatMemory, flat_memory, flat_memories}
-use Rattle.gg_elab.specs.Views.{site_of, own_of, own_bank_of}
-use Rattle.gg_elab.specs.Building.{IsSoFar, HasMemories}
-use Rattle.gg_elab.specs.Growing.{table_signals}
+use Rattle.std.proofs.Common.{map, take}
+use Rattle.gg_digest.specs.Known.{types_of}
+use Rattle.gg_digest.specs.Flat.{flat_signals}
+use Rattle.gg_digest.specs.Views.{site_of, table_signals}
+use Rattle.gg_elab.specs.Building.{IsSoFar}
 use Rattle.gg_elab.proofs.build.add_sites.Given as goal
 
 abbrev pub invariant-loop-place : goal.invariant-loop-place

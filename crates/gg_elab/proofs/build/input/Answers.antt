@@ -1,6 +1,6 @@
-use Rattle.std.proofs.Common.{ℕ, ◌<◌, length, subst, Option}
+use Rattle.std.proofs.Common.{◌<◌, length, subst, Option}
 use Rattle.std.specs.Prelude.{IfSome}
-use Rattle.gg_elab.specs.declared.sites.Around.{Around}
+use Rattle.gg_digest.specs.declared.sites.Around.{Around}
 use Rattle.gg_elab.proofs.build.input.Goals as goal
 
 pub invariant_of-scope : goal.invariant_of-scope

@@ -3,19 +3,18 @@ use Rattle.std.proofs.lemmas.List.{length-map, get_or_default}
 use Rattle.gg_ast.specs.Tree.{ModuleTree, CircuitTree, module_names, empty_module}
 use Rattle.gg_ast.specs.Places.{place_of}
 use Rattle.gg_ast.proofs.NamePlaces.{place_of-below}
-use Rattle.gg_count.specs.Sites.{Site, module_at, all_sites, sites_of}
+use Rattle.gg_count.specs.Sites.{Site, module_at, sites_of}
 use Rattle.gg_flat.specs.Circuit.{FlatCircuit}
-use Rattle.gg_elab.specs.Known.{types_of}
-use Rattle.gg_elab.specs.Views.{site_of}
-use Rattle.gg_elab.specs.declared.sites.Place.{Place}
+use Rattle.gg_digest.specs.Known.{types_of}
+use Rattle.gg_digest.specs.Views.{site_of, table_signals}
+use Rattle.gg_digest.specs.declared.sites.Place.{Place}
 use Rattle.gg_elab.specs.Building.{IsSoFar, HasMemories}
-use Rattle.gg_elab.specs.Flat.{flat_signals, flat_memories}
-use Rattle.gg_elab.specs.Growing.{table_signals}
-use Rattle.gg_elab.specs.IsFlat.{signals_of, memory_paths}
+use Rattle.gg_digest.specs.Flat.{flat_signals, flat_memories}
+use Rattle.gg_digest.specs.IsFlat.{signals_of, memory_paths}
 use Rattle.gg_elab.proofs.WholeLemmas.{whole, with_top, fitting_whole}
-use Rattle.gg_elab.proofs.TreeJoinLemmas.{sites-of, is-some}
-use Rattle.gg_elab.specs.Signals.{Types}
-use Rattle.gg_elab.specs.Meaning.{Signals}
+use Rattle.gg_tree.proofs.TreeJoinLemmas.{sites-of, is-some}
+use Rattle.gg_digest.specs.Signals.{Types}
+use Rattle.gg_digest.specs.Meaning.{Signals}
 use Rattle.gg_elab.proofs.elaborate.build.Goals as goal
 
 abbrev signal_paths_of : Types → List ModuleTree → List Site → List (List ℕ)

@@ -1,4 +1,4 @@
-use Rattle.std.proofs.Common.{◌≡◌, ℕ, ◌<◌, ◌≤◌, ◌++◌, ◌∷◌, [], List, length, map, take, drop, Option}
+use Rattle.std.proofs.Common.{◌≡◌, length, map, take}
 use Rattle.gg_elab.proofs.elaborate.own_counts.Given as goal
 
 abbrev pub invariant-loop-digest : goal.invariant-loop-digest

@@ -1,6 +1,6 @@
-use Rattle.std.proofs.Common.{◌≡◌, ◌∙◌, ap, ap₂, refl, sym}
+use Rattle.std.proofs.Common.{◌∙◌, ap, refl, sym}
 use Rattle.gg_bits.specs.ResultType.{type1, type2, type_const, type_mux}
-use Rattle.gg_bits.specs.Shape.{Shape, shape}
+use Rattle.gg_bits.specs.Shape.{shape}
 use Rattle.gg_ast.specs.TermOf.{term_of}
 use Rattle.gg_flat.specs.declared.line.Op.TheVariants.{One, Two, Fix, Mux}
 use Rattle.gg_elab.specs.Growing.{where_of, shape_of, IsResultNode}

@@ -1,4 +1,4 @@
-use Rattle.std.proofs.Common.{◌≡◌, ◌∙◌, ap, refl}
+use Rattle.std.proofs.Common.{◌≡◌, ap, refl}
 use Rattle.gg_bits.specs.Shape.{shape}
 use Rattle.gg_ast.specs.Term.{ConstantTerm}
 use Rattle.gg_flat.specs.declared.line.Op.TheVariants.{Literal}

@@ -1,11 +1,11 @@
-use Rattle.std.proofs.Common.{◌≡◌, ℕ, ◌<◌, length, ◌∙◌, ap, refl, sym, Some, None, arith}
-use Rattle.std.proofs.lemmas.List.{length-map, get_or-map, get_or_default}
+use Rattle.std.proofs.Common.{◌≡◌, ◌<◌, length, ◌∙◌, ap, refl, sym, Some, None, arith}
+use Rattle.std.proofs.lemmas.List.{length-map, get_or-map}
 use Rattle.gg_bits.specs.declared.types.Ty.{Ty}
 use Rattle.gg_bits.specs.Shape.{shape, uint}
 use Rattle.gg_ast.specs.Term.{NamedTerm}
 use Rattle.gg_flat.specs.declared.line.Op.TheVariants.{Ref}
 use Rattle.gg_elab.specs.Growing.{where_of, IsZeroNode}
-use Rattle.gg_elab.specs.Meaning.{named}
+use Rattle.gg_digest.specs.Meaning.{named}
 use Rattle.gg_elab.proofs.LineLemmas.{added_reference, added_nothing}
 use Rattle.gg_elab.proofs.PlacedLemmas.{finished}
 use Rattle.gg_elab.proofs.ScopeLemmas.{named-below}

@@ -2,11 +2,11 @@ use Rattle.std.proofs.Common.{◌≡◌, List, [], ap, ◌∙◌, subst, Bool}
 use Rattle.std.proofs.lemmas.Result.{IfOk-weaker}
 use Rattle.gg_bits.specs.Shape.{Shape, shape, uint, of_kind}
 use Rattle.gg_flat.specs.declared.line.Node.{Node}
-use Rattle.gg_flat.specs.Line.{HasType, IsSource, IsCondition}
-use Rattle.gg_elab.specs.Growing.{where_of, shape_of, Added, IsCut}
+use Rattle.gg_flat.specs.Line.{HasType, IsCondition}
+use Rattle.gg_elab.specs.Growing.{where_of, Added, IsCut}
 use Rattle.gg_bits.specs.declared.types.Kind.TheVariants.{UInt}
 use Rattle.gg_bits.specs.ResultType.{is_condition}
-use Rattle.gg_elab.specs.IsFlat.{IsConditionOf}
+use Rattle.gg_digest.specs.IsFlat.{IsConditionOf}
 use Rattle.gg_elab.proofs.WholeLineLemmas.{condition_stands, condition_fits}
 use Rattle.gg_elab.proofs.lines.condition_line.Goals as goal
 

@@ -1,11 +1,11 @@
-use Rattle.std.proofs.Common.{◌≡◌, List, [], ap, subst, Bool}
+use Rattle.std.proofs.Common.{List, [], subst, Bool}
 use Rattle.std.proofs.lemmas.Result.{IfOk-weaker}
-use Rattle.gg_bits.specs.Shape.{Shape, shape, uint}
+use Rattle.gg_bits.specs.Shape.{Shape, shape}
 use Rattle.gg_flat.specs.declared.line.Node.{Node}
-use Rattle.gg_flat.specs.Line.{HasType, IsSource, IsCondition}
-use Rattle.gg_elab.specs.Growing.{where_of, shape_of, Added, IsCut}
-use Rattle.gg_elab.specs.IsFlat.{IsLineOf}
-use Rattle.gg_elab.specs.Meaning.{takes}
+use Rattle.gg_flat.specs.Line.{HasType, IsSource}
+use Rattle.gg_elab.specs.Growing.{where_of, Added, IsCut}
+use Rattle.gg_digest.specs.IsFlat.{IsLineOf}
+use Rattle.gg_digest.specs.Meaning.{takes}
 use Rattle.gg_elab.proofs.WholeLineLemmas.{cut_stands, cut_fits}
 use Rattle.gg_elab.proofs.lines.value_line.Goals as goal
 

@@ -1,11 +1,9 @@
-use Rattle.std.proofs.Common.{rules, ◌≡◌, ℕ, List, ◌∙◌, ap, sym, Option, Some, None, true, false, Bool}
-use Rattle.std.specs.Prelude.{is_some, option_map}
-use Rattle.gg_bits.specs.declared.types.Ty.{Ty}
-use Rattle.gg_bits.specs.Shape.{Shape, shape}
+use Rattle.std.proofs.Common.{rules, ◌≡◌, ℕ, List, ◌∙◌, ap, sym, true}
+use Rattle.std.specs.Prelude.{is_some}
 use Rattle.gg_ast.specs.Places.{place_of}
 use Rattle.gg_flat.specs.Tree.{joined}
 use Rattle.gg_names.specs.Scope.{written}
-use Rattle.gg_elab.specs.Meaning.{named_if}
+use Rattle.gg_digest.specs.Meaning.{named_if}
 use Rattle.gg_elab.proofs.ScopeLemmas.{found-path, is-known}
 use Rattle.gg_elab.proofs.lookup.find.Goals as goal
 

@@ -1,4 +1,4 @@
-use Rattle.std.proofs.Common.{◌≡◌, ap, ◌∙◌, arith}
+use Rattle.std.proofs.Common.{ap, ◌∙◌, arith}
 use Rattle.gg_ast.specs.declared.module.Direction.TheVariants as direction
 use Rattle.gg_flat.specs.Circuit.{FlatCircuit}
 use Rattle.gg_elab.proofs.WholeLemmas.{names-more}

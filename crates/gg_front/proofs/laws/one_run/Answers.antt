@@ -1,7 +1,7 @@
 -- A text spells one circuit at most, so a flat circuit that the bytes mean is one of that circuit.
 use Rattle.std.proofs.Common.{subst}
 use Rattle.gg_ast.specs.Tree.{CircuitTree}
-use Rattle.gg_elab.specs.IsFlat.{IsFlat}
+use Rattle.gg_digest.specs.IsFlat.{IsFlat}
 use Rattle.gg_front.proofs.laws.one_run.Goals as goal
 
 pub returns-clause-ins : goal.returns-clause-ins

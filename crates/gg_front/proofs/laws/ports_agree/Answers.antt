@@ -1,7 +1,7 @@
 -- A text spells one circuit at most, and the flat circuits of that have the same ports.
 use Rattle.std.proofs.Common.{subst}
 use Rattle.gg_ast.specs.Tree.{CircuitTree}
-use Rattle.gg_elab.specs.IsFlat.{IsFlat}
+use Rattle.gg_digest.specs.IsFlat.{IsFlat}
 use Rattle.gg_front.proofs.PortLemmas.{ports-alike}
 use Rattle.gg_front.proofs.laws.ports_agree.Goals as goal
 

@@ -1,0 +1,11 @@
+pub mod ConnectionLemmas
+pub mod DigestLemmas
+pub mod FlatLemmas
+pub mod ListLemmas
+pub mod NameLemmas
+pub mod SiteLemmas
+mod WorkedCircuits
+mod WorkedCounter
+mod WorkedHierarchy
+mod WorkedParts
+pub mod WorkedText

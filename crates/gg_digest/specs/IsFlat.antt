@@ -1,0 +1,206 @@
+-- When a flat circuit is that of a circuit.
+-- Source: FIRRTL Specification, "Circuits and Modules", "Instances", "Statements", "Memories", "Connects",
+-- "Invalidates". It has the signals, registers, memories and ports of the circuit's sites, and nothing more. How a
+-- line is laid out is left open: only what it comes to, and which signals it names, is said.
+use Rattle.std.specs.Prelude.{◌≡◌, ℕ, ◌<◌, ◌↔◌, List, [], Option, Some, None, Bool, true, false, MatchOption, length, map, take, filter_map, count_by, slice_index_or, unwrap_or, if◌then◌else◌, ◌&&◌, is_some, codes}
+use Rattle.gg_bits.specs.Shape.{Shape, shape}
+use Rattle.gg_ast.specs.declared.module.Direction.{Direction}
+use Rattle.gg_ast.specs.declared.module.Direction.TheVariants as direction
+use Rattle.gg_ast.specs.declared.module.Port.{Port}
+use Rattle.gg_ast.specs.declared.statement.Reset as given
+use Rattle.gg_ast.specs.Places.{place_of}
+use Rattle.gg_ast.specs.Term.{Term}
+use Rattle.gg_ast.specs.Tree.{ModuleTree, CircuitTree, module_names}
+use Rattle.gg_flat.specs.declared.line.Node.{Node}
+use Rattle.gg_flat.specs.declared.memory.Latency.{Latency}
+use Rattle.gg_flat.specs.declared.memory.Latency.TheVariants.{Zero, One}
+use Rattle.gg_flat.specs.declared.memory.Reader.{Reader}
+use Rattle.gg_flat.specs.declared.memory.Writer.{Writer}
+use Rattle.gg_flat.specs.declared.memory.Memory.{Memory}
+use Rattle.gg_flat.specs.declared.piece.Register.{Register}
+use Rattle.gg_flat.specs.declared.piece.Reset as kept
+use Rattle.gg_flat.specs.declared.piece.Driver.{Driver}
+use Rattle.gg_flat.specs.declared.piece.Driver.TheVariants.{Input, Held, MemoryWord, ReadRegister, Computed}
+use Rattle.gg_flat.specs.Circuit.{FlatCircuit, signal_shapes, driver_at}
+use Rattle.gg_flat.specs.Line.{shape_at, line_value, connected_value as line_connected}
+use Rattle.gg_flat.specs.Reads.{Names}
+use Rattle.gg_count.specs.Sites.{module_at, sites_of}
+use Rattle.gg_digest.specs.Memories.{type_shape}
+use Rattle.gg_digest.specs.Signals.{Types, field_name}
+use Rattle.gg_digest.specs.Connection.{Connection}
+use Rattle.gg_digest.specs.Flat.{Scope, Drive, Outside, Gets, Holds, Answers, FlatSignal, FlatMemory, flat_signals, flat_memories}
+use Rattle.gg_digest.specs.Known.{types_of}
+use Rattle.gg_digest.specs.Meaning.{Signals, TermNames, taken_value, connected_value, ConnectionNames, condition_value}
+
+-- ---- lines
+
+-- A line gives a sink of this shape what it is connected to, and names just the signals that this names.
+pub record IsLineFor (types : Types) (signals : Signals) (scope : Scope) (sink : Shape) (c : Option Connection) (line : List Node) : Type 0 where
+  pub value : (values : List ℕ) → line_connected values sink line ≡ connected_value types signals scope values sink c
+  pub names : (s : ℕ) → Names line s ↔ ConnectionNames types signals scope s c
+
+-- A line gives a sink of this shape the value of an expression.
+pub record IsLineOf (types : Types) (signals : Signals) (scope : Scope) (sink : Shape) (e : Term) (line : List Node) : Type 0 where
+  pub value : (values : List ℕ) → line_connected values sink line ≡ taken_value types signals scope values sink e
+  pub names : (s : ℕ) → Names line s ↔ TermNames types signals scope s e
+
+-- A line is a condition.
+pub record IsConditionOf (types : Types) (signals : Signals) (scope : Scope) (e : Term) (line : List Node) : Type 0 where
+  pub value : (values : List ℕ) → line_value values line ≡ condition_value types signals scope values e
+  pub names : (s : ℕ) → Names line s ↔ TermNames types signals scope s e
+
+-- ---- registers
+
+abbrev pub HasReset : Types → Signals → Scope → Shape → Option given.Reset → Option kept.Reset → Type 0
+HasReset types signals scope sink None reset = reset ≡ None
+HasReset types signals scope sink (Some asked) reset =
+    MatchOption reset ⊥ (λ r. IsConditionOf types signals scope asked.condition r.condition × IsLineOf types signals scope sink asked.init r.init)
+
+-- a register that nothing is connected to keeps its value
+abbrev pub HasNext : Types → Signals → Scope → Shape → Option Connection → Option (List Node) → Type 0
+HasNext types signals scope sink None next = next ≡ None
+HasNext types signals scope sink (Some c) next = MatchOption next ⊥ (IsLineFor types signals scope sink (Some c))
+
+pub record IsRegisterOf (types : Types) (signals : Signals) (scope : Scope) (sink : Shape) (reset : Option given.Reset) (next : Option Connection) (register : Register) : Type 0 where
+  pub typed : shape register.ty ≡ sink
+  pub reset_is : HasReset types signals scope sink reset register.reset
+  pub next_is : HasNext types signals scope sink next register.next
+
+-- ---- numbers
+
+-- the number of the signal, or the memory, of a path
+abbrev pub number_of : List (List ℕ) → List ℕ → ℕ
+number_of paths path = unwrap_or (place_of path paths) 0
+
+abbrev pub is_outside : Drive → Bool
+is_outside Outside = true
+is_outside (Gets scope c) = false
+is_outside (Holds scope reset next) = false
+is_outside (Answers memory place latency addr en) = false
+
+abbrev pub is_register : Drive → Bool
+is_register Outside = false
+is_register (Gets scope c) = false
+is_register (Holds scope reset next) = true
+is_register (Answers memory place latency addr en) = false
+
+-- the drive of signal s, as it is listed
+abbrev pub drive_at : List FlatSignal → ℕ → Drive
+drive_at all s = slice_index_or (map (λ x. x.drive) all) s Outside
+
+-- how many signals before signal s pass a test
+abbrev pub count_before : (Drive → Bool) → List FlatSignal → ℕ → ℕ
+count_before p all s = count_by p (take s (map (λ x. x.drive) all))
+
+-- ---- drivers
+
+-- what a reader of this latency answers
+abbrev pub answer : Latency → ℕ → ℕ → ℕ → ℕ → Driver
+answer Zero memory reader addr en = MemoryWord memory reader addr en
+answer (One under) memory reader addr en = ReadRegister memory reader
+
+-- The signal has a line that gives it its connection.
+pub record IsComputed (types : Types) (signals : Signals) (scope : Scope) (sink : Shape) (c : Option Connection) (driver : Driver) : Type 0 where
+  pub line : List Node
+  pub computed : driver ≡ Computed line
+  pub stands : IsLineFor types signals scope sink c line
+
+-- The signal has the state of this register.
+pub record IsHeld (types : Types) (signals : Signals) (scope : Scope) (sink : Shape) (reset : Option given.Reset) (next : Option Connection) (registers : List Register) (number : ℕ) (driver : Driver) : Type 0 where
+  pub held : driver ≡ Held number
+  pub within : number < length registers
+  pub register : (any : Register) → IsRegisterOf types signals scope sink reset next (slice_index_or registers number any)
+
+-- A signal's driver is what its drive says. Inputs and registers are numbered in the order of the signals.
+abbrev pub IsDrivenBy : Types → Signals → List (List ℕ) → List Register → ℕ → ℕ → Shape → Drive → Driver → Type 0
+IsDrivenBy types signals memories registers inputs states sink Outside driver = driver ≡ Input inputs
+IsDrivenBy types signals memories registers inputs states sink (Gets scope c) driver = IsComputed types signals scope sink c driver
+IsDrivenBy types signals memories registers inputs states sink (Holds scope reset next) driver = IsHeld types signals scope sink reset next registers states driver
+IsDrivenBy types signals memories registers inputs states sink (Answers memory place latency addr en) driver =
+    driver ≡ answer latency (number_of memories memory) place (number_of signals.paths addr) (number_of signals.paths en)
+
+-- ---- memories
+
+-- the field of a port of a memory
+abbrev pub field_number : List (List ℕ) → List ℕ → List ℕ → List ℕ → ℕ
+field_number paths memory port field = number_of paths (field_name memory port field)
+
+abbrev pub reader_of : List (List ℕ) → List ℕ → List ℕ → Reader
+reader_of paths memory port =
+    record {
+      addr = field_number paths memory port (codes "addr");
+      en = field_number paths memory port (codes "en");
+      word = field_number paths memory port (codes "data");
+    }
+
+abbrev pub writer_of : List (List ℕ) → List ℕ → List ℕ → Writer
+writer_of paths memory port =
+    record {
+      addr = field_number paths memory port (codes "addr");
+      en = field_number paths memory port (codes "en");
+      word = field_number paths memory port (codes "data");
+      mask = field_number paths memory port (codes "mask");
+    }
+
+pub record IsMemoryOf (paths : List (List ℕ)) (said : FlatMemory) (memory : Memory) : Type 0 where
+  pub word : shape memory.word ≡ said.bank.word
+  pub depth : memory.depth ≡ said.bank.depth
+  pub latency : memory.latency ≡ said.bank.latency
+  pub readers : memory.readers ≡ map (reader_of paths said.path) said.bank.readers
+  pub writers : memory.writers ≡ map (writer_of paths said.path) said.bank.writers
+
+-- ---- ports
+
+abbrev pub same_direction : Direction → Direction → Bool
+same_direction direction.Input direction.Input = true
+same_direction direction.Input direction.Output = false
+same_direction direction.Output direction.Input = false
+same_direction direction.Output direction.Output = true
+
+-- the name of a port, if it is of this direction and no Clock
+abbrev pub port_name : Direction → Port → Option (List ℕ)
+port_name way port = if same_direction way port.direction && is_some (type_shape port.ty) then Some port.name else None
+
+-- the names of the ports of a direction that are no Clocks
+abbrev pub port_names : Direction → List Port → List (List ℕ)
+port_names way ports = filter_map (port_name way) ports
+
+-- the ports of the top
+abbrev pub top_ports : List ModuleTree → Option ℕ → List Port
+top_ports modules None = []
+top_ports modules (Some k) = (module_at modules k).ports
+
+-- ---- all of it
+
+-- the paths and the shapes of signals
+abbrev pub signals_of : List FlatSignal → Signals
+signals_of all = record { paths = map (λ x. x.path) all; shapes = map (λ x. x.shape) all }
+
+-- the paths of memories
+abbrev pub memory_paths : List FlatMemory → List (List ℕ)
+memory_paths banks = map (λ x. x.path) banks
+
+-- The flat circuit of these signals and memories, with these ports of the top: just these signals, each with its
+-- driver; the registers that they hold, in turn; these memories; and the ports, in port order.
+pub record IsFlatOf (types : Types) (all : List FlatSignal) (banks : List FlatMemory) (ports : List Port) (flat : FlatCircuit) : Type 0 where
+  pub paths : flat.paths ≡ (signals_of all).paths
+  pub shapes : signal_shapes flat ≡ (signals_of all).shapes
+  pub drivers : (s : ℕ) → s < length all → IsDrivenBy types (signals_of all) (memory_paths banks) flat.registers (count_before is_outside all s) (count_before is_register all s) (shape_at (signals_of all).shapes s) (drive_at all s) (driver_at flat s)
+  pub register_count : length flat.registers ≡ count_before is_register all (length all)
+  pub memory_count : length flat.memories ≡ length banks
+  pub memories : (m : ℕ) (said : FlatMemory) (any : Memory) → m < length banks → IsMemoryOf (signals_of all).paths (slice_index_or banks m said) (slice_index_or flat.memories m any)
+  pub ins : flat.ins ≡ map (number_of (signals_of all).paths) (port_names direction.Input ports)
+  pub outs : flat.outs ≡ map (number_of (signals_of all).paths) (port_names direction.Output ports)
+
+-- The flat circuit of a circuit, where the type checks say this of its names.
+abbrev pub IsFlatWith : Types → CircuitTree → FlatCircuit → Type 0
+IsFlatWith types circuit flat =
+    IsFlatOf types
+    (flat_signals types circuit.modules (sites_of circuit))
+    (flat_memories circuit.modules (sites_of circuit))
+    (top_ports circuit.modules (place_of circuit.name (module_names circuit)))
+    flat
+
+-- The flat circuit of a circuit.
+abbrev pub IsFlat : CircuitTree → FlatCircuit → Type 0
+IsFlat circuit flat = IsFlatWith (types_of circuit) circuit flat

@@ -1,0 +1,37 @@
+//! What each module of a circuit declares, read once, and what the flat circuit of a circuit is.
+//!
+//! The signals of a circuit are those of its top and of every instance below it, by their paths (`flat_signals`); so
+//! are its memories (`flat_memories`). A name that is written at a site stands for the signal whose path is the
+//! site's with the name behind it (`named`); an instance's input is connected where the instance is held. A flat
+//! circuit is that of a circuit (`IsFlat`) where it has just these signals, each with its type and a driver that
+//! means what its connection, expression, register or memory says and names what that names; the registers in the
+//! order of the signals; these memories, a module's before those of its instances; and the ports of the top. How a
+//! line is laid out is left open. The crate promises:
+//!
+//! - `digests` tells of each module the signals that it has of its own, the instances that it holds, its memories, and
+//!   what each sink is connected to (`AreDigests`);
+//! - `places` lists the top and the instances below it, each behind what holds it (`all_sites`);
+//! - `table_of` has the paths and the types of all their signals, and the paths of all their memories, in order;
+//! - `value_type` is the type of what a reference names, where that is a value.
+//!
+//! The definitions are total: what isn't known, or doesn't fit, is 0. In a circuit that the checks pass there is none
+//! of it.
+#![tactic(auto)]
+
+mod connections;
+mod digest;
+mod known;
+mod memories;
+mod names;
+mod own;
+mod sites;
+mod table;
+
+pub use connections::{Sinks, Source};
+pub use digest::{Digest, Instance, OwnMemory, digests};
+pub use known::value_type;
+pub use memories::{Bank, ground_type};
+pub use names::{dotted, field_name, joined};
+pub use own::{Origin, OwnSignal};
+pub use sites::{Around, Place, places};
+pub use table::{Table, add_path, number, table_of};

@@ -1,7 +1,0 @@
-use Rattle.std.proofs.Common.{◌≡◌, ℕ, ◌<◌, ◌≤◌, ◌++◌, List, length, map, take, drop, Option}
-use Rattle.gg_elab.specs.Views.{own_of, bank_seen, held_of, own_bank_of}
-use Rattle.gg_count.specs.Sites.{held_by}
-use Rattle.gg_elab.proofs.digest.instances.Given as goal
-
-abbrev pub invariant-loop-statement : goal.invariant-loop-statement
-invariant-loop-statement l = map held_of l.instances.items ≡ held_by l.circuit.modules (take l.statement-index l.statements)

@@ -1,7 +1,0 @@
-use Rattle.std.proofs.Common.{◌≡◌, ℕ, ◌<◌, ◌≤◌, ◌++◌, List, length, map, take, drop, Option}
-use Rattle.gg_elab.specs.Views.{own_of, bank_seen, held_of, own_bank_of}
-use Rattle.gg_elab.specs.Signals.{own_banks}
-use Rattle.gg_elab.proofs.digest.memories.Given as goal
-
-abbrev pub invariant-loop-statement : goal.invariant-loop-statement
-invariant-loop-statement l = map own_bank_of l.memories.items ≡ own_banks (take l.statement-index l.statements)

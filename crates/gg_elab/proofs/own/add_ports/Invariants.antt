@@ -1,8 +1,0 @@
-use Rattle.std.proofs.Common.{◌≡◌, ℕ, ◌<◌, ◌≤◌, ◌++◌, List, length, map, take, drop, Option}
-use Rattle.std.specs.Prelude.{filter_map, flat_map}
-use Rattle.gg_elab.specs.Views.{own_of, bank_seen, held_of, own_bank_of}
-use Rattle.gg_elab.specs.Signals.{own_of_port}
-use Rattle.gg_elab.proofs.own.add_ports.Given as goal
-
-abbrev pub invariant-loop-port : goal.invariant-loop-port
-invariant-loop-port l = map own_of l.signals.items ≡ map own_of l.fn.signals.items ++ filter_map own_of_port (take l.port-index l.ports)

@@ -1,5 +1,0 @@
-use Rattle.std.proofs.Common.{◌≡◌, ℕ, ◌<◌, ◌≤◌, ◌+◌, ◌++◌, ◌∷◌, [], List, length, map, take, drop, Option, slice_index}
-use Rattle.gg_elab.proofs.tree.add_names.Given as goal
-
-abbrev pub invariant-loop-name : goal.invariant-loop-name
-invariant-loop-name l = l.names.items ≡ l.fn.names.items ++ map (λ n. n.now) (take l.name-index l.more)

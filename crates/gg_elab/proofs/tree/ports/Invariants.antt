@@ -1,7 +1,0 @@
-use Rattle.std.proofs.Common.{◌≡◌, ℕ, ◌<◌, ◌≤◌, ◌+◌, ◌++◌, ◌∷◌, [], List, length, map, take, drop, Option, slice_index}
-use Rattle.gg_elab.specs.IsTreeOf.{Pairwise}
-use Rattle.gg_elab.specs.TreeParts.{IsPortAt, signals_among}
-use Rattle.gg_elab.proofs.tree.ports.Given as goal
-
-abbrev pub invariant-loop-one : goal.invariant-loop-one
-invariant-loop-one l = Pairwise (IsPortAt l.paths l.outer) (signals_among (take l.one-index l.ports)) l.found.items

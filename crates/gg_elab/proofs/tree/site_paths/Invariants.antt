@@ -1,6 +1,0 @@
-use Rattle.std.proofs.Common.{◌≡◌, ℕ, ◌<◌, ◌≤◌, ◌+◌, ◌++◌, ◌∷◌, [], List, length, map, take, drop, Option, slice_index}
-use Rattle.gg_elab.specs.TreeParts.{place_paths}
-use Rattle.gg_elab.proofs.tree.site_paths.Given as goal
-
-abbrev pub invariant-loop-place : goal.invariant-loop-place
-invariant-loop-place l = l.paths ≡ place_paths (take l.place-index l.places)

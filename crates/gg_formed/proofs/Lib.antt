@@ -1,0 +1,6 @@
+pub mod AmongLemmas
+pub mod BankFieldLemmas
+pub mod FormedLemmas
+pub mod OutsideLemmas
+pub mod PassingLemmas
+pub mod TopLemmas

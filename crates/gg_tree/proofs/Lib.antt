@@ -1,0 +1,24 @@
+pub mod CauseLemmas
+pub mod ChildLemmas
+pub mod DeclaredLemmas
+pub mod DriverLemmas
+pub mod ElementLemmas
+pub mod EndLemmas
+pub mod FieldLemmas
+pub mod HeldMemoryLemmas
+pub mod HoldsLemmas
+pub mod InstanceLemmas
+pub mod JoinLemmas
+pub mod NamedLemmas
+pub mod OwnLemmas
+pub mod PairwiseLemmas
+pub mod PlaceLemmas
+pub mod RangeLemmas
+pub mod ScopeOfTreeLemmas
+pub mod SoundLemmas
+pub mod TreeJoinLemmas
+pub mod TreeLemmas
+pub mod TreePartLemmas
+pub mod VisibleLemmas
+pub mod WordLemmas
+mod WorkedTree

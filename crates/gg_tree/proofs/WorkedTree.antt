@@ -1,0 +1,97 @@
+-- The tree of the circuit in WorkedText, and what is none.
+use Rattle.std.proofs.Common.{◌≡◌, ℕ, List, [], ◌∷◌, Some, None, false, true, codes, refl, arith}
+use Rattle.gg_flat.specs.declared.tree.Instance.{Instance}
+use Rattle.gg_flat.specs.Tree.{InstanceTree}
+use Rattle.gg_digest.specs.Known.{types_of}
+use Rattle.gg_tree.specs.IsTreeOf.{IsTreeOf}
+use Rattle.gg_digest.proofs.WorkedText.{circuit}
+
+abbrev top : Instance
+top =
+    record { parent = None; «module» = 1; first = 0; end = 24; ports = record { signal = 0; is_input = false } ∷ []; memories = 0 ∷ [] }
+
+-- an instance of the child from signal `first` on, with this memory
+abbrev child_at : ℕ → ℕ → ℕ → ℕ → ℕ → Instance
+child_at first second end parent memory =
+    record {
+      parent = Some parent;
+      «module» = 0;
+      first = first;
+      end = end;
+      ports = record { signal = first; is_input = true } ∷ record { signal = second; is_input = false } ∷ [];
+      memories = memory ∷ [];
+    }
+
+abbrev with_instances : List Instance → InstanceTree
+with_instances instances =
+    record {
+      paths = [] ∷ codes "a" ∷ codes "b" ∷ [];
+      instances = instances;
+      memory_paths = codes "k" ∷ codes "a.m" ∷ codes "b.m" ∷ [];
+      memories =
+          record { instance = 0; memory = 0; ports = codes "r" ∷ [] }
+          ∷ record { instance = 1; memory = 1; ports = codes "r" ∷ codes "w" ∷ [] }
+          ∷ record { instance = 2; memory = 2; ports = codes "r" ∷ codes "w" ∷ [] }
+          ∷ [];
+    }
+
+abbrev tree : InstanceTree
+tree = with_instances (top ∷ child_at 4 5 14 0 1 ∷ child_at 14 15 24 0 2 ∷ [])
+
+-- ---- rows
+
+-- it is the tree of the circuit
+right : IsTreeOf circuit tree
+unfolding types_of
+right = record {
+  paths = refl;
+  instances = (
+    record {
+      parent = tt;
+      number = refl;
+      begins = refl;
+      ends = refl;
+      ports = (record { signal = record { is = refl }; goes = refl }, tt);
+      memories = (record { number = record { is = refl } }, tt);
+    },
+    (
+      record {
+        parent = record { is = refl };
+        number = refl;
+        begins = refl;
+        ends = refl;
+        ports = (record { signal = record { is = refl }; goes = refl }, (record { signal = record { is = refl }; goes = refl }, tt));
+        memories = (record { number = record { is = refl } }, tt);
+      },
+      (
+        record {
+          parent = record { is = refl };
+          number = refl;
+          begins = refl;
+          ends = refl;
+          ports = (record { signal = record { is = refl }; goes = refl }, (record { signal = record { is = refl }; goes = refl }, tt));
+          memories = (record { number = record { is = refl } }, tt);
+        },
+        tt,
+      ),
+    ),
+  );
+  memory_names = refl;
+  memories = (
+    record { holder = record { is = refl }; number = record { is = refl }; ports = refl },
+    (
+      record { holder = record { is = refl }; number = record { is = refl }; ports = refl },
+      (record { holder = record { is = refl }; number = record { is = refl }; ports = refl }, tt),
+    ),
+  );
+}
+
+-- where an instance lies in its sister, it is none
+in_sister : IsTreeOf circuit (with_instances (top ∷ child_at 4 5 14 0 1 ∷ child_at 14 15 24 1 2 ∷ [])) → ⊥
+unfolding types_of
+in_sister h = let parent = h.instances.1.1.0.parent.is in cc
+
+-- nor where the top has only its own signals
+only_own : IsTreeOf circuit (with_instances ((record top { end = 4 }) ∷ child_at 4 5 14 0 1 ∷ child_at 14 15 24 0 2 ∷ [])) → ⊥
+unfolding types_of
+only_own h = let end : 4 ≡ 24 = h.instances.0.ends in omega (arith, end)

@@ -1,0 +1,44 @@
+use Rattle.std.proofs.Common.{◌≡◌, ℕ, ◌<◌, List, ◌++◌, ◌∷◌, [], length, map, get_or, subst, sym, ap, ◌∙◌, arith}
+use Rattle.std.proofs.lemmas.List.{length-map}
+use Rattle.std.proofs.lemmas.Grind.{get_or_default_zero}
+use Rattle.gg_flat.specs.Tree.{InstanceTree}
+use Rattle.gg_ast.specs.declared.module.Port.{Port}
+use Rattle.gg_ast.specs.Places.{place_of}
+use Rattle.gg_ast.specs.Tree.{ModuleTree, module_names}
+use Rattle.gg_count.specs.Sites.{module_at}
+use Rattle.gg_names.proofs.FindLemmas.{module-at}
+use Rattle.gg_digest.specs.declared.sites.Place.{Place}
+use Rattle.gg_digest.specs.Views.{IsPlaceIn}
+use Rattle.gg_digest.specs.Known.{types_of}
+use Rattle.gg_tree.specs.TreeParts.{IsInstanceAt, signals_to}
+use Rattle.gg_digest.proofs.FlatLemmas.{digest-at}
+use Rattle.gg_tree.proofs.ElementLemmas.{some-of}
+use Rattle.gg_tree.proofs.TreePartLemmas.{instance-is, instances-next, paths-next}
+use Rattle.gg_tree.proofs.tree.add_instances.Goals as goal
+
+pub loop-i-preserved : goal.loop-i-preserved
+loop-i-preserved c =
+    let circuit = c.args.typed.now.circuit in
+    let places = c.args.places.now in
+    let i = c.loop-i.i in
+    let p = c.index-places-i.result in
+    let digest = c.index-digests-number.result in
+    let modules : c.modules-modules.result.now ≡ c.args.typed.now.circuit.modules = cc in
+    let top = some-of (place_of c.args.typed.now.circuit.name (module_names c.args.typed.now.circuit)) c.requires.top in
+    let lt : c.loop-i.i < length c.args.places.now = omega arith in
+    let inside : IsPlaceIn (length c.args.typed.now.circuit.modules) c.index-places-i.result = subst (λ (x : Place). IsPlaceIn (length c.args.typed.now.circuit.modules) x) (sym c.index-places-i.is) (c.requires.within c.loop-i.i c.index-places-i.result lt) in
+    let d = digest-at (types_of c.args.typed.now.circuit) c.args.typed.now.circuit.modules c.args.digests.now c.index-places-i.result.number c.index-digests-number.result c.requires.digests inside.own c.index-digests-number.is in
+    let here : module_at c.args.typed.now.circuit.modules c.index-places-i.result.number ≡ c.index-modules-number.result = module-at c.args.typed.now.circuit.modules c.index-places-i.result.number c.index-modules-number.result inside.own (c.index-modules-number.is ∙ ap (λ (l : List ModuleTree). get_or l c.index-places-i.result.number c.index-modules-number.result) modules) in
+    let ports : c.ports.result.now ≡ (module_at c.args.typed.now.circuit.modules c.index-places-i.result.number).ports = c.ports.ensures ∙ ap (λ (m : ModuleTree). m.ports) (sym here) in
+    let made : IsInstanceAt c.args.paths.now c.args.table.now.paths c.args.table.now.memories c.index-digests-number.result (module_at c.args.typed.now.circuit.modules c.index-places-i.result.number).ports c.index-places-i.result c.index.result.now c.index-in-loop-i.result.now c.in_ok-made.made = subst (λ (l : List Port). IsInstanceAt c.args.paths.now c.args.table.now.paths c.args.table.now.memories c.index-digests-number.result l c.index-places-i.result c.index.result.now c.index-in-loop-i.result.now c.in_ok-made.made) ports c.in_ok-made.ensures in
+    let depths : c.as_slice.result.now ≡ map (λ (q : Place). q.depth) c.args.places.now = c.as_slice.ensures.value ∙ c.in_ok-levels.ensures in
+    let size : length c.as_slice.result.now ≡ length c.args.places.now = ap (λ (l : List ℕ). length l) depths ∙ length-map c.args.places.now (λ (q : Place). q.depth) in
+    let starts : c.index.result.now ≡ signals_to c.args.typed.now.circuit c.args.places.now c.loop-i.i = c.index.ensures ∙ get_or_default_zero c.in_ok-starts.starts.items c.loop-i.i c.index.result.now (omega (arith, lt, c.in_ok-starts.ensures.count)) ∙ c.in_ok-starts.ensures.each c.loop-i.i (omega (arith, lt)) in
+    let ends : c.index-in-loop-i.result.now ≡ signals_to c.args.typed.now.circuit c.args.places.now c.end_of-end.result = c.index-in-loop-i.ensures ∙ get_or_default_zero c.in_ok-starts.starts.items c.end_of-end.result c.index-in-loop-i.result.now (omega (arith, size, c.end_of-end.ensures.inside, c.in_ok-starts.ensures.count)) ∙ c.in_ok-starts.ensures.each c.end_of-end.result (omega (arith, size, c.end_of-end.ensures.inside)) in
+    let instance = instance-is c.args.typed.now.circuit top.0 top.1 c.args.places.now c.requires.sites c.args.paths.now c.args.table.now.paths c.args.table.now.memories c.index-digests-number.result c.index-places-i.result c.loop-i.i c.end_of-end.result c.index.result.now c.index-in-loop-i.result.now c.as_slice.result.now c.in_ok-made.made lt c.index-places-i.is c.requires.paths c.requires.signals c.requires.memories d starts ends depths c.end_of-end.ensures.after c.end_of-end.ensures.inside c.end_of-end.ensures.deeper c.end_of-end.ensures.stop made in
+    let added = c.in_ok-add_instance.ensures {u = tt} in (
+      paths-next c.args.places.now c.loop-i.i c.index-places-i.result c.loop-i.tree.paths c.add_instance.new.tree.paths lt c.index-places-i.is c.loop-i.invariant.0 (ap (λ (t : InstanceTree). t.paths) added ∙ ap (λ x. c.loop-i.tree.paths ++ x ∷ []) c.in_ok-copied.ensures),
+      instances-next c.args.typed.now.circuit c.args.places.now c.loop-i.i c.index-places-i.result c.loop-i.tree.instances c.add_instance.new.tree.instances c.in_ok-made.made lt c.index-places-i.is c.loop-i.invariant.1 instance (ap (λ (t : InstanceTree). t.instances) added),
+      ap (λ (t : InstanceTree). t.memory_paths) added ∙ c.loop-i.invariant.2,
+      ap (λ (t : InstanceTree). t.memories) added ∙ c.loop-i.invariant.3,
+    )

@@ -1,0 +1,32 @@
+use Rattle.std.proofs.Common.{◌<◌, List, ◌++◌, length, map, flat_map, take, subst, sym, ap, ◌∙◌, refl, arith}
+use Rattle.gg_flat.specs.Tree.{joined}
+use Rattle.gg_digest.specs.declared.digest.OwnMemory.{OwnMemory}
+use Rattle.gg_digest.specs.declared.sites.Place.{Place}
+use Rattle.gg_digest.specs.Views.{IsPlaceIn, site_of}
+use Rattle.gg_tree.specs.IsTreeOf.{Pairwise, HeldMemory, held_memories}
+use Rattle.gg_digest.specs.Known.{types_of}
+use Rattle.gg_tree.specs.TreeParts.{IsHeldFor, held_at_place}
+use Rattle.gg_digest.proofs.FlatLemmas.{digest-at}
+use Rattle.gg_tree.proofs.TreePartLemmas.{held-more, held-paths}
+use Rattle.gg_tree.proofs.tree.add_memories.Goals as goal
+
+pub loop-place-preserved : goal.loop-place-preserved
+loop-place-preserved c =
+    let circuit = c.args.typed.now.circuit in
+    let lt : c.loop-place.place-index < length c.args.places.now = omega arith in
+    let inside : IsPlaceIn (length c.args.typed.now.circuit.modules) c.place-item.result = subst (λ (x : Place). IsPlaceIn (length c.args.typed.now.circuit.modules) x) (sym c.place-item.is) (c.requires.within c.loop-place.place-index c.place-item.result lt) in
+    let digest = c.index-digests-place.result in
+    let d = digest-at (types_of c.args.typed.now.circuit) c.args.typed.now.circuit.modules c.args.digests.now c.place-item.result.number c.index-digests-place.result c.requires.digests inside.own c.index-digests-place.is in
+    let added = c.in_ok-add_site_memories.ensures in
+    let sites = flat_map (held_memories c.args.typed.now.circuit.modules) (map site_of (take c.loop-place.place-index c.args.places.now)) in (
+      added.names
+          ∙ ap (λ (l : List OwnMemory). c.loop-place.tree.memory_paths ++ map (λ m. joined c.place-item.result.path m.name.now) l) c.as_slice.ensures.value
+          ∙ ap (λ l. l ++ map (λ m. joined c.place-item.result.path m.name.now) c.index-digests-place.result.memories.items) c.loop-place.invariant.0
+          ∙ held-paths c.args.places.now c.loop-place.place-index c.args.typed.now.circuit c.place-item.result c.index-digests-place.result lt c.place-item.is d,
+      subst (λ (l : List HeldMemory). Pairwise (IsHeldFor c.args.typed.now.circuit) l c.add_site_memories.new.tree.memories)
+          (ap (λ (l : List OwnMemory). flat_map (held_memories c.args.typed.now.circuit.modules) (map site_of (take c.loop-place.place-index c.args.places.now)) ++ map (held_at_place c.place-item.result) l) c.as_slice.ensures.value
+          ∙ held-more c.args.typed.now.circuit c.args.places.now c.loop-place.place-index c.place-item.result c.index-digests-place.result lt c.place-item.is d)
+          (added.made c.args.typed.now.circuit (flat_map (held_memories c.args.typed.now.circuit.modules) (map site_of (take c.loop-place.place-index c.args.places.now))) c.place-item.result c.requires.paths c.requires.memories refl c.loop-place.invariant.1),
+      added.rest.0 ∙ c.loop-place.invariant.2,
+      added.rest.1 ∙ c.loop-place.invariant.3,
+    )

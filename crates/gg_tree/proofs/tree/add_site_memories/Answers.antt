@@ -1,0 +1,27 @@
+use Rattle.std.proofs.Common.{ℕ, ◌+◌, List, ◌++◌, ◌∷◌, [], map, take, subst, sym, ap, ◌∙◌, arith}
+use Rattle.gg_flat.specs.declared.tree.MemoryInstance.{MemoryInstance}
+use Rattle.gg_flat.specs.Tree.{InstanceTree, joined}
+use Rattle.gg_digest.specs.declared.digest.OwnMemory.{OwnMemory}
+use Rattle.gg_tree.specs.IsTreeOf.{Pairwise, HeldMemory}
+use Rattle.gg_tree.specs.TreeParts.{IsHeldFor, IsMemoryPart, held_at_place}
+use Rattle.gg_digest.proofs.FlatLemmas.{seam}
+use Rattle.gg_tree.proofs.PairwiseLemmas.{Pairwise-push}
+use Rattle.gg_tree.proofs.TreePartLemmas.{memory-is-for}
+use Rattle.gg_tree.proofs.tree.add_site_memories.Goals as goal
+
+pub loop-own-preserved : goal.loop-own-preserved
+loop-own-preserved c =
+    let i = c.loop-own.own-index in
+    let added = c.in_ok-add_memory.ensures {u = tt} in (
+      ap (λ (t : InstanceTree). t.memory_paths) added
+          ∙ ap (λ path. c.loop-own.tree.memory_paths ++ path ∷ []) c.in_ok-joined.ensures
+          ∙ ap (λ l. l ++ joined c.args.outer.now c.own-item.result.name.now ∷ []) c.loop-own.invariant.0
+          ∙ seam (λ (m : OwnMemory). joined c.args.outer.now m.name.now) c.args.tree.now.memory_paths c.args.memories.now c.loop-own.own-index c.own-item.result (omega arith) c.own-item.is,
+      λ circuit said place p q r h.
+          subst (λ (l : List MemoryInstance). Pairwise (IsHeldFor circuit) (said ++ map (held_at_place place) (take (c.loop-own.own-index + 1) c.args.memories.now)) l) (sym (ap (λ (t : InstanceTree). t.memories) added))
+          (subst (λ (l : List HeldMemory). Pairwise (IsHeldFor circuit) l (c.loop-own.tree.memories ++ c.in_ok-made.made ∷ [])) (seam (held_at_place place) said c.args.memories.now c.loop-own.own-index c.own-item.result (omega arith) c.own-item.is)
+          (Pairwise-push (IsHeldFor circuit) (said ++ map (held_at_place place) (take c.loop-own.own-index c.args.memories.now)) (held_at_place place c.own-item.result) c.loop-own.tree.memories c.in_ok-made.made (c.loop-own.invariant.1 circuit said place p q r h)
+          (memory-is-for circuit c.args.paths.now c.args.table.now.memories place c.own-item.result c.in_ok-made.made p q (subst (λ (path : List ℕ). IsMemoryPart c.args.paths.now c.args.table.now.memories path c.own-item.result c.in_ok-made.made) (sym r) c.in_ok-made.ensures)))),
+      ap (λ (t : InstanceTree). t.paths) added ∙ c.loop-own.invariant.2,
+      ap (λ (t : InstanceTree). t.instances) added ∙ c.loop-own.invariant.3,
+    )

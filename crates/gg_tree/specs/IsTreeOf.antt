@@ -1,0 +1,120 @@
+-- When a tree of instances is that of a circuit.
+-- Source: FIRRTL Specification, "Instances": the top and, below it, the instances that each module holds; "Memories".
+use Rattle.std.specs.Prelude.{◌≡◌, ℕ, ◌+◌, ◌-◌, List, [], ◌∷◌, ◌++◌, Option, Some, None, Bool, true, false, length, map, flat_map, filter, is_some}
+use Rattle.gg_ast.specs.declared.module.Direction.{Direction}
+use Rattle.gg_ast.specs.declared.module.Direction.TheVariants.{Input, Output}
+use Rattle.gg_ast.specs.declared.module.Port.{Port}
+use Rattle.gg_ast.specs.Places.{place_of}
+use Rattle.gg_ast.specs.Tree.{ModuleTree, CircuitTree}
+use Rattle.gg_flat.specs.declared.tree.Instance.{Instance}
+use Rattle.gg_flat.specs.declared.tree.InstancePort.{InstancePort}
+use Rattle.gg_flat.specs.declared.tree.MemoryInstance.{MemoryInstance}
+use Rattle.gg_flat.specs.Tree.{InstanceTree, joined}
+use Rattle.gg_count.specs.Sites.{Site, Outer, module_at, sites, sites_of}
+use Rattle.gg_digest.specs.Flat.{FlatMemory, signals_at, flat_signals, memories_at, flat_memories}
+use Rattle.gg_digest.specs.IsFlat.{memory_paths}
+use Rattle.gg_digest.specs.Known.{types_of}
+use Rattle.gg_digest.specs.Memories.{type_shape}
+
+-- ---- places by paths
+
+-- A path stands first at this place of a list of paths.
+pub record IsAt (paths : List (List ℕ)) (path : List ℕ) (place : ℕ) : Type 0 where
+  pub is : place_of path paths ≡ Some place
+
+-- both lists are equally long, and it holds of the elements at each place
+abbrev pub Pairwise : {A B : Type 0} → (A → B → Type 0) → List A → List B → Type 0
+Pairwise R [] [] = Unit {0}
+Pairwise R [] (y ∷ ys) = ⊥
+Pairwise R (x ∷ xs) [] = ⊥
+Pairwise R (x ∷ xs) (y ∷ ys) = R x y × Pairwise R xs ys
+
+-- the paths of the sites, of the signals and of the memories
+abbrev pub site_paths : CircuitTree → List (List ℕ)
+site_paths circuit = map (λ s. s.path) (sites_of circuit)
+
+abbrev pub signal_paths : CircuitTree → List (List ℕ)
+signal_paths circuit = map (λ s. s.path) (flat_signals (types_of circuit) circuit.modules (sites_of circuit))
+
+abbrev pub memories_of : CircuitTree → List FlatMemory
+memories_of circuit = flat_memories circuit.modules (sites_of circuit)
+
+-- ---- instances
+
+-- the parent is the instance of the path of what holds this one; the top has none
+abbrev pub IsParent : CircuitTree → Option Outer → Option ℕ → Type 0
+IsParent circuit None None = Unit {0}
+IsParent circuit None (Some parent) = ⊥
+IsParent circuit (Some outer) None = ⊥
+IsParent circuit (Some outer) (Some parent) = IsAt (site_paths circuit) outer.path parent
+
+-- the ports of a site's module that are no Clocks, in port order
+abbrev pub signal_ports : ModuleTree → List Port
+signal_ports m = filter (λ port. is_some (type_shape port.ty)) m.ports
+
+abbrev pub is_input : Direction → Bool
+is_input Input = true
+is_input Output = false
+
+-- a port of an instance: its signal is that of its path
+pub record IsPortFor (circuit : CircuitTree) (site : Site) (port : Port) (found : InstancePort) : Type 0 where
+  pub signal : IsAt (signal_paths circuit) (joined site.path port.name) found.signal
+  pub goes : found.is_input ≡ is_input port.direction
+
+pub record IsMemoryAt (circuit : CircuitTree) (said : FlatMemory) (m : ℕ) : Type 0 where
+  pub number : IsAt (memory_paths (memories_of circuit)) said.path m
+
+-- how many signals these sites have
+abbrev pub signal_count : CircuitTree → List Site → ℕ
+signal_count circuit all = length (flat_signals (types_of circuit) circuit.modules all)
+
+-- a site and all that lie below it
+abbrev pub sites_within : CircuitTree → Site → List Site
+sites_within circuit site = sites (length circuit.modules - site.depth) circuit.modules site
+
+-- An instance: what holds it, its module, its signals with those below it, which are the next from `first` on, its
+-- ports in port order, and its own memories.
+pub record IsInstanceFor (circuit : CircuitTree) (first : ℕ) (site : Site) (instance : Instance) : Type 0 where
+  pub parent : IsParent circuit site.outer instance.parent
+  pub number : instance.«module» ≡ site.number
+  pub begins : instance.first ≡ first
+  pub ends : instance.end ≡ first + signal_count circuit (sites_within circuit site)
+  pub ports : Pairwise (IsPortFor circuit site) (signal_ports (module_at circuit.modules site.number)) instance.ports
+  pub memories : Pairwise (IsMemoryAt circuit) (memories_at circuit.modules site) instance.memories
+
+-- These instances are the sites in turn, the first of which has the signals from `first` on.
+abbrev pub AreInstances : CircuitTree → ℕ → List Site → List Instance → Type 0
+AreInstances circuit first [] [] = Unit {0}
+AreInstances circuit first [] (instance ∷ instances) = ⊥
+AreInstances circuit first (site ∷ rest) [] = ⊥
+AreInstances circuit first (site ∷ rest) (instance ∷ instances) =
+    IsInstanceFor circuit first site instance
+    × AreInstances circuit (first + length (signals_at (types_of circuit) circuit.modules site)) rest instances
+
+-- ---- memories
+
+-- The memory that a site holds, in the tree: its instance, its number, and the names of its ports, the readers first.
+pub record IsMemoryFor (circuit : CircuitTree) (site : Site) (said : FlatMemory) (memory : MemoryInstance) : Type 0 where
+  pub holder : IsAt (site_paths circuit) site.path memory.instance
+  pub number : IsAt (memory_paths (memories_of circuit)) said.path memory.memory
+  pub ports : memory.ports ≡ said.bank.readers ++ said.bank.writers
+
+-- a memory with the site that holds it
+pub record HeldMemory : Type 0 where
+  pub site : Site
+  pub said : FlatMemory
+
+abbrev pub held_memory : Site → FlatMemory → HeldMemory
+held_memory site said = record { site = site; said = said }
+
+abbrev pub held_memories : List ModuleTree → Site → List HeldMemory
+held_memories modules site = map (held_memory site) (memories_at modules site)
+
+-- ---- the tree
+
+-- The tree of a circuit has its instances and its memories in turn, and nothing more.
+pub record IsTreeOf (circuit : CircuitTree) (tree : InstanceTree) : Type 0 where
+  pub paths : tree.paths ≡ site_paths circuit
+  pub instances : AreInstances circuit 0 (sites_of circuit) tree.instances
+  pub memory_names : tree.memory_paths ≡ memory_paths (memories_of circuit)
+  pub memories : Pairwise (λ h memory. IsMemoryFor circuit h.site h.said memory) (flat_map (held_memories circuit.modules) (sites_of circuit)) tree.memories

@@ -1,0 +1,2 @@
+pub mod IsTreeOf
+pub mod TreeParts

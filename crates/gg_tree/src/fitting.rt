@@ -1,0 +1,27 @@
+//! The tree of a circuit beside its flat circuit.
+ghost use Rattle.std.specs.Prelude.{◌≢◌, None};
+ghost use Rattle.gg_ast.specs.Places.{place_of};
+ghost use Rattle.gg_ast.specs.Tree.{module_names};
+ghost use Rattle.gg_digest.specs.IsFlat.{IsFlat};
+ghost use Rattle.gg_flat.specs.Scoped.{IsScoped};
+ghost use Rattle.gg_flat.specs.Tree.{IsTree};
+ghost use Rattle.gg_tree.specs.IsTreeOf.{IsTreeOf};
+
+use gg_flat::{Piece, Tree};
+use gg_types::Typed;
+
+/// The flat circuit of a circuit with the circuit's tree: the tree is one of this flat circuit, which keeps to its
+/// scopes. It does nothing but look at what is known of the three.
+pub fn fits(typed: &Typed, piece: &Piece, tree: &Tree)
+    requires top { (place_of typed.now.circuit.name (module_names typed.now.circuit)) ≢ None }
+    requires flat { IsFlat typed.now.circuit piece.now }
+    requires tree { IsTreeOf typed.now.circuit tree.now }
+    ensures fitting { IsTree piece.now tree.now }
+    ensures scoped { IsScoped piece.now tree.now }
+{
+    let circuit = typed.names().circuit();
+    circuit.names_are_words();
+    let _ = piece.signal_count();
+    let _ = tree.len();
+    let _ = tree.memory_count();
+}

@@ -1,0 +1,404 @@
+//! The tree of the circuit's instances.
+ghost use Rattle.std.specs.Prelude.{List, None, ℕ, ◌≡◌, ◌≢◌, ◌<◌, ◌≤◌, ◌+◌, ◌++◌, ◌∷◌, [], map, flat_map, length, option_to_list, slice_index, IfOk, OnOk, All};
+ghost use Rattle.gg_ast.specs.Places.{place_of};
+ghost use Rattle.gg_ast.specs.Tree.{CircuitTree, module_names};
+ghost use Rattle.gg_count.specs.Sites.{sites_of};
+ghost use Rattle.gg_digest.specs.declared.sites.Place.{Place};
+ghost use Rattle.gg_digest.specs.Flat.{flat_memories};
+ghost use Rattle.gg_digest.specs.IsFlat.{memory_paths};
+ghost use Rattle.gg_flat.specs.Tree.{joined as joined_text, no_tree};
+ghost use Rattle.gg_digest.specs.Views.{IsPlaceIn, AreDigests, site_of};
+ghost use Rattle.gg_tree.specs.IsTreeOf.{IsAt, Pairwise, HeldMemory, held_memories, AreInstances, IsTreeOf, site_paths as paths_of_sites, signal_paths, memories_of};
+ghost use Rattle.gg_digest.specs.Known.{types_of};
+ghost use Rattle.gg_tree.specs.TreeParts.{signals_among, IsPortAt, IsNumberAt, IsHolder, place_paths, signals_to, IsInstanceAt, IsMemoryPart, IsHeldFor, held_at_place};
+
+use gg_ast::{Direction, Port};
+use gg_bits::{Ids, Items, Name, Names};
+use gg_digest::{Around, Digest, OwnMemory, Place, Table, add_path, ground_type, joined};
+use gg_flat::{Instance, InstancePort, MemoryInstance, Paths, Tree};
+use gg_types::Typed;
+use std::alloc::{AllocError, Global};
+
+// The place of a path among these; of one that isn't there it is told as want of memory.
+fn place_at(paths: &Paths, path: &Name) -> Result<u32, AllocError>
+    ensures { IfOk result (IsAt paths.now path.now) }
+{
+    let _ = paths.len();
+    match paths.find(path) {
+        Some(place) => Ok(place),
+        None => Err(AllocError),
+    }
+}
+
+// The paths of all sites.
+fn site_paths(alloc: Global, places: &[Place]) -> Result<Paths, AllocError>
+    ensures { IfOk result (λ paths. paths ≡ place_paths places.now) }
+{
+    let mut paths = Paths::new(alloc);
+    for place in places {
+        add_path(&mut paths, place.path.clone()?)?;
+    }
+    Ok(paths)
+}
+
+// A number and so many more; 4,294,967,296 and above are refused as want of memory.
+fn raised(number: u32, count: usize) -> Result<u32, AllocError>
+    ensures { IfOk result (λ sum. sum ≡ number + count) }
+{
+    if count > (u32::MAX - number) as usize {
+        return Err(AllocError);
+    }
+    Ok(number + count as u32)
+}
+
+// The first signal of each site, and the end of the last one's.
+fn firsts(
+    alloc: Global,
+    typed: &Typed,
+    digests: &[Digest],
+    places: &[Place],
+) -> Result<Vec<u32>, AllocError>
+    requires digests { AreDigests (types_of typed.now.circuit) typed.now.circuit.modules digests.now }
+    requires places { All (IsPlaceIn (length typed.now.circuit.modules)) places.now }
+    ensures count { IfOk result (λ firsts. length firsts.items ≡ length places.now + 1) }
+    ensures each { IfOk result (λ firsts. (k : ℕ) → k ≤ length places.now → slice_index firsts.items k ≡ signals_to typed.now.circuit places.now k) }
+{
+    let mut firsts = Vec::new(alloc);
+    let mut next: u32 = 0;
+    for place in places {
+        firsts.reserve(1)?;
+        firsts.push_reserved(next);
+        next = raised(next, digests[place.number as usize].signals.len())?;
+    }
+    firsts.reserve(1)?;
+    firsts.push_reserved(next);
+    Ok(firsts)
+}
+
+// How many sites each site lies below.
+fn depths(alloc: Global, places: &[Place]) -> Result<Vec<u32>, AllocError>
+    ensures { IfOk result (λ depths. depths.items ≡ map (λ p. p.depth) places.now) }
+{
+    let mut depths = Vec::new(alloc);
+    for place in places {
+        depths.reserve(1)?;
+        depths.push_reserved(place.depth);
+    }
+    Ok(depths)
+}
+
+// The next that lies no deeper than this one, or the end.
+fn end_of(depths: &[u32], from: usize) -> usize
+    requires { from < length depths.now }
+    ensures after { from < result }
+    ensures inside { result ≤ length depths.now }
+    ensures deeper { (i : ℕ) → from < i → i < result → slice_index depths.now from < slice_index depths.now i }
+    ensures stop { result < length depths.now → slice_index depths.now result ≤ slice_index depths.now from }
+{
+    let mut next = from + 1;
+    while next < depths.len() && depths[next] > depths[from] {
+        next += 1;
+    }
+    next
+}
+
+// The port of an instance of this path; none where it is a Clock.
+fn port(
+    alloc: Global,
+    paths: &Paths,
+    outer: &Name,
+    port: &Port,
+) -> Result<Option<InstancePort>, AllocError>
+    ensures { IfOk result (λ found. Pairwise (IsPortAt paths.now outer.now) (signals_among (port.now ∷ [])) (option_to_list found)) }
+{
+    if ground_type(port.ty).is_none() {
+        return Ok(None);
+    }
+    let signal = place_at(paths, &joined(alloc, outer, &port.name)?)?;
+    let is_input = match port.direction {
+        Direction::Input => true,
+        Direction::Output => false,
+    };
+    Ok(Some(InstancePort { signal, is_input }))
+}
+
+// Adds a port, if there is one.
+fn add_port(found: &mut Vec<InstancePort>, port: Option<InstancePort>) -> Result<(), AllocError>
+    ensures { OnOk result (found.new.items ≡ found.old.items ++ option_to_list port) }
+{
+    match port {
+        None => Ok(()),
+        Some(port) => {
+            found.reserve(1)?;
+            found.push_reserved(port);
+            Ok(())
+        }
+    }
+}
+
+// The ports of an instance of this path, but Clocks.
+fn ports(
+    alloc: Global,
+    paths: &Paths,
+    outer: &Name,
+    ports: &[Port],
+) -> Result<Vec<InstancePort>, AllocError>
+    ensures { IfOk result (λ found. Pairwise (IsPortAt paths.now outer.now) (signals_among ports.now) found.items) }
+{
+    let mut found = Vec::new(alloc);
+    for one in ports {
+        let next = port(alloc, paths, outer, one)?;
+        add_port(&mut found, next)?;
+    }
+    Ok(found)
+}
+
+// The numbers of the memories of an instance of this path.
+fn numbers(
+    alloc: Global,
+    paths: &Paths,
+    outer: &Name,
+    memories: &[OwnMemory],
+) -> Result<Vec<u32>, AllocError>
+    ensures { IfOk result (λ numbers. Pairwise (IsNumberAt paths.now outer.now) memories.now numbers.items) }
+{
+    let mut numbers = Vec::new(alloc);
+    for own in memories {
+        let number = place_at(paths, &joined(alloc, outer, own.name)?)?;
+        numbers.reserve(1)?;
+        numbers.push_reserved(number);
+    }
+    Ok(numbers)
+}
+
+// The instance that holds one, if one does.
+fn holder(paths: &Paths, outer: &Option<Around>) -> Result<Option<u32>, AllocError>
+    ensures { IfOk result (IsHolder paths.now outer.now) }
+{
+    match outer {
+        None => Ok(None),
+        Some(around) => Ok(Some(place_at(paths, &around.path)?)),
+    }
+}
+
+// Adds names once more.
+fn add_names(names: &mut Vec<Name>, more: &[&Name]) -> Result<(), AllocError>
+    ensures { OnOk result (names.new.items ≡ names.old.items ++ map (λ n. n.now) more.now) }
+{
+    for name in more {
+        names.reserve(1)?;
+        names.push_reserved(copied(name)?);
+    }
+    Ok(())
+}
+
+// A name once more.
+fn copied(name: &Name) -> Result<Name, AllocError>
+    ensures { IfOk result (λ copy. copy ≡ name.now) }
+{
+    name.clone()
+}
+
+// The instance of a site, whose signals and those below it are these.
+fn instance(
+    alloc: Global,
+    table: &Table,
+    paths: &Paths,
+    digest: &Digest,
+    module_ports: &[Port],
+    place: &Place,
+    first: u32,
+    end: u32,
+) -> Result<Instance, AllocError>
+    ensures { IfOk result (IsInstanceAt paths.now table.now.paths table.now.memories digest.now module_ports.now place.now first end) }
+{
+    let parent = holder(paths, &place.outer)?;
+    let ports = ports(alloc, &table.paths, &place.path, module_ports)?;
+    let memories = numbers(
+        alloc,
+        &table.memories,
+        &place.path,
+        digest.memories.as_slice(),
+    )?;
+    Ok(Instance {
+        parent,
+        module: place.number,
+        first,
+        end,
+        ports: Items::from(ports),
+        memories: Ids::from(memories),
+    })
+}
+
+// Adds an instance.
+fn add_instance(tree: &mut Tree, path: Name, instance: Instance) -> Result<(), AllocError>
+    ensures { OnOk result (tree.new ≡ record tree.old { paths = tree.old.paths ++ path ∷ []; instances = tree.old.instances ++ instance ∷ [] }) }
+{
+    if tree.len() >= u32::MAX as usize {
+        return Err(AllocError);
+    }
+    match tree.add(path, instance) {
+        Ok(()) => Ok(()),
+        Err(_) => Err(AllocError),
+    }
+}
+
+// Adds a memory.
+fn add_memory(tree: &mut Tree, path: Name, memory: MemoryInstance) -> Result<(), AllocError>
+    ensures { OnOk result (tree.new ≡ record tree.old { memory_paths = tree.old.memory_paths ++ path ∷ []; memories = tree.old.memories ++ memory ∷ [] }) }
+{
+    if tree.memory_count() >= u32::MAX as usize {
+        return Err(AllocError);
+    }
+    match tree.add_memory(path, memory) {
+        Ok(()) => Ok(()),
+        Err(_) => Err(AllocError),
+    }
+}
+
+// A memory of a site of this path.
+fn memory(
+    alloc: Global,
+    table: &Table,
+    paths: &Paths,
+    outer: &Name,
+    own: &OwnMemory,
+) -> Result<MemoryInstance, AllocError>
+    ensures { IfOk result (IsMemoryPart paths.now table.now.memories outer.now own.now) }
+{
+    let holder = place_at(paths, outer)?;
+    let number = place_at(&table.memories, &joined(alloc, outer, own.name)?)?;
+    let mut names = Vec::new(alloc);
+    add_names(&mut names, own.bank.readers.as_slice())?;
+    add_names(&mut names, own.bank.writers.as_slice())?;
+    Ok(MemoryInstance {
+        instance: holder,
+        memory: number,
+        ports: Names::from(names),
+    })
+}
+
+// Adds the instances of all sites.
+fn add_instances(
+    alloc: Global,
+    typed: &Typed,
+    table: &Table,
+    paths: &Paths,
+    digests: &[Digest],
+    places: &[Place],
+    tree: &mut Tree,
+) -> Result<(), AllocError>
+    requires digests { AreDigests (types_of typed.now.circuit) typed.now.circuit.modules digests.now }
+    requires within { All (IsPlaceIn (length typed.now.circuit.modules)) places.now }
+    requires top { (place_of typed.now.circuit.name (module_names typed.now.circuit)) ≢ None }
+    requires sites { map site_of places.now ≡ sites_of typed.now.circuit }
+    requires paths { paths.now ≡ place_paths places.now }
+    requires signals { table.now.paths ≡ signal_paths typed.now.circuit }
+    requires memories { table.now.memories ≡ memory_paths (memories_of typed.now.circuit) }
+    requires none { tree.old ≡ no_tree }
+    ensures paths { OnOk result (tree.new.paths ≡ place_paths places.now) }
+    ensures instances { OnOk result (AreInstances typed.now.circuit 0 (map site_of places.now) tree.new.instances) }
+    ensures rest { OnOk result ((tree.new.memory_paths ≡ []) × (tree.new.memories ≡ [])) }
+{
+    let modules = typed.names().circuit().modules();
+    let starts = firsts(alloc, typed, digests, places)?;
+    let levels = depths(alloc, places)?;
+    for i in 0..places.len() {
+        let place = &places[i];
+        let number = place.number as usize;
+        let end = end_of(levels.as_slice(), i);
+        let made = instance(
+            alloc,
+            table,
+            paths,
+            &digests[number],
+            modules[number].ports(),
+            place,
+            starts[i],
+            starts[end],
+        )?;
+        add_instance(tree, copied(&place.path)?, made)?;
+    }
+    Ok(())
+}
+
+// Adds the memories of a site of this path.
+fn add_site_memories(
+    alloc: Global,
+    table: &Table,
+    paths: &Paths,
+    outer: &Name,
+    memories: &[OwnMemory],
+    tree: &mut Tree,
+) -> Result<(), AllocError>
+    ensures names { OnOk result (tree.new.memory_paths ≡ tree.old.memory_paths ++ map (λ m. joined_text outer.now m.name.now) memories.now) }
+    ensures made { OnOk result ((circuit : CircuitTree) (said : List HeldMemory) (place : Place) → paths.now ≡ paths_of_sites circuit → table.now.memories ≡ memory_paths (memories_of circuit) → place.path ≡ outer.now → Pairwise (IsHeldFor circuit) said tree.old.memories → Pairwise (IsHeldFor circuit) (said ++ map (held_at_place place) memories.now) tree.new.memories) }
+    ensures rest { OnOk result ((tree.new.paths ≡ tree.old.paths) × (tree.new.instances ≡ tree.old.instances)) }
+{
+    for own in memories {
+        let made = memory(alloc, table, paths, outer, own)?;
+        add_memory(tree, joined(alloc, outer, own.name)?, made)?;
+    }
+    Ok(())
+}
+
+// Adds the memories of all sites.
+fn add_memories(
+    alloc: Global,
+    typed: &Typed,
+    table: &Table,
+    paths: &Paths,
+    digests: &[Digest],
+    places: &[Place],
+    tree: &mut Tree,
+) -> Result<(), AllocError>
+    requires digests { AreDigests (types_of typed.now.circuit) typed.now.circuit.modules digests.now }
+    requires within { All (IsPlaceIn (length typed.now.circuit.modules)) places.now }
+    requires paths { paths.now ≡ paths_of_sites typed.now.circuit }
+    requires memories { table.now.memories ≡ memory_paths (memories_of typed.now.circuit) }
+    requires none { (tree.old.memory_paths ≡ []) × (tree.old.memories ≡ []) }
+    ensures names { OnOk result (tree.new.memory_paths ≡ memory_paths (flat_memories typed.now.circuit.modules (map site_of places.now))) }
+    ensures made { OnOk result (Pairwise (IsHeldFor typed.now.circuit) (flat_map (held_memories typed.now.circuit.modules) (map site_of places.now)) tree.new.memories) }
+    ensures rest { OnOk result ((tree.new.paths ≡ tree.old.paths) × (tree.new.instances ≡ tree.old.instances)) }
+{
+    for place in places {
+        let digest = &digests[place.number as usize];
+        add_site_memories(
+            alloc,
+            table,
+            paths,
+            &place.path,
+            digest.memories.as_slice(),
+            tree,
+        )?;
+    }
+    Ok(())
+}
+
+/// The tree of a circuit: the instances of its sites with their signals, ports and memories. The table has the
+/// circuit's signals and memories, and the places are its sites.
+///
+/// # Errors
+///
+/// `AllocError` where memory is refused.
+pub fn tree_of(
+    alloc: Global,
+    typed: &Typed,
+    table: &Table,
+    digests: &[Digest],
+    places: &[Place],
+) -> Result<Tree, AllocError>
+    requires digests { AreDigests (types_of typed.now.circuit) typed.now.circuit.modules digests.now }
+    requires within { All (IsPlaceIn (length typed.now.circuit.modules)) places.now }
+    requires top { (place_of typed.now.circuit.name (module_names typed.now.circuit)) ≢ None }
+    requires sites { map site_of places.now ≡ sites_of typed.now.circuit }
+    requires signals { table.now.paths ≡ signal_paths typed.now.circuit }
+    requires memories { table.now.memories ≡ memory_paths (memories_of typed.now.circuit) }
+    ensures { IfOk result (IsTreeOf typed.now.circuit) }
+{
+    let paths = site_paths(alloc, places)?;
+    let mut tree = Tree::new(alloc);
+    add_instances(alloc, typed, table, &paths, digests, places, &mut tree)?;
+    add_memories(alloc, typed, table, &paths, digests, places, &mut tree)?;
+    Ok(tree)
+}
