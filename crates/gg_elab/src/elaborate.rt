@@ -72,7 +72,7 @@ fn joined(typed: &Typed, piece: Piece, tree: Tree) -> (Piece, Tree)
     ensures scoped { IsScoped result.0 result.1 }
 {
     fits(typed, &piece, &tree);
-    formed(typed, &piece, &tree);
+    formed(typed, &piece);
     (piece, tree)
 }
 

@@ -1,28 +1,25 @@
 -- The fields of a memory's ports among the signals of its module, and what answers a signal that a reader gives.
-use Rattle.std.proofs.Common.{◌≡◌, ◌⊎◌, inl, inr, ℕ, zero, suc, ◌+◌, ◌<◌, Bool, true, false, List, [], ◌∷◌, ◌++◌, Option, Some, None, length, get_or, map, refl, sym, ap, ◌∙◌, subst, arith, codes, if◌then◌else◌, nat_lt, IsTrue}
+use Rattle.std.proofs.Common.{◌≡◌, ◌⊎◌, inl, inr, ℕ, zero, suc, ◌+◌, ◌<◌, Bool, true, false, List, [], ◌∷◌, ◌++◌, Option, Some, None, length, get_or, refl, sym, ap, ◌∙◌, subst, arith, codes, if◌then◌else◌, nat_lt}
 use Rattle.std.specs.Prelude.{Contains, flat_map, filter_map, option_map, option_to_list, option_and_then, unwrap_or}
 use Rattle.std.proofs.lemmas.Bool.{ltb-true}
 use Rattle.std.proofs.lemmas.List.Elements.{Contains-append_left, Contains-append_right, Contains-append_cases}
-use Rattle.gg_bits.specs.Shape.{Shape, uint}
+use Rattle.gg_bits.specs.Shape.{Shape}
 use Rattle.gg_ast.specs.declared.expression.Reference.TheVariants as reference
 use Rattle.gg_ast.specs.declared.module.Direction.{Direction}
 use Rattle.gg_ast.specs.declared.module.Direction.TheVariants.{Input, Output}
 use Rattle.gg_ast.specs.declared.module.Port.{Port}
 use Rattle.gg_ast.specs.declared.statement.Field.{Field}
-use Rattle.gg_ast.specs.declared.statement.Reset.{Reset}
 use Rattle.gg_ast.specs.declared.statement.Stmt.{Stmt}
 use Rattle.gg_ast.specs.declared.statement.StmtKind.{StmtKind}
 use Rattle.gg_ast.specs.declared.statement.StmtKind.TheVariants as says
-use Rattle.gg_ast.specs.Term.{Term}
 use Rattle.gg_ast.specs.Tree.{ModuleTree}
 use Rattle.gg_flat.specs.declared.memory.Latency.{Latency}
 use Rattle.gg_flat.specs.declared.memory.UnderWrite.TheVariants.{Undefined}
-use Rattle.gg_flat.specs.Memory.{address_width}
 use Rattle.gg_digest.specs.Memories.{Bank, bank_of, bank_with, type_shape, first_said, type_said, depth_said, latency_said, under_said, latency_of, readers_said, writers_said}
 use Rattle.gg_digest.specs.Signals.{Types, Cause, FromOutside, Connected, Expressed, Kept, Answered, Own, own, own_of_port, cause_of_port, own_of_kind, own_signals, OwnBank, own_bank, own_banks, bank_of_kind, memory_signals, reader_signals, readers_signals, writer_signals, field_name}
-use Rattle.gg_formed.proofs.AmongLemmas.{MadeOf, further, in-flat_map, from-flat_map, in-filter_map, from-filter_map}
-use Rattle.gg_tree.proofs.DeclaredLemmas.{MadeBy, made-by}
-use Rattle.gg_tree.proofs.FieldLemmas.{StandTogether, bank-together}
+use Rattle.gg_formed.proofs.AmongLemmas.{in-flat_map, from-flat_map, in-filter_map, from-filter_map}
+use Rattle.gg_tree.proofs.DeclaredLemmas.{made-by}
+use Rattle.gg_tree.proofs.FieldLemmas.{bank-together}
 
 -- ---- the fields of a memory are signals of its module
 

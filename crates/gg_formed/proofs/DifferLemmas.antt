@@ -1,16 +1,16 @@
 -- Lists of words no two of which are the same, made of others; words by the name with which they begin.
-use Rattle.std.proofs.Common.{◌≡◌, ◌≢◌, ◌⊎◌, inl, inr, ℕ, zero, suc, ◌+◌, ◌-◌, ◌<◌, ◌≤◌, List, [], ◌∷◌, ◌++◌, Option, Some, None, option_to_list, length, get_or, map, refl, sym, ap, ◌∙◌, subst, arith, length-append}
+use Rattle.std.proofs.Common.{◌≡◌, ◌⊎◌, inl, inr, ℕ, ◌+◌, ◌-◌, ◌<◌, ◌≤◌, List, [], ◌∷◌, ◌++◌, Option, Some, None, option_to_list, length, get_or, map, refl, sym, ap, ◌∙◌, subst, arith, length-append}
 use Rattle.std.specs.Prelude.{Contains, flat_map, filter_map}
 use Rattle.std.specs.List.{cons_option}
 use Rattle.std.proofs.lemmas.Bool.{cases_lt}
 use Rattle.std.proofs.lemmas.List.{length-map, get_or-map, map-append}
 use Rattle.std.proofs.lemmas.List.Elements.{Contains-append_left, Contains-append_right, Contains-append_cases}
 use Rattle.std.proofs.Math.Seq.{get_or-append_right}
-use Rattle.gg_digest.proofs.NameLemmas.{Differ, Differ-tail}
-use Rattle.gg_tree.proofs.DeclaredLemmas.{Differ-head, Differ-behind, Differ-parts}
+use Rattle.gg_digest.proofs.NameLemmas.{Differ}
+use Rattle.gg_tree.proofs.DeclaredLemmas.{Differ-behind, Differ-parts}
 use Rattle.gg_tree.proofs.JoinLemmas.{dot-within}
 use Rattle.gg_tree.proofs.OwnLemmas.{front}
-use Rattle.gg_formed.proofs.AmongLemmas.{Element, element-at, further, MadeOf, from-map, in-flat_map, from-flat_map}
+use Rattle.gg_formed.proofs.AmongLemmas.{element-at, further, MadeOf, in-flat_map, from-flat_map}
 
 -- ---- words that differ
 

@@ -1,12 +1,11 @@
 -- The flat circuit of a circuit is well formed, where its lines and registers fit and no two paths are the same.
-use Rattle.std.proofs.Common.{◌≡◌, ◌≢◌, ℕ, zero, suc, ◌+◌, ◌<◌, Bool, true, false, List, [], ◌∷◌, ◌++◌, Option, Some, None, length, take, get_or, map, refl, sym, ap, ◌∙◌, subst, subst₂, arith, codes, unwrap_or, slice_index_or}
-use Rattle.std.specs.Prelude.{All, Contains, slice_get, flat_map, filter_map}
+use Rattle.std.proofs.Common.{◌≡◌, ℕ, zero, suc, ◌<◌, Bool, true, false, List, [], ◌∷◌, ◌++◌, Option, Some, None, length, get_or, map, refl, sym, ap, ◌∙◌, subst, subst₂, arith, codes, unwrap_or}
+use Rattle.std.specs.Prelude.{All, Contains, flat_map, filter_map}
 use Rattle.std.proofs.lemmas.List.{length-map, get_or-map}
 use Rattle.std.proofs.lemmas.List.Elements.{Contains-append_left}
 use Rattle.std.proofs.lemmas.Option.{slice_get-get_or}
 use Rattle.gg_bits.specs.Shape.{Shape, shape, uint}
 use Rattle.gg_ast.specs.declared.module.Direction.TheVariants as direction
-use Rattle.gg_ast.specs.declared.module.Port.{Port}
 use Rattle.gg_ast.specs.declared.statement.Stmt.{Stmt}
 use Rattle.gg_ast.specs.Places.{place_of}
 use Rattle.gg_ast.specs.Tree.{ModuleTree, CircuitTree, module_names}
@@ -14,29 +13,25 @@ use Rattle.gg_flat.specs.declared.memory.Latency.{Latency}
 use Rattle.gg_flat.specs.declared.memory.Latency.TheVariants.{Zero, One}
 use Rattle.gg_flat.specs.declared.memory.Memory.{Memory}
 use Rattle.gg_flat.specs.declared.memory.Reader.{Reader}
-use Rattle.gg_flat.specs.declared.memory.Writer.{Writer}
-use Rattle.gg_flat.specs.declared.piece.Driver.{Driver}
-use Rattle.gg_flat.specs.declared.piece.Driver.TheVariants.{Input, Held, MemoryWord, ReadRegister, Computed}
+use Rattle.gg_flat.specs.declared.piece.Driver.TheVariants.{Input, MemoryWord, Computed}
 use Rattle.gg_flat.specs.declared.piece.Register.{Register}
 use Rattle.gg_flat.specs.declared.piece.Signal.{Signal}
-use Rattle.gg_flat.specs.Circuit.{FlatCircuit, signal_shapes, register_shapes, driver_at, readers_at, latency_at, reader_at}
+use Rattle.gg_flat.specs.Circuit.{FlatCircuit, signal_shapes, driver_at, readers_at, latency_at, reader_at}
 use Rattle.gg_flat.specs.Line.{shape_at, value_at, HasType}
 use Rattle.gg_flat.specs.Memory.{address_width}
 use Rattle.gg_flat.specs.Tree.{joined}
 use Rattle.gg_flat.specs.WellFormed.{IsDataOf, MayDrive, IsReader, IsWriter, IsMemory, reader_driver, AreDriven, IsWellFormed}
 use Rattle.gg_count.specs.Sites.{Site, Outer, top_site, module_at, all_sites, sites_from, sites_of, sites}
 use Rattle.gg_formed.specs.Fitting.{FitsDriver, AreFitting}
-use Rattle.gg_digest.specs.Flat.{Scope, Drive, Outside, Gets, Holds, Answers, drive_of, FlatSignal, flat_signal, signals_at, flat_signals, FlatMemory, flat_memory, memories_at, flat_memories}
+use Rattle.gg_digest.specs.Flat.{Drive, Outside, Gets, Holds, Answers, drive_of, FlatSignal, flat_signal, signals_at, flat_signals, FlatMemory, flat_memory, memories_at, flat_memories}
 use Rattle.gg_digest.specs.IsFlat.{IsDrivenBy, IsMemoryOf, IsFlatOf, IsFlat, answer, number_of, field_number, reader_of, writer_of, is_outside, is_register, drive_at, count_before, signals_of, memory_paths, port_names, top_ports}
 use Rattle.gg_digest.specs.Known.{types_of}
-use Rattle.gg_digest.specs.Memories.{Bank}
-use Rattle.gg_digest.specs.Meaning.{Signals}
 use Rattle.gg_digest.specs.Signals.{Types, Cause, FromOutside, Connected, Expressed, Kept, Answered, Own, own, own_of_port, own_of_kind, own_signals, OwnBank, own_banks, field_name, reader_signals, writer_signals}
 use Rattle.gg_formed.proofs.AmongLemmas.{Element, element-at, in-map, MadeOf, from-map, in-flat_map, from-flat_map}
-use Rattle.gg_formed.proofs.BankFieldLemmas.{bank-signal, reader-among, writer-among, bank-depth, IsAnswerOf, AnswerAmong, answer-among}
+use Rattle.gg_formed.proofs.BankFieldLemmas.{bank-signal, reader-among, writer-among, bank-depth, AnswerAmong, answer-among}
 use Rattle.gg_tree.proofs.JoinLemmas.{joined-behind}
 use Rattle.gg_digest.proofs.NameLemmas.{Differ, place_of-at}
-use Rattle.gg_formed.proofs.OutsideLemmas.{from_outside, inputs-are, port-named}
+use Rattle.gg_formed.proofs.OutsideLemmas.{inputs-are, port-named}
 use Rattle.gg_formed.proofs.PassingLemmas.{passing, passed-at, Passes, passing-at, passing-map}
 
 -- ---- elements by their paths

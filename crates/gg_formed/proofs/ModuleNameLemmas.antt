@@ -1,11 +1,11 @@
 -- Where no name of a circuit comes twice and all are words, the paths of its sites, signals and memories differ.
-use Rattle.std.proofs.Common.{◌≡◌, ◌≢◌, ◌⊎◌, inl, inr, ℕ, zero, suc, ◌+◌, ◌<◌, List, [], ◌∷◌, ◌++◌, Option, Some, None, option_to_list, length, get_or, map, refl, sym, ap, ap₂, ◌∙◌, subst, arith}
+use Rattle.std.proofs.Common.{◌≡◌, ◌≢◌, ◌⊎◌, inl, inr, ℕ, zero, suc, ◌<◌, List, [], ◌∷◌, ◌++◌, Option, Some, None, option_to_list, length, get_or, map, refl, sym, ap, ap₂, ◌∙◌, subst, arith}
 use Rattle.std.specs.Prelude.{Contains, All, flat_map, filter_map, option_map}
 use Rattle.std.proofs.lemmas.List.{map-append, length-map, get_or-map}
 use Rattle.std.proofs.lemmas.List.Concat.{flat_map_single}
-use Rattle.std.proofs.lemmas.List.Elements.{Contains-append_left, Contains-append_right, Contains-append_cases, All-contains}
+use Rattle.std.proofs.lemmas.List.Elements.{Contains-append_cases, All-contains}
 use Rattle.gg_bits.specs.Shape.{Shape}
-use Rattle.gg_ast.specs.Names.{IsName, IsPortNamed, AreNamesOfKind, AreNamesOfStatement, AreNamesOfCircuit}
+use Rattle.gg_ast.specs.Names.{IsPortNamed, AreNamesOfKind, AreNamesOfStatement, AreNamesOfCircuit}
 use Rattle.gg_ast.specs.declared.expression.Reference.TheVariants as reference
 use Rattle.gg_ast.specs.declared.module.Port.{Port}
 use Rattle.gg_ast.specs.declared.statement.Stmt.{Stmt}
@@ -17,8 +17,8 @@ use Rattle.gg_names.specs.Along.{along, along_from}
 use Rattle.gg_names.specs.Namespace.{name_by, name_by_kind, port_names, names_in, names_after}
 use Rattle.gg_names.specs.Repetitions.{repeated_in, repeated_in_field, repeated_port, repeated_by, repeated_by_kind, repeated_declarations, repetitions}
 use Rattle.gg_flat.specs.Tree.{joined}
-use Rattle.gg_count.specs.Sites.{Held, Site, top_site, module_at, held_at, held_by_kind, sites, sites_from, sites_of}
-use Rattle.gg_digest.specs.Flat.{FlatSignal, flat_signal, signals_at, flat_signals, FlatMemory, flat_memory, memories_at, flat_memories}
+use Rattle.gg_count.specs.Sites.{Held, Site, top_site, module_at, held_at, held_by_kind, sites_from, sites_of}
+use Rattle.gg_digest.specs.Flat.{FlatSignal, flat_signal, signals_at, FlatMemory, flat_memory, memories_at}
 use Rattle.gg_digest.specs.IsFlat.{memory_paths}
 use Rattle.gg_digest.specs.Known.{types_of}
 use Rattle.gg_digest.specs.Memories.{Bank, bank_of, type_shape}
@@ -27,7 +27,7 @@ use Rattle.gg_digest.proofs.FlatLemmas.{map-twice}
 use Rattle.gg_digest.proofs.NameLemmas.{Differ}
 use Rattle.gg_tree.specs.IsTreeOf.{site_paths, signal_paths, memories_of}
 use Rattle.gg_tree.proofs.CauseLemmas.{name-some, name-dotless, statements-named}
-use Rattle.gg_tree.proofs.DeclaredLemmas.{append-none, names-differ, module-declared, Differ-behind, Differ-parts, held-named, bank-named}
+use Rattle.gg_tree.proofs.DeclaredLemmas.{append-none, names-differ, module-declared, Differ-behind, held-named, bank-named}
 use Rattle.gg_tree.proofs.FieldLemmas.{FieldPlace, memory-field}
 use Rattle.gg_tree.proofs.JoinLemmas.{dot-within}
 use Rattle.gg_tree.proofs.OwnLemmas.{own_in}

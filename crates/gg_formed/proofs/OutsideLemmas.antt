@@ -1,5 +1,5 @@
 -- The signals that the outside drives are the input ports of the top, in port order.
-use Rattle.std.proofs.Common.{◌≡◌, ◌≢◌, ◌⊎◌, inl, inr, ℕ, zero, suc, ◌+◌, ◌<◌, Bool, true, false, ◌&&◌, List, [], ◌∷◌, ◌++◌, Option, Some, None, is_some, length, get_or, map, refl, sym, ap, ap₂, ◌∙◌, subst, arith, append-nil, append_assoc, unwrap_or, if◌then◌else◌}
+use Rattle.std.proofs.Common.{◌≡◌, ℕ, zero, suc, ◌+◌, ◌<◌, Bool, true, false, ◌&&◌, List, [], ◌∷◌, ◌++◌, Option, Some, None, is_some, length, get_or, map, refl, sym, ap, ap₂, ◌∙◌, subst, arith, append-nil, append_assoc, unwrap_or, if◌then◌else◌}
 use Rattle.std.specs.Prelude.{Contains, flat_map, filter_map, option_map, option_to_list, slice_get}
 use Rattle.std.proofs.lemmas.List.{length-append, length-map, map-append}
 use Rattle.std.proofs.lemmas.Grind.{flat_map-append}
@@ -10,18 +10,15 @@ use Rattle.gg_ast.specs.declared.expression.Reference.TheVariants as reference
 use Rattle.gg_ast.specs.declared.module.Direction.{Direction}
 use Rattle.gg_ast.specs.declared.module.Direction.TheVariants.{Input, Output}
 use Rattle.gg_ast.specs.declared.module.Port.{Port}
-use Rattle.gg_ast.specs.declared.statement.Reset.{Reset}
 use Rattle.gg_ast.specs.declared.statement.Stmt.{Stmt}
 use Rattle.gg_ast.specs.declared.statement.StmtKind.{StmtKind}
 use Rattle.gg_ast.specs.declared.statement.StmtKind.TheVariants as says
-use Rattle.gg_ast.specs.Places.{place_of}
 use Rattle.gg_ast.specs.Tree.{ModuleTree}
-use Rattle.gg_flat.specs.Tree.{joined}
 use Rattle.gg_count.specs.Sites.{Held, Site, Outer, top_site, site_below, sites, all_sites, module_at, held_at}
-use Rattle.gg_digest.specs.Flat.{Drive, Outside, Gets, Holds, Answers, FlatSignal, flat_signal, drive_of, signals_at, flat_signals}
+use Rattle.gg_digest.specs.Flat.{FlatSignal, flat_signal, drive_of, signals_at, flat_signals}
 use Rattle.gg_digest.specs.IsFlat.{number_of, is_outside, port_name, port_names, same_direction}
 use Rattle.gg_digest.specs.Memories.{Bank, bank_of, type_shape}
-use Rattle.gg_digest.specs.Signals.{Types, Cause, FromOutside, Connected, Expressed, Kept, Answered, Own, own, own_of_port, cause_of_port, own_of_kind, own_signals, memory_signals, reader_signals, readers_signals, writer_signals}
+use Rattle.gg_digest.specs.Signals.{Types, Cause, FromOutside, Connected, Expressed, Kept, Answered, Own, own, own_of_port, cause_of_port, own_of_kind, own_signals, memory_signals, readers_signals, writer_signals}
 use Rattle.gg_formed.proofs.AmongLemmas.{MadeOf, in-filter_map, from-filter_map}
 use Rattle.gg_digest.proofs.NameLemmas.{Differ, place_of-at}
 use Rattle.gg_formed.proofs.PassingLemmas.{passing, passing-append, passing-none}

@@ -1,5 +1,5 @@
 -- The ports of a memory have different names, and so have their fields.
-use Rattle.std.proofs.Common.{◌≡◌, ◌≢◌, ◌⊎◌, inl, inr, ℕ, zero, suc, ◌+◌, ◌<◌, List, [], ◌∷◌, ◌++◌, Option, Some, None, map, refl, sym, ap, ap₂, ◌∙◌, subst, subst₂, arith, codes, append_assoc, append-nil}
+use Rattle.std.proofs.Common.{◌≡◌, ◌⊎◌, inl, inr, ℕ, zero, suc, List, [], ◌∷◌, ◌++◌, Some, map, refl, sym, ap, ap₂, ◌∙◌, subst, arith, codes, append_assoc, append-nil}
 use Rattle.std.specs.Prelude.{Contains, flat_map, option_and_then, unwrap_or}
 use Rattle.std.proofs.lemmas.List.{map-append}
 use Rattle.std.proofs.lemmas.List.Concat.{flat_map_single}
@@ -12,12 +12,12 @@ use Rattle.gg_flat.specs.declared.memory.UnderWrite.TheVariants.{Undefined}
 use Rattle.gg_names.specs.Along.{along, along_from}
 use Rattle.gg_names.specs.Repetitions.{repeated_in, ports_in_field, repeated_port_of, repeated_in_field}
 use Rattle.gg_digest.specs.Memories.{Bank, bank_of, readers_said, writers_said, type_shape, first_said, type_said, depth_said, latency_said, under_said, latency_of}
-use Rattle.gg_digest.specs.Signals.{Own, memory_signals, reader_signals, readers_signals, writer_signals}
+use Rattle.gg_digest.specs.Signals.{Own, memory_signals, readers_signals, writer_signals}
 use Rattle.gg_digest.proofs.NameLemmas.{Differ}
 use Rattle.gg_tree.proofs.DeclaredLemmas.{append-none, fresh, Differ-snoc, Differ-behind, Differ-parts}
 use Rattle.gg_tree.proofs.WordLemmas.{bank-ports}
 use Rattle.gg_formed.proofs.AmongLemmas.{MadeOf, from-map, from-flat_map}
-use Rattle.gg_formed.proofs.DifferLemmas.{head_of, Differ-none, Differ-one, Differ-front, Differ-append, Differ-map, Differ-turned, IsDotless, behind-once, BeginsIn, begins-apart, parts-differ}
+use Rattle.gg_formed.proofs.DifferLemmas.{head_of, Differ-none, Differ-front, Differ-append, Differ-map, Differ-turned, IsDotless, behind-once, BeginsIn, begins-apart, parts-differ}
 
 -- ---- the ports that fields name
 
