@@ -1,5 +1,5 @@
 //! The tree of the circuit's instances.
-ghost use Rattle.std.specs.Prelude.{List, None, ℕ, ◌≡◌, ◌≢◌, ◌<◌, ◌≤◌, ◌+◌, ◌++◌, ◌∷◌, [], map, flat_map, length, option_to_list, slice_index, IfOk, OnOk, All};
+ghost use Rattle.std.specs.Prelude.{List, None, ℕ, ◌≡◌, ◌≢◌, ◌<◌, ◌≤◌, ◌+◌, ◌++◌, ◌∷◌, [], map, flat_map, length, option_to_list, slice_index, IfOk, OnOk, All, AllPairs, Contains};
 ghost use Rattle.gg_ast.specs.Places.{place_of};
 ghost use Rattle.gg_ast.specs.Tree.{CircuitTree, module_names};
 ghost use Rattle.gg_count.specs.Sites.{sites_of};
@@ -15,7 +15,7 @@ ghost use Rattle.gg_tree.specs.TreeParts.{signals_among, IsPortAt, IsNumberAt, I
 use gg_ast::{Direction, Port};
 use gg_bits::{Ids, Items, Name, Names};
 use gg_digest::{Around, Digest, OwnMemory, Place, Table, add_path, ground_type, joined};
-use gg_flat::{Instance, InstancePort, MemoryInstance, Paths, Tree};
+use gg_flat::{AddError, Instance, InstancePort, MemoryInstance, Paths, Tree};
 use gg_types::Typed;
 use std::alloc::{AllocError, Global};
 
@@ -32,11 +32,12 @@ fn place_at(paths: &Paths, path: &Name) -> Result<u32, AllocError>
 
 // The paths of all sites.
 fn site_paths(alloc: Global, places: &[Place]) -> Result<Paths, AllocError>
+    requires distinct { AllPairs (λ a b. a ≢ b) (place_paths places.now) }
     ensures { IfOk result (λ paths. paths ≡ place_paths places.now) }
 {
     let mut paths = Paths::new(alloc);
     for place in places {
-        add_path(&mut paths, place.path.clone()?)?;
+        add_path(&mut paths, copied(&place.path)?)?;
     }
     Ok(paths)
 }
@@ -230,8 +231,9 @@ fn instance(
     })
 }
 
-// Adds an instance.
+// Adds an instance of a path that none has.
 fn add_instance(tree: &mut Tree, path: Name, instance: Instance) -> Result<(), AllocError>
+    requires fresh { ¬ Contains tree.old.paths path }
     ensures { OnOk result (tree.new ≡ record tree.old { paths = tree.old.paths ++ path ∷ []; instances = tree.old.instances ++ instance ∷ [] }) }
 {
     if tree.len() >= u32::MAX as usize {
@@ -239,12 +241,14 @@ fn add_instance(tree: &mut Tree, path: Name, instance: Instance) -> Result<(), A
     }
     match tree.add(path, instance) {
         Ok(()) => Ok(()),
-        Err(_) => Err(AllocError),
+        Err(AddError::Doubled) => unreachable!(),
+        Err(AddError::NoMemory) => Err(AllocError),
     }
 }
 
-// Adds a memory.
+// Adds a memory of a path that none has.
 fn add_memory(tree: &mut Tree, path: Name, memory: MemoryInstance) -> Result<(), AllocError>
+    requires fresh { ¬ Contains tree.old.memory_paths path }
     ensures { OnOk result (tree.new ≡ record tree.old { memory_paths = tree.old.memory_paths ++ path ∷ []; memories = tree.old.memories ++ memory ∷ [] }) }
 {
     if tree.memory_count() >= u32::MAX as usize {
@@ -252,7 +256,8 @@ fn add_memory(tree: &mut Tree, path: Name, memory: MemoryInstance) -> Result<(),
     }
     match tree.add_memory(path, memory) {
         Ok(()) => Ok(()),
-        Err(_) => Err(AllocError),
+        Err(AddError::Doubled) => unreachable!(),
+        Err(AddError::NoMemory) => Err(AllocError),
     }
 }
 
@@ -293,6 +298,7 @@ fn add_instances(
     requires top { (place_of typed.now.circuit.name (module_names typed.now.circuit)) ≢ None }
     requires sites { map site_of places.now ≡ sites_of typed.now.circuit }
     requires paths { paths.now ≡ place_paths places.now }
+    requires distinct { AllPairs (λ a b. a ≢ b) (place_paths places.now) }
     requires signals { table.now.paths ≡ signal_paths typed.now.circuit }
     requires memories { table.now.memories ≡ memory_paths (memories_of typed.now.circuit) }
     requires none { tree.old ≡ no_tree }
@@ -331,6 +337,7 @@ fn add_site_memories(
     memories: &[OwnMemory],
     tree: &mut Tree,
 ) -> Result<(), AllocError>
+    requires distinct { AllPairs (λ a b. a ≢ b) (tree.old.memory_paths ++ map (λ m. joined_text outer.now m.name.now) memories.now) }
     ensures names { OnOk result (tree.new.memory_paths ≡ tree.old.memory_paths ++ map (λ m. joined_text outer.now m.name.now) memories.now) }
     ensures made { OnOk result ((circuit : CircuitTree) (said : List HeldMemory) (place : Place) → paths.now ≡ paths_of_sites circuit → table.now.memories ≡ memory_paths (memories_of circuit) → place.path ≡ outer.now → Pairwise (IsHeldFor circuit) said tree.old.memories → Pairwise (IsHeldFor circuit) (said ++ map (held_at_place place) memories.now) tree.new.memories) }
     ensures rest { OnOk result ((tree.new.paths ≡ tree.old.paths) × (tree.new.instances ≡ tree.old.instances)) }
@@ -357,6 +364,7 @@ fn add_memories(
     requires paths { paths.now ≡ paths_of_sites typed.now.circuit }
     requires memories { table.now.memories ≡ memory_paths (memories_of typed.now.circuit) }
     requires none { (tree.old.memory_paths ≡ []) × (tree.old.memories ≡ []) }
+    requires distinct { AllPairs (λ a b. a ≢ b) (memory_paths (flat_memories typed.now.circuit.modules (map site_of places.now))) }
     ensures names { OnOk result (tree.new.memory_paths ≡ memory_paths (flat_memories typed.now.circuit.modules (map site_of places.now))) }
     ensures made { OnOk result (Pairwise (IsHeldFor typed.now.circuit) (flat_map (held_memories typed.now.circuit.modules) (map site_of places.now)) tree.new.memories) }
     ensures rest { OnOk result ((tree.new.paths ≡ tree.old.paths) × (tree.new.instances ≡ tree.old.instances)) }
@@ -394,6 +402,8 @@ pub fn tree_of(
     requires sites { map site_of places.now ≡ sites_of typed.now.circuit }
     requires signals { table.now.paths ≡ signal_paths typed.now.circuit }
     requires memories { table.now.memories ≡ memory_paths (memories_of typed.now.circuit) }
+    requires sites_differ { AllPairs (λ a b. a ≢ b) (paths_of_sites typed.now.circuit) }
+    requires memories_differ { AllPairs (λ a b. a ≢ b) (memory_paths (memories_of typed.now.circuit)) }
     ensures { IfOk result (IsTreeOf typed.now.circuit) }
 {
     let paths = site_paths(alloc, places)?;

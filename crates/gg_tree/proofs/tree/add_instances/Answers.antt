@@ -1,4 +1,5 @@
-use Rattle.std.proofs.Common.{◌≡◌, ℕ, ◌<◌, List, ◌++◌, ◌∷◌, [], length, map, get_or, subst, sym, ap, ◌∙◌, arith}
+use Rattle.std.proofs.Common.{◌≡◌, ℕ, ◌<◌, List, ◌++◌, ◌∷◌, [], length, map, get_or, subst, subst₂, sym, ap, ◌∙◌, arith}
+use Rattle.std.specs.Prelude.{Contains}
 use Rattle.std.proofs.lemmas.List.{length-map}
 use Rattle.std.proofs.lemmas.Grind.{get_or_default_zero}
 use Rattle.gg_flat.specs.Tree.{InstanceTree}
@@ -12,6 +13,7 @@ use Rattle.gg_digest.specs.Views.{IsPlaceIn}
 use Rattle.gg_digest.specs.Known.{types_of}
 use Rattle.gg_tree.specs.TreeParts.{IsInstanceAt, signals_to}
 use Rattle.gg_digest.proofs.FlatLemmas.{digest-at}
+use Rattle.gg_digest.proofs.FreshLemmas.{next-new}
 use Rattle.gg_tree.proofs.ElementLemmas.{some-of}
 use Rattle.gg_tree.proofs.TreePartLemmas.{instance-is, instances-next, paths-next}
 use Rattle.gg_tree.proofs.tree.add_instances.Goals as goal
@@ -42,3 +44,10 @@ loop-i-preserved c =
       ap (λ (t : InstanceTree). t.memory_paths) added ∙ c.loop-i.invariant.2,
       ap (λ (t : InstanceTree). t.memories) added ∙ c.loop-i.invariant.3,
     )
+
+pub add_instance-requires : goal.add_instance-requires
+add_instance-requires c = record {
+  fresh = λ h.
+      next-new (λ (p : Place). p.path) [] c.args.places.now c.loop-i.i c.index-places-i.result c.requires.distinct (omega arith) c.index-places-i.is
+      (subst₂ Contains c.loop-i.invariant.0 c.in_ok-copied.ensures h);
+}
