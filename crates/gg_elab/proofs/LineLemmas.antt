@@ -1,5 +1,5 @@
 -- Laws of a line that gets one more node.
-use Rattle.std.proofs.Common.{◌≡◌, ℕ, zero, ◌+◌, ◌-◌, ◌<◌, ◌≤◌, List, [], ◌∷◌, ◌++◌, length, map, refl, sym, ap, ◌∙◌, subst, arith, inl, inr, ◌⊎◌, append_assoc, below_more, Result, Ok, Err, Some, None}
+use Rattle.std.proofs.Common.{◌≡◌, ℕ, ◌+◌, ◌<◌, ◌≤◌, List, [], ◌∷◌, ◌++◌, length, map, refl, sym, ap, ◌∙◌, subst, arith, inl, inr, ◌⊎◌, append_assoc, below_more, Result, Ok, Err, Some, None}
 use Rattle.std.specs.Prelude.{fold, slice_index_or}
 use Rattle.std.proofs.lemmas.List.{map-append, length-append, length-map, get_or_append_left}
 use Rattle.std.proofs.Math.Seq.{get_or-append_seam}

@@ -1,5 +1,5 @@
 -- An order of modules, as the type checks give it, is one of those that the counts want.
-use Rattle.std.proofs.Common.{◌≡◌, ℕ, List, [], ◌∷◌, ◌++◌, length, Option, Some, None, option_to_list, refl, ap, ◌∙◌, subst, arith}
+use Rattle.std.proofs.Common.{◌≡◌, ℕ, List, [], ◌∷◌, ◌++◌, length, Option, Some, None, option_to_list, refl, ap, ◌∙◌, subst}
 use Rattle.std.specs.Prelude.{Contains, option_map, flat_map}
 use Rattle.std.specs.List.{cons_option}
 use Rattle.gg_ast.specs.declared.statement.Stmt.{Stmt}

@@ -1,5 +1,5 @@
 -- A node that was added stands for its expression, in the terms of the call that adds it.
-use Rattle.std.proofs.Common.{◌≡◌, ℕ, List, [], ◌∷◌, ◌++◌, length, refl, sym, ap, ◌∙◌, subst, Result, Ok, Err}
+use Rattle.std.proofs.Common.{◌≡◌, ℕ, List, [], ◌∷◌, ◌++◌, length, sym, ap, ◌∙◌, subst, Result, Ok, Err}
 use Rattle.std.specs.Prelude.{IfOk}
 use Rattle.gg_bits.specs.Shape.{shape}
 use Rattle.gg_ast.specs.Term.{Term}

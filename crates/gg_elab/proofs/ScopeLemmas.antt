@@ -1,5 +1,5 @@
 -- The signal that a reference names.
-use Rattle.std.proofs.Common.{◌≡◌, ℕ, ◌<◌, List, length, Option, Some, None, Bool, true, false, true≢false, refl, sym, ap}
+use Rattle.std.proofs.Common.{◌≡◌, ℕ, ◌<◌, List, length, Option, Some, None, Bool, true, false, true≢false, sym, ap}
 use Rattle.std.specs.Prelude.{is_some, option_map, slice_get, Contains, IfSome, IfNone}
 use Rattle.gg_bits.specs.declared.types.Ty.{Ty}
 use Rattle.gg_bits.specs.Shape.{Shape, shape}

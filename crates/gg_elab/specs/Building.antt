@@ -1,6 +1,6 @@
 -- A flat circuit while it is built, signal by signal.
 use Rattle.std.specs.Prelude.{◌≡◌, ℕ, ◌<◌, List, [], ◌∷◌, ◌++◌, Option, None, MatchOption, All, Bool, true, false, length, map, option_to_list, slice_index_or}
-use Rattle.gg_bits.specs.Shape.{Shape, shape}
+use Rattle.gg_bits.specs.Shape.{Shape}
 use Rattle.gg_bits.specs.declared.types.Ty.{Ty}
 use Rattle.gg_flat.specs.declared.piece.Driver.{Driver}
 use Rattle.gg_flat.specs.declared.piece.Driver.TheVariants.{Input, Held, MemoryWord, ReadRegister, Computed}

@@ -14,6 +14,7 @@ use Rattle.gg_elab.specs.declared.scope.Scope as kept
 use Rattle.gg_digest.specs.Flat.{Scope}
 use Rattle.gg_digest.specs.Known.{types_of}
 use Rattle.gg_digest.specs.Meaning.{Signals, term_shape, term_value, TermNames}
+use Rattle.gg_digest.specs.Views.{table_signals}
 use Rattle.gg_digest.specs.Signals.{Types}
 
 -- what an expression is read by: what the type checks say, the circuit's signals, and where it stands

@@ -1,4 +1,4 @@
-use Rattle.std.proofs.Common.{◌∙◌, ap, refl, sym}
+use Rattle.std.proofs.Common.{◌∙◌, ap, sym}
 use Rattle.gg_bits.specs.ResultType.{type1, type2, type_const, type_mux}
 use Rattle.gg_bits.specs.Shape.{shape}
 use Rattle.gg_ast.specs.TermOf.{term_of}
