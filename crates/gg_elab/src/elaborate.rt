@@ -18,7 +18,7 @@ use crate::ports::{add_all_memories, add_ports};
 use gg_count::count;
 use gg_digest::{Digest, Place, digests, places, table_of};
 use gg_flat::{Piece, Tree};
-use gg_formed::{formed, top_of};
+use gg_formed::{distinct, formed, top_of};
 use gg_tree::{fits, tree_of};
 use gg_types::Typed;
 use std::alloc::{AllocError, Global};
@@ -50,6 +50,7 @@ fn build<'a>(
     ensures tree { IfOk result (λ both. IsTreeOf typed.now.circuit both.1) }
 {
     let modules = typed.names().circuit().modules();
+    distinct(typed);
     let places = places(alloc, typed, digests, top)?;
     let table = table_of(alloc, typed, digests, places.as_slice())?;
     let mut piece = Piece::new(alloc);

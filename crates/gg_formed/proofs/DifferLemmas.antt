@@ -6,6 +6,7 @@ use Rattle.std.proofs.lemmas.Bool.{cases_lt}
 use Rattle.std.proofs.lemmas.List.{length-map, get_or-map, map-append}
 use Rattle.std.proofs.lemmas.List.Elements.{Contains-append_left, Contains-append_right, Contains-append_cases}
 use Rattle.std.proofs.Math.Seq.{get_or-append_right}
+use Rattle.gg_digest.proofs.FreshLemmas.{Differ-front}
 use Rattle.gg_digest.proofs.NameLemmas.{Differ}
 use Rattle.gg_tree.proofs.DeclaredLemmas.{Differ-behind, Differ-parts}
 use Rattle.gg_tree.proofs.JoinLemmas.{dot-within}
@@ -19,11 +20,6 @@ Differ-none i j d lt within = absurd (omega (arith, within))
 
 pub Differ-one : (w : List ℕ) → Differ (w ∷ [])
 Differ-one w i j d lt within = absurd (omega (arith, lt, within))
-
-pub Differ-front : (xs ys : List (List ℕ)) → Differ (xs ++ ys) → Differ xs
-Differ-front xs ys differ i j d lt within same =
-    differ i j d lt (omega (arith, within, length-append xs ys))
-    (front xs ys i d (omega (arith, lt, within)) ∙ same ∙ sym (front xs ys j d within))
 
 -- two lists of words that have none in common
 pub Differ-append : (xs ys : List (List ℕ)) → Differ xs → Differ ys → ((w : List ℕ) → Contains xs w → ¬ Contains ys w) → Differ (xs ++ ys)

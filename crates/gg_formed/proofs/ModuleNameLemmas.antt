@@ -24,6 +24,7 @@ use Rattle.gg_digest.specs.Known.{types_of}
 use Rattle.gg_digest.specs.Memories.{Bank, bank_of, type_shape}
 use Rattle.gg_digest.specs.Signals.{Types, Cause, Connected, Expressed, Kept, Own, own, own_of_port, cause_of_port, own_of_kind, own_signals, OwnBank, own_bank, own_banks, bank_of_kind, memory_signals}
 use Rattle.gg_digest.proofs.FlatLemmas.{map-twice}
+use Rattle.gg_digest.proofs.FreshLemmas.{Differ-front}
 use Rattle.gg_digest.proofs.NameLemmas.{Differ}
 use Rattle.gg_tree.specs.IsTreeOf.{site_paths, signal_paths, memories_of}
 use Rattle.gg_tree.proofs.CauseLemmas.{name-some, name-dotless, statements-named}
@@ -35,7 +36,7 @@ use Rattle.gg_tree.proofs.SoundLemmas.{apart-names}
 use Rattle.gg_tree.proofs.WordLemmas.{ports-named, held-word, bank-word, BankWords}
 use Rattle.gg_formed.proofs.AmongLemmas.{MadeOf, in-map, from-map, in-flat_map, from-flat_map, in-filter_map}
 use Rattle.gg_formed.proofs.ApartLemmas.{behind, AreApart, own_paths, paths-differ}
-use Rattle.gg_formed.proofs.DifferLemmas.{Differ-none, Differ-one, Differ-front, Differ-append, IsDotless, first-once, BeginsIn, begins-apart, parts-differ, filter_map-parts, flat_map-parts}
+use Rattle.gg_formed.proofs.DifferLemmas.{Differ-none, Differ-one, Differ-append, IsDotless, first-once, BeginsIn, begins-apart, parts-differ, filter_map-parts, flat_map-parts}
 use Rattle.gg_formed.proofs.PortNameLemmas.{bank-differs, fields-apart}
 
 -- ---- the names of statements
