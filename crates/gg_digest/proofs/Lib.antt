@@ -1,3 +1,4 @@
+pub mod AmongLemmas
 pub mod ConnectionLemmas
 pub mod DigestLemmas
 pub mod FlatLemmas

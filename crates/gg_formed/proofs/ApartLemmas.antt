@@ -10,7 +10,7 @@ use Rattle.gg_digest.proofs.FlatLemmas.{map-twice}
 use Rattle.gg_digest.proofs.NameLemmas.{Differ, Differ-tail}
 use Rattle.gg_tree.proofs.DeclaredLemmas.{Differ-head}
 use Rattle.gg_tree.proofs.JoinLemmas.{joined-twice}
-use Rattle.gg_formed.proofs.AmongLemmas.{further, MadeOf, from-map, in-map, from-flat_map}
+use Rattle.gg_digest.proofs.AmongLemmas.{further, MadeOf, from-map, in-map, from-flat_map}
 use Rattle.gg_formed.proofs.DifferLemmas.{Differ-none, Differ-append, Differ-map, IsDotless, behind-once, first-once}
 
 -- a name of an instance, and one of what is in it

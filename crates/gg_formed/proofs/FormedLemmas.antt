@@ -27,7 +27,7 @@ use Rattle.gg_digest.specs.Flat.{Drive, Outside, Gets, Holds, Answers, drive_of,
 use Rattle.gg_digest.specs.IsFlat.{IsDrivenBy, IsMemoryOf, IsFlatOf, IsFlat, answer, number_of, field_number, reader_of, writer_of, is_outside, is_register, drive_at, count_before, signals_of, memory_paths, port_names, top_ports}
 use Rattle.gg_digest.specs.Known.{types_of}
 use Rattle.gg_digest.specs.Signals.{Types, Cause, FromOutside, Connected, Expressed, Kept, Answered, Own, own, own_of_port, own_of_kind, own_signals, OwnBank, own_banks, field_name, reader_signals, writer_signals}
-use Rattle.gg_formed.proofs.AmongLemmas.{Element, element-at, in-map, MadeOf, from-map, in-flat_map, from-flat_map}
+use Rattle.gg_digest.proofs.AmongLemmas.{Element, element-at, in-map, MadeOf, from-map, in-flat_map, from-flat_map}
 use Rattle.gg_formed.proofs.BankFieldLemmas.{bank-signal, reader-among, writer-among, bank-depth, AnswerAmong, answer-among}
 use Rattle.gg_tree.proofs.JoinLemmas.{joined-behind}
 use Rattle.gg_digest.proofs.NameLemmas.{Differ, place_of-at}

@@ -1,4 +1,3 @@
-pub mod AmongLemmas
 pub mod ApartLemmas
 pub mod BankFieldLemmas
 pub mod DifferLemmas

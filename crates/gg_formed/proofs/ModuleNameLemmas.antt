@@ -34,7 +34,7 @@ use Rattle.gg_tree.proofs.JoinLemmas.{dot-within}
 use Rattle.gg_tree.proofs.OwnLemmas.{own_in}
 use Rattle.gg_tree.proofs.SoundLemmas.{apart-names}
 use Rattle.gg_tree.proofs.WordLemmas.{ports-named, held-word, bank-word, BankWords}
-use Rattle.gg_formed.proofs.AmongLemmas.{MadeOf, in-map, from-map, in-flat_map, from-flat_map, in-filter_map}
+use Rattle.gg_digest.proofs.AmongLemmas.{MadeOf, in-map, from-map, in-flat_map, from-flat_map, in-filter_map}
 use Rattle.gg_formed.proofs.ApartLemmas.{behind, AreApart, own_paths, paths-differ}
 use Rattle.gg_formed.proofs.DifferLemmas.{Differ-none, Differ-one, Differ-append, IsDotless, first-once, BeginsIn, begins-apart, parts-differ, filter_map-parts, flat_map-parts}
 use Rattle.gg_formed.proofs.PortNameLemmas.{bank-differs, fields-apart}

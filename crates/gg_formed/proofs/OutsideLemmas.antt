@@ -19,7 +19,7 @@ use Rattle.gg_digest.specs.Flat.{FlatSignal, flat_signal, drive_of, signals_at, 
 use Rattle.gg_digest.specs.IsFlat.{number_of, is_outside, port_name, port_names, same_direction}
 use Rattle.gg_digest.specs.Memories.{Bank, bank_of, type_shape}
 use Rattle.gg_digest.specs.Signals.{Types, Cause, FromOutside, Connected, Expressed, Kept, Answered, Own, own, own_of_port, cause_of_port, own_of_kind, own_signals, memory_signals, readers_signals, writer_signals}
-use Rattle.gg_formed.proofs.AmongLemmas.{MadeOf, in-filter_map, from-filter_map}
+use Rattle.gg_digest.proofs.AmongLemmas.{MadeOf, in-filter_map, from-filter_map}
 use Rattle.gg_digest.proofs.NameLemmas.{Differ, place_of-at}
 use Rattle.gg_formed.proofs.PassingLemmas.{passing, passing-append, passing-none}
 

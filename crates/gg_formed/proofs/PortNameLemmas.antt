@@ -17,7 +17,7 @@ use Rattle.gg_digest.proofs.FreshLemmas.{Differ-front}
 use Rattle.gg_digest.proofs.NameLemmas.{Differ}
 use Rattle.gg_tree.proofs.DeclaredLemmas.{append-none, fresh, Differ-snoc, Differ-behind, Differ-parts}
 use Rattle.gg_tree.proofs.WordLemmas.{bank-ports}
-use Rattle.gg_formed.proofs.AmongLemmas.{MadeOf, from-map, from-flat_map}
+use Rattle.gg_digest.proofs.AmongLemmas.{MadeOf, from-map, from-flat_map}
 use Rattle.gg_formed.proofs.DifferLemmas.{head_of, Differ-none, Differ-append, Differ-map, Differ-turned, IsDotless, behind-once, BeginsIn, begins-apart, parts-differ}
 
 -- ---- the ports that fields name

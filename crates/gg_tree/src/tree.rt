@@ -1,5 +1,5 @@
 //! The tree of the circuit's instances.
-ghost use Rattle.std.specs.Prelude.{List, None, ℕ, ◌≡◌, ◌≢◌, ◌<◌, ◌≤◌, ◌+◌, ◌++◌, ◌∷◌, [], map, flat_map, length, option_to_list, slice_index, IfOk, OnOk, All, AllPairs, Contains};
+ghost use Rattle.std.specs.Prelude.{List, None, ℕ, ◌≡◌, ◌≢◌, ◌<◌, ◌≤◌, ◌+◌, ◌++◌, ◌∷◌, [], map, flat_map, length, option_to_list, slice_index, IfOk, OnOk, IfSome, All, AllPairs, Contains, true};
 ghost use Rattle.gg_ast.specs.Places.{place_of};
 ghost use Rattle.gg_ast.specs.Tree.{CircuitTree, module_names};
 ghost use Rattle.gg_count.specs.Sites.{sites_of};
@@ -10,7 +10,7 @@ ghost use Rattle.gg_flat.specs.Tree.{joined as joined_text, no_tree};
 ghost use Rattle.gg_digest.specs.Views.{IsPlaceIn, AreDigests, site_of};
 ghost use Rattle.gg_tree.specs.IsTreeOf.{IsAt, Pairwise, HeldMemory, held_memories, AreInstances, IsTreeOf, site_paths as paths_of_sites, signal_paths, memories_of};
 ghost use Rattle.gg_digest.specs.Known.{types_of};
-ghost use Rattle.gg_tree.specs.TreeParts.{signals_among, IsPortAt, IsNumberAt, IsHolder, place_paths, signals_to, IsInstanceAt, IsMemoryPart, IsHeldFor, held_at_place};
+ghost use Rattle.gg_tree.specs.TreeParts.{is_signal, signals_among, IsPortAt, IsNumberAt, IsHolder, place_paths, signals_to, IsInstanceAt, IsMemoryPart, IsHeldFor, held_at_place};
 
 use gg_ast::{Direction, Port};
 use gg_bits::{Ids, Items, Name, Names};
@@ -19,15 +19,16 @@ use gg_flat::{AddError, Instance, InstancePort, MemoryInstance, Paths, Tree};
 use gg_types::Typed;
 use std::alloc::{AllocError, Global};
 
-// The place of a path among these; of one that isn't there it is told as want of memory.
-fn place_at(paths: &Paths, path: &Name) -> Result<u32, AllocError>
-    ensures { IfOk result (IsAt paths.now path.now) }
+// The place of one of these paths.
+fn place_at(paths: &Paths, path: &Name) -> u32
+    requires there { Contains paths.now path.now }
+    ensures { IsAt paths.now path.now result }
 {
     let _ = paths.len();
-    match paths.find(path) {
-        Some(place) => Ok(place),
-        None => Err(AllocError),
-    }
+    let Some(place) = paths.find(path) else {
+        unreachable!();
+    };
+    place
 }
 
 // The paths of all sites.
@@ -110,12 +111,14 @@ fn port(
     outer: &Name,
     port: &Port,
 ) -> Result<Option<InstancePort>, AllocError>
+    requires there { is_signal port.now ≡ true → Contains paths.now (joined_text outer.now port.now.name) }
     ensures { IfOk result (λ found. Pairwise (IsPortAt paths.now outer.now) (signals_among (port.now ∷ [])) (option_to_list found)) }
 {
     if ground_type(port.ty).is_none() {
         return Ok(None);
     }
-    let signal = place_at(paths, &joined(alloc, outer, &port.name)?)?;
+    let path = joined(alloc, outer, &port.name)?;
+    let signal = place_at(paths, &path);
     let is_input = match port.direction {
         Direction::Input => true,
         Direction::Output => false,
@@ -144,6 +147,7 @@ fn ports(
     outer: &Name,
     ports: &[Port],
 ) -> Result<Vec<InstancePort>, AllocError>
+    requires there { All (λ p. Contains paths.now (joined_text outer.now p.name)) (signals_among ports.now) }
     ensures { IfOk result (λ found. Pairwise (IsPortAt paths.now outer.now) (signals_among ports.now) found.items) }
 {
     let mut found = Vec::new(alloc);
@@ -161,11 +165,13 @@ fn numbers(
     outer: &Name,
     memories: &[OwnMemory],
 ) -> Result<Vec<u32>, AllocError>
+    requires there { All (λ own. Contains paths.now (joined_text outer.now own.name.now)) memories.now }
     ensures { IfOk result (λ numbers. Pairwise (IsNumberAt paths.now outer.now) memories.now numbers.items) }
 {
     let mut numbers = Vec::new(alloc);
     for own in memories {
-        let number = place_at(paths, &joined(alloc, outer, own.name)?)?;
+        let path = joined(alloc, outer, own.name)?;
+        let number = place_at(paths, &path);
         numbers.reserve(1)?;
         numbers.push_reserved(number);
     }
@@ -173,12 +179,13 @@ fn numbers(
 }
 
 // The instance that holds one, if one does.
-fn holder(paths: &Paths, outer: &Option<Around>) -> Result<Option<u32>, AllocError>
-    ensures { IfOk result (IsHolder paths.now outer.now) }
+fn holder(paths: &Paths, outer: &Option<Around>) -> Option<u32>
+    requires there { IfSome outer.now (λ around. Contains paths.now around.path) }
+    ensures { IsHolder paths.now outer.now result }
 {
     match outer {
-        None => Ok(None),
-        Some(around) => Ok(Some(place_at(paths, &around.path)?)),
+        None => None,
+        Some(around) => Some(place_at(paths, &around.path)),
     }
 }
 
@@ -211,9 +218,12 @@ fn instance(
     first: u32,
     end: u32,
 ) -> Result<Instance, AllocError>
+    requires holder { IfSome place.now.outer (λ around. Contains paths.now around.path) }
+    requires ports { All (λ p. Contains table.now.paths (joined_text place.now.path p.name)) (signals_among module_ports.now) }
+    requires memories { All (λ own. Contains table.now.memories (joined_text place.now.path own.name.now)) digest.now.memories.items }
     ensures { IfOk result (IsInstanceAt paths.now table.now.paths table.now.memories digest.now module_ports.now place.now first end) }
 {
-    let parent = holder(paths, &place.outer)?;
+    let parent = holder(paths, &place.outer);
     let ports = ports(alloc, &table.paths, &place.path, module_ports)?;
     let memories = numbers(
         alloc,
@@ -269,10 +279,13 @@ fn memory(
     outer: &Name,
     own: &OwnMemory,
 ) -> Result<MemoryInstance, AllocError>
+    requires holder { Contains paths.now outer.now }
+    requires number { Contains table.now.memories (joined_text outer.now own.now.name.now) }
     ensures { IfOk result (IsMemoryPart paths.now table.now.memories outer.now own.now) }
 {
-    let holder = place_at(paths, outer)?;
-    let number = place_at(&table.memories, &joined(alloc, outer, own.name)?)?;
+    let holder = place_at(paths, outer);
+    let path = joined(alloc, outer, own.name)?;
+    let number = place_at(&table.memories, &path);
     let mut names = Vec::new(alloc);
     add_names(&mut names, own.bank.readers.as_slice())?;
     add_names(&mut names, own.bank.writers.as_slice())?;
@@ -338,6 +351,8 @@ fn add_site_memories(
     tree: &mut Tree,
 ) -> Result<(), AllocError>
     requires distinct { AllPairs (λ a b. a ≢ b) (tree.old.memory_paths ++ map (λ m. joined_text outer.now m.name.now) memories.now) }
+    requires holder { Contains paths.now outer.now }
+    requires numbers { All (λ own. Contains table.now.memories (joined_text outer.now own.name.now)) memories.now }
     ensures names { OnOk result (tree.new.memory_paths ≡ tree.old.memory_paths ++ map (λ m. joined_text outer.now m.name.now) memories.now) }
     ensures made { OnOk result ((circuit : CircuitTree) (said : List HeldMemory) (place : Place) → paths.now ≡ paths_of_sites circuit → table.now.memories ≡ memory_paths (memories_of circuit) → place.path ≡ outer.now → Pairwise (IsHeldFor circuit) said tree.old.memories → Pairwise (IsHeldFor circuit) (said ++ map (held_at_place place) memories.now) tree.new.memories) }
     ensures rest { OnOk result ((tree.new.paths ≡ tree.old.paths) × (tree.new.instances ≡ tree.old.instances)) }
@@ -361,6 +376,7 @@ fn add_memories(
 ) -> Result<(), AllocError>
     requires digests { AreDigests (types_of typed.now.circuit) typed.now.circuit.modules digests.now }
     requires within { All (IsPlaceIn (length typed.now.circuit.modules)) places.now }
+    requires sites { map site_of places.now ≡ sites_of typed.now.circuit }
     requires paths { paths.now ≡ paths_of_sites typed.now.circuit }
     requires memories { table.now.memories ≡ memory_paths (memories_of typed.now.circuit) }
     requires none { (tree.old.memory_paths ≡ []) × (tree.old.memories ≡ []) }
