@@ -1,7 +1,6 @@
 -- The paths that an instance names are there: of what holds it, of its ports' signals and of its memories.
-use Rattle.std.proofs.Common.{◌≡◌, ◌⊎◌, inl, inr, ℕ, zero, suc, ◌<◌, Bool, true, false, List, [], ◌∷◌, Option, Some, None, is_some, is_none, length, get_or, map, refl, sym, ap, ◌∙◌, subst, arith}
+use Rattle.std.proofs.Common.{◌≡◌, ◌⊎◌, inl, inr, ℕ, zero, suc, true, false, List, Option, Some, None, is_some, is_none, length, map, refl, sym, ap, ◌∙◌, subst, arith}
 use Rattle.std.specs.Prelude.{Contains, All, IfSome, flat_map, option_map}
-use Rattle.std.proofs.lemmas.List.Elements.{All-contains}
 use Rattle.gg_bits.specs.Shape.{Shape, shape}
 use Rattle.gg_bits.specs.declared.types.Ty.{Ty}
 use Rattle.gg_ast.specs.declared.module.GroundType.{GroundType}
@@ -14,13 +13,13 @@ use Rattle.gg_digest.specs.declared.digest.Digest.{Digest}
 use Rattle.gg_digest.specs.declared.digest.OwnMemory.{OwnMemory}
 use Rattle.gg_digest.specs.declared.sites.Around.{Around}
 use Rattle.gg_digest.specs.declared.sites.Place.{Place}
-use Rattle.gg_digest.specs.Flat.{FlatSignal, flat_signal, signals_at, flat_signals, FlatMemory, flat_memory, memories_at, flat_memories}
+use Rattle.gg_digest.specs.Flat.{FlatSignal, flat_signal, signals_at, flat_signals, FlatMemory, flat_memory, memories_at}
 use Rattle.gg_digest.specs.IsFlat.{memory_paths}
 use Rattle.gg_digest.specs.Known.{types_of}
 use Rattle.gg_digest.specs.Memories.{type_shape}
-use Rattle.gg_digest.specs.Signals.{Own, OwnBank, own_banks}
+use Rattle.gg_digest.specs.Signals.{Own, OwnBank}
 use Rattle.gg_digest.specs.Views.{IsDigest, outer_of, own_bank_of, site_of}
-use Rattle.gg_digest.proofs.AmongLemmas.{further, MadeOf, in-map, from-map, in-flat_map, from-flat_map}
+use Rattle.gg_digest.proofs.AmongLemmas.{further, in-map, from-map, in-flat_map, from-flat_map}
 use Rattle.gg_tree.specs.IsTreeOf.{site_paths, signal_paths, memories_of, signal_ports}
 use Rattle.gg_tree.proofs.ElementLemmas.{element}
 use Rattle.gg_tree.proofs.HeldMemoryLemmas.{banks_in}

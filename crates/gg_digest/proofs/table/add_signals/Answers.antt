@@ -1,4 +1,4 @@
-use Rattle.std.proofs.Common.{◌≡◌, List, ◌++◌, map, take, subst₂, arith}
+use Rattle.std.proofs.Common.{subst₂, arith}
 use Rattle.std.specs.Prelude.{Contains}
 use Rattle.gg_flat.specs.Tree.{joined}
 use Rattle.gg_digest.specs.declared.own.OwnSignal.{OwnSignal}
