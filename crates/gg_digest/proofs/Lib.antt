@@ -1,6 +1,8 @@
+pub mod AmongLemmas
 pub mod ConnectionLemmas
 pub mod DigestLemmas
 pub mod FlatLemmas
+pub mod FreshLemmas
 pub mod ListLemmas
 pub mod NameLemmas
 pub mod SiteLemmas

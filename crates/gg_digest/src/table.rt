@@ -1,5 +1,5 @@
 //! The signals and memories of all sites, by their paths.
-ghost use Rattle.std.specs.Prelude.{◌≡◌, ◌++◌, ◌∷◌, [], map, flat_map, length, IfOk, OnOk, All, ◌<◌};
+ghost use Rattle.std.specs.Prelude.{◌≡◌, ◌≢◌, ◌++◌, ◌∷◌, [], map, flat_map, length, IfOk, OnOk, All, AllPairs, Contains, ◌<◌};
 ghost use Rattle.gg_bits.specs.Shape.{shape};
 ghost use Rattle.gg_flat.specs.Tree.{joined as joined_text};
 ghost use Rattle.gg_digest.specs.Flat.{flat_signals, flat_memories};
@@ -24,12 +24,13 @@ pub struct Table {
     pub memories: Paths,
 }
 
-/// Adds a path.
+/// Adds a path that isn't there.
 ///
 /// # Errors
 ///
-/// `AllocError` where memory is refused; so are a path that is there already, and more than 4,294,967,295 of them.
+/// `AllocError` where memory is refused; so are more than 4,294,967,295 paths.
 pub fn add_path(paths: &mut Paths, path: Name) -> Result<(), AllocError>
+    requires fresh { ¬ Contains paths.old path }
     ensures { OnOk result (paths.new ≡ paths.old ++ path ∷ []) }
 {
     if paths.len() >= u32::MAX as usize {
@@ -37,7 +38,8 @@ pub fn add_path(paths: &mut Paths, path: Name) -> Result<(), AllocError>
     }
     match paths.add(path) {
         Ok(()) => Ok(()),
-        Err(AddError::Doubled | AddError::NoMemory) => Err(AllocError),
+        Err(AddError::Doubled) => unreachable!(),
+        Err(AddError::NoMemory) => Err(AllocError),
     }
 }
 
@@ -48,6 +50,7 @@ fn add_signals(
     path: &Name,
     signals: &[OwnSignal],
 ) -> Result<(), AllocError>
+    requires distinct { AllPairs (λ a b. a ≢ b) (table.old.paths ++ map (λ s. joined_text path.now s.name) signals.now) }
     ensures paths { OnOk result (table.new.paths ≡ table.old.paths ++ map (λ s. joined_text path.now s.name) signals.now) }
     ensures types { OnOk result (map (λ t. shape t) table.new.types.items ≡ map (λ t. shape t) table.old.types.items ++ map (λ s. shape s.ty) signals.now) }
     ensures memories { OnOk result (table.new.memories ≡ table.old.memories) }
@@ -67,6 +70,7 @@ fn add_memories(
     path: &Name,
     memories: &[OwnMemory],
 ) -> Result<(), AllocError>
+    requires distinct { AllPairs (λ a b. a ≢ b) (table.old.memories ++ map (λ m. joined_text path.now m.name.now) memories.now) }
     ensures memories { OnOk result (table.new.memories ≡ table.old.memories ++ map (λ m. joined_text path.now m.name.now) memories.now) }
     ensures paths { OnOk result (table.new.paths ≡ table.old.paths) }
     ensures types { OnOk result (table.new.types ≡ table.old.types) }
@@ -77,7 +81,7 @@ fn add_memories(
     Ok(())
 }
 
-/// The signals and memories of all sites.
+/// The signals and memories of all sites, no two of which have the same path.
 ///
 /// # Errors
 ///
@@ -90,6 +94,8 @@ pub fn table_of(
 ) -> Result<Table, AllocError>
     requires digests { AreDigests (types_of typed.now.circuit) typed.now.circuit.modules digests.now }
     requires numbers { All (λ place. place.number < length typed.now.circuit.modules) places.now }
+    requires signals { AllPairs (λ a b. a ≢ b) (map (λ x. x.path) (flat_signals (types_of typed.now.circuit) typed.now.circuit.modules (map site_of places.now))) }
+    requires memories { AllPairs (λ a b. a ≢ b) (memory_paths (flat_memories typed.now.circuit.modules (map site_of places.now))) }
     ensures signals { IfOk result (λ table. table_signals table ≡ signals_of (flat_signals (types_of typed.now.circuit) typed.now.circuit.modules (map site_of places.now))) }
     ensures even { IfOk result (λ table. length table.types.items ≡ length table.paths) }
     ensures memories { IfOk result (λ table. table.memories ≡ memory_paths (flat_memories typed.now.circuit.modules (map site_of places.now))) }

@@ -17,7 +17,7 @@ use Rattle.gg_flat.specs.declared.piece.Signal.{Signal}
 use Rattle.gg_flat.specs.Circuit.{FlatCircuit, signal_shapes, driver_at}
 use Rattle.gg_flat.specs.Line.{shape_at, HasType}
 use Rattle.gg_flat.specs.WellFormed.{IsRegister}
-use Rattle.gg_elab.specs.Fitting.{FitsDriver, AreFitting}
+use Rattle.gg_formed.specs.Fitting.{FitsDriver, AreFitting}
 use Rattle.gg_elab.specs.Building.{IsSoFar, HasMemories}
 use Rattle.gg_digest.specs.Flat.{FlatSignal, FlatMemory, flat_signals, flat_memories}
 use Rattle.gg_digest.specs.IsFlat.{IsFlatOf, IsMemoryOf, signals_of, memory_paths, number_of, port_name, port_names, top_ports}

@@ -9,7 +9,7 @@ use Rattle.gg_flat.specs.declared.memory.Memory.{Memory}
 use Rattle.gg_flat.specs.Circuit.{FlatCircuit, signal_shapes, driver_at}
 use Rattle.gg_flat.specs.Line.{shape_at, HasType}
 use Rattle.gg_flat.specs.WellFormed.{IsRegister}
-use Rattle.gg_elab.specs.Fitting.{FitsDriver}
+use Rattle.gg_formed.specs.Fitting.{FitsDriver}
 use Rattle.gg_digest.specs.Flat.{Drive, Outside, Gets, Holds, Answers, FlatSignal, FlatMemory}
 use Rattle.gg_digest.specs.IsFlat.{IsComputed, IsRegisterOf, IsDrivenBy, answer, number_of, is_outside, is_register, drive_at, count_before, IsMemoryOf}
 use Rattle.gg_digest.specs.Meaning.{Signals}

@@ -1,9 +1,9 @@
 //! The flat circuit, signal by signal.
-ghost use Rattle.std.specs.Prelude.{◌≡◌, ◌<◌, ◌-◌, ◌^◌, ℕ, List, ◌++◌, ◌∷◌, [], None, ◌+◌, if◌then◌else◌, codes, length, map, IfOk, OnOk, IfSome, All, MatchOption, ⊤, option_copied};
+ghost use Rattle.std.specs.Prelude.{◌≡◌, ◌≢◌, ◌<◌, ◌-◌, ◌^◌, ℕ, List, ◌++◌, ◌∷◌, [], None, ◌+◌, if◌then◌else◌, codes, length, map, IfOk, OnOk, IfSome, All, AllPairs, Contains, MatchOption, ⊤, option_copied, option_to_list};
 ghost use Rattle.gg_bits.specs.Shape.{Shape, shape};
 ghost use Rattle.gg_flat.specs.Line.{HasType, IsSource};
 ghost use Rattle.gg_flat.specs.WellFormed.{IsRegister, IsReset};
-ghost use Rattle.gg_elab.specs.Fitting.{FitsDriver, IsFitting};
+ghost use Rattle.gg_formed.specs.Fitting.{FitsDriver, IsFitting};
 ghost use Rattle.gg_digest.specs.Flat.{drive_of, input_drive, FlatSignal, flat_signal, signals_at, flat_signals, Gets};
 ghost use Rattle.gg_flat.specs.Circuit.{no_circuit};
 ghost use Rattle.gg_flat.specs.Tree.{joined as joined_text};
@@ -222,18 +222,28 @@ fn make<'a>(
     }
 }
 
-// Adds a signal that is made, and the register that it holds.
+// Adds a register, if there is one.
+fn hold(piece: &mut Piece, register: Option<Register>) -> Result<(), AllocError>
+    ensures { OnOk result (piece.new ≡ record piece.old { registers = piece.old.registers ++ option_to_list register }) }
+{
+    match register {
+        None => Ok(()),
+        Some(register) => piece.add_register(register),
+    }
+}
+
+// Adds a signal that is made, of a path that none has, and the register that it holds.
 fn add_made(piece: &mut Piece, path: Name, ty: Ty, made: Made) -> Result<(), AllocError>
-    requires { length piece.old.signals < 2 ^ 32 - 1 }
+    requires few { length piece.old.signals < 2 ^ 32 - 1 }
+    requires fresh { ¬ Contains piece.old.paths path }
     ensures { OnOk result (piece.new ≡ with_made piece.old path ty made.driver made.register) }
 {
     let Made { driver, register } = made;
-    if let Some(register) = register {
-        piece.add_register(register)?;
-    }
+    hold(piece, register)?;
     match piece.add_signal(path, Signal { ty, driver }) {
         Ok(()) => Ok(()),
-        Err(_) => Err(AllocError),
+        Err(AddError::Doubled) => unreachable!(),
+        Err(AddError::NoMemory) => Err(AllocError),
     }
 }
 
@@ -263,7 +273,9 @@ fn add_signal<'a>(
     requires digests { AreDigests (types_of typed.now.circuit) typed.now.circuit.modules digests.now }
     requires number { place.now.number < length typed.now.circuit.modules }
     requires around { IfSome place.now.outer (λ around. around.number < length typed.now.circuit.modules) }
-    ensures { IfOk result (λ more. (xs : List FlatSignal) → IsSoFar (types_of typed.now.circuit) (table_signals table.now) table.now.memories xs piece.old inputs → IsSoFar (types_of typed.now.circuit) (table_signals table.now) table.now.memories (xs ++ flat_signal typed.now.circuit.modules (site_of place.now) (own_of signal.now) ∷ []) piece.new more) }
+    requires fresh { ¬ Contains piece.old.paths (joined_text place.now.path signal.now.name) }
+    ensures paths { IfOk result (λ _. piece.new.paths ≡ piece.old.paths ++ joined_text place.now.path signal.now.name ∷ []) }
+    ensures so_far { IfOk result (λ more. (xs : List FlatSignal) → IsSoFar (types_of typed.now.circuit) (table_signals table.now) table.now.memories xs piece.old inputs → IsSoFar (types_of typed.now.circuit) (table_signals table.now) table.now.memories (xs ++ flat_signal typed.now.circuit.modules (site_of place.now) (own_of signal.now) ∷ []) piece.new more) }
 {
     let states = match u32::try_from(piece.registers().len()) {
         Ok(states) => states,
@@ -293,6 +305,7 @@ fn add_site<'a>(
     requires digests { AreDigests (types_of typed.now.circuit) typed.now.circuit.modules digests.now }
     requires number { place.now.number < length typed.now.circuit.modules }
     requires around { IfSome place.now.outer (λ around. around.number < length typed.now.circuit.modules) }
+    requires distinct { AllPairs (λ a b. a ≢ b) (piece.old.paths ++ map (λ x. x.path) (signals_at (types_of typed.now.circuit) typed.now.circuit.modules (site_of place.now))) }
     ensures { IfOk result (λ more. (xs : List FlatSignal) → IsSoFar (types_of typed.now.circuit) (table_signals table.now) table.now.memories xs piece.old inputs → IsSoFar (types_of typed.now.circuit) (table_signals table.now) table.now.memories (xs ++ signals_at (types_of typed.now.circuit) typed.now.circuit.modules (site_of place.now)) piece.new more) }
 {
     let mut inputs = inputs;
@@ -316,6 +329,7 @@ pub(crate) fn add_sites<'a>(
     requires digests { AreDigests (types_of typed.now.circuit) typed.now.circuit.modules digests.now }
     requires places { All (IsPlaceIn (length typed.now.circuit.modules)) places.now }
     requires empty { piece.old ≡ no_circuit }
+    requires distinct { AllPairs (λ a b. a ≢ b) (map (λ x. x.path) (flat_signals (types_of typed.now.circuit) typed.now.circuit.modules (map site_of places.now))) }
     ensures { OnOk result ((inputs : ℕ) × IsSoFar (types_of typed.now.circuit) (table_signals table.now) table.now.memories (flat_signals (types_of typed.now.circuit) typed.now.circuit.modules (map site_of places.now)) piece.new inputs) }
 {
     let mut inputs = 0u32;

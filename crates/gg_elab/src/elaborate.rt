@@ -4,7 +4,7 @@ ghost use Rattle.gg_ast.specs.Places.{place_of};
 ghost use Rattle.gg_ast.specs.Tree.{module_names};
 ghost use Rattle.gg_digest.specs.Views.{AreDigests};
 ghost use Rattle.gg_digest.specs.IsFlat.{IsFlat, IsFlatWith};
-ghost use Rattle.gg_elab.specs.Fitting.{AreFitting};
+ghost use Rattle.gg_formed.specs.Fitting.{AreFitting};
 ghost use Rattle.gg_flat.specs.Scoped.{IsScoped};
 ghost use Rattle.gg_flat.specs.Tree.{IsTree};
 ghost use Rattle.gg_flat.specs.WellFormed.{IsWellFormed};
@@ -18,6 +18,7 @@ use crate::ports::{add_all_memories, add_ports};
 use gg_count::count;
 use gg_digest::{Digest, Place, digests, places, table_of};
 use gg_flat::{Piece, Tree};
+use gg_formed::{distinct, formed, top_of};
 use gg_tree::{fits, tree_of};
 use gg_types::Typed;
 use std::alloc::{AllocError, Global};
@@ -49,6 +50,7 @@ fn build<'a>(
     ensures tree { IfOk result (λ both. IsTreeOf typed.now.circuit both.1) }
 {
     let modules = typed.names().circuit().modules();
+    distinct(typed);
     let places = places(alloc, typed, digests, top)?;
     let table = table_of(alloc, typed, digests, places.as_slice())?;
     let mut piece = Piece::new(alloc);
@@ -59,23 +61,20 @@ fn build<'a>(
     Ok((piece, tree))
 }
 
-// The flat circuit with its tree, where it is well formed. That no other is made here isn't proved: it would be
-// refused as want of memory.
-fn joined(typed: &Typed, piece: Piece, tree: Tree) -> Result<(Piece, Tree), AllocError>
+// The flat circuit with its tree: it is well formed, the tree fits it, and it keeps to the tree's scopes.
+fn joined(typed: &Typed, piece: Piece, tree: Tree) -> (Piece, Tree)
     requires top { (place_of typed.now.circuit.name (module_names typed.now.circuit)) ≢ None }
     requires flat { IsFlat typed.now.circuit piece }
+    requires fits { AreFitting piece }
     requires tree { IsTreeOf typed.now.circuit tree }
-    ensures same { IfOk result (λ both. both.0 ≡ piece) }
-    ensures formed { IfOk result (λ both. IsWellFormed both.0) }
-    ensures fitting { IfOk result (λ both. IsTree both.0 both.1) }
-    ensures scoped { IfOk result (λ both. IsScoped both.0 both.1) }
+    ensures same { result.0 ≡ piece }
+    ensures formed { IsWellFormed result.0 }
+    ensures fitting { IsTree result.0 result.1 }
+    ensures scoped { IsScoped result.0 result.1 }
 {
     fits(typed, &piece, &tree);
-    if piece.check() {
-        Ok((piece, tree))
-    } else {
-        Err(AllocError)
-    }
+    formed(typed, &piece);
+    (piece, tree)
 }
 
 /// The flat circuit of a circuit that the checks passed, and the tree of its instances, to whose scopes it keeps.
@@ -93,10 +92,7 @@ pub fn flatten(alloc: Global, typed: &Typed) -> Result<(Piece, Tree), ElabFault>
     ensures limits { IsAnswered (excess_over (types_of typed.now.circuit) typed.now.circuit.modules (place_of typed.now.circuit.name (module_names typed.now.circuit))) result }
 {
     let circuit = typed.names().circuit();
-    // A circuit without a top isn't checked: it has the fault F1.
-    let Some(top) = circuit.module(circuit.name().as_str()) else {
-        return Err(ElabFault::NoMemory);
-    };
+    let top = top_of(typed);
     let digests = digests(alloc, typed)?;
     let own = own_counts(alloc, digests.as_slice())?;
     let counts = count(alloc, circuit, typed.order(), top, own.as_slice())?;
@@ -104,7 +100,7 @@ pub fn flatten(alloc: Global, typed: &Typed) -> Result<(Piece, Tree), ElabFault>
         Some(excess) => Err(ElabFault::TooLarge(excess)),
         None => {
             let (piece, tree) = build(alloc, typed, digests.as_slice(), top)?;
-            Ok(joined(typed, piece, tree)?)
+            Ok(joined(typed, piece, tree))
         }
     }
 }

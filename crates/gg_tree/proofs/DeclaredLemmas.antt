@@ -47,7 +47,7 @@ any-true n (x ∷ xs) c = go (bytes_eq n x) refl (bytes_eq-Decides n x) c (any-t
     go false e d (suc k, lt, is) next = next (k, omega (arith, lt), is)
 
 -- a name that isn't repeated is new
-fresh : (names : List (List ℕ)) (line : ℕ) (n : List ℕ) → repeated_in names line n ≡ [] → ¬ Contains names n
+pub fresh : (names : List (List ℕ)) (line : ℕ) (n : List ℕ) → repeated_in names line n ≡ [] → ¬ Contains names n
 fresh names line n h c =
     let never : repetition_if true line n ≡ [] = ap (λ b. repetition_if b line n) (sym (any-true n names c)) ∙ h in
     true≢false (sym (ap is_empty never))

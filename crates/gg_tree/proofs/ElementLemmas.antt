@@ -1,5 +1,5 @@
 -- Elements of lists, and what an option holds.
-use Rattle.std.proofs.Common.{◌≡◌, ◌≢◌, ℕ, zero, suc, ◌<◌, List, [], ◌∷◌, length, get_or, Bool, true, false, Option, Some, None, refl, arith}
+use Rattle.std.proofs.Common.{◌≡◌, ◌≢◌, ℕ, zero, suc, ◌<◌, List, [], ◌∷◌, length, get_or, Bool, true, false, Option, Some, None, refl, ap, ◌∙◌, arith}
 use Rattle.std.specs.Prelude.{Contains, filter, if◌then◌else◌}
 
 pub some-same : {A : Type 0} (a b : A) → Some a ≡ Some b → a ≡ b
@@ -35,3 +35,13 @@ filter-in test (x ∷ xs) a c = go (test x) refl c (filter-in test xs a)
     go true e (zero, lt, is) next = (0, omega arith, is)
     go true e (suc i, lt, is) next = let r = next (i, omega (arith, lt), is) in (suc r.0, omega (arith, r.1), r.2)
     go false e c next = let r = next c in (suc r.0, omega (arith, r.1), r.2)
+
+-- what is one of the list and passes a test is kept
+pub filter-keeps : {A : Type 0} (test : A → Bool) (xs : List A) (a : A) → Contains xs a → test a ≡ true → Contains (filter test xs) a
+filter-keeps test [] a c h = absurd (omega (arith, c.1))
+filter-keeps test (x ∷ xs) a (zero, lt, is) h = let same : test x ≡ true = ap test is ∙ h in rw same (0, omega arith, is)
+filter-keeps test (x ∷ xs) a (suc i, lt, is) h = go (test x) (filter-keeps test xs a (i, omega (arith, lt), is) h)
+  where
+    go : (b : Bool) → Contains (filter test xs) a → Contains (if b then x ∷ filter test xs else filter test xs) a
+    go true c = (suc c.0, omega (arith, c.1), c.2)
+    go false c = c

@@ -16,6 +16,7 @@ pub mod PlaceLemmas
 pub mod RangeLemmas
 pub mod ScopeOfTreeLemmas
 pub mod SoundLemmas
+pub mod ThereLemmas
 pub mod TreeJoinLemmas
 pub mod TreeLemmas
 pub mod TreePartLemmas

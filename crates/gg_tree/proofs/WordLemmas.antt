@@ -99,7 +99,7 @@ none_bank None b = b
 none_bank (Some x) b = x
 
 -- a memory has the ports that its fields say
-bank-ports : (word : Option Shape) (depth : ℕ) (latency : Option Latency) (readers writers : List (List ℕ)) (bank : Bank) → bank_with word depth latency readers writers ≡ Some bank → (bank.readers ≡ readers) × (bank.writers ≡ writers)
+pub bank-ports : (word : Option Shape) (depth : ℕ) (latency : Option Latency) (readers writers : List (List ℕ)) (bank : Bank) → bank_with word depth latency readers writers ≡ Some bank → (bank.readers ≡ readers) × (bank.writers ≡ writers)
 bank-ports None depth latency readers writers bank e = absurd (cc)
 bank-ports (Some word) depth None readers writers bank e = absurd (cc)
 bank-ports (Some word) depth (Some latency) readers writers bank e = go (nat_lt 0 depth) e

@@ -1,5 +1,5 @@
 //! The tree of the circuit's instances.
-ghost use Rattle.std.specs.Prelude.{List, None, ℕ, ◌≡◌, ◌≢◌, ◌<◌, ◌≤◌, ◌+◌, ◌++◌, ◌∷◌, [], map, flat_map, length, option_to_list, slice_index, IfOk, OnOk, All};
+ghost use Rattle.std.specs.Prelude.{List, None, ℕ, ◌≡◌, ◌≢◌, ◌<◌, ◌≤◌, ◌+◌, ◌++◌, ◌∷◌, [], map, flat_map, length, option_to_list, slice_index, IfOk, OnOk, IfSome, All, AllPairs, Contains, true};
 ghost use Rattle.gg_ast.specs.Places.{place_of};
 ghost use Rattle.gg_ast.specs.Tree.{CircuitTree, module_names};
 ghost use Rattle.gg_count.specs.Sites.{sites_of};
@@ -10,33 +10,35 @@ ghost use Rattle.gg_flat.specs.Tree.{joined as joined_text, no_tree};
 ghost use Rattle.gg_digest.specs.Views.{IsPlaceIn, AreDigests, site_of};
 ghost use Rattle.gg_tree.specs.IsTreeOf.{IsAt, Pairwise, HeldMemory, held_memories, AreInstances, IsTreeOf, site_paths as paths_of_sites, signal_paths, memories_of};
 ghost use Rattle.gg_digest.specs.Known.{types_of};
-ghost use Rattle.gg_tree.specs.TreeParts.{signals_among, IsPortAt, IsNumberAt, IsHolder, place_paths, signals_to, IsInstanceAt, IsMemoryPart, IsHeldFor, held_at_place};
+ghost use Rattle.gg_tree.specs.TreeParts.{is_signal, signals_among, IsPortAt, IsNumberAt, IsHolder, place_paths, signals_to, IsInstanceAt, IsMemoryPart, IsHeldFor, held_at_place};
 
 use gg_ast::{Direction, Port};
 use gg_bits::{Ids, Items, Name, Names};
 use gg_digest::{Around, Digest, OwnMemory, Place, Table, add_path, ground_type, joined};
-use gg_flat::{Instance, InstancePort, MemoryInstance, Paths, Tree};
+use gg_flat::{AddError, Instance, InstancePort, MemoryInstance, Paths, Tree};
 use gg_types::Typed;
 use std::alloc::{AllocError, Global};
 
-// The place of a path among these; of one that isn't there it is told as want of memory.
-fn place_at(paths: &Paths, path: &Name) -> Result<u32, AllocError>
-    ensures { IfOk result (IsAt paths.now path.now) }
+// The place of one of these paths.
+fn place_at(paths: &Paths, path: &Name) -> u32
+    requires there { Contains paths.now path.now }
+    ensures { IsAt paths.now path.now result }
 {
     let _ = paths.len();
-    match paths.find(path) {
-        Some(place) => Ok(place),
-        None => Err(AllocError),
-    }
+    let Some(place) = paths.find(path) else {
+        unreachable!();
+    };
+    place
 }
 
 // The paths of all sites.
 fn site_paths(alloc: Global, places: &[Place]) -> Result<Paths, AllocError>
+    requires distinct { AllPairs (λ a b. a ≢ b) (place_paths places.now) }
     ensures { IfOk result (λ paths. paths ≡ place_paths places.now) }
 {
     let mut paths = Paths::new(alloc);
     for place in places {
-        add_path(&mut paths, place.path.clone()?)?;
+        add_path(&mut paths, copied(&place.path)?)?;
     }
     Ok(paths)
 }
@@ -109,12 +111,14 @@ fn port(
     outer: &Name,
     port: &Port,
 ) -> Result<Option<InstancePort>, AllocError>
+    requires there { is_signal port.now ≡ true → Contains paths.now (joined_text outer.now port.now.name) }
     ensures { IfOk result (λ found. Pairwise (IsPortAt paths.now outer.now) (signals_among (port.now ∷ [])) (option_to_list found)) }
 {
     if ground_type(port.ty).is_none() {
         return Ok(None);
     }
-    let signal = place_at(paths, &joined(alloc, outer, &port.name)?)?;
+    let path = joined(alloc, outer, &port.name)?;
+    let signal = place_at(paths, &path);
     let is_input = match port.direction {
         Direction::Input => true,
         Direction::Output => false,
@@ -143,6 +147,7 @@ fn ports(
     outer: &Name,
     ports: &[Port],
 ) -> Result<Vec<InstancePort>, AllocError>
+    requires there { All (λ p. Contains paths.now (joined_text outer.now p.name)) (signals_among ports.now) }
     ensures { IfOk result (λ found. Pairwise (IsPortAt paths.now outer.now) (signals_among ports.now) found.items) }
 {
     let mut found = Vec::new(alloc);
@@ -160,11 +165,13 @@ fn numbers(
     outer: &Name,
     memories: &[OwnMemory],
 ) -> Result<Vec<u32>, AllocError>
+    requires there { All (λ own. Contains paths.now (joined_text outer.now own.name.now)) memories.now }
     ensures { IfOk result (λ numbers. Pairwise (IsNumberAt paths.now outer.now) memories.now numbers.items) }
 {
     let mut numbers = Vec::new(alloc);
     for own in memories {
-        let number = place_at(paths, &joined(alloc, outer, own.name)?)?;
+        let path = joined(alloc, outer, own.name)?;
+        let number = place_at(paths, &path);
         numbers.reserve(1)?;
         numbers.push_reserved(number);
     }
@@ -172,12 +179,13 @@ fn numbers(
 }
 
 // The instance that holds one, if one does.
-fn holder(paths: &Paths, outer: &Option<Around>) -> Result<Option<u32>, AllocError>
-    ensures { IfOk result (IsHolder paths.now outer.now) }
+fn holder(paths: &Paths, outer: &Option<Around>) -> Option<u32>
+    requires there { IfSome outer.now (λ around. Contains paths.now around.path) }
+    ensures { IsHolder paths.now outer.now result }
 {
     match outer {
-        None => Ok(None),
-        Some(around) => Ok(Some(place_at(paths, &around.path)?)),
+        None => None,
+        Some(around) => Some(place_at(paths, &around.path)),
     }
 }
 
@@ -210,9 +218,12 @@ fn instance(
     first: u32,
     end: u32,
 ) -> Result<Instance, AllocError>
+    requires holder { IfSome place.now.outer (λ around. Contains paths.now around.path) }
+    requires ports { All (λ p. Contains table.now.paths (joined_text place.now.path p.name)) (signals_among module_ports.now) }
+    requires memories { All (λ own. Contains table.now.memories (joined_text place.now.path own.name.now)) digest.now.memories.items }
     ensures { IfOk result (IsInstanceAt paths.now table.now.paths table.now.memories digest.now module_ports.now place.now first end) }
 {
-    let parent = holder(paths, &place.outer)?;
+    let parent = holder(paths, &place.outer);
     let ports = ports(alloc, &table.paths, &place.path, module_ports)?;
     let memories = numbers(
         alloc,
@@ -230,8 +241,9 @@ fn instance(
     })
 }
 
-// Adds an instance.
+// Adds an instance of a path that none has.
 fn add_instance(tree: &mut Tree, path: Name, instance: Instance) -> Result<(), AllocError>
+    requires fresh { ¬ Contains tree.old.paths path }
     ensures { OnOk result (tree.new ≡ record tree.old { paths = tree.old.paths ++ path ∷ []; instances = tree.old.instances ++ instance ∷ [] }) }
 {
     if tree.len() >= u32::MAX as usize {
@@ -239,12 +251,14 @@ fn add_instance(tree: &mut Tree, path: Name, instance: Instance) -> Result<(), A
     }
     match tree.add(path, instance) {
         Ok(()) => Ok(()),
-        Err(_) => Err(AllocError),
+        Err(AddError::Doubled) => unreachable!(),
+        Err(AddError::NoMemory) => Err(AllocError),
     }
 }
 
-// Adds a memory.
+// Adds a memory of a path that none has.
 fn add_memory(tree: &mut Tree, path: Name, memory: MemoryInstance) -> Result<(), AllocError>
+    requires fresh { ¬ Contains tree.old.memory_paths path }
     ensures { OnOk result (tree.new ≡ record tree.old { memory_paths = tree.old.memory_paths ++ path ∷ []; memories = tree.old.memories ++ memory ∷ [] }) }
 {
     if tree.memory_count() >= u32::MAX as usize {
@@ -252,7 +266,8 @@ fn add_memory(tree: &mut Tree, path: Name, memory: MemoryInstance) -> Result<(),
     }
     match tree.add_memory(path, memory) {
         Ok(()) => Ok(()),
-        Err(_) => Err(AllocError),
+        Err(AddError::Doubled) => unreachable!(),
+        Err(AddError::NoMemory) => Err(AllocError),
     }
 }
 
@@ -264,10 +279,13 @@ fn memory(
     outer: &Name,
     own: &OwnMemory,
 ) -> Result<MemoryInstance, AllocError>
+    requires holder { Contains paths.now outer.now }
+    requires number { Contains table.now.memories (joined_text outer.now own.now.name.now) }
     ensures { IfOk result (IsMemoryPart paths.now table.now.memories outer.now own.now) }
 {
-    let holder = place_at(paths, outer)?;
-    let number = place_at(&table.memories, &joined(alloc, outer, own.name)?)?;
+    let holder = place_at(paths, outer);
+    let path = joined(alloc, outer, own.name)?;
+    let number = place_at(&table.memories, &path);
     let mut names = Vec::new(alloc);
     add_names(&mut names, own.bank.readers.as_slice())?;
     add_names(&mut names, own.bank.writers.as_slice())?;
@@ -293,6 +311,7 @@ fn add_instances(
     requires top { (place_of typed.now.circuit.name (module_names typed.now.circuit)) ≢ None }
     requires sites { map site_of places.now ≡ sites_of typed.now.circuit }
     requires paths { paths.now ≡ place_paths places.now }
+    requires distinct { AllPairs (λ a b. a ≢ b) (place_paths places.now) }
     requires signals { table.now.paths ≡ signal_paths typed.now.circuit }
     requires memories { table.now.memories ≡ memory_paths (memories_of typed.now.circuit) }
     requires none { tree.old ≡ no_tree }
@@ -331,6 +350,9 @@ fn add_site_memories(
     memories: &[OwnMemory],
     tree: &mut Tree,
 ) -> Result<(), AllocError>
+    requires distinct { AllPairs (λ a b. a ≢ b) (tree.old.memory_paths ++ map (λ m. joined_text outer.now m.name.now) memories.now) }
+    requires holder { Contains paths.now outer.now }
+    requires numbers { All (λ own. Contains table.now.memories (joined_text outer.now own.name.now)) memories.now }
     ensures names { OnOk result (tree.new.memory_paths ≡ tree.old.memory_paths ++ map (λ m. joined_text outer.now m.name.now) memories.now) }
     ensures made { OnOk result ((circuit : CircuitTree) (said : List HeldMemory) (place : Place) → paths.now ≡ paths_of_sites circuit → table.now.memories ≡ memory_paths (memories_of circuit) → place.path ≡ outer.now → Pairwise (IsHeldFor circuit) said tree.old.memories → Pairwise (IsHeldFor circuit) (said ++ map (held_at_place place) memories.now) tree.new.memories) }
     ensures rest { OnOk result ((tree.new.paths ≡ tree.old.paths) × (tree.new.instances ≡ tree.old.instances)) }
@@ -354,9 +376,11 @@ fn add_memories(
 ) -> Result<(), AllocError>
     requires digests { AreDigests (types_of typed.now.circuit) typed.now.circuit.modules digests.now }
     requires within { All (IsPlaceIn (length typed.now.circuit.modules)) places.now }
+    requires sites { map site_of places.now ≡ sites_of typed.now.circuit }
     requires paths { paths.now ≡ paths_of_sites typed.now.circuit }
     requires memories { table.now.memories ≡ memory_paths (memories_of typed.now.circuit) }
     requires none { (tree.old.memory_paths ≡ []) × (tree.old.memories ≡ []) }
+    requires distinct { AllPairs (λ a b. a ≢ b) (memory_paths (flat_memories typed.now.circuit.modules (map site_of places.now))) }
     ensures names { OnOk result (tree.new.memory_paths ≡ memory_paths (flat_memories typed.now.circuit.modules (map site_of places.now))) }
     ensures made { OnOk result (Pairwise (IsHeldFor typed.now.circuit) (flat_map (held_memories typed.now.circuit.modules) (map site_of places.now)) tree.new.memories) }
     ensures rest { OnOk result ((tree.new.paths ≡ tree.old.paths) × (tree.new.instances ≡ tree.old.instances)) }
@@ -394,6 +418,8 @@ pub fn tree_of(
     requires sites { map site_of places.now ≡ sites_of typed.now.circuit }
     requires signals { table.now.paths ≡ signal_paths typed.now.circuit }
     requires memories { table.now.memories ≡ memory_paths (memories_of typed.now.circuit) }
+    requires sites_differ { AllPairs (λ a b. a ≢ b) (paths_of_sites typed.now.circuit) }
+    requires memories_differ { AllPairs (λ a b. a ≢ b) (memory_paths (memories_of typed.now.circuit)) }
     ensures { IfOk result (IsTreeOf typed.now.circuit) }
 {
     let paths = site_paths(alloc, places)?;

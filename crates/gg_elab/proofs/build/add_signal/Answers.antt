@@ -8,8 +8,8 @@ use Rattle.gg_digest.specs.Known.{types_of}
 use Rattle.gg_elab.proofs.BuildLemmas.{so_far-more}
 use Rattle.gg_elab.proofs.build.add_signal.Goals as goal
 
-pub returns : goal.returns
-returns c = λ xs h.
+pub returns-clause-so_far : goal.returns-clause-so_far
+returns-clause-so_far c = λ xs h.
     let circuit = c.args.typed.now.circuit in
     let types = types_of circuit in
     let signals = table_signals c.args.table.now in

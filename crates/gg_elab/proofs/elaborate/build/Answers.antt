@@ -9,12 +9,13 @@ use Rattle.gg_digest.specs.Known.{types_of}
 use Rattle.gg_digest.specs.Views.{site_of, table_signals}
 use Rattle.gg_digest.specs.declared.sites.Place.{Place}
 use Rattle.gg_elab.specs.Building.{IsSoFar, HasMemories}
-use Rattle.gg_digest.specs.Flat.{flat_signals, flat_memories}
+use Rattle.gg_digest.specs.Flat.{FlatSignal, flat_signals, flat_memories}
 use Rattle.gg_digest.specs.IsFlat.{signals_of, memory_paths}
 use Rattle.gg_elab.proofs.WholeLemmas.{whole, with_top, fitting_whole}
 use Rattle.gg_tree.proofs.TreeJoinLemmas.{sites-of, is-some}
 use Rattle.gg_digest.specs.Signals.{Types}
 use Rattle.gg_digest.specs.Meaning.{Signals}
+use Rattle.gg_digest.proofs.NameLemmas.{Differ}
 use Rattle.gg_elab.proofs.elaborate.build.Goals as goal
 
 abbrev signal_paths_of : Types → List ModuleTree → List Site → List (List ℕ)
@@ -103,3 +104,27 @@ tree_of-requires-clause-memories c =
     let sites = sites-of modules (place_of circuit.name (module_names circuit)) c.args.top (map site_of places) c.requires.top c.in_ok-places.ensures.sites in
     c.in_ok-table.ensures.memories ∙ ap (λ (l : List Place). memory_paths (flat_memories modules (map site_of l))) c.as_slice.ensures.value
     ∙ ap (λ (l : List Site). memory_paths (flat_memories modules l)) sites
+
+pub table_of-requires-clause-signals : goal.table_of-requires-clause-signals
+table_of-requires-clause-signals c =
+    let circuit = c.args.typed.now.circuit in
+    let modules = circuit.modules in
+    let sites = sites-of modules (place_of circuit.name (module_names circuit)) c.args.top (map site_of c.in_ok-places.places.items) c.requires.top c.in_ok-places.ensures.sites in
+    subst (λ (l : List Place). Differ (map (λ (x : FlatSignal). x.path) (flat_signals (types_of circuit) modules (map site_of l)))) (sym c.as_slice.ensures.value)
+    (subst (λ (l : List Site). Differ (map (λ (x : FlatSignal). x.path) (flat_signals (types_of circuit) modules (l)))) (sym sites) c.distinct.ensures.signals)
+
+pub table_of-requires-clause-memories : goal.table_of-requires-clause-memories
+table_of-requires-clause-memories c =
+    let circuit = c.args.typed.now.circuit in
+    let modules = circuit.modules in
+    let sites = sites-of modules (place_of circuit.name (module_names circuit)) c.args.top (map site_of c.in_ok-places.places.items) c.requires.top c.in_ok-places.ensures.sites in
+    subst (λ (l : List Place). Differ (memory_paths (flat_memories modules (map site_of l)))) (sym c.as_slice.ensures.value)
+    (subst (λ (l : List Site). Differ (memory_paths (flat_memories modules (l)))) (sym sites) c.distinct.ensures.memories)
+
+pub add_sites-requires-clause-distinct : goal.add_sites-requires-clause-distinct
+add_sites-requires-clause-distinct c =
+    let circuit = c.args.typed.now.circuit in
+    let modules = circuit.modules in
+    let sites = sites-of modules (place_of circuit.name (module_names circuit)) c.args.top (map site_of c.in_ok-places.places.items) c.requires.top c.in_ok-places.ensures.sites in
+    subst (λ (l : List Place). Differ (map (λ (x : FlatSignal). x.path) (flat_signals (types_of circuit) modules (map site_of l)))) (sym c.as_slice-2.ensures.value)
+    (subst (λ (l : List Site). Differ (map (λ (x : FlatSignal). x.path) (flat_signals (types_of circuit) modules (l)))) (sym sites) c.distinct.ensures.signals)

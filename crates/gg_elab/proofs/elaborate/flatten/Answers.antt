@@ -1,4 +1,4 @@
-use Rattle.std.proofs.Common.{◌≡◌, ℕ, List, length, map, sym, ap, ◌∙◌, subst, arith, Some, None}
+use Rattle.std.proofs.Common.{◌≡◌, ℕ, List, sym, ap, ◌∙◌, subst, arith, length, map, Some, None}
 use Rattle.std.proofs.lemmas.List.{length-map}
 use Rattle.gg_ast.specs.Tree.{ModuleTree, CircuitTree, module_names}
 use Rattle.gg_ast.specs.Places.{place_of}
@@ -22,35 +22,30 @@ count-requires-clause-order c =
 
 pub count-requires-clause-top : goal.count-requires-clause-top
 count-requires-clause-top c =
-    let circuit = c.circuit-circuit.result.now in
-    omega (arith, place_of-below c.as_str.result.now (module_names circuit) c.in-Some.top (sym c.in-Some.ensures.value), length-map circuit.modules (λ (m : ModuleTree). m.name))
+    let circuit = c.args.typed.now.circuit in
+    let same : length c.circuit-circuit.result.now.modules ≡ length circuit.modules = ap (λ (k : CircuitTree). length k.modules) (c.circuit-circuit.ensures.circuit ∙ c.names.ensures.names) in
+    omega (arith, place_of-below circuit.name (module_names circuit) c.top_of-top.result c.top_of-top.ensures, length-map circuit.modules (λ (m : ModuleTree). m.name), same)
 
-pub returns-in-Some-excess-clause-limits : goal.returns-in-Some-excess-clause-limits
-returns-in-Some-excess-clause-limits c =
+pub returns-in-Some-clause-limits : goal.returns-in-Some-clause-limits
+returns-in-Some-clause-limits c =
     let circuit = c.args.typed.now.circuit in
     let modules = circuit.modules in
     let types = types_of circuit in
-    let top = c.in-Some.top in
-    let is : place_of circuit.name (module_names circuit) ≡ Some top =
-    subst (λ (k : CircuitTree). place_of k.name (module_names k) ≡ Some top) (c.circuit-circuit.ensures.circuit ∙ c.names.ensures.names)
-    (ap (λ n. place_of n (module_names c.circuit-circuit.result.now)) (sym (c.as_str.ensures ∙ c.name.ensures)) ∙ sym c.in-Some.ensures.value) in
+    let top = c.top_of-top.result in
     let own : c.in_ok-own.own.items ≡ own_counts types 0 modules =
     c.in_ok-own.ensures ∙ ap (λ (l : List Digest). map (λ d. length d.signals.items) l) c.as_slice.ensures.value ∙ counted types modules c.in_ok-digests.digests.items c.in_ok-digests.ensures in
     let counts : c.in_ok-counts.counts ≡ counts_of modules c.in_ok-own.own.items top =
     c.in_ok-counts.ensures ∙ ap (λ (k : CircuitTree). counts_of k.modules c.as_slice-2.result.now top) (c.circuit-circuit.ensures.circuit ∙ c.names.ensures.names) ∙ ap (λ l. counts_of modules l top) c.as_slice-2.ensures.value in
-    excess-found types modules (place_of circuit.name (module_names circuit)) top c.in_ok-own.own.items c.in_ok-counts.counts (Some c.in-Some-excess.excess) is own counts c.in-Some-excess.ensures
+    excess-found types modules (place_of circuit.name (module_names circuit)) top c.in_ok-own.own.items c.in_ok-counts.counts (Some c.in-Some.excess) c.top_of-top.ensures own counts c.in-Some.ensures
 
 pub returns-clause-limits : goal.returns-clause-limits
 returns-clause-limits c =
     let circuit = c.args.typed.now.circuit in
     let modules = circuit.modules in
     let types = types_of circuit in
-    let top = c.in-Some.top in
-    let is : place_of circuit.name (module_names circuit) ≡ Some top =
-    subst (λ (k : CircuitTree). place_of k.name (module_names k) ≡ Some top) (c.circuit-circuit.ensures.circuit ∙ c.names.ensures.names)
-    (ap (λ n. place_of n (module_names c.circuit-circuit.result.now)) (sym (c.as_str.ensures ∙ c.name.ensures)) ∙ sym c.in-Some.ensures.value) in
+    let top = c.top_of-top.result in
     let own : c.in_ok-own.own.items ≡ own_counts types 0 modules =
     c.in_ok-own.ensures ∙ ap (λ (l : List Digest). map (λ d. length d.signals.items) l) c.as_slice.ensures.value ∙ counted types modules c.in_ok-digests.digests.items c.in_ok-digests.ensures in
     let counts : c.in_ok-counts.counts ≡ counts_of modules c.in_ok-own.own.items top =
     c.in_ok-counts.ensures ∙ ap (λ (k : CircuitTree). counts_of k.modules c.as_slice-2.result.now top) (c.circuit-circuit.ensures.circuit ∙ c.names.ensures.names) ∙ ap (λ l. counts_of modules l top) c.as_slice-2.ensures.value in
-    excess-found types modules (place_of circuit.name (module_names circuit)) top c.in_ok-own.own.items c.in_ok-counts.counts None is own counts c.in-None.ensures
+    excess-found types modules (place_of circuit.name (module_names circuit)) top c.in_ok-own.own.items c.in_ok-counts.counts None c.top_of-top.ensures own counts c.in-None.ensures

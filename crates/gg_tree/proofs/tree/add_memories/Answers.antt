@@ -1,4 +1,6 @@
-use Rattle.std.proofs.Common.{◌<◌, List, ◌++◌, length, map, flat_map, take, subst, sym, ap, ◌∙◌, refl, arith}
+use Rattle.std.proofs.Common.{◌≡◌, ℕ, ◌+◌, ◌<◌, List, ◌++◌, length, map, flat_map, take, subst, sym, ap, ◌∙◌, refl, arith}
+use Rattle.std.specs.Prelude.{All, Contains}
+use Rattle.gg_count.specs.Sites.{Site, sites_of}
 use Rattle.gg_flat.specs.Tree.{joined}
 use Rattle.gg_digest.specs.declared.digest.OwnMemory.{OwnMemory}
 use Rattle.gg_digest.specs.declared.sites.Place.{Place}
@@ -6,7 +8,13 @@ use Rattle.gg_digest.specs.Views.{IsPlaceIn, site_of}
 use Rattle.gg_tree.specs.IsTreeOf.{Pairwise, HeldMemory, held_memories}
 use Rattle.gg_digest.specs.Known.{types_of}
 use Rattle.gg_tree.specs.TreeParts.{IsHeldFor, held_at_place}
+use Rattle.gg_digest.specs.Flat.{FlatMemory, memories_at, flat_memories}
+use Rattle.gg_digest.specs.IsFlat.{memory_paths}
+use Rattle.gg_digest.proofs.AmongLemmas.{in-map}
+use Rattle.gg_tree.proofs.ThereLemmas.{memories-there}
 use Rattle.gg_digest.proofs.FlatLemmas.{digest-at}
+use Rattle.gg_digest.proofs.FreshLemmas.{parts-front}
+use Rattle.gg_digest.proofs.NameLemmas.{Differ}
 use Rattle.gg_tree.proofs.TreePartLemmas.{held-more, held-paths}
 use Rattle.gg_tree.proofs.tree.add_memories.Goals as goal
 
@@ -30,3 +38,31 @@ loop-place-preserved c =
       added.rest.0 ∙ c.loop-place.invariant.2,
       added.rest.1 ∙ c.loop-place.invariant.3,
     )
+
+pub add_site_memories-requires-clause-distinct : goal.add_site_memories-requires-clause-distinct
+add_site_memories-requires-clause-distinct c =
+    let lt : c.loop-place.place-index < length c.args.places.now = omega arith in
+    let inside : IsPlaceIn (length c.args.typed.now.circuit.modules) c.place-item.result = subst (λ (x : Place). IsPlaceIn (length c.args.typed.now.circuit.modules) x) (sym c.place-item.is) (c.requires.within c.loop-place.place-index c.place-item.result lt) in
+    let d = digest-at (types_of c.args.typed.now.circuit) c.args.typed.now.circuit.modules c.args.digests.now c.place-item.result.number c.index-digests-place.result c.requires.digests inside.own c.index-digests-place.is in
+    let more : memory_paths (flat_memories c.args.typed.now.circuit.modules (map site_of (take (c.loop-place.place-index + 1) c.args.places.now))) ≡ c.loop-place.tree.memory_paths ++ map (λ (m : OwnMemory). joined c.place-item.result.path m.name.now) c.as_slice.result.now =
+    sym (ap (λ (l : List OwnMemory). c.loop-place.tree.memory_paths ++ map (λ m. joined c.place-item.result.path m.name.now) l) c.as_slice.ensures.value
+    ∙ ap (λ l. l ++ map (λ m. joined c.place-item.result.path m.name.now) c.index-digests-place.result.memories.items) c.loop-place.invariant.0
+    ∙ held-paths c.args.places.now c.loop-place.place-index c.args.typed.now.circuit c.place-item.result c.index-digests-place.result lt c.place-item.is d) in
+    subst Differ more (parts-front (λ (x : FlatMemory). x.path) (memories_at c.args.typed.now.circuit.modules) site_of c.args.places.now (c.loop-place.place-index + 1) c.requires.distinct)
+
+pub add_site_memories-requires-clause-holder : goal.add_site_memories-requires-clause-holder
+add_site_memories-requires-clause-holder c =
+    let circuit = c.args.typed.now.circuit in
+    subst (λ (l : List (List ℕ)). Contains l c.place-item.result.path) (sym c.requires.paths)
+    (in-map (λ (s : Site). s.path) (sites_of circuit) (site_of c.place-item.result)
+    (subst (λ (l : List Site). Contains l (site_of c.place-item.result)) c.requires.sites (in-map site_of c.args.places.now c.place-item.result (c.loop-place.place-index, omega arith, sym c.place-item.is))))
+
+pub add_site_memories-requires-clause-numbers : goal.add_site_memories-requires-clause-numbers
+add_site_memories-requires-clause-numbers c =
+    let circuit = c.args.typed.now.circuit in
+    let lt : c.loop-place.place-index < length c.args.places.now = omega arith in
+    let inside : IsPlaceIn (length circuit.modules) c.place-item.result = subst (λ (x : Place). IsPlaceIn (length circuit.modules) x) (sym c.place-item.is) (c.requires.within c.loop-place.place-index c.place-item.result lt) in
+    let d = digest-at (types_of circuit) circuit.modules c.args.digests.now c.place-item.result.number c.index-digests-place.result c.requires.digests inside.own c.index-digests-place.is in
+    let there : Contains (sites_of circuit) (site_of c.place-item.result) = subst (λ (l : List Site). Contains l (site_of c.place-item.result)) c.requires.sites (in-map site_of c.args.places.now c.place-item.result (c.loop-place.place-index, lt, sym c.place-item.is)) in
+    subst (λ (l : List (List ℕ)). All (λ (own : OwnMemory). Contains l (joined c.place-item.result.path own.name.now)) c.as_slice.result.now) (sym c.requires.memories)
+    (memories-there circuit c.place-item.result c.index-digests-place.result d there c.as_slice.result.now c.as_slice.ensures.value)

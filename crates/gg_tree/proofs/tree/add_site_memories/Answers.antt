@@ -1,10 +1,13 @@
-use Rattle.std.proofs.Common.{ℕ, ◌+◌, List, ◌++◌, ◌∷◌, [], map, take, subst, sym, ap, ◌∙◌, arith}
+use Rattle.std.proofs.Common.{ℕ, ◌+◌, List, ◌++◌, ◌∷◌, [], map, take, subst, subst₂, sym, ap, ◌∙◌, arith}
 use Rattle.gg_flat.specs.declared.tree.MemoryInstance.{MemoryInstance}
 use Rattle.gg_flat.specs.Tree.{InstanceTree, joined}
 use Rattle.gg_digest.specs.declared.digest.OwnMemory.{OwnMemory}
 use Rattle.gg_tree.specs.IsTreeOf.{Pairwise, HeldMemory}
 use Rattle.gg_tree.specs.TreeParts.{IsHeldFor, IsMemoryPart, held_at_place}
 use Rattle.gg_digest.proofs.FlatLemmas.{seam}
+use Rattle.gg_digest.proofs.FreshLemmas.{next-new}
+use Rattle.std.specs.Prelude.{Contains}
+use Rattle.std.proofs.lemmas.List.Elements.{All-contains}
 use Rattle.gg_tree.proofs.PairwiseLemmas.{Pairwise-push}
 use Rattle.gg_tree.proofs.TreePartLemmas.{memory-is-for}
 use Rattle.gg_tree.proofs.tree.add_site_memories.Goals as goal
@@ -25,3 +28,14 @@ loop-own-preserved c =
       ap (λ (t : InstanceTree). t.paths) added ∙ c.loop-own.invariant.2,
       ap (λ (t : InstanceTree). t.instances) added ∙ c.loop-own.invariant.3,
     )
+
+pub add_memory-requires : goal.add_memory-requires
+add_memory-requires c = record {
+  fresh = λ h.
+      next-new (λ (m : OwnMemory). joined c.args.outer.now m.name.now) c.args.tree.now.memory_paths c.args.memories.now c.loop-own.own-index c.own-item.result c.requires.distinct (omega arith) c.own-item.is
+      (subst₂ Contains c.loop-own.invariant.0 c.in_ok-joined.ensures h);
+}
+
+pub memory-requires-clause-number : goal.memory-requires-clause-number
+memory-requires-clause-number c =
+    All-contains (λ (own : OwnMemory). Contains c.args.table.now.memories (joined c.args.outer.now own.name.now)) c.args.memories.now c.own-item.result c.requires.numbers (c.loop-own.own-index, omega arith, sym c.own-item.is)

@@ -1,5 +1,5 @@
 use Rattle.gg_digest.proofs.NameLemmas.{place_of-at}
 use Rattle.gg_tree.proofs.tree.place_at.Goals as goal
 
-pub returns-in-Some : goal.returns-in-Some
-returns-in-Some c = record { is = place_of-at c.args.paths.now c.args.path.now c.in-Some.place c.in-Some.ensures.found c.len.ensures.distinct }
+pub returns : goal.returns
+returns c = record { is = place_of-at c.args.paths.now c.args.path.now c.in-Some.place c.in-Some.ensures.found c.len.ensures.distinct }

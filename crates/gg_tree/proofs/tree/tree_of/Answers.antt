@@ -7,6 +7,7 @@ use Rattle.gg_digest.specs.Flat.{flat_memories}
 use Rattle.gg_digest.specs.IsFlat.{memory_paths}
 use Rattle.gg_tree.specs.IsTreeOf.{Pairwise, AreInstances, held_memories}
 use Rattle.gg_tree.specs.TreeParts.{IsHeldFor}
+use Rattle.gg_digest.proofs.NameLemmas.{Differ}
 use Rattle.gg_tree.proofs.ElementLemmas.{some-of}
 use Rattle.gg_tree.proofs.TreePartLemmas.{paths-same}
 use Rattle.gg_tree.proofs.tree.tree_of.Goals as goal
@@ -27,3 +28,17 @@ returns c =
       memory_names = b.names ∙ ap (λ (l : List Site). memory_paths (flat_memories c.args.typed.now.circuit.modules l)) c.requires.sites;
       memories = subst (λ (l : List Site). Pairwise (IsHeldFor c.args.typed.now.circuit) (flat_map (held_memories c.args.typed.now.circuit.modules) l) c.add_memories.new.tree.memories) c.requires.sites b.made;
     }
+
+pub site_paths-requires : goal.site_paths-requires
+site_paths-requires c =
+    let top = some-of (place_of c.args.typed.now.circuit.name (module_names c.args.typed.now.circuit)) c.requires.top in
+    record { distinct = subst Differ (sym (paths-same c.args.typed.now.circuit top.0 top.1 c.args.places.now c.requires.sites)) c.requires.sites_differ }
+
+pub add_instances-requires-clause-distinct : goal.add_instances-requires-clause-distinct
+add_instances-requires-clause-distinct c =
+    let top = some-of (place_of c.args.typed.now.circuit.name (module_names c.args.typed.now.circuit)) c.requires.top in
+    subst Differ (sym (paths-same c.args.typed.now.circuit top.0 top.1 c.args.places.now c.requires.sites)) c.requires.sites_differ
+
+pub add_memories-requires-clause-distinct : goal.add_memories-requires-clause-distinct
+add_memories-requires-clause-distinct c =
+    subst Differ (ap (λ (l : List Site). memory_paths (flat_memories c.args.typed.now.circuit.modules l)) (sym c.requires.sites)) c.requires.memories_differ

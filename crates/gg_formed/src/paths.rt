@@ -1,0 +1,17 @@
+//! The paths of a circuit differ.
+ghost use Rattle.std.specs.Prelude.{◌≢◌, AllPairs};
+ghost use Rattle.gg_digest.specs.IsFlat.{memory_paths};
+ghost use Rattle.gg_tree.specs.IsTreeOf.{site_paths, signal_paths, memories_of};
+
+use gg_types::Typed;
+
+/// No two sites of a circuit that the checks passed have the same path, nor two signals, nor two memories. It does
+/// nothing but look at what is known of the circuit.
+pub fn distinct(typed: &Typed)
+    ensures sites { AllPairs (λ a b. a ≢ b) (site_paths typed.now.circuit) }
+    ensures signals { AllPairs (λ a b. a ≢ b) (signal_paths typed.now.circuit) }
+    ensures memories { AllPairs (λ a b. a ≢ b) (memory_paths (memories_of typed.now.circuit)) }
+{
+    let circuit = typed.names().circuit();
+    circuit.names_are_words();
+}
