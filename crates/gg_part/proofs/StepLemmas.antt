@@ -9,9 +9,9 @@ use Rattle.gg_flat.specs.declared.line.Op.TheVariants.{Ref}
 use Rattle.gg_part.specs.Part.{NamesBelow}
 
 -- one more item is made, and stands for the next
-pub map-grows : {X Y : Type 0} (f : X → Y) (xs more : List X) (x : X) (ys : List Y) (y : Y) (i : ℕ) → i < length ys → y ≡ get_or ys i y → more ≡ xs ++ x ∷ [] → f x ≡ y → map f xs ≡ take i ys → map f more ≡ take (i + 1) ys
-map-grows f xs more x ys y i lt read is here before =
-    ap (map f) is ∙ map_push f xs x ∙ ap₂ (λ front last. front ++ last ∷ []) before (here ∙ read) ∙ sym (take_more ys i y lt)
+pub map-grows : {X Y : Type 0} (f : X → Y) (xs more : List X) (x : X) (ys : List Y) (d : Y) (i : ℕ) → i < length ys → more ≡ xs ++ x ∷ [] → f x ≡ get_or ys i d → map f xs ≡ take i ys → map f more ≡ take (i + 1) ys
+map-grows f xs more x ys d i lt is here before =
+    ap (map f) is ∙ map_push f xs x ∙ ap₂ (λ front last. front ++ last ∷ []) before here ∙ sym (take_more ys i d lt)
 
 -- a line with one more node names what the line or the node names
 pub NamesBelow-more : (n : ℕ) (nodes more : List Node) (node : Node) → more ≡ nodes ++ node ∷ [] → NamesBelow n nodes → ((s : ℕ) → node.op ≡ Ref s → s < n) → NamesBelow n more
