@@ -56,9 +56,6 @@ module _ (circuit : FlatCircuit) (tree : InstanceTree) (listed : Listed) (formed
       AllPairs-map (λ a b. a ≢ b) (λ c. (wire_at (wires_of circuit tree listed) c).signal) (filter test (range_with_len 0 (length (wires_of circuit tree listed))))
       (AllPairs-filter (λ c d. (wire_at (wires_of circuit tree listed) c).signal ≢ (wire_at (wires_of circuit tree listed) d).signal) test (range_with_len 0 (length (wires_of circuit tree listed))) pairs)
     where
-      n : ℕ
-      n = length (wires_of circuit tree listed)
-
       number : (i d : ℕ) → i < length (wires_of circuit tree listed) → get_or (range_with_len 0 (length (wires_of circuit tree listed))) i d ≡ i
       number i d lt = get_or-range_with_len 0 (length (wires_of circuit tree listed)) i d lt ∙ (let same : 0 + i ≡ i = omega arith in same)
 

@@ -69,8 +69,8 @@ all-of n xs v once all count lt = by (find-number xs v)
     by (inl h) = h
     by (inr none) =
         let more = few n (v ∷ xs)
-            (AllPairs-cons (λ a b. a ≢ b) v xs (λ k d inside same. none (subst (λ x. Contains xs x) (sym same) (Contains-get_or xs k d inside))) once)
-            within in
+        (AllPairs-cons (λ a b. a ≢ b) v xs (λ k d inside same. none (subst (λ x. Contains xs x) (sym same) (Contains-get_or xs k d inside))) once)
+        within in
         absurd (omega (arith, more, count))
       where
         within : All (λ x. x < n) (v ∷ xs)

@@ -1,5 +1,5 @@
 -- How many machines there are, and the ends of channels.
-use Rattle.std.proofs.Common.{◌≡◌, ◌≢◌, ℕ, suc, ◌+◌, ◌<◌, ◌≤◌, ◌^◌, List, ◌++◌, length, get_or, Bool, true, false, refl, sym, ◌∙◌, ap, subst, Some, None, inl, inr, ◌⊎◌, arith}
+use Rattle.std.proofs.Common.{◌≡◌, ◌≢◌, ℕ, suc, ◌+◌, ◌<◌, ◌≤◌, List, ◌++◌, length, get_or, Bool, true, false, refl, sym, ◌∙◌, ap, subst, Some, None, inl, inr, ◌⊎◌, arith}
 use Rattle.std.specs.Prelude.{Option, ◌==◌, if◌then◌else◌, All}
 use Rattle.std.proofs.lemmas.List.{length-append, length-map, get_or_default}
 use Rattle.std.proofs.lemmas.List.Elements.{Contains-get_or}
@@ -42,15 +42,9 @@ module _ (circuit : FlatCircuit) (tree : InstanceTree) (listed : Listed) where
       at ports fields e =
           omega (arith, few.units, few.channels, counted, ap length e, length-append circuit.ins (ports ++ (fields ++ circuit.outs)), length-append ports (fields ++ circuit.outs), length-append fields circuit.outs)
 
-  pub few-wires : AreFew circuit tree listed → length (wires_of circuit tree listed) < 2 ^ 32
-  few-wires few = let most = few.channels in omega (arith, most)
-
   pub machine-below : (place : ℕ) → memory_owner tree listed place < machine_count circuit listed
   machine-below place = by (first_place (λ j. j == place) listed.memories) refl
     where
-      other : ℕ
-      other = owner_of_instance tree listed.units (memory_at tree place).instance
-
       by : (found : Option ℕ) → first_place (λ j. j == place) listed.memories ≡ found → memory_or (length listed.units) (owner_of_instance tree listed.units (memory_at tree place).instance) found < machine_count circuit listed
       by None e = let low = unit_or_hub-below tree listed.units (memory_at tree place).instance in omega (arith, low)
       by (Some i) e = let at = first_place-Some (λ j. j == place) listed.memories i e in omega (arith, at.within)
@@ -65,9 +59,6 @@ module _ (circuit : FlatCircuit) (tree : InstanceTree) (listed : Listed) where
 -- ---- the ends of channels
 
 module _ (circuit : FlatCircuit) (tree : InstanceTree) (listed : Listed) (fits : IsTree circuit tree) (apart : AreApart tree listed) where
-  abbrev count : ℕ
-  count = machine_count circuit listed
-
   outside-other : (i : ℕ) → i < length listed.units → outside_unit tree listed i ≢ suc i
   outside-other i lt e =
       let below = fits.below (value_at listed.units i) (apart.lower i 0 lt) (apart.known i 0 lt) in
@@ -84,9 +75,6 @@ module _ (circuit : FlatCircuit) (tree : InstanceTree) (listed : Listed) (fits :
       (record { producer = omega arith; consumer = omega (arith, known); apart = λ e. absurd (omega (arith, e)) })
   ends-of w (OfPort p) = subst (AreEnds (machine_count circuit listed)) p.is (by p.port.is_input)
     where
-      out : ℕ
-      out = outside_unit tree listed p.unit
-
       low : outside_unit tree listed p.unit < suc (length listed.units)
       low = unit_or_hub-below tree listed.units (parent_place (instance_at tree (value_at listed.units p.unit)).parent)
 

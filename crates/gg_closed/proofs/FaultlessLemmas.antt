@@ -207,7 +207,7 @@ module _ (design : Ordered) (request : Request) (none : first_fault design reque
       let late = none-second ranges (or_else units channels) (none-second names (or_else ranges (or_else units channels)) channel-none) in
       let many = over most_channels (length signals) (length signals) (none-map TooManyChannels (too_many_channels signals) (none-second units channels late)) in
       let count : length (wires_of design.circuit design.tree listed) ≡ length signals =
-          sym (length-map (wires_of design.circuit design.tree listed) (λ (w : Wire). w.signal)) ∙ ap length (wires-signals design.circuit design.tree listed) in
+      sym (length-map (wires_of design.circuit design.tree listed) (λ (w : Wire). w.signal)) ∙ ap length (wires-signals design.circuit design.tree listed) in
       record {
         units = over most_units (length listed.units + length listed.memories) (length listed.units + length listed.memories) (none-map TooManyUnits (too_many_units listed) (none-first units channels late));
         channels = omega (arith, many, count);

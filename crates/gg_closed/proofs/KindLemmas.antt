@@ -109,9 +109,6 @@ module _ (readers : List Reader) (writers : List Writer) (outside number : ℕ) 
   pub field-wire : (s : ℕ) → Contains (fields-of readers writers) s → Contains (wires-for outside number readers writers) (wire s outside number) ⊎ Contains (wires-for outside number readers writers) (wire s number outside)
   field-wire s h = by (Contains-append_cases (flat_map (λ reader. reader_fields reader) readers) (flat_map (λ writer. writer_fields writer) writers) s h)
     where
-      ws : List Wire
-      ws = wires-for outside number readers writers
-
       one : (k i : ℕ) → i < length readers → (k < 3) → get_or (reader_fields (reader_at readers i)) k s ≡ s → Contains (wires-for outside number readers writers) (wire s outside number) ⊎ Contains (wires-for outside number readers writers) (wire s number outside)
       one zero i lt less e = inl (subst (λ t. Contains (wires-for outside number readers writers) (wire t outside number)) e (address-wire i lt))
       one (suc zero) i lt less e = inl (subst (λ t. Contains (wires-for outside number readers writers) (wire t outside number)) e (enable-wire i lt))
@@ -223,7 +220,7 @@ module _ (circuit : FlatCircuit) (tree : InstanceTree) (listed : Listed) where
           let n = numbered-cases (port_wires tree listed.units) 1 listed.units w r in
           let unit = value_at listed.units n.place in
           let s = map-cases (port_wire (outside_unit tree listed n.place) (suc n.place)) (instance_at tree unit).ports w
-              (subst (λ k. Contains (port_wires tree listed.units k unit) w) (one-plus n.place) (n.among 0)) in
+          (subst (λ k. Contains (port_wires tree listed.units k unit) w) (one-plus n.place) (n.among 0)) in
           let any : InstancePort = record { signal = 0; is_input = true } in
           OfPort
           (record {

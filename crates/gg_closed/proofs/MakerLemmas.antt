@@ -240,9 +240,6 @@ module _ (circuit : FlatCircuit) (tree : InstanceTree) (listed : Listed) (fits :
   unit-ends : (i s : ℕ) → i < length listed.units → (h : HasPort (instance_at tree (value_at listed.units i)).ports s) → Contains wires (wire s (outside_unit tree listed i) (suc i)) ⊎ Contains wires (wire s (suc i) (outside_unit tree listed i))
   unit-ends i s lt h = by h.port.is_input refl
     where
-      out : ℕ
-      out = outside_unit tree listed i
-
       w : Contains wires (port_wire (outside_unit tree listed i) (suc i) h.port)
       w = unit-wire circuit tree listed i h.port lt h.among
 
@@ -258,9 +255,6 @@ module _ (circuit : FlatCircuit) (tree : InstanceTree) (listed : Listed) (fits :
   top-ends : (s : ℕ) → HasPort (instance_at tree 0).ports s → Gets 0 s
   top-ends s h = by h.port.is_input refl
     where
-      ports : List InstancePort
-      ports = (instance_at tree 0).ports
-
       by : (b : Bool) → h.port.is_input ≡ b → Gets 0 s
       by true e = at (subst (λ (l : List ℕ). Contains l s) scoped.ins (subst (λ t. Contains (map (λ (port : InstancePort). port.signal) (filter (λ port. port.is_input) (instance_at tree 0).ports)) t) h.is
           (Contains-map (λ (port : InstancePort). port.signal) (filter (λ port. port.is_input) (instance_at tree 0).ports) h.port (Contains-filter (λ port. port.is_input) (instance_at tree 0).ports h.port h.among e))))

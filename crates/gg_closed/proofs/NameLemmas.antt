@@ -91,7 +91,7 @@ module _ (circuit : FlatCircuit) (tree : InstanceTree) (fits : IsTree circuit tr
       let left : path_at circuit.paths s ≡ joined p (x.name ++ 46 ∷ x.rest) = x.is ∙ ap (λ k. joined (path_at tree.paths k) (x.name ++ 46 ∷ x.rest)) same in
       let names = first-dot x.name y.name x.rest y.rest x.plain y.plain (joined-same p (x.name ++ 46 ∷ x.rest) (y.name ++ 46 ∷ y.rest) (sym left ∙ y.is)) in
       let paths : path_at tree.memory_paths i ≡ path_at tree.memory_paths j =
-          x.memory ∙ ap (λ k. joined (path_at tree.paths k) x.name) same ∙ ap (joined p) names ∙ sym y.memory in
+      x.memory ∙ ap (λ k. joined (path_at tree.paths k) x.name) same ∙ ap (joined p) names ∙ sym y.memory in
       one i j paths li lj
     where
       one : (i j : ℕ) → path_at tree.memory_paths i ≡ path_at tree.memory_paths j → i < length tree.memories → j < length tree.memories → i ≡ j

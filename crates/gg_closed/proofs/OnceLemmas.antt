@@ -113,7 +113,7 @@ module _ (circuit : FlatCircuit) (tree : InstanceTree) (listed : Listed) (fits :
       (λ i d lt. scoped.fields_once (get_or listed.memories i d) (apart.memories i d lt))
       (λ i j d less lt a b x y same.
       let one = field-one circuit tree fits scoped (get_or listed.memories i d) (get_or listed.memories j d) a (apart.memories i d (omega (arith, less, lt))) (apart.memories j d lt) x
-          (subst (λ s. IsFieldOf circuit tree (get_or listed.memories j d) s) (sym same) y) in
+      (subst (λ s. IsFieldOf circuit tree (get_or listed.memories j d) s) (sym same) y) in
       let up = apart.ascending i j d less lt in
       absurd (omega (arith, one, up)))
 

@@ -158,7 +158,7 @@ module _ (circuit : FlatCircuit) (tree : InstanceTree) (listed : Listed) (fits :
       by true e =
           let up = above-of (unit_at p.unit) (apart.lower p.unit 0 p.known) lt in
           let is : wire p.port.signal (outside_unit tree listed p.unit) (suc p.unit) ≡ w =
-              subst (λ b. (if b then wire p.port.signal (outside_unit tree listed p.unit) (suc p.unit) else wire p.port.signal (suc p.unit) (outside_unit tree listed p.unit)) ≡ w) e p.is in
+          subst (λ b. (if b then wire p.port.signal (outside_unit tree listed p.unit) (suc p.unit) else wire p.port.signal (suc p.unit) (outside_unit tree listed p.unit)) ≡ w) e p.is in
           record {
             place = up.0;
             written = inr (record { child = (unit_at p.unit); parent = up.1; input = record { known = lt; port = p.port; listed = p.among; is = ap (λ (v : Wire). v.signal) is ∙ of; input = e } });
@@ -166,7 +166,7 @@ module _ (circuit : FlatCircuit) (tree : InstanceTree) (listed : Listed) (fits :
           }
       by false e =
           let is : wire p.port.signal (suc p.unit) (outside_unit tree listed p.unit) ≡ w =
-              subst (λ b. (if b then wire p.port.signal (outside_unit tree listed p.unit) (suc p.unit) else wire p.port.signal (suc p.unit) (outside_unit tree listed p.unit)) ≡ w) e p.is in
+          subst (λ b. (if b then wire p.port.signal (outside_unit tree listed p.unit) (suc p.unit) else wire p.port.signal (suc p.unit) (outside_unit tree listed p.unit)) ≡ w) e p.is in
           let signal : p.port.signal ≡ s = ap (λ (v : Wire). v.signal) is ∙ of in
           record {
             place = (unit_at p.unit);

@@ -21,22 +21,23 @@ pub fn listed_apart()
     ensures machines { (design : Ordered) (listed : Listed) → AreFew design.circuit design.tree listed → machine_count design.circuit listed ≤ 16641 }
 {}
 
-/// Where what is listed lies apart, no two channels carry the same signal, and the ends of each are two of the machines.
+/// Where what is listed lies apart, no two channels carry the same signal, and the ends of each are two of the
+/// machines.
 pub fn channels_once()
     ensures once { (design : Ordered) (listed : Listed) → IsDesign design → AreApart design.tree listed → AllPairs (λ v w. v.signal ≢ w.signal) (wires_of design.circuit design.tree listed) }
     ensures ends { (design : Ordered) (listed : Listed) → IsDesign design → AreApart design.tree listed → All (AreEnds (machine_count design.circuit listed)) (wires_of design.circuit design.tree listed) }
 {}
 
-/// Where what is listed lies apart, a machine is closed: the hub, a unit or a memory makes or takes each signal that the driver,
-/// or the register, of a signal that it makes names.
+/// Where what is listed lies apart, a machine is closed: the hub, a unit or a memory makes or takes each signal that
+/// the driver, or the register, of a signal that it makes names.
 pub fn machine_closed()
     ensures drivers { (design : Ordered) (listed : Listed) (m s t : ℕ) → IsDesign design → AreApart design.tree listed → m < first_source listed → Makes design.circuit design.tree listed (wires_of design.circuit design.tree listed) m s → NamesSignal (driver_at design.circuit s) t → Makes design.circuit design.tree listed (wires_of design.circuit design.tree listed) m t ⊎ Takes (wires_of design.circuit design.tree listed) m t }
     ensures registers { (design : Ordered) (listed : Listed) (m s r t : ℕ) (register : Register) → IsDesign design → AreApart design.tree listed → m < first_source listed → Makes design.circuit design.tree listed (wires_of design.circuit design.tree listed) m s → driver_at design.circuit s ≡ Held r → slice_get design.circuit.registers r ≡ Some register → RegisterNames register t → Makes design.circuit design.tree listed (wires_of design.circuit design.tree listed) m t ⊎ Takes (wires_of design.circuit design.tree listed) m t }
 {}
 
-/// Where what is listed lies apart, just the signals that the hub, a unit or a memory makes or takes, each once, and just the memories
-/// that belong to it, each once, make a part of the circuit: its in-signals are those of the channels that the machine takes, its
-/// out-signals those of the channels that it gives.
+/// Where what is listed lies apart, just the signals that the hub, a unit or a memory makes or takes, each once, and
+/// just the memories that belong to it, each once, make a part of the circuit: its in-signals are those of the
+/// channels that the machine takes, its out-signals those of the channels that it gives.
 pub fn machine_makes_part()
     ensures { (design : Ordered) (listed : Listed) (m : ℕ) (globals memories : List ℕ) → IsDesign design → AreApart design.tree listed → m < first_source listed → ((s : ℕ) → Contains globals s ↔ (Makes design.circuit design.tree listed (wires_of design.circuit design.tree listed) m s ⊎ Takes (wires_of design.circuit design.tree listed) m s)) → AllPairs (λ a b. a ≢ b) globals → ((k : ℕ) → Contains memories k ↔ HasMemory design.tree listed m k) → AllPairs (λ a b. a ≢ b) memories → IsChoice design.circuit globals (signals_of (wires_of design.circuit design.tree listed) (channels_to (wires_of design.circuit design.tree listed) m)) (signals_of (wires_of design.circuit design.tree listed) (channels_from (wires_of design.circuit design.tree listed) m)) memories }
 {}

@@ -1,17 +1,18 @@
 //! The machines of a cut are closed.
 //!
-//! Where a request has no fault, its units lie apart: none is the top or lies in another (`AreApart` in `specs/Apart`). The crate
-//! has no code: it promises, for a design and what such a request lists,
+//! Where a request has no fault, its units lie apart: none is the top or lies in another (`AreApart` in
+//! `specs/Apart`). The crate has no code: it promises, for a design and what such a request lists,
 //!
 //! - that it lies apart, and that there is no more of it than a plan may have (`listed_apart`);
 //! - that each signal has at most one channel, between two of the machines (`channels_once`);
-//! - that the hub, a unit or a memory makes or takes all that the driver or the register of a signal that it makes names
-//!   (`machine_closed`);
-//! - that the signals that it makes or takes, with the memories that belong to it, make a part of the circuit whose in-signals
-//!   are those that it takes (`machine_makes_part`).
+//! - that the hub, a unit or a memory makes or takes all that the driver or the register of a signal that it makes
+//!   names (`machine_closed`);
+//! - that the signals that it makes or takes, with the memories that belong to it, make a part of the circuit whose
+//!   in-signals are those that it takes (`machine_makes_part`).
 //!
-//! Why it holds: what a driver names is visible where the driver is written, in one instance. The machine of that instance makes
-//! what is written there, but for the data of a listed memory, and makes or takes what is visible there.
+//! Why it holds: what a driver names is visible where the driver is written, in one instance. The machine of that
+//! instance makes what is written there, but for the data of a listed memory, and makes or takes what is visible
+//! there.
 #![tactic(auto)]
 
 mod laws;

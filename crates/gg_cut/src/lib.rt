@@ -6,6 +6,7 @@
 //! machines with their pieces, the channels and their needs (Plan). The crate promises:
 //!
 //! - `judge` gives what a request lists exactly where it has no fault, and else its first fault;
+//! - `owners_of` gives each instance its machine: the unit in which it lies, else the hub;
 //! - the channels carry just the signals by which they are counted and named (`channels_agree`);
 //! - the columns of the circuit's one run solve the plan (`columns_solve`): each machine's outputs, in the run of its own piece
 //!   on its inputs' columns, are the circuit's columns there.

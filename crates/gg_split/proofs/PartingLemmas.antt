@@ -1,5 +1,5 @@
 -- What the steps of the split ask for and give, from what is read.
-use Rattle.std.proofs.Common.{◌≡◌, ◌≢◌, ℕ, zero, suc, ◌+◌, ◌<◌, ◌≤◌, List, [], length, get_or, refl, sym, ◌∙◌, ap, ap₂, subst, None, arith}
+use Rattle.std.proofs.Common.{◌≡◌, ℕ, ◌<◌, List, [], length, get_or, sym, ◌∙◌, ap, ap₂, subst, None, arith}
 use Rattle.std.specs.Prelude.{Option, slice_index_or, Contains, All}
 use Rattle.std.proofs.lemmas.List.{get_or_default}
 use Rattle.std.proofs.lemmas.List.Elements.{Contains-get_or}
@@ -20,7 +20,6 @@ use Rattle.gg_cut.specs.Plan.{channels_to, channels_from, memory_owner}
 use Rattle.gg_split.specs.declared.share.Share.{Share}
 use Rattle.gg_closed.specs.Apart.{AreApart}
 use Rattle.gg_closed.specs.Apart.{AreFew}
-use Rattle.gg_split.specs.Share.{IsShareOf}
 use Rattle.gg_split.specs.IsShare.{IsShare, AreShares, AreGathered}
 use Rattle.gg_closed.specs.Apart.{AreEnds}
 use Rattle.gg_split.specs.Spread.{AreLists, EachList, AreChannels, signals_among, memories_below, AreSignals, AreMemories}

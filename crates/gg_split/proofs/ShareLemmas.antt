@@ -1,49 +1,35 @@
 -- From the lists to what each machine has.
-use Rattle.std.proofs.Common.{◌≡◌, ◌≢◌, ℕ, zero, suc, ◌+◌, ◌<◌, ◌≤◌, ◌^◌, List, [], ◌∷◌, ◌++◌, length, map, get_or, set, Bool, true, false, not, refl, sym, ◌∙◌, ap, ap₂, subst, Some, None, inl, inr, ◌⊎◌, eq-eqb, true-eqb, arith}
-use Rattle.std.specs.Prelude.{Option, ◌↔◌, ◌||◌, ◌==◌, if◌then◌else◌, filter, slice_index_or, Contains, All, AllPairs}
+use Rattle.std.proofs.Common.{◌≡◌, ◌≢◌, ℕ, ◌+◌, ◌<◌, List, [], length, get_or, Bool, true, false, refl, sym, ◌∙◌, ap, subst, Some, None, inl, inr, ◌⊎◌, eq-eqb, true-eqb, arith}
+use Rattle.std.specs.Prelude.{Option, ◌||◌, ◌==◌, filter, slice_index_or, Contains, AllPairs}
 use Rattle.std.specs.List.{range_with_len}
-use Rattle.std.proofs.lemmas.Bool.{cases_eq, cases_lt, or_cases}
-use Rattle.std.proofs.lemmas.List.{length-append, length-map, get_or-map, get_or_default, get_or-set_same, get_or-set_other, length-set, get_or_append_left, get_or_push}
-use Rattle.std.proofs.lemmas.List.Elements.{All-contains, Contains-get_or}
+use Rattle.std.proofs.lemmas.Bool.{or_cases}
+use Rattle.std.proofs.lemmas.List.{get_or_default}
+use Rattle.std.proofs.lemmas.List.Elements.{Contains-get_or}
 use Rattle.std.proofs.lemmas.List.Kept.{AllPairs-filter}
 use Rattle.std.proofs.lemmas.List.FromFn.{get_or-range_with_len, length-range_with_len}
-use Rattle.gg_flat.specs.declared.tree.InstancePort.{InstancePort}
-use Rattle.gg_flat.specs.declared.tree.MemoryInstance.{MemoryInstance}
 use Rattle.gg_flat.specs.Line.{value_at}
 use Rattle.gg_flat.specs.Circuit.{FlatCircuit}
 use Rattle.gg_flat.specs.WellFormed.{IsWellFormed}
-use Rattle.gg_flat.specs.Tree.{InstanceTree, IsTree, instance_at, memory_at, parent_place}
+use Rattle.gg_flat.specs.Tree.{InstanceTree, IsTree, memory_at}
 use Rattle.gg_flat.specs.Scoped.{IsScoped}
 use Rattle.gg_flat.specs.Order.{IsOrder}
-use Rattle.gg_flat.specs.Reads.{Reads}
-use Rattle.gg_order.specs.Design.{Ordered}
 use Rattle.gg_part.specs.InOrder.{Precedes, IsAlong}
 use Rattle.gg_cut.specs.declared.wires.Wire.{Wire}
 use Rattle.gg_cut.specs.declared.listed.Listed.{Listed}
-use Rattle.gg_cut.specs.Listed.{owner_of_instance, owner_of, first_place, has_signal, unit_or_hub, memory_or}
-use Rattle.gg_flat.specs.Circuit.{readers_at}
-use Rattle.gg_flat.specs.Scoped.{memory_fields}
+use Rattle.gg_cut.specs.Listed.{owner_of, first_place, has_signal, unit_or_hub}
 use Rattle.gg_part.specs.Choice.{IsChoice}
-use Rattle.gg_cut.specs.Channels.{wire, wires_of, channel_signals, port_signals, flattened, first_memory, first_source, first_tray, machine_count}
-use Rattle.gg_cut.specs.Plan.{wire_at, channels_to, channels_from, signals_of, Makes, Takes, HasMemory, memory_owner}
-use Rattle.gg_cut.proofs.WireLemmas.{unit_or_hub-below}
-use Rattle.gg_cut.proofs.ChannelLemmas.{wires-signals}
-use Rattle.gg_cut.proofs.PathLemmas.{first_place-Some}
+use Rattle.gg_cut.specs.Channels.{wires_of}
+use Rattle.gg_cut.specs.Plan.{wire_at, channels_to, channels_from, signals_of, HasMemory, memory_owner}
 use Rattle.gg_closed.specs.Apart.{AreApart}
-use Rattle.gg_closed.specs.Apart.{AreFew}
 use Rattle.gg_split.specs.Share.{IsShareOf}
-use Rattle.gg_closed.specs.Apart.{AreEnds}
-use Rattle.gg_split.specs.Spread.{AreLists, EachList, AreChannels, IsChannelBelow, has_by, has, signals_among, memories_below, AreSignals, AreMemories}
-use Rattle.gg_closed.proofs.EndLemmas.{ends}
-use Rattle.gg_closed.proofs.ListLemmas.{Contains-filter, filter-cases, Contains-map, map-cases, AllPairs-map, Somewhere}
-use Rattle.gg_closed.proofs.TreeLemmas.{Innermost, innermost}
-use Rattle.gg_closed.proofs.PlaceLemmas.{owner-outside, place-signal}
-use Rattle.gg_split.proofs.NumberedLemmas.{parent-known}
-use Rattle.gg_closed.proofs.KindLemmas.{IsPortWire, IsFieldWire, IsInto, IsWordWire, Kind, OfSource, OfPort, OfField, OfTray, outside_unit, outside_memory, kind-of}
+use Rattle.gg_split.specs.Spread.{AreChannels, IsChannelBelow, has_by, has, signals_among, memories_below, AreSignals, AreMemories}
+use Rattle.gg_closed.proofs.ListLemmas.{Contains-filter, filter-cases, Contains-map, map-cases, AllPairs-map}
+use Rattle.gg_closed.proofs.TreeLemmas.{innermost}
+use Rattle.gg_closed.proofs.PlaceLemmas.{place-signal}
 use Rattle.gg_closed.proofs.OnceLemmas.{channel-one}
-use Rattle.gg_closed.proofs.MakerLemmas.{Gets, HasWire, in-range, range-below, chosen-in, chosen-out, wire-among, no-channel, owner-signal}
+use Rattle.gg_closed.proofs.MakerLemmas.{Gets, in-range, range-below, chosen-in, chosen-out, wire-among, no-channel, owner-signal}
 use Rattle.gg_closed.proofs.WrittenLemmas.{inner-plain}
-use Rattle.gg_closed.proofs.ChoiceLemmas.{wire-known, gets-known, choice}
+use Rattle.gg_closed.proofs.ChoiceLemmas.{gets-known, choice}
 
 -- ---- signals
 
@@ -57,9 +43,6 @@ along-once order globals once along i j d less lt same =
     once p.first p.second 0 p.before p.within (p.first_is ∙ same ∙ sym p.second_is)
 
 module _ (circuit : FlatCircuit) (tree : InstanceTree) (order : List ℕ) (listed : Listed) (formed : IsWellFormed circuit) (fits : IsTree circuit tree) (scoped : IsScoped circuit tree) (ordered : IsOrder circuit order) (apart : AreApart tree listed) where
-  abbrev wires : List Wire
-  wires = wires_of circuit tree listed
-
   known-in : (s : ℕ) → Contains order s → s < length circuit.signals
   known-in s h = let lt = ordered.signals h.0 h.1 in subst (λ t. t < length circuit.signals) (get_or_default order h.0 0 s h.1 ∙ h.2) lt
 
@@ -130,12 +113,6 @@ module _ (circuit : FlatCircuit) (tree : InstanceTree) (order : List ℕ) (liste
 -- ---- memories
 
 module _ (circuit : FlatCircuit) (tree : InstanceTree) (listed : Listed) (fits : IsTree circuit tree) (machines : List ℕ) (owns : (place : ℕ) → place < length tree.memories → value_at machines place ≡ memory_owner tree listed place) (m : ℕ) where
-  abbrev memory_of : ℕ → ℕ
-  memory_of place = (memory_at tree place).memory
-
-  chosen : List ℕ
-  chosen = filter (λ place. value_at machines place == m) (range_with_len 0 (length tree.memories))
-
   pub memories-are : AreMemories tree listed m (memories_below tree machines (length tree.memories) m)
   memories-are = record { just = λ k. (forth k, back k); once = once }
     where

@@ -1,10 +1,9 @@
 -- Lists of all machines that are filled number by number.
-use Rattle.std.proofs.Common.{◌≡◌, ◌≢◌, ℕ, zero, suc, ◌+◌, ◌<◌, ◌≤◌, List, [], ◌∷◌, ◌++◌, length, map, get_or, set, take, Bool, true, false, refl, sym, ◌∙◌, ap, ap₂, subst, inl, inr, ◌⊎◌, eq-eqb, true-eqb, arith}
-use Rattle.std.specs.Prelude.{◌||◌, ◌==◌, if◌then◌else◌, cond, filter, slice_index_or, All}
+use Rattle.std.proofs.Common.{◌≡◌, ℕ, ◌+◌, ◌<◌, List, [], ◌∷◌, ◌++◌, length, map, get_or, set, Bool, true, false, refl, sym, ◌∙◌, ap, ap₂, subst, inl, inr, ◌⊎◌, eq-eqb, arith}
+use Rattle.std.specs.Prelude.{◌==◌, if◌then◌else◌, filter}
 use Rattle.std.specs.List.{range_with_len}
-use Rattle.std.proofs.lemmas.Bool.{cases_eq, cases_Bool, ne_eqb}
-use Rattle.std.proofs.lemmas.List.{get_or-set_same, get_or-set_other, length-set, append-nil, map-append, take_more}
-use Rattle.std.proofs.lemmas.List.Elements.{filter_more}
+use Rattle.std.proofs.lemmas.Bool.{cases_eq, ne_eqb}
+use Rattle.std.proofs.lemmas.List.{get_or-set_same, get_or-set_other, length-set, append-nil, map-append}
 use Rattle.gg_flat.specs.Line.{value_at}
 use Rattle.gg_flat.specs.Tree.{InstanceTree, memory_at}
 use Rattle.gg_cut.proofs.RangeLemmas.{filter-more}
@@ -35,30 +34,7 @@ IsPut-set lists new machine number lt is = subst (IsPut (λ m. machine == m) num
     put : IsPut (λ m. machine == m) number lists (set lists machine (get_or lists machine [] ++ number ∷ []))
     put = record { many = length-set lists machine (get_or lists machine [] ++ number ∷ []); each = λ m inside. by m (cases_eq m machine) }
 
-pub IsPut-both : (lists mid new : List (List ℕ)) (a b number : ℕ) → a ≢ b → IsPut (λ m. a == m) number lists mid → IsPut (λ m. b == m) number mid new → IsPut (λ m. (a == m) || (b == m)) number lists new
-IsPut-both lists mid new a b number apart first second =
-    record {
-      many = second.many ∙ first.many;
-      each = λ m inside.
-          second.each m (omega (arith, inside, first.many))
-          ∙ ap (λ l. l ++ put-if (b == m) number) (first.each m inside)
-          ∙ by m (cases_Bool (a == m)) (cases_Bool (b == m));
-    }
-  where
-    by : (m : ℕ) → ((a == m) ≡ true) ⊎ ((a == m) ≡ false) → ((b == m) ≡ true) ⊎ ((b == m) ≡ false) → (get_or lists m [] ++ put-if (a == m) number) ++ put-if (b == m) number ≡ get_or lists m [] ++ put-if ((a == m) || (b == m)) number
-    by m (inl x) (inl y) = absurd (apart (true-eqb a m (sym x) ∙ sym (true-eqb b m (sym y))))
-    by m (inl x) (inr y) =
-        ap₂ (λ p q. (get_or lists m [] ++ put-if p number) ++ put-if q number) x y ∙ append-nil (get_or lists m [] ++ number ∷ []) ∙ ap₂ (λ p q. get_or lists m [] ++ put-if (p || q) number) (sym x) (sym y)
-    by m (inr x) q =
-        ap (λ p. (get_or lists m [] ++ put-if p number) ++ put-if (b == m) number) x ∙ ap (λ l. l ++ put-if (b == m) number) (append-nil (get_or lists m [])) ∙ ap (λ p. get_or lists m [] ++ put-if (p || (b == m)) number) (sym x)
-
-pub IsPut-same : (test other : ℕ → Bool) (number : ℕ) (old new : List (List ℕ)) → ((m : ℕ) → test m ≡ other m) → IsPut test number old new → IsPut other number old new
-IsPut-same test other number old new same put = record { many = put.many; each = λ m inside. put.each m inside ∙ ap (λ b. slice_index_or old m [] ++ put-if b number) (same m) }
-
 -- ---- lists
-
-pub AreLists-none : (f : ℕ → List ℕ) (lists : List (List ℕ)) → ((m : ℕ) → slice_index_or lists m [] ≡ []) → ((m : ℕ) → f m ≡ []) → AreLists f (length lists) lists
-AreLists-none f lists empty none = record { many = refl; each = λ m inside. empty m ∙ sym (none m) }
 
 pub AreLists-more : (f g : ℕ → List ℕ) (test : ℕ → Bool) (number count : ℕ) (lists new : List (List ℕ)) → AreLists f count lists → IsPut test number lists new → ((m : ℕ) → g m ≡ f m ++ put-if (test m) number) → AreLists g count new
 AreLists-more f g test number count lists new before put next =
@@ -72,16 +48,6 @@ pub AreLists-channel : (machine : ℕ → ℕ) (i place count : ℕ) (lists new 
 AreLists-channel machine i place count lists new at before put =
     AreLists-more (λ m. filter (λ c. machine c == m) (range_with_len 0 i)) (λ m. filter (λ c. machine c == m) (range_with_len 0 (i + 1))) (λ m. place == m) i count lists new before put
     (λ m. filter-more (λ c. machine c == m) i ∙ ap (λ p. filter (λ c. machine c == m) (range_with_len 0 i) ++ put-if (p == m) i) (sym at))
-
--- the signals before place i that pass a test
-pub AreLists-signal : (test : ℕ → ℕ → Bool) (order : List ℕ) (i count : ℕ) (lists new : List (List ℕ)) → i < length order → AreLists (λ m. filter (test m) (take i order)) count lists → IsPut (λ m. test m (get_or order i 0)) (get_or order i 0) lists new → AreLists (λ m. filter (test m) (take (i + 1) order)) count new
-AreLists-signal test order i count lists new lt before put =
-    AreLists-more (λ m. filter (test m) (take i order)) (λ m. filter (test m) (take (i + 1) order)) (λ m. test m (get_or order i 0)) (get_or order i 0) count lists new before put
-    (λ m. filter_more (test m) order i 0 lt ∙ ap (λ l. filter (test m) (take i order) ++ l) (same (test m (get_or order i 0)) (get_or order i 0)))
-  where
-    same : (b : Bool) (x : ℕ) → cond b (x ∷ []) [] ≡ put-if b x
-    same true x = refl
-    same false x = refl
 
 -- the memories of a machine
 pub AreLists-memory : (tree : InstanceTree) (owners : List ℕ) (i machine number count : ℕ) (lists new : List (List ℕ)) → machine ≡ value_at owners i → number ≡ (memory_at tree i).memory → AreLists (memories_below tree owners i) count lists → IsPut (λ m. machine == m) number lists new → AreLists (memories_below tree owners (i + 1)) count new

@@ -1,14 +1,12 @@
 -- Tables that are filled item by item.
-use Rattle.std.proofs.Common.{◌≡◌, ◌≢◌, ℕ, zero, suc, ◌+◌, ◌-◌, ◌<◌, ◌≤◌, List, [], ◌∷◌, ◌++◌, length, get_or, set, take, Bool, true, false, refl, sym, ◌∙◌, ap, ap₂, subst, Some, None, inl, inr, ◌⊎◌, eq-eqb, arith}
-use Rattle.std.specs.Prelude.{Option, ◌&&◌, ◌==◌, nat_le, nat_lt, slice_index_or, All, AllPairs}
-use Rattle.std.proofs.lemmas.Bool.{cases_eq, cases_lt, cases_Bool, le-leb, lt-leb, lt-ltb, le-ltb, ne_eqb, and_right}
+use Rattle.std.proofs.Common.{◌≡◌, ℕ, suc, ◌+◌, ◌-◌, ◌<◌, List, length, get_or, set, take, Bool, true, false, refl, sym, ◌∙◌, ap, ap₂, subst, Some, None, inl, inr, ◌⊎◌, eq-eqb, arith}
+use Rattle.std.specs.Prelude.{Option, ◌&&◌, ◌==◌, nat_le, nat_lt, slice_index_or, AllPairs}
+use Rattle.std.proofs.lemmas.Bool.{cases_eq, ne_eqb}
 use Rattle.std.proofs.lemmas.List.{get_or-set_same, get_or-set_other, length-set, take_more, length-take-le, get_or-take, get_or_default}
 use Rattle.gg_flat.specs.Line.{value_at}
-use Rattle.gg_flat.specs.Tree.{InstanceTree, instance_at, memory_at}
+use Rattle.gg_flat.specs.Tree.{InstanceTree}
 use Rattle.gg_cut.specs.declared.wires.Wire.{Wire}
-use Rattle.gg_cut.specs.declared.listed.Listed.{Listed}
-use Rattle.gg_cut.specs.Listed.{first_place, unit_or_hub, has_signal, memory_or, owner_of_instance}
-use Rattle.gg_cut.specs.Plan.{wire_at, memory_owner}
+use Rattle.gg_cut.specs.Listed.{first_place, unit_or_hub, has_signal, memory_or}
 use Rattle.gg_cut.proofs.OwnerLemmas.{push-place, first_place-push}
 use Rattle.gg_split.specs.Spread.{claimed, IsChannelBelow}
 use Rattle.gg_closed.proofs.PlaceLemmas.{place-none}
@@ -19,65 +17,6 @@ use Rattle.gg_closed.proofs.PlaceLemmas.{place-none}
 pub record ClaimedTo (first i machine : ℕ) (old owners : List ℕ) : Type 0 where
   pub count : length owners ≡ length old
   pub claims : (s : ℕ) → value_at owners s ≡ claimed (nat_le first s && nat_lt s i) machine (value_at old s)
-
-pub ClaimedTo-none : (first machine : ℕ) (old : List ℕ) → ClaimedTo first first machine old old
-ClaimedTo-none first machine old = record { count = refl; claims = λ s. by s (cases_lt s first) }
-  where
-    by : (s : ℕ) → (s < first) ⊎ (first ≤ s) → value_at old s ≡ claimed (nat_le first s && nat_lt s first) machine (value_at old s)
-    by s (inl less) = ap (λ b. claimed (b && nat_lt s first) machine (value_at old s)) (sym (lt-leb first s less))
-    by s (inr le) = ap (λ b. claimed b machine (value_at old s)) (sym (and_right (nat_le first s) (nat_lt s first) (le-ltb s first le)))
-
-module _ (first i machine : ℕ) (old owners : List ℕ) (low : first ≤ i) (within : i < length owners) (before : ClaimedTo first i machine old owners) where
-  -- a signal other than i is where it was
-  others : (s : ℕ) → s ≢ i → (nat_le first s && nat_lt s i) ≡ (nat_le first s && nat_lt s (i + 1))
-  others s ne = ap (λ b. nat_le first s && b) (by (cases_lt s i))
-    where
-      by : (s < i) ⊎ (i ≤ s) → nat_lt s i ≡ nat_lt s (i + 1)
-      by (inl less) = lt-ltb s i less ∙ sym (lt-ltb s (i + 1) (omega (arith, less)))
-      by (inr le) = le-ltb s i le ∙ sym (le-ltb s (i + 1) (at (cases_eq s i)))
-        where
-          at : (s ≡ i) ⊎ (s ≡ i → ⊥) → i + 1 ≤ s
-          at (inl same) = absurd (ne same)
-          at (inr other) = past (cases_lt i s)
-            where
-              past : (i < s) ⊎ (s ≤ i) → i + 1 ≤ s
-              past (inl less) = omega (arith, less)
-              past (inr ge) = absurd (other (omega (arith, le, ge)))
-
-  here-before : (nat_le first i && nat_lt i i) ≡ false
-  here-before = and_right (nat_le first i) (nat_lt i i) (le-ltb i i (omega arith))
-
-  here-now : (nat_le first i && nat_lt i (i + 1)) ≡ true
-  here-now = ap₂ (λ a b. a && b) (le-leb first i low) (lt-ltb i (i + 1) (omega arith))
-
-  free : (value : ℕ) → value ≡ 0 → claimed true machine value ≡ machine
-  free zero e = refl
-  free (suc n) e = absurd (omega (arith, e))
-
-  held : (value : ℕ) → value ≢ 0 → claimed true machine value ≡ value
-  held zero ne = absurd (ne refl)
-  held (suc n) ne = refl
-
-  old-here : value_at owners i ≡ value_at old i
-  old-here = before.claims i ∙ ap (λ b. claimed b machine (value_at old i)) here-before
-
-  pub ClaimedTo-new : value_at owners i ≡ 0 → ClaimedTo first (i + 1) machine old (set owners i machine)
-  ClaimedTo-new none = record { count = length-set owners i machine ∙ before.count; claims = λ s. by s (cases_eq s i) }
-    where
-      by : (s : ℕ) → (s ≡ i) ⊎ (s ≡ i → ⊥) → value_at (set owners i machine) s ≡ claimed (nat_le first s && nat_lt s (i + 1)) machine (value_at old s)
-      by s (inl same) =
-          subst (λ t. value_at (set owners i machine) t ≡ claimed (nat_le first t && nat_lt t (i + 1)) machine (value_at old t)) (sym same)
-          (get_or-set_same owners i machine 0 within ∙ sym (ap (λ b. claimed b machine (value_at old i)) here-now ∙ free (value_at old i) (sym old-here ∙ none)))
-      by s (inr other) = get_or-set_other owners i s machine 0 other ∙ before.claims s ∙ ap (λ b. claimed b machine (value_at old s)) (others s other)
-
-  pub ClaimedTo-kept : value_at owners i ≢ 0 → ClaimedTo first (i + 1) machine old owners
-  ClaimedTo-kept some = record { count = before.count; claims = λ s. by s (cases_eq s i) }
-    where
-      by : (s : ℕ) → (s ≡ i) ⊎ (s ≡ i → ⊥) → value_at owners s ≡ claimed (nat_le first s && nat_lt s (i + 1)) machine (value_at old s)
-      by s (inl same) =
-          subst (λ t. value_at owners t ≡ claimed (nat_le first t && nat_lt t (i + 1)) machine (value_at old t)) (sym same)
-          (old-here ∙ sym (ap (λ b. claimed b machine (value_at old i)) here-now ∙ held (value_at old i) (λ e. some (old-here ∙ e))))
-      by s (inr other) = before.claims s ∙ ap (λ b. claimed b machine (value_at old s)) (others s other)
 
 pub ClaimedTo-end : (first i end machine : ℕ) (old owners : List ℕ) → ClaimedTo first i machine old owners → i ≡ end → (s : ℕ) → value_at owners s ≡ claimed (nat_le first s && nat_lt s end) machine (value_at old s)
 ClaimedTo-end first i end machine old owners before same s = before.claims s ∙ ap (λ n. claimed (nat_le first s && nat_lt s n) machine (value_at old s)) same

@@ -19,7 +19,7 @@ use crate::share::{Share, Split};
 use crate::spread::{given, memories, spread, taken};
 use crate::tables::{channels_of, memory_owners, signal_owners};
 use gg_bits::{Ids, Items};
-use gg_cut::{owners_of, Listed, Wire};
+use gg_cut::{Listed, Wire, owners_of};
 use gg_flat::{Piece, Tree};
 use gg_order::Design;
 use gg_partfile::Request;

@@ -4,7 +4,7 @@ ghost use Rattle.gg_cut.specs.Plan.{channels_to, channels_from};
 ghost use Rattle.gg_closed.specs.Apart.{AreEnds};
 ghost use Rattle.gg_split.specs.Spread.{AreLists, IsPut, AreChannels, has, signals_among, memories_below};
 
-use crate::pile::{piles, put, Pile};
+use crate::pile::{Pile, piles, put};
 use gg_cut::Wire;
 use gg_flat::Tree;
 use std::alloc::{AllocError, Global};
@@ -65,8 +65,8 @@ fn put_given(wires: &[Wire], lists: &mut [Pile]) -> Result<(), AllocError>
     Ok(())
 }
 
-/// The signals of each of so many machines among those of an order: each signal is that of the machines at the ends of its
-/// channel, or of its owner, where it has none.
+/// The signals of each of so many machines among those of an order: each signal is that of the machines at the ends
+/// of its channel, or of its owner, where it has none.
 ///
 /// # Errors
 ///

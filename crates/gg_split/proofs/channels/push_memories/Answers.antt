@@ -1,4 +1,4 @@
-use Rattle.std.proofs.Common.{◌+◌, ◌<◌, ◌≡◌, ℕ, List, length, refl, ap, subst, arith}
+use Rattle.std.proofs.Common.{◌+◌, ◌<◌, ℕ, List, length, refl, ap, subst, arith}
 use Rattle.gg_flat.specs.Line.{value_at}
 use Rattle.gg_cut.specs.Channels.{field_wires, first_memory}
 use Rattle.gg_split.proofs.NumberedLemmas.{numbered-pushed, memory-step, memory-read}

@@ -1,4 +1,4 @@
-use Rattle.std.proofs.Common.{◌≡◌, ◌≤◌, arith}
+use Rattle.std.proofs.Common.{arith}
 use Rattle.gg_split.proofs.TableLemmas.{ClaimedTo-end}
 use Rattle.gg_split.proofs.tables.claim.Goals as goal
 

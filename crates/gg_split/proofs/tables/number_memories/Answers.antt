@@ -1,5 +1,4 @@
-use Rattle.std.proofs.Common.{◌∙◌, ◌<◌, ◌≡◌, ℕ, length, sym, subst, arith}
-use Rattle.gg_flat.specs.Line.{value_at}
+use Rattle.std.proofs.Common.{arith}
 use Rattle.gg_split.proofs.TableLemmas.{NumberedTo-more}
 use Rattle.gg_split.proofs.tables.number_memories.Goals as goal
 
