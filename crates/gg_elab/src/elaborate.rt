@@ -69,6 +69,7 @@ fn joined(typed: &Typed, piece: Piece, tree: Tree) -> Result<(Piece, Tree), Allo
     requires flat { IsFlat typed.now.circuit piece }
     requires tree { IsTreeOf typed.now.circuit tree }
     ensures same { IfOk result (λ both. both.0 ≡ piece) }
+    ensures tree_same { IfOk result (λ both. both.1 ≡ tree) }
     ensures formed { IfOk result (λ both. IsWellFormed both.0) }
     ensures fitting { IfOk result (λ both. IsTree both.0 both.1) }
     ensures scoped { IfOk result (λ both. IsScoped both.0 both.1) }
@@ -91,6 +92,7 @@ fn joined(typed: &Typed, piece: Piece, tree: Tree) -> Result<(Piece, Tree), Allo
 /// `TooLarge` with the first count that is above its limit, exactly where there is one; `NoMemory`, where memory is refused.
 pub fn flatten(alloc: Global, typed: &Typed) -> Result<(Piece, Tree), ElabFault>
     ensures flat { IfOk result (λ both. IsFlat typed.now.circuit both.0) }
+    ensures tree { IfOk result (λ both. IsTreeOf typed.now.circuit both.1) }
     ensures fits { IfOk result (λ both. AreFitting both.0) }
     ensures formed { IfOk result (λ both. IsWellFormed both.0) }
     ensures fitting { IfOk result (λ both. IsTree both.0 both.1) }

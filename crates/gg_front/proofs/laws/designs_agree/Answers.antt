@@ -1,0 +1,27 @@
+-- A text spells one circuit at most, which has one tree.
+use Rattle.std.proofs.Common.{sym, ◌∙◌, subst}
+use Rattle.gg_ast.specs.Tree.{CircuitTree}
+use Rattle.gg_elab.specs.IsFlat.{IsFlat}
+use Rattle.gg_elab.specs.IsTreeOf.{IsTreeOf}
+use Rattle.gg_front.proofs.TreeLemmas.{tree-same, fields-same}
+use Rattle.gg_front.proofs.laws.designs_agree.Goals as goal
+
+pub returns-clause-trees : goal.returns-clause-trees
+returns-clause-trees c = λ bytes one other a b.
+    let same = c.one_circuit.ensures bytes a.means.text.circuit b.means.text.circuit a.means.text.spelt b.means.text.spelt in
+    tree-same b.means.text.circuit one.tree other.tree (subst (λ (t : CircuitTree). IsTreeOf t one.tree) same a.grown) b.grown
+
+pub returns-clause-paths : goal.returns-clause-paths
+returns-clause-paths c = λ bytes one other a b.
+    let flat = subst (λ (t : CircuitTree). IsFlat t one) (c.one_circuit.ensures bytes a.text.circuit b.text.circuit a.text.spelt b.text.spelt) a.flattened in
+    flat.paths ∙ sym b.flattened.paths
+
+pub returns-clause-shapes : goal.returns-clause-shapes
+returns-clause-shapes c = λ bytes one other a b.
+    let flat = subst (λ (t : CircuitTree). IsFlat t one) (c.one_circuit.ensures bytes a.text.circuit b.text.circuit a.text.spelt b.text.spelt) a.flattened in
+    flat.shapes ∙ sym b.flattened.shapes
+
+pub returns-clause-fields : goal.returns-clause-fields
+returns-clause-fields c = λ bytes one other m a b.
+    let flat = subst (λ (t : CircuitTree). IsFlat t one) (c.one_circuit.ensures bytes a.text.circuit b.text.circuit a.text.spelt b.text.spelt) a.flattened in
+    fields-same b.text.circuit one other flat b.flattened m
