@@ -1,10 +1,10 @@
--- A circuit has one tree, and the memories of its flat circuits have the same fields.
-use Rattle.std.proofs.Common.{◌≡◌, ℕ, zero, suc, ◌+◌, ◌<◌, ◌++◌, List, [], ◌∷◌, Option, None, Some, Bool, length, map, refl, sym, ap, ◌∙◌, subst, arith}
+-- A circuit has one tree, and the memories of its flat circuits have the same ports.
+use Rattle.std.proofs.Common.{◌≡◌, ℕ, zero, suc, ◌+◌, ◌<◌, List, [], ◌∷◌, Option, None, Some, Bool, length, map, refl, sym, ap, ◌∙◌, subst, arith}
 use Rattle.std.specs.Prelude.{flat_map, slice_index_or}
 use Rattle.gg_ast.specs.declared.module.Port.{Port}
 use Rattle.gg_ast.specs.Tree.{CircuitTree}
-use Rattle.gg_flat.specs.Circuit.{FlatCircuit}
-use Rattle.gg_flat.specs.Scoped.{memory_fields, reader_fields, writer_fields}
+use Rattle.gg_flat.specs.Circuit.{FlatCircuit, readers_at}
+use Rattle.gg_flat.specs.Scoped.{writers_at}
 use Rattle.gg_flat.specs.Tree.{InstanceTree}
 use Rattle.gg_flat.specs.declared.memory.Memory.{Memory}
 use Rattle.gg_flat.specs.declared.memory.Reader.{Reader}
@@ -117,7 +117,7 @@ tree-same circuit a b p q =
     ∙ ap (λ (x : List (List ℕ)). tree_made b.paths b.instances x a.memories) names
     ∙ ap (λ (x : List MemoryInstance). tree_made b.paths b.instances b.memory_paths x) memories
 
--- ---- fields
+-- ---- ports of memories
 
 -- lists that agree at each place under f are the same under f
 map-same : {A B : Type 0} (f : A → B) (xs ys : List A) → length xs ≡ length ys
@@ -148,7 +148,8 @@ module _ (circuit : CircuitTree) (one other : FlatCircuit) (p : IsFlat circuit o
       (λ m any lt. let below = omega (arith, lt, p.memory_count) in let said = some-default (memories_of circuit) m below in
       (p.memories m said any below).writers ∙ sym (q.memories m said any below).writers)
 
-  pub fields-same : (m : ℕ) → memory_fields one m ≡ memory_fields other m
-  fields-same m =
-      ap (λ (rs : List (List Reader)). flat_map (λ reader. reader_fields reader) (slice_index_or rs m []) ++ flat_map (λ writer. writer_fields writer) (slice_index_or (map (λ (x : Memory). x.writers) one.memories) m [])) readers-same
-      ∙ ap (λ (ws : List (List Writer)). flat_map (λ reader. reader_fields reader) (slice_index_or (map (λ (x : Memory). x.readers) other.memories) m []) ++ flat_map (λ writer. writer_fields writer) (slice_index_or ws m [])) writers-same
+  pub readers-at-same : (m : ℕ) → readers_at one m ≡ readers_at other m
+  readers-at-same m = ap (λ (rs : List (List Reader)). slice_index_or rs m []) readers-same
+
+  pub writers-at-same : (m : ℕ) → writers_at one m ≡ writers_at other m
+  writers-at-same m = ap (λ (ws : List (List Writer)). slice_index_or ws m []) writers-same

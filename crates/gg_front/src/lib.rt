@@ -7,7 +7,7 @@
 //!   modules and of loops it may tell any.
 //! - `ports_agree`: all flat circuits that some bytes mean have the same input ports and output ports.
 //! - `one_run`: they all have the same runs.
-//! - `designs_agree`: all designs that some bytes mean have the same tree, the same signals and memories with the same fields.
+//! - `designs_agree`: all designs that some bytes mean have the same tree, the same signals and memories with the same ports.
 //! - `acceptance_agrees`: where one circuit that a text spells is accepted, each is.
 //! - `one_fault`: two faults of a text are the same, but that of rings of modules and of loops any may be told.
 //! - `faults_apart`: an accepted text has no fault, and one with a fault of reading none of a circuit.

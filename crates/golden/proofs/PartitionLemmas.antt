@@ -1,6 +1,6 @@
 -- The fault of a partition: it is one, whichever design the circuit's bytes are taken to mean.
 use Rattle.std.proofs.Common.{◌≡◌, ℕ, ◌++◌, List, [], ◌∷◌, Option, None, Some, map, refl, sym, ap, ◌∙◌, subst, inl, inr}
-use Rattle.std.specs.Prelude.{codes, option_map}
+use Rattle.std.specs.Prelude.{codes, flat_map, option_map}
 use Rattle.serde_json.specs.Data.{Data}
 use Rattle.gg_cut.specs.Channels.{channel_signals, flattened, port_signals}
 use Rattle.gg_cut.specs.Fault.{channel_fault, entry_fault, fault_in, first_fault, kind_fault, or_else, range_fault, too_many_channels, too_many_units, unknown_channel}
@@ -9,9 +9,11 @@ use Rattle.gg_cut.specs.Listed.{listed_of}
 use Rattle.gg_cut.specs.declared.fault.CutFault.{CutFault}
 use Rattle.gg_cut.specs.declared.fault.CutFault.TheVariants.{UnknownChannel, TooManyUnits, TooManyChannels}
 use Rattle.gg_cut.specs.declared.listed.Listed.{Listed}
-use Rattle.gg_flat.specs.Circuit.{FlatCircuit}
-use Rattle.gg_flat.specs.Scoped.{memory_fields}
+use Rattle.gg_flat.specs.Circuit.{FlatCircuit, readers_at}
+use Rattle.gg_flat.specs.Scoped.{memory_fields, reader_fields, writer_fields, writers_at}
 use Rattle.gg_flat.specs.Tree.{InstanceTree, memory_at, path_at}
+use Rattle.gg_flat.specs.declared.memory.Reader.{Reader}
+use Rattle.gg_flat.specs.declared.memory.Writer.{Writer}
 use Rattle.gg_front.specs.Meaning.{Means, MeansDesign}
 use Rattle.gg_io.specs.Told.{Told}
 use Rattle.gg_order.specs.Design.{Ordered}
@@ -55,11 +57,17 @@ pub record AskSame (one other : Ordered) : Type 0 where
   pub paths : one.circuit.paths ≡ other.circuit.paths
   pub ins : one.circuit.ins ≡ other.circuit.ins
   pub outs : one.circuit.outs ≡ other.circuit.outs
-  pub fields : (m : ℕ) → memory_fields one.circuit m ≡ memory_fields other.circuit m
+  pub readers : (m : ℕ) → readers_at one.circuit m ≡ readers_at other.circuit m
+  pub writers : (m : ℕ) → writers_at one.circuit m ≡ writers_at other.circuit m
 
 flattened-same : {A B : Type 0} (f g : A → List B) → ((a : A) → f a ≡ g a) → (xs : List A) → flattened f xs ≡ flattened g xs
 flattened-same f g h [] = refl
 flattened-same f g h (x ∷ xs) = ap (λ l. l ++ flattened f xs) (h x) ∙ ap (λ l. g x ++ l) (flattened-same f g h xs)
+
+fields-same : (one other : FlatCircuit) → ((m : ℕ) → readers_at one m ≡ readers_at other m) → ((m : ℕ) → writers_at one m ≡ writers_at other m) → (m : ℕ) → memory_fields one m ≡ memory_fields other m
+fields-same one other readers writers m =
+    ap (λ (rs : List Reader). flat_map (λ reader. reader_fields reader) rs ++ flat_map (λ writer. writer_fields writer) (writers_at one m)) (readers m)
+    ∙ ap (λ (ws : List Writer). flat_map (λ reader. reader_fields reader) (readers_at other m) ++ flat_map (λ writer. writer_fields writer) ws) (writers m)
 
 signals-same : (one other : FlatCircuit) (tree : InstanceTree) (listed : Listed) → one.ins ≡ other.ins → one.outs ≡ other.outs
     → ((m : ℕ) → memory_fields one m ≡ memory_fields other m) → channel_signals one tree listed ≡ channel_signals other tree listed
@@ -82,7 +90,7 @@ fault-same one other a request =
     ∙ ap (λ (later : Option CutFault). or_else (entry_fault other.tree request) (or_else (kind_fault other.tree request) later))
     (channel-fault-same one.circuit other.circuit request (listed_of other.tree request) (channel_signals one.circuit other.tree (listed_of other.tree request))
     (channel_signals other.circuit other.tree (listed_of other.tree request)) a.paths
-    (signals-same one.circuit other.circuit other.tree (listed_of other.tree request) a.ins a.outs a.fields))
+    (signals-same one.circuit other.circuit other.tree (listed_of other.tree request) a.ins a.outs (fields-same one.circuit other.circuit a.readers a.writers)))
 
 -- ---- the fault of bytes
 
@@ -107,14 +115,16 @@ pub designs-agree : ((bytes : List ℕ) (one other : Ordered) → MeansDesign by
     → ((bytes : List ℕ) (one other : FlatCircuit) → Means bytes one → Means bytes other → one.paths ≡ other.paths)
     → ((bytes : List ℕ) (one other : FlatCircuit) → Means bytes one → Means bytes other → one.ins ≡ other.ins)
     → ((bytes : List ℕ) (one other : FlatCircuit) → Means bytes one → Means bytes other → one.outs ≡ other.outs)
-    → ((bytes : List ℕ) (one other : FlatCircuit) (m : ℕ) → Means bytes one → Means bytes other → memory_fields one m ≡ memory_fields other m)
+    → ((bytes : List ℕ) (one other : FlatCircuit) (m : ℕ) → Means bytes one → Means bytes other → readers_at one m ≡ readers_at other m)
+    → ((bytes : List ℕ) (one other : FlatCircuit) (m : ℕ) → Means bytes one → Means bytes other → writers_at one m ≡ writers_at other m)
     → DesignsAgree
-designs-agree trees paths ins outs fields = λ bytes one other a b. record {
+designs-agree trees paths ins outs readers writers = λ bytes one other a b. record {
   tree = trees bytes one other a b;
   paths = paths bytes one.circuit other.circuit a.means b.means;
   ins = ins bytes one.circuit other.circuit a.means b.means;
   outs = outs bytes one.circuit other.circuit a.means b.means;
-  fields = λ m. fields bytes one.circuit other.circuit m a.means b.means;
+  readers = λ m. readers bytes one.circuit other.circuit m a.means b.means;
+  writers = λ m. writers bytes one.circuit other.circuit m a.means b.means;
 }
 
 cut-once : (design : Ordered) (a b : Request) (one other : CutFault) → a ≡ b → first_fault design a ≡ Some one → first_fault design b ≡ Some other → one ≡ other

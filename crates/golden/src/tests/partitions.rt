@@ -1,7 +1,5 @@
 //! Partitions: those that are accepted change nothing that is printed, and of the others the first fault is told.
-use super::{
-    LATE, MEMORY, PAIR, check, files_of, run,
-};
+use super::{LATE, MEMORY, PAIR, check, files_of, run};
 use itoa::Buffer;
 use std::alloc::{AllocError, Global};
 use std::test::Fail;
