@@ -68,6 +68,7 @@ fn joined(typed: &Typed, piece: Piece, tree: Tree) -> (Piece, Tree)
     requires fits { AreFitting piece }
     requires tree { IsTreeOf typed.now.circuit tree }
     ensures same { result.0 ≡ piece }
+    ensures tree_same { result.1 ≡ tree }
     ensures formed { IsWellFormed result.0 }
     ensures fitting { IsTree result.0 result.1 }
     ensures scoped { IsScoped result.0 result.1 }
@@ -85,6 +86,7 @@ fn joined(typed: &Typed, piece: Piece, tree: Tree) -> (Piece, Tree)
 /// refused.
 pub fn flatten(alloc: Global, typed: &Typed) -> Result<(Piece, Tree), ElabFault>
     ensures flat { IfOk result (λ both. IsFlat typed.now.circuit both.0) }
+    ensures tree { IfOk result (λ both. IsTreeOf typed.now.circuit both.1) }
     ensures fits { IfOk result (λ both. AreFitting both.0) }
     ensures formed { IfOk result (λ both. IsWellFormed both.0) }
     ensures fitting { IfOk result (λ both. IsTree both.0 both.1) }

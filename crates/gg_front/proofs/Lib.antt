@@ -3,4 +3,5 @@ pub mod FaultLemmas
 pub mod LoopLemmas
 pub mod MeaningLemmas
 pub mod PortLemmas
+pub mod TreeLemmas
 mod WorkedRows

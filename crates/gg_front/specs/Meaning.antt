@@ -1,9 +1,12 @@
 -- What the bytes of a circuit file mean: a flat circuit. It is not the only one, since expressions may be laid out as lines
--- of nodes in more than one way; but all of them have the same ports and the same runs.
+-- of nodes in more than one way; but all of them have the same ports and the same runs. And a design: such a circuit, with the
+-- tree of the instances, of which there is one.
 use Rattle.std.specs.Prelude.{ℕ, List}
 use Rattle.gg_digest.specs.IsFlat.{IsFlat}
+use Rattle.gg_tree.specs.IsTreeOf.{IsTreeOf}
 use Rattle.gg_flat.specs.Circuit.{FlatCircuit}
 use Rattle.gg_flat.specs.WellFormed.{IsWellFormed}
+use Rattle.gg_order.specs.Design.{Ordered}
 use Rattle.gg_front.specs.Accepted.{IsAcceptedText}
 
 -- The bytes spell an accepted circuit, and the flat circuit is a well-formed one of it.
@@ -11,3 +14,8 @@ pub record Means (bytes : List ℕ) (flat : FlatCircuit) : Type 0 where
   pub text : IsAcceptedText bytes
   pub flattened : IsFlat text.circuit flat
   pub formed : IsWellFormed flat
+
+-- The bytes mean the design's flat circuit, and its tree is that of the circuit which they spell. Nothing is said of its order.
+pub record MeansDesign (bytes : List ℕ) (design : Ordered) : Type 0 where
+  pub means : Means bytes design.circuit
+  pub grown : IsTreeOf means.text.circuit design.tree

@@ -2,6 +2,7 @@
 ghost use Rattle.std.specs.Prelude.{◌≡◌, ◌<◌, ◌^◌, ℕ, List, [], None, IfOk, IfErr, length, map};
 ghost use Rattle.std.specs.List.{All};
 ghost use Rattle.gg_digest.specs.IsFlat.{IsFlat};
+ghost use Rattle.gg_tree.specs.IsTreeOf.{IsTreeOf};
 ghost use Rattle.gg_flat.specs.Reads.{IsLoop};
 ghost use Rattle.gg_flat.specs.Scoped.{IsScoped};
 ghost use Rattle.gg_flat.specs.Tree.{IsTree, path_at};
@@ -12,7 +13,7 @@ ghost use Rattle.gg_read.specs.Text.{Spells, HasNoFaultLine};
 ghost use Rattle.gg_shape.specs.Judged.{IsShaped};
 ghost use Rattle.gg_front.specs.Accepted.{IsSound, IsAccepted, excess_of};
 ghost use Rattle.gg_front.specs.Fault.{HasFrontFault, IfFirstFault, IfTellsLoop, IsUnread, fault_by, over_limit};
-ghost use Rattle.gg_front.specs.Meaning.{Means};
+ghost use Rattle.gg_front.specs.Meaning.{MeansDesign};
 
 use crate::fault::FrontFault;
 use gg_ast::Circuit;
@@ -27,7 +28,8 @@ use gg_shape::{Fault, Refusal, shaped};
 use gg_types::{Typed, typed};
 use std::alloc::{AllocError, Global};
 
-/// The design of a circuit file: a well-formed flat circuit that the bytes mean, with its tree and an order of evaluation.
+/// The design of a circuit file: a well-formed flat circuit that the bytes mean, with the tree of the circuit that they spell
+/// and an order of evaluation.
 ///
 /// # Errors
 ///
@@ -36,7 +38,7 @@ use std::alloc::{AllocError, Global};
 /// of rings of modules and of loops it is any. `NoMemory` where memory is refused.
 pub fn front(alloc: Global, bytes: &[u8]) -> Result<Design, FrontFault>
     requires { length bytes.now < 2 ^ 32 }
-    ensures ok { IfOk result (λ design. Means bytes.now design.circuit) }
+    ensures ok { IfOk result (λ design. MeansDesign bytes.now design) }
     ensures refused { IfErr result (HasFrontFault bytes.now) }
 {
     let circuit = read(alloc, bytes)?;
@@ -61,6 +63,7 @@ fn read(alloc: Global, bytes: &[u8]) -> Result<Circuit, FrontFault>
 fn design_of(alloc: Global, circuit: &Circuit) -> Result<Design, FrontFault>
     ensures accepted { IfOk result (λ _. IsAccepted circuit.now) }
     ensures flat { IfOk result (λ design. IsFlat circuit.now design.circuit) }
+    ensures grown { IfOk result (λ design. IsTreeOf circuit.now design.tree) }
     ensures formed { IfOk result (λ design. IsWellFormed design.circuit) }
     ensures refused { IfErr result (IfFirstFault circuit.now) }
 {
@@ -74,6 +77,7 @@ fn flat_circuit(alloc: Global, circuit: &Circuit) -> Result<(Piece, Tree), Front
     ensures sound { IfOk result (λ _. IsSound circuit.now) }
     ensures within { IfOk result (λ _. excess_of circuit.now ≡ None) }
     ensures flat { IfOk result (λ made. IsFlat circuit.now made.0) }
+    ensures grown { IfOk result (λ made. IsTreeOf circuit.now made.1) }
     ensures formed { IfOk result (λ made. IsWellFormed made.0) }
     ensures fitting { IfOk result (λ made. IsTree made.0 made.1) }
     ensures scoped { IfOk result (λ made. IsScoped made.0 made.1) }
@@ -125,6 +129,7 @@ fn flattened(alloc: Global, checked: &Typed) -> Result<(Piece, Tree), FrontFault
     requires { IsSound checked.now.circuit }
     ensures within { IfOk result (λ _. excess_of checked.now.circuit ≡ None) }
     ensures flat { IfOk result (λ made. IsFlat checked.now.circuit made.0) }
+    ensures grown { IfOk result (λ made. IsTreeOf checked.now.circuit made.1) }
     ensures formed { IfOk result (λ made. IsWellFormed made.0) }
     ensures fitting { IfOk result (λ made. IsTree made.0 made.1) }
     ensures scoped { IfOk result (λ made. IsScoped made.0 made.1) }
@@ -153,6 +158,7 @@ fn ordered(alloc: Global, piece: Piece, tree: Tree) -> Result<Design, FrontFault
     requires fitting { IsTree piece tree }
     requires scoped { IsScoped piece tree }
     ensures circuit { IfOk result (λ design. design.circuit ≡ piece) }
+    ensures grown { IfOk result (λ design. design.tree ≡ tree) }
     ensures free { IfOk result (λ _. (loop : List ℕ) → ¬ IsLoop piece loop) }
     ensures refused { IfErr result (IfTellsLoop piece) }
 {

@@ -1,7 +1,9 @@
 pub mod EndingLemmas
+pub mod EntryLemmas
 pub mod FrontLemmas
 pub mod OrderLemmas
 pub mod OutcomeLemmas
+pub mod PartitionLemmas
 pub mod PortLemmas
 pub mod PrintingLemmas
 pub mod ReadingLemmas

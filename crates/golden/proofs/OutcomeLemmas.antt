@@ -6,7 +6,8 @@ use Rattle.gg_io.specs.Told.{Told, Holds}
 use Rattle.gg_read.specs.Text.{HasReadFault}
 use Rattle.gg_read.specs.declared.text.ReadFault.{ReadFault}
 use Rattle.gg_flat.specs.Circuit.{FlatCircuit}
-use Rattle.gg_front.specs.Meaning.{Means}
+use Rattle.gg_front.specs.Meaning.{Means, MeansDesign}
+use Rattle.gg_order.specs.Design.{Ordered}
 use Rattle.gg_front.specs.declared.fault.FrontFault.TheVariants as front
 use Rattle.gg_flat.specs.Ports.{in_ports}
 use Rattle.gg_trace.specs.FaultText.{fault_words}
@@ -18,12 +19,13 @@ use Rattle.gg_words.specs.declared.command.Cmd.{Cmd}
 use Rattle.gg_words.specs.declared.command.Cmd.TheVariants as cmd
 use Rattle.gg_words.specs.declared.command.WordFault.{WordFault}
 use Rattle.gg_words.specs.declared.command.WordFault.TheVariants as word
-use Rattle.golden.specs.Lines.{Said, TellsUnread, trace_fault}
+use Rattle.golden.specs.Lines.{Said, TellsUnread, partition_fault, trace_fault}
 use Rattle.golden.specs.Order.{Order, Write, StopsAt, IsWritten, DueAt, IsDueAccepted, IsExact, IsUnique, IsJudgement}
 use Rattle.golden.specs.Outcome.{Ends, Refused, Done, Unwritten, WantsMemory, Outcome, Asked, Unasked, WantsMemoryFirst, Answered, Reports}
 use Rattle.golden.specs.Words.{Command, Run, Asks, AskForCommand, TellsUnasked, TellsWords, circuit_of, order_of, partition_of, trace_of}
 use Rattle.golden.specs.Promised.{Promised, Tells}
-use Rattle.golden.specs.Run.{IsPlainPartition, IsOnlyText, TellsCircuit, TellsTraceFor, circuit_file, partition_file, partition_order, trace_file_for, trace_order}
+use Rattle.golden.specs.Partition.{HasFault, IsPartitionFor, TellsPartitionFor, partition_file_for}
+use Rattle.golden.specs.Run.{IsOnlyText, TellsCircuit, TellsTraceFor, circuit_file, partition_order, trace_file_for, trace_order}
 use Rattle.golden.proofs.OrderLemmas.{Why, Lost, Cut, Judged, why-stops, stops-due, written-due, stops-accepted, due-behind, due-refused}
 use Rattle.golden.proofs.WritingLemmas.{append_known-nil}
 
@@ -59,27 +61,33 @@ unasked-status words said (inr (circuit, partition, capacity, asks, is)) = ap (�
 -- the other statuses are none of a judgement
 unjudged-0 : IsJudgement 0 → ⊥
 unjudged-0 (inl e) = absurd (omega arith)
-unjudged-0 (inr e) = absurd (omega arith)
+unjudged-0 (inr (inl e)) = absurd (omega arith)
+unjudged-0 (inr (inr e)) = absurd (omega arith)
 
 unjudged-2 : IsJudgement 2 → ⊥
 unjudged-2 (inl e) = absurd (omega arith)
-unjudged-2 (inr e) = absurd (omega arith)
+unjudged-2 (inr (inl e)) = absurd (omega arith)
+unjudged-2 (inr (inr e)) = absurd (omega arith)
 
 unjudged-3 : IsJudgement 3 → ⊥
 unjudged-3 (inl e) = absurd (omega arith)
-unjudged-3 (inr e) = absurd (omega arith)
+unjudged-3 (inr (inl e)) = absurd (omega arith)
+unjudged-3 (inr (inr e)) = absurd (omega arith)
 
 unjudged-4 : IsJudgement 4 → ⊥
 unjudged-4 (inl e) = absurd (omega arith)
-unjudged-4 (inr e) = absurd (omega arith)
+unjudged-4 (inr (inl e)) = absurd (omega arith)
+unjudged-4 (inr (inr e)) = absurd (omega arith)
 
 unjudged-5 : IsJudgement 5 → ⊥
 unjudged-5 (inl e) = absurd (omega arith)
-unjudged-5 (inr e) = absurd (omega arith)
+unjudged-5 (inr (inl e)) = absurd (omega arith)
+unjudged-5 (inr (inr e)) = absurd (omega arith)
 
 unjudged-8 : IsJudgement 8 → ⊥
 unjudged-8 (inl e) = absurd (omega arith)
-unjudged-8 (inr e) = absurd (omega arith)
+unjudged-8 (inr (inl e)) = absurd (omega arith)
+unjudged-8 (inr (inr e)) = absurd (omega arith)
 
 -- each command's order is exact
 abbrev pub ExactOrders : Type 0
@@ -157,15 +165,15 @@ module _ (files : List ℕ → Told) (lost cut unwritten : Type 0) where
     unwritten-4 (IsUnwritten is failed) e = failed
     unwritten-4 (IsWanting is) e = absurd (omega arith)
 
-    judged-1-7 : Cause words status text line → IsJudgement status
+    judged-file : Cause words status text line → IsJudgement status
         → (command : Command) × Asks words command × ((said : Said) × StopsAt files ⊥ ⊥ (order_of command) said × (status ≡ said.status) × (line ≡ said.line))
-    judged-1-7 (IsLost is rose none) j = absurd (unjudged-3 (subst IsJudgement is j))
-    judged-1-7 (IsCut is rose command said asks stops at none) j = absurd (unjudged-8 (subst IsJudgement is j))
-    judged-1-7 (IsJudged judged command said asks stops is tells none) j = (command, asks, (said, stops, is, tells))
-    judged-1-7 (IsNoCommand is unasked said told tells none) j = absurd (unjudged-2 (subst IsJudgement is j))
-    judged-1-7 (IsDone is) j = absurd (unjudged-0 (subst IsJudgement is j))
-    judged-1-7 (IsUnwritten is failed) j = absurd (unjudged-4 (subst IsJudgement is j))
-    judged-1-7 (IsWanting is) j = absurd (unjudged-5 (subst IsJudgement is j))
+    judged-file (IsLost is rose none) j = absurd (unjudged-3 (subst IsJudgement is j))
+    judged-file (IsCut is rose command said asks stops at none) j = absurd (unjudged-8 (subst IsJudgement is j))
+    judged-file (IsJudged judged command said asks stops is tells none) j = (command, asks, (said, stops, is, tells))
+    judged-file (IsNoCommand is unasked said told tells none) j = absurd (unjudged-2 (subst IsJudgement is j))
+    judged-file (IsDone is) j = absurd (unjudged-0 (subst IsJudgement is j))
+    judged-file (IsUnwritten is failed) j = absurd (unjudged-4 (subst IsJudgement is j))
+    judged-file (IsWanting is) j = absurd (unjudged-5 (subst IsJudgement is j))
 
     no_command-2 : Cause words status text line → status ≡ 2 → (¬ AskForCommand words) × ((said : Said) × TellsUnasked words said × (line ≡ said.line))
     no_command-2 (IsLost is rose none) e = absurd (omega arith)
@@ -247,7 +255,7 @@ module _ {words : List (List ℕ)} {files : List ℕ → Told} {lost cut unwritt
     judged : IsJudgement status
         → (command : Command) × Asks words command × ((said : Said) × StopsAt files ⊥ ⊥ (order_of command) said × Tells err err' trouble status said)
     judged is =
-        let why = judged-1-7 files lost cut unwritten words status a.text a.line caused is in
+        let why = judged-file files lost cut unwritten words status a.text a.line caused is in
         (why.0, why.1, (why.2.0, why.2.1, reported-as why.2.0 why.2.2 why.2.3))
 
     no_command : status ≡ 2 → (¬ AskForCommand words) × ((said : Said) × TellsUnasked words said × Tells err err' trouble status said)
@@ -287,12 +295,28 @@ module _ {words : List (List ℕ)} {files : List ℕ → Told} {lost cut unwritt
           (due-refused files (circuit_file circuit) (λ c. partition_order c partition trace) bytes said other (exact command).0 told short refuses d))
           (tells-due command said asks (bytes, told, inl (inr (short, refuses))))
 
+      tells-partitioned : UniqueOrders → (command : Command) (c p : List ℕ) (design : Ordered) (fault : List ℕ) → Asks words command
+          → files (circuit_of command) ≡ Holds c → length c ≤ 4194304 → MeansDesign c design
+          → files (partition_of command) ≡ Holds p → length p ≤ 1048576 → HasFault design p fault
+          → Tells err err' trouble status (partition_fault fault) ⊎ (status ≡ 5)
+      tells-partitioned unique (Run circuit partition trace capacity workers mono) c p design fault asks hc lc means hp lp has =
+          let command : Command = Run circuit partition trace capacity workers mono in
+          let said : Said = partition_fault fault in
+          let refuses : TellsPartitionFor c p said = (design, means, (fault, has, refl)) in
+          let accepted = means.means.text in
+          only-due (order_of command) said
+          (λ other d.
+          let at_partition = due-behind files (circuit_file circuit) (λ b. partition_order b partition trace) c other (exact command).0 hc lc accepted d in
+          let same = due-refused files (partition_file_for c partition) (λ _. trace_order c trace) p said other ((exact command).1 c).0 hp lp refuses at_partition in
+          (unique c partition trace).0 p other said same refuses)
+          (tells-due command said asks (c, hc, inr (lc, accepted, (p, hp, inl (inr (lp, refuses))))))
+
       tells-traced : UniqueOrders → (command : Command) (c p t : List ℕ) (flat : FlatCircuit) (fault : TraceFault) → Asks words command
           → files (circuit_of command) ≡ Holds c → length c ≤ 4194304 → Means c flat
-          → files (partition_of command) ≡ Holds p → length p ≤ 1048576 → IsPlainPartition p
+          → files (partition_of command) ≡ Holds p → length p ≤ 1048576 → IsPartitionFor c p
           → files (trace_of command) ≡ Holds t → length t ≤ 67108864 → IsFirstFault (in_ports flat) t fault
           → Tells err err' trouble status (trace_fault (fault_words fault)) ⊎ (status ≡ 5)
-      tells-traced unique (Run circuit partition trace capacity workers mono) c p t flat fault asks hc lc means hp lp plain ht lt first =
+      tells-traced unique (Run circuit partition trace capacity workers mono) c p t flat fault asks hc lc means hp lp fits ht lt first =
           let command : Command = Run circuit partition trace capacity workers mono in
           let said : Said = trace_fault (fault_words fault) in
           let refuses : TellsTraceFor c t said = (flat, means, (fault, first, refl)) in
@@ -300,10 +324,10 @@ module _ {words : List (List ℕ)} {files : List ℕ → Told} {lost cut unwritt
           only-due (order_of command) said
           (λ other d.
           let at_partition = due-behind files (circuit_file circuit) (λ b. partition_order b partition trace) c other (exact command).0 hc lc accepted d in
-          let at_trace = due-behind files (partition_file partition) (λ _. trace_order c trace) p other ((exact command).1 c).0 hp lp plain at_partition in
+          let at_trace = due-behind files (partition_file_for c partition) (λ _. trace_order c trace) p other ((exact command).1 c).0 hp lp fits at_partition in
           let same = due-refused files (trace_file_for c trace) (λ b. Write (IsOnlyText c b)) t said other (((exact command).1 c).1 p).0 ht lt refuses at_trace in
           ((unique c partition trace).1 p).0 t other said same refuses)
-          (tells-due command said asks (c, hc, inr (lc, accepted, (p, hp, inr (lp, plain, (t, ht, inl (inr (lt, refuses))))))))
+          (tells-due command said asks (c, hc, inr (lc, accepted, (p, hp, inr (lp, fits, (t, ht, inl (inr (lt, refuses))))))))
 
     pub promised : OneMeaning → UniqueOrders → OneReading → Promised words files lost cut unwritten trouble out out' err err' status
     promised once unique one = record {
@@ -317,6 +341,7 @@ module _ {words : List (List ℕ)} {files : List ℕ → Told} {lost cut unwritt
       unasked = unasked-2 files lost cut unwritten words status a.text a.line a.outcome;
       due = tells-due once;
       unread = λ none. tells-unread once none one;
+      partitioned = λ none. tells-partitioned once none unique;
       traced = λ none. tells-traced once none unique;
       complete = complete-status files lost cut unwritten words status a.text a.line exact once a.outcome;
     }

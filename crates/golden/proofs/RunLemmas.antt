@@ -1,5 +1,5 @@
 -- The order of `run`.
-use Rattle.std.proofs.Common.{◌≡◌, ℕ, List, refl, sym, ap, ◌∙◌, subst, inl, inr}
+use Rattle.std.proofs.Common.{◌≡◌, ℕ, List, refl, sym, ap, ◌∙◌, subst, inr}
 use Rattle.gg_flat.specs.Circuit.{FlatCircuit}
 use Rattle.gg_flat.specs.declared.ports.Port.{Port}
 use Rattle.gg_front.specs.Meaning.{Means}
@@ -9,21 +9,10 @@ use Rattle.gg_trace.specs.Trace.{Columns, IsFirstFault}
 use Rattle.gg_trace.specs.declared.faults.TraceFault.{TraceFault}
 use Rattle.golden.specs.Lines.{Said, trace_fault}
 use Rattle.golden.specs.Order.{IsExact, IsExactFile, IsUnique, IsUniqueFile}
-use Rattle.golden.specs.Run.{plain_file, trace_file_for, partition_order, IsTraceFor, TellsTraceFor}
+use Rattle.golden.specs.Run.{trace_file_for, partition_order, IsTraceFor, TellsTraceFor}
 use Rattle.golden.specs.Words.{Command, Run, order_of}
 use Rattle.golden.proofs.FrontLemmas.{NoFaultAccepted, circuit_file-exact}
-
--- a file that is refused exactly where it isn't plain
-pub plain_file-exact : (name : List ℕ) (limit : ℕ) (IsPlain : List ℕ → Type 0) → IsExactFile (plain_file name limit IsPlain)
-plain_file-exact name limit IsPlain = record {
-  apart = λ bytes said accepts refuses. refuses.0 accepts;
-  status = λ bytes said refuses. ap (λ (s : Said). s.status) refuses.1;
-  judges = inl refl;
-}
-
--- of which one thing is said at most
-pub plain_file-unique : (name : List ℕ) (limit : ℕ) (IsPlain : List ℕ → Type 0) → IsUniqueFile (plain_file name limit IsPlain)
-plain_file-unique name limit IsPlain = λ bytes said other refuses refuses'. refuses.1 ∙ sym refuses'.1
+use Rattle.golden.proofs.PartitionLemmas.{DesignsAgree, FileApart, OneKey, partition_file-exact, partition_file-unique}
 
 -- all flat circuits that some bytes mean have the same inputs
 abbrev pub InsAgree : Type 0
@@ -53,16 +42,16 @@ module _ (agree : InsAgree) (once : OneFirstFault) (never : NoFault) (circuit : 
 
   -- nothing is said of a trace without a fault, and all that is said of others has the status 7
   trace_file-exact : (name : List ℕ) → IsExactFile (trace_file_for circuit name)
-  trace_file-exact name = record { apart = trace-apart; status = trace-status; judges = inr refl }
+  trace_file-exact name = record { apart = trace-apart; status = trace-status; judges = inr (inr refl) }
 
   -- and it is one thing at most
   trace_file-unique : (name : List ℕ) → IsUniqueFile (trace_file_for circuit name)
   trace_file-unique name = trace-once
 
-pub order-exact : NoFaultAccepted → InsAgree → OneFirstFault → NoFault → (command : Command) → IsExact (order_of command)
-order-exact never agree once none (Run circuit partition trace capacity workers mono) =
-    (circuit_file-exact never circuit, λ c. (plain_file-exact partition 1048576 _, λ p. (trace_file-exact agree once none c trace, λ t. tt)))
+pub order-exact : NoFaultAccepted → DesignsAgree → FileApart → OneKey → InsAgree → OneFirstFault → NoFault → (command : Command) → IsExact (order_of command)
+order-exact never designs apart key agree once none (Run circuit partition trace capacity workers mono) =
+    (circuit_file-exact never circuit, λ c. (partition_file-exact designs apart key c partition, λ p. (trace_file-exact agree once none c trace, λ t. tt)))
 
-pub order-unique : InsAgree → OneFirstFault → NoFault → (circuit partition trace : List ℕ) → IsUnique (partition_order circuit partition trace)
-order-unique agree once none circuit partition trace =
-    (plain_file-unique partition 1048576 _, λ p. (trace_file-unique agree once none circuit trace, λ t. tt))
+pub order-unique : DesignsAgree → FileApart → OneKey → InsAgree → OneFirstFault → NoFault → (circuit partition trace : List ℕ) → IsUnique (partition_order circuit partition trace)
+order-unique designs apart key agree once none circuit partition trace =
+    (partition_file-unique designs apart key circuit partition, λ p. (trace_file-unique agree once none circuit trace, λ t. tt))

@@ -2,6 +2,7 @@
 pub mod Lines
 pub mod Order
 pub mod Outcome
+pub mod Partition
 pub mod Promised
 pub mod Run
 pub mod RunText

@@ -30,10 +30,6 @@ bad_number value = words_said (codes ": '" ++ value ++ codes "' is not a number 
 abbrev pub no_check : Said
 no_check = words_said (codes ": check is not there yet; the command is run CIRCUIT PARTITION TRACE [--capacity K] [--workers W] [--mono]")
 
--- the file of this name isn't plain
-abbrev pub not_plain : List ℕ → Said
-not_plain name = record { status = 1; line = line_of (codes "golden: plain " ++ name) }
-
 -- the circuit has this fault
 abbrev pub circuit_fault : List ℕ → Said
 circuit_fault text = record { status = 1; line = line_of (codes "golden: circuit: " ++ text) }
@@ -41,6 +37,10 @@ circuit_fault text = record { status = 1; line = line_of (codes "golden: circuit
 -- this is said of a circuit's text with this fault of reading; want of memory is no fault of a text
 abbrev pub TellsUnread : ReadFault → Said → Type 0
 TellsUnread fault said = (fault ≢ NoMemory) × (said ≡ circuit_fault (fault_text fault))
+
+-- the partition has a fault, in these words
+abbrev pub partition_fault : List ℕ → Said
+partition_fault text = record { status = 6; line = line_of (codes "golden: partition: " ++ text) }
 
 -- the trace has a fault, in these words
 abbrev pub trace_fault : List ℕ → Said

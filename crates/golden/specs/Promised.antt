@@ -5,14 +5,15 @@ use Rattle.gg_read.specs.Text.{HasReadFault}
 use Rattle.gg_read.specs.declared.text.ReadFault.{ReadFault}
 use Rattle.gg_flat.specs.Circuit.{FlatCircuit}
 use Rattle.gg_flat.specs.Ports.{in_ports}
-use Rattle.gg_front.specs.Meaning.{Means}
+use Rattle.gg_front.specs.Meaning.{Means, MeansDesign}
+use Rattle.gg_order.specs.Design.{Ordered}
 use Rattle.gg_trace.specs.FaultText.{fault_words}
 use Rattle.gg_trace.specs.Trace.{IsFirstFault}
 use Rattle.gg_trace.specs.declared.faults.TraceFault.{TraceFault}
-use Rattle.golden.specs.Lines.{Said, TellsUnread, trace_fault}
+use Rattle.golden.specs.Lines.{Said, TellsUnread, partition_fault, trace_fault}
 use Rattle.golden.specs.Order.{StopsAt, DueAt, IsDueAccepted, IsJudgement}
 use Rattle.golden.specs.Outcome.{Answered, Reports}
-use Rattle.golden.specs.Run.{IsPlainPartition}
+use Rattle.golden.specs.Partition.{HasFault, IsPartitionFor}
 use Rattle.golden.specs.Words.{Command, Asks, AskForCommand, TellsUnasked, circuit_of, order_of, partition_of, trace_of}
 
 -- A call with this status told this: the status is that of what was said, and its line is reported; `err` stood and stands
@@ -47,11 +48,17 @@ pub record Promised (words : List (List ℕ)) (files : List ℕ → Told) (lost 
   pub unread : (lost → ⊥) → (command : Command) (bytes : List ℕ) (fault : ReadFault) (said : Said)
       → Asks words command → files (circuit_of command) ≡ Holds bytes → length bytes ≤ 4194304
       → HasReadFault bytes fault → TellsUnread fault said → Tells err err' trouble status said ⊎ (status ≡ 5)
+  -- A partition's file that is told and has a fault is refused with its first, where the circuit is accepted.
+  pub partitioned : (lost → ⊥) → (command : Command) (c p : List ℕ) (design : Ordered) (fault : List ℕ)
+      → Asks words command
+      → files (circuit_of command) ≡ Holds c → length c ≤ 4194304 → MeansDesign c design
+      → files (partition_of command) ≡ Holds p → length p ≤ 1048576 → HasFault design p fault
+      → Tells err err' trouble status (partition_fault fault) ⊎ (status ≡ 5)
   -- And a trace's file that is told and has a fault is refused with its first, where the files before it are accepted.
   pub traced : (lost → ⊥) → (command : Command) (c p t : List ℕ) (flat : FlatCircuit) (fault : TraceFault)
       → Asks words command
       → files (circuit_of command) ≡ Holds c → length c ≤ 4194304 → Means c flat
-      → files (partition_of command) ≡ Holds p → length p ≤ 1048576 → IsPlainPartition p
+      → files (partition_of command) ≡ Holds p → length p ≤ 1048576 → IsPartitionFor c p
       → files (trace_of command) ≡ Holds t → length t ≤ 67108864 → IsFirstFault (in_ports flat) t fault
       → Tells err err' trouble status (trace_fault (fault_words fault)) ⊎ (status ≡ 5)
   -- Where no load and no put fails, files that are told and accepted are run: `outcome` then names the text.

@@ -1,5 +1,5 @@
 -- The command `run`: its three files, and the text that it writes.
-use Rattle.std.specs.Prelude.{◌≡◌, ◌≢◌, ℕ, List, codes, ◌⊎◌}
+use Rattle.std.specs.Prelude.{◌≡◌, ◌≢◌, ℕ, List}
 use Rattle.gg_flat.specs.Circuit.{FlatCircuit}
 use Rattle.gg_front.specs.Meaning.{Means}
 use Rattle.gg_front.specs.Accepted.{IsAcceptedText}
@@ -10,20 +10,10 @@ use Rattle.gg_flat.specs.Ports.{in_ports}
 use Rattle.gg_trace.specs.FaultText.{fault_words}
 use Rattle.gg_trace.specs.Trace.{IsFirstFault}
 use Rattle.gg_trace.specs.declared.faults.TraceFault.{TraceFault}
-use Rattle.golden.specs.Lines.{Said, line_of, circuit_fault, not_plain, trace_fault}
+use Rattle.golden.specs.Lines.{Said, circuit_fault, trace_fault}
 use Rattle.golden.specs.Order.{File, Order, Load, Write}
+use Rattle.golden.specs.Partition.{partition_file_for}
 use Rattle.golden.specs.RunText.{IsTraceOf, IsRunText}
-
--- a file that is refused, as not plain, exactly where it isn't
-abbrev pub plain_file : (name : List ℕ) (limit : ℕ) (IsPlainFile : List ℕ → Type 0) → File
-plain_file name limit IsPlainFile =
-    record {
-      name = name;
-      limit = limit;
-      status = 1;
-      accepts = IsPlainFile;
-      refuses = λ bytes said. (¬ IsPlainFile bytes) × (said ≡ not_plain name);
-    }
 
 -- This is said of the bytes of a circuit's file: their fault of reading, or the first fault of the circuit that they spell.
 abbrev pub TellsCircuit : (bytes : List ℕ) → Said → Type 0
@@ -33,14 +23,6 @@ TellsCircuit bytes said =
 -- the circuit's file: at most 4,194,304 bytes
 abbrev pub circuit_file : (name : List ℕ) → File
 circuit_file name = record { name = name; limit = 4194304; status = 1; accepts = IsAcceptedText; refuses = TellsCircuit }
-
--- a plain partition: `{}`, with or without a line feed
-abbrev pub IsPlainPartition : List ℕ → Type 0
-IsPlainPartition bytes = (bytes ≡ codes "{}") ⊎ (bytes ≡ line_of (codes "{}"))
-
--- the partition's file: at most 1,048,576 bytes
-abbrev pub partition_file : (name : List ℕ) → File
-partition_file name = plain_file name 1048576 IsPlainPartition
 
 -- This is said of the bytes of a trace of a circuit's inputs: their first fault.
 abbrev pub TellsTraceOf : (flat : FlatCircuit) (trace : List ℕ) → Said → Type 0
@@ -82,9 +64,10 @@ trace_order circuit trace = Load (trace_file_for circuit trace) (λ t. Write (Is
 
 -- and where its partition is still to be loaded
 abbrev pub partition_order : (circuit partition trace : List ℕ) → Order
-partition_order circuit partition trace = Load (partition_file partition) (λ _. trace_order circuit trace)
+partition_order circuit partition trace = Load (partition_file_for circuit partition) (λ _. trace_order circuit trace)
 
--- The order of `run`: the circuit, the partition and the trace are loaded and judged, each before the next is loaded;
--- then the text of the circuit's run on the trace is written.
+-- The order of `run`: the circuit, the partition and the trace are loaded and judged, each before the next is loaded, the
+-- partition for the circuit and the trace for its inputs; then the text of the circuit's run on the trace is written, whatever
+-- the partition asks.
 abbrev pub run_order : (circuit partition trace : List ℕ) → Order
 run_order circuit partition trace = Load (circuit_file circuit) (λ c. partition_order c partition trace)

@@ -110,11 +110,12 @@ fn answer<S: Shelf, K: Sink, E: Sink>(
 /// cycle. Statuses:
 ///
 /// - 0: the text was written whole;
-/// - 1: the circuit has a fault, or it has none and the partition isn't plain; nothing was written;
+/// - 1: the circuit has a fault; nothing was written;
 /// - 2: the words are no command that is there; nothing was written;
 /// - 3: a load failed, which the shelf counts as a fault; nothing was written;
 /// - 4: a put on `out` failed, which it counts as a fault; a front part of the text stands there;
 /// - 5: memory ran out; nothing or a front part of the text stands there;
+/// - 6: the partition has a fault for the circuit, which has none; nothing was written;
 /// - 7: the trace has a fault, and the files before it have none; nothing was written;
 /// - 8: a file is longer than its limit; nothing was written.
 ///

@@ -1,6 +1,6 @@
 //! Why a command stops, and what is said then.
 ghost use Rattle.std.specs.Prelude.{◌≡◌, ◌++◌, IfOk, MatchResult, codes, decimal, string_bytes};
-ghost use Rattle.golden.specs.Lines.{line_of, not_plain, cannot_load, is_over};
+ghost use Rattle.golden.specs.Lines.{line_of, cannot_load, is_over};
 ghost use Rattle.golden.specs.Endings.{IfRefused, said_of};
 ghost use Rattle.golden.specs.declared.endings.Ending.TheVariants.{NoMemory};
 
@@ -116,13 +116,6 @@ pub(crate) fn end_with(refusal: Result<Refusal, AllocError>) -> Ending
         Ok(refusal) => Ending::Refused(refusal),
         Err(_) => Ending::NoMemory,
     }
-}
-
-/// The ending at a file that isn't plain.
-pub(crate) fn end_not_plain(alloc: Global, name: &str) -> Ending
-    ensures { IfRefused (λ said. said ≡ not_plain name.now) result }
-{
-    end_with(make_refusal(alloc, 1, "golden: plain ", name, ""))
 }
 
 /// The ending at a file that can't be loaded.

@@ -7,7 +7,8 @@ ghost use Rattle.golden.specs.Order.{IsExact, IsUnique};
 ghost use Rattle.golden.specs.Run.{TellsCircuit, partition_order};
 ghost use Rattle.golden.specs.Words.{Command, order_of};
 
-use gg_front::{faults_apart, ports_agree};
+use gg_front::{designs_agree, faults_apart, one_run, ports_agree};
+use gg_partfile::one_answer;
 use gg_read::one_fault_line;
 use gg_trace::one_first_fault;
 
@@ -20,6 +21,9 @@ pub fn refusals_are_exact()
 {
     one_fault_line();
     faults_apart();
+    designs_agree();
+    one_run();
+    one_answer();
     ports_agree();
     one_first_fault();
 }

@@ -1,6 +1,7 @@
 //! The program golden as one call: [`golden`] does what the words of a call ask for, with files from a shelf, the
 //! text on one sink and at most one refusal's line on another, and answers the status. Which words are which command gg_words
-//! says. The one command that is there is `run`: the circuit's own run on the trace, printed; `check` is refused by name.
+//! says. The one command that is there is `run`: the circuit's own run on the trace, printed, whatever the partition asks; but a
+//! partition with a fault is refused. `check` is refused by name.
 //!
 //! What it promises (`Promised`), for every shelf and every sink:
 //!
@@ -11,9 +12,9 @@
 //!   runs on the trace has this text and no other.
 //! - Causes (`judged`, `no_command`, `not_loaded`, `not_written`, `over`): each status but 0 and 5 has its reason; a load or a
 //!   put that failed is counted where it failed. `nothing_written`: a refusal leaves `out` as it was.
-//! - What is due is said (`unasked`, `due`, `unread`, `traced`): words that are no command give their status, and where no load
-//!   fails a file that is told and is to be refused gives just its status, and a line that is right for it. Of a fault of
-//!   reading, of a partition and of a trace only one line is right.
+//! - What is due is said (`unasked`, `due`, `unread`, `partitioned`, `traced`): words that are no command give their status, and
+//!   where no load fails a file that is told and is to be refused gives just its status, and a line that is right for it. Of a
+//!   fault of reading, of a partition and of a trace only one line is right.
 //! - `complete`: where no load and no put fails, files that are told, within their limits and accepted give status 0.
 //!
 //! The shelf's files stay, and no count falls.
@@ -28,6 +29,7 @@ mod call;
 mod endings;
 mod laws;
 mod loading;
+mod partition;
 mod printing;
 mod reading;
 mod run;

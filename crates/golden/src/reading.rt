@@ -1,20 +1,20 @@
-//! Reading the three files of `run`.
-ghost use Rattle.std.specs.Prelude.{◌≡◌, ◌≢◌, ℕ, ◌↔◌, List, IfOk, IfErr, IsTrue, string_bytes};
+//! Reading a circuit and a trace.
+ghost use Rattle.std.specs.Prelude.{◌≡◌, ◌≢◌, ℕ, List, IfOk, IfErr, string_bytes};
 ghost use Rattle.gg_io.specs.Count.{Rose};
 ghost use Rattle.gg_front.specs.Fault.{front_text};
-ghost use Rattle.gg_front.specs.Meaning.{Means};
+ghost use Rattle.gg_front.specs.Meaning.{MeansDesign};
 ghost use Rattle.gg_front.specs.declared.fault.FrontFault.TheVariants as front;
 ghost use Rattle.gg_flat.specs.Run.{IsColumns};
 ghost use Rattle.gg_trace.specs.declared.faults.TraceFault.TheVariants.{NoMemory};
 ghost use Rattle.gg_trace.specs.FaultText.{fault_words};
-ghost use Rattle.golden.specs.Lines.{circuit_fault, not_plain, trace_fault};
+ghost use Rattle.golden.specs.Lines.{circuit_fault, trace_fault};
 ghost use Rattle.golden.specs.Order.{CanBe, IsRefused};
-ghost use Rattle.golden.specs.Run.{circuit_file, partition_file, trace_file_of, IsPlainPartition};
+ghost use Rattle.golden.specs.Run.{circuit_file, trace_file_of};
 ghost use Rattle.golden.specs.RunText.{FeedsOnly};
 ghost use Rattle.golden.specs.Endings.{IfRefused};
 ghost use Rattle.golden.specs.WentOn.{ShelfWentOn};
 
-use crate::endings::{Ending, end_not_plain, end_with, make_refusal};
+use crate::endings::{Ending, end_with, make_refusal};
 use crate::loading::load;
 use gg_front::{FrontFault, front};
 use gg_io::Shelf;
@@ -22,10 +22,8 @@ use gg_order::Design;
 use gg_trace::{Trace, TraceFault, read_trace};
 use std::alloc::{AllocError, Global};
 
-// How many bytes a circuit, a partition and a trace may have.
+// How many bytes a circuit and a trace may have.
 const CIRCUIT_LIMIT: u64 = 4_194_304;
-
-const PARTITION_LIMIT: u64 = 1_048_576;
 
 const TRACE_LIMIT: u64 = 67_108_864;
 
@@ -55,7 +53,7 @@ pub(crate) fn read_circuit<S: Shelf>(
     shelf: &mut S,
     name: &str,
 ) -> Result<Design, Ending>
-    ensures accepted { IfOk result (λ design. (bytes : List ℕ) × CanBe (S.files shelf.old) (circuit_file name.now) bytes × Means bytes design.circuit) }
+    ensures accepted { IfOk result (λ design. (bytes : List ℕ) × CanBe (S.files shelf.old) (circuit_file name.now) bytes × MeansDesign bytes design) }
     ensures refused { IfErr result (IfRefused (IsRefused (S.files shelf.old)
         (Rose (S.faults shelf.old) (S.faults shelf.new)) (Rose (S.cuts shelf.old) (S.cuts shelf.new)) (circuit_file name.now))) }
     ensures shelf { ShelfWentOn (S.files shelf.old) (S.files shelf.new) (S.faults shelf.old) (S.faults shelf.new) (S.cuts shelf.old) (S.cuts shelf.new) }
@@ -65,31 +63,6 @@ pub(crate) fn read_circuit<S: Shelf>(
         Ok(design) => Ok(design),
         Err(fault) => Err(end_at_circuit(alloc, &fault)),
     }
-}
-
-// Whether these bytes are a plain partition.
-fn is_plain_partition(bytes: &[u8]) -> bool
-    ensures { IsTrue result ↔ IsPlainPartition bytes.now }
-{
-    bytes == b"{}".as_slice() || bytes == b"{}\n".as_slice()
-}
-
-/// Reads the partition's file, from which nothing is kept.
-pub(crate) fn read_partition<S: Shelf>(
-    alloc: Global,
-    shelf: &mut S,
-    name: &str,
-) -> Result<(), Ending>
-    ensures accepted { IfOk result (λ _. (bytes : List ℕ) × CanBe (S.files shelf.old) (partition_file name.now) bytes × IsPlainPartition bytes) }
-    ensures refused { IfErr result (IfRefused (IsRefused (S.files shelf.old)
-        (Rose (S.faults shelf.old) (S.faults shelf.new)) (Rose (S.cuts shelf.old) (S.cuts shelf.new)) (partition_file name.now))) }
-    ensures shelf { ShelfWentOn (S.files shelf.old) (S.files shelf.new) (S.faults shelf.old) (S.faults shelf.new) (S.cuts shelf.old) (S.cuts shelf.new) }
-{
-    let bytes = load(alloc, shelf, name, PARTITION_LIMIT)?;
-    if !is_plain_partition(bytes.as_slice()) {
-        return Err(end_not_plain(alloc, name));
-    }
-    Ok(())
 }
 
 // The ending at a trace with this fault.

@@ -1,14 +1,15 @@
 //! The command `run`.
 ghost use Rattle.std.specs.Prelude.{◌≡◌, ℕ, List};
 ghost use Rattle.gg_io.specs.Count.{Rose};
-ghost use Rattle.gg_front.specs.Meaning.{Means};
+ghost use Rattle.gg_front.specs.Meaning.{Means, MeansDesign};
 ghost use Rattle.golden.specs.Run.{run_order, partition_order, trace_order};
 ghost use Rattle.golden.specs.Endings.{EndedOn};
 ghost use Rattle.golden.specs.WentOn.{ShelfWentOn, SinkWentOn};
 
 use crate::endings::Ending;
+use crate::partition::read_partition;
 use crate::printing::print_run;
-use crate::reading::{read_circuit, read_inputs, read_partition};
+use crate::reading::{read_circuit, read_inputs};
 use gg_flat::run_once;
 use gg_front::{one_run, ports_agree};
 use gg_io::{Shelf, Sink};
@@ -47,13 +48,13 @@ fn run_design<S: Shelf, K: Sink>(
     shelf: &mut S,
     out: &mut K,
 ) -> Result<(), Ending>
-    ensures ended { (circuit : List ℕ) → Means circuit design.now.circuit → EndedOn (S.files shelf.old)
+    ensures ended { (circuit : List ℕ) → MeansDesign circuit design.now → EndedOn (S.files shelf.old)
         (Rose (S.faults shelf.old) (S.faults shelf.new)) (Rose (S.cuts shelf.old) (S.cuts shelf.new)) (Rose (K.faults out.old) (K.faults out.new))
         (K.written out.old) (K.written out.new) (partition_order circuit partition.now trace.now) result }
     ensures shelf { ShelfWentOn (S.files shelf.old) (S.files shelf.new) (S.faults shelf.old) (S.faults shelf.new) (S.cuts shelf.old) (S.cuts shelf.new) }
     ensures out { SinkWentOn (K.faults out.old) (K.faults out.new) (K.refused out.old) (K.refused out.new) }
 {
-    read_partition(alloc, shelf, partition)?;
+    let _request = read_partition(alloc, shelf, partition, design)?;
     run_trace(alloc, design, trace, shelf, out)
 }
 

@@ -3,6 +3,7 @@ mod circuits;
 mod commands;
 mod files;
 mod outputs;
+mod partitions;
 mod refusals;
 mod traces;
 

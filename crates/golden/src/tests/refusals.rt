@@ -24,7 +24,7 @@ static REFUSED: [(usize, &str, &str, &str, u8, u64, &str); 9] = [
         1,
         "golden: circuit: syntax line 9\n",
     ),
-    (0, "", "[]", "cycle", 1, 2, "golden: plain p.json\n"),
+    (0, "", "[]", "cycle", 6, 2, "golden: partition: P1 -\n"),
     (0, "", "{}", "cycle", 7, 3, "golden: trace: T1 field 1\n"),
     (
         0,
@@ -35,7 +35,15 @@ static REFUSED: [(usize, &str, &str, &str, u8, u64, &str); 9] = [
         3,
         "golden: trace: T4 row 1 field 1\n",
     ),
-    (0, "", "{}\r\n", TRACE, 1, 2, "golden: plain p.json\n"),
+    (
+        0,
+        "",
+        "{\"units\":[\"c\"]}\r\n",
+        "cycle",
+        6,
+        2,
+        "golden: partition: P2 c\n",
+    ),
     (
         3,
         "input clock : Analog<1>",

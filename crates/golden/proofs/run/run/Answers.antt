@@ -25,4 +25,4 @@ returns-clause-ended g c =
     (Rose (g.S.Shelf.faults c.read_circuit.new.shelf) (g.S.Shelf.faults c.run_design.new.shelf)) (Rose (g.S.Shelf.cuts c.read_circuit.new.shelf) (g.S.Shelf.cuts c.run_design.new.shelf))
     c.read_circuit.ensures.shelf.files_stay (rose-earlier _ _ _ c.read_circuit.ensures.shelf.faults_stay_or_rise) (rose-earlier _ _ _ c.read_circuit.ensures.shelf.cuts_stay_or_rise)
     (circuit_file c.args.circuit.now) (λ b. partition_order b c.args.partition.now c.args.trace.now)
-    accepted.0 accepted.1 accepted.2.text c.run_design.result (c.run_design.ensures.ended accepted.0 accepted.2)
+    accepted.0 accepted.1 accepted.2.means.text c.run_design.result (c.run_design.ensures.ended accepted.0 accepted.2)

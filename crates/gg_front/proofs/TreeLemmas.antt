@@ -1,0 +1,155 @@
+-- A circuit has one tree, and the memories of its flat circuits have the same ports.
+use Rattle.std.proofs.Common.{◌≡◌, ℕ, zero, suc, ◌+◌, ◌<◌, List, [], ◌∷◌, Option, None, Some, Bool, length, map, refl, sym, ap, ◌∙◌, subst, arith}
+use Rattle.std.specs.Prelude.{flat_map, slice_index_or}
+use Rattle.gg_ast.specs.declared.module.Port.{Port}
+use Rattle.gg_ast.specs.Tree.{CircuitTree}
+use Rattle.gg_flat.specs.Circuit.{FlatCircuit, readers_at}
+use Rattle.gg_flat.specs.Scoped.{writers_at}
+use Rattle.gg_flat.specs.Tree.{InstanceTree}
+use Rattle.gg_flat.specs.declared.memory.Memory.{Memory}
+use Rattle.gg_flat.specs.declared.memory.Reader.{Reader}
+use Rattle.gg_flat.specs.declared.memory.Writer.{Writer}
+use Rattle.gg_flat.specs.declared.tree.Instance.{Instance}
+use Rattle.gg_flat.specs.declared.tree.InstancePort.{InstancePort}
+use Rattle.gg_flat.specs.declared.tree.MemoryInstance.{MemoryInstance}
+use Rattle.gg_count.specs.Sites.{Site, Outer, module_at, sites_of}
+use Rattle.gg_digest.specs.Flat.{FlatMemory, memories_at, signals_at}
+use Rattle.gg_digest.specs.IsFlat.{IsFlat, IsMemoryOf}
+use Rattle.gg_tree.specs.IsTreeOf.{IsAt, Pairwise, IsParent, IsPortFor, IsMemoryAt, IsInstanceFor, AreInstances, IsMemoryFor, HeldMemory, held_memories, IsTreeOf, signal_ports, site_paths, memories_of}
+use Rattle.gg_digest.specs.Known.{types_of}
+
+-- ---- places
+
+at-same : (paths : List (List ℕ)) (path : List ℕ) (a b : ℕ) → IsAt paths path a → IsAt paths path b → a ≡ b
+at-same paths path a b p q = let e : Some a ≡ Some b = sym p.is ∙ q.is in cc
+
+-- where each element fixes its partner, a list fixes the other
+Pairwise-same : {A B : Type 0} (R : A → B → Type 0) → ((a : A) (b c : B) → R a b → R a c → b ≡ c) → (xs : List A) (ys zs : List B)
+    → Pairwise R xs ys → Pairwise R xs zs → ys ≡ zs
+Pairwise-same R once [] [] [] p q = refl
+Pairwise-same R once [] [] (z ∷ zs) p q = absurd q
+Pairwise-same R once [] (y ∷ ys) zs p q = absurd p
+Pairwise-same R once (x ∷ xs) [] zs p q = absurd p
+Pairwise-same R once (x ∷ xs) (y ∷ ys) [] p q = absurd q
+Pairwise-same R once (x ∷ xs) (y ∷ ys) (z ∷ zs) p q =
+    let e : y ≡ z = once x y z p.0 q.0 in let es : ys ≡ zs = Pairwise-same R once xs ys zs p.1 q.1 in cc
+
+-- ---- instances
+
+parent-same : (circuit : CircuitTree) (outer : Option Outer) (a b : Option ℕ) → IsParent circuit outer a → IsParent circuit outer b → a ≡ b
+parent-same circuit None None None p q = refl
+parent-same circuit None None (Some b) p q = absurd q
+parent-same circuit None (Some a) b p q = absurd p
+parent-same circuit (Some outer) None b p q = absurd p
+parent-same circuit (Some outer) (Some a) None p q = absurd q
+parent-same circuit (Some outer) (Some a) (Some b) p q = ap Some (at-same (site_paths circuit) outer.path a b p q)
+
+abbrev pub port_made : ℕ → Bool → InstancePort
+port_made signal goes = record { signal = signal; is_input = goes }
+
+ports-equal : (a b : InstancePort) → a.signal ≡ b.signal → a.is_input ≡ b.is_input → a ≡ b
+ports-equal a b s g = ap (λ (x : ℕ). port_made x a.is_input) s ∙ ap (λ (x : Bool). port_made b.signal x) g
+
+port-same : (circuit : CircuitTree) (site : Site) (port : Port) (a b : InstancePort) → IsPortFor circuit site port a → IsPortFor circuit site port b → a ≡ b
+port-same circuit site port a b p q = ports-equal a b (at-same _ _ a.signal b.signal p.signal q.signal) (p.goes ∙ sym q.goes)
+
+memory-number-same : (circuit : CircuitTree) (said : FlatMemory) (a b : ℕ) → IsMemoryAt circuit said a → IsMemoryAt circuit said b → a ≡ b
+memory-number-same circuit said a b p q = at-same _ _ a b p.number q.number
+
+abbrev pub instance_made : Option ℕ → ℕ → ℕ → ℕ → List InstancePort → List ℕ → Instance
+instance_made parent number first end ports memories =
+    record { parent = parent; «module» = number; first = first; end = end; ports = ports; memories = memories }
+
+instances-equal : (a b : Instance) → a.parent ≡ b.parent → a.«module» ≡ b.«module» → a.first ≡ b.first → a.end ≡ b.end → a.ports ≡ b.ports → a.memories ≡ b.memories → a ≡ b
+instances-equal a b p n f e o m =
+    ap (λ (x : Option ℕ). instance_made x a.«module» a.first a.end a.ports a.memories) p
+    ∙ ap (λ (x : ℕ). instance_made b.parent x a.first a.end a.ports a.memories) n
+    ∙ ap (λ (x : ℕ). instance_made b.parent b.«module» x a.end a.ports a.memories) f
+    ∙ ap (λ (x : ℕ). instance_made b.parent b.«module» b.first x a.ports a.memories) e
+    ∙ ap (λ (x : List InstancePort). instance_made b.parent b.«module» b.first b.end x a.memories) o
+    ∙ ap (λ (x : List ℕ). instance_made b.parent b.«module» b.first b.end b.ports x) m
+
+instance-same : (circuit : CircuitTree) (first : ℕ) (site : Site) (a b : Instance) → IsInstanceFor circuit first site a → IsInstanceFor circuit first site b → a ≡ b
+instance-same circuit first site a b p q =
+    instances-equal a b
+    (parent-same circuit site.outer a.parent b.parent p.parent q.parent)
+    (p.number ∙ sym q.number) (p.begins ∙ sym q.begins) (p.ends ∙ sym q.ends)
+    (Pairwise-same (IsPortFor circuit site) (port-same circuit site) (signal_ports (module_at circuit.modules site.number)) a.ports b.ports p.ports q.ports)
+    (Pairwise-same (IsMemoryAt circuit) (memory-number-same circuit) (memories_at circuit.modules site) a.memories b.memories p.memories q.memories)
+
+instances-same : (circuit : CircuitTree) (first : ℕ) (all : List Site) (xs ys : List Instance) → AreInstances circuit first all xs → AreInstances circuit first all ys → xs ≡ ys
+instances-same circuit first [] [] [] p q = refl
+instances-same circuit first [] [] (y ∷ ys) p q = absurd q
+instances-same circuit first [] (x ∷ xs) ys p q = absurd p
+instances-same circuit first (site ∷ rest) [] ys p q = absurd p
+instances-same circuit first (site ∷ rest) (x ∷ xs) [] p q = absurd q
+instances-same circuit first (site ∷ rest) (x ∷ xs) (y ∷ ys) p q =
+    let e : x ≡ y = instance-same circuit first site x y p.0 q.0 in
+    let es : xs ≡ ys = instances-same circuit (first + length (signals_at (types_of circuit) circuit.modules site)) rest xs ys p.1 q.1 in cc
+
+-- ---- memories
+
+abbrev pub memory_made : ℕ → ℕ → List (List ℕ) → MemoryInstance
+memory_made holder number ports = record { instance = holder; memory = number; ports = ports }
+
+memories-equal : (a b : MemoryInstance) → a.instance ≡ b.instance → a.memory ≡ b.memory → a.ports ≡ b.ports → a ≡ b
+memories-equal a b h n o =
+    ap (λ (x : ℕ). memory_made x a.memory a.ports) h ∙ ap (λ (x : ℕ). memory_made b.instance x a.ports) n ∙ ap (λ (x : List (List ℕ)). memory_made b.instance b.memory x) o
+
+memory-same : (circuit : CircuitTree) (h : HeldMemory) (a b : MemoryInstance) → IsMemoryFor circuit h.site h.said a → IsMemoryFor circuit h.site h.said b → a ≡ b
+memory-same circuit h a b p q =
+    memories-equal a b (at-same _ _ a.instance b.instance p.holder q.holder) (at-same _ _ a.memory b.memory p.number q.number) (p.ports ∙ sym q.ports)
+
+-- ---- the tree
+
+abbrev pub tree_made : List (List ℕ) → List Instance → List (List ℕ) → List MemoryInstance → InstanceTree
+tree_made paths instances memory_paths memories = record { paths = paths; instances = instances; memory_paths = memory_paths; memories = memories }
+
+pub tree-same : (circuit : CircuitTree) (a b : InstanceTree) → IsTreeOf circuit a → IsTreeOf circuit b → a ≡ b
+tree-same circuit a b p q =
+    let paths : a.paths ≡ b.paths = p.paths ∙ sym q.paths in
+    let instances : a.instances ≡ b.instances = instances-same circuit 0 (sites_of circuit) a.instances b.instances p.instances q.instances in
+    let names : a.memory_paths ≡ b.memory_paths = p.memory_names ∙ sym q.memory_names in
+    let memories : a.memories ≡ b.memories =
+    Pairwise-same (λ (h : HeldMemory) (memory : MemoryInstance). IsMemoryFor circuit h.site h.said memory) (memory-same circuit) (flat_map (held_memories circuit.modules) (sites_of circuit)) a.memories b.memories p.memories q.memories in
+    ap (λ (x : List (List ℕ)). tree_made x a.instances a.memory_paths a.memories) paths
+    ∙ ap (λ (x : List Instance). tree_made b.paths x a.memory_paths a.memories) instances
+    ∙ ap (λ (x : List (List ℕ)). tree_made b.paths b.instances x a.memories) names
+    ∙ ap (λ (x : List MemoryInstance). tree_made b.paths b.instances b.memory_paths x) memories
+
+-- ---- ports of memories
+
+-- lists that agree at each place under f are the same under f
+map-same : {A B : Type 0} (f : A → B) (xs ys : List A) → length xs ≡ length ys
+    → ((m : ℕ) (any : A) → m < length xs → f (slice_index_or xs m any) ≡ f (slice_index_or ys m any)) → map f xs ≡ map f ys
+map-same f [] [] e h = refl
+map-same f [] (y ∷ ys) e h = absurd (omega (arith, e))
+map-same f (x ∷ xs) [] e h = absurd (omega (arith, e))
+map-same f (x ∷ xs) (y ∷ ys) e h =
+    let head : f x ≡ f y = h 0 x (omega arith) in
+    let rest : map f xs ≡ map f ys = map-same f xs ys (omega (arith, e)) (λ m any lt. h (suc m) any (omega (arith, lt))) in cc
+
+-- something that is known for each place and each default is known at each place
+some-default : {A : Type 0} (xs : List A) (m : ℕ) → m < length xs → A
+some-default [] m lt = absurd (omega (arith, lt))
+some-default (x ∷ xs) m lt = x
+
+module _ (circuit : CircuitTree) (one other : FlatCircuit) (p : IsFlat circuit one) (q : IsFlat circuit other) where
+  banks-count : length one.memories ≡ length other.memories
+  banks-count = p.memory_count ∙ sym q.memory_count
+
+  readers-same : map (λ (x : Memory). x.readers) one.memories ≡ map (λ (x : Memory). x.readers) other.memories
+  readers-same = map-same (λ (x : Memory). x.readers) one.memories other.memories banks-count
+      (λ m any lt. let below : m < length (memories_of circuit) = omega (arith, lt, p.memory_count) in let said = some-default (memories_of circuit) m below in
+      (p.memories m said any below).readers ∙ sym (q.memories m said any below).readers)
+
+  writers-same : map (λ (x : Memory). x.writers) one.memories ≡ map (λ (x : Memory). x.writers) other.memories
+  writers-same = map-same (λ (x : Memory). x.writers) one.memories other.memories banks-count
+      (λ m any lt. let below : m < length (memories_of circuit) = omega (arith, lt, p.memory_count) in let said = some-default (memories_of circuit) m below in
+      (p.memories m said any below).writers ∙ sym (q.memories m said any below).writers)
+
+  pub readers-at-same : (m : ℕ) → readers_at one m ≡ readers_at other m
+  readers-at-same m = ap (λ (rs : List (List Reader)). slice_index_or rs m []) readers-same
+
+  pub writers-at-same : (m : ℕ) → writers_at one m ≡ writers_at other m
+  writers-at-same m = ap (λ (ws : List (List Writer)). slice_index_or ws m []) writers-same

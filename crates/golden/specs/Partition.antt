@@ -1,0 +1,53 @@
+-- The partition of a command: what its file holds, and which fault it has for a circuit.
+-- Sources: RFC 8259 and ICCAD 2019, for what is named in the crates that read a partition and judge it; this program's own are the
+-- numbers of the faults. P1 is a fault of the file, P2 to P9 are faults of the request that it holds, for a design.
+use Rattle.std.specs.Prelude.{◌≡◌, ℕ, List, Some, None}
+use Rattle.gg_cut.specs.Fault as cut
+use Rattle.gg_cut.specs.declared.fault.CutFault.{CutFault}
+use Rattle.gg_front.specs.Meaning.{MeansDesign}
+use Rattle.gg_order.specs.Design.{Ordered}
+use Rattle.gg_partfile.specs.Fault as file
+use Rattle.gg_partfile.specs.Partition.{IsPartition}
+use Rattle.gg_partfile.specs.declared.fault.PartFault.TheVariants.{WrongKey}
+use Rattle.gg_partfile.specs.declared.request.Request.{Request}
+use Rattle.golden.specs.Lines.{Said, partition_fault}
+use Rattle.golden.specs.Order.{File}
+
+-- The bytes hold this request, and it has no fault for the design.
+pub record Cuts (design : Ordered) (bytes : List ℕ) (request : Request) : Type 0 where
+  pub asks : IsPartition bytes request
+  pub faultless : cut.first_fault design request ≡ None
+
+-- The bytes have this fault, in words: they hold no request (P1), or the request that they hold has it for the design, as its
+-- first (P2 to P9).
+pub data HasFault (design : Ordered) (bytes text : List ℕ) : Type 0 where
+  OfFile : (key : List ℕ) (wrong : file.IsRefused bytes key) (is : text ≡ file.fault_text (WrongKey key)) → HasFault design bytes text
+  OfRequest : (request : Request) (asks : IsPartition bytes request) (fault : CutFault) (first : cut.first_fault design request ≡ Some fault) (is : text ≡ cut.fault_text fault) → HasFault design bytes text
+
+-- a partition of a design
+abbrev pub IsPartitionOf : (design : Ordered) (bytes : List ℕ) → Type 0
+IsPartitionOf design bytes = (request : Request) × Cuts design bytes request
+
+-- and this is said of one with a fault
+abbrev pub TellsPartitionOf : (design : Ordered) (bytes : List ℕ) → Said → Type 0
+TellsPartitionOf design bytes said = (text : List ℕ) × HasFault design bytes text × (said ≡ partition_fault text)
+
+-- a partition's file: at most 1,048,576 bytes
+abbrev pub partition_file : (name : List ℕ) (IsGood : List ℕ → Type 0) (TellsFault : List ℕ → Said → Type 0) → File
+partition_file name IsGood TellsFault = record { name = name; limit = 1048576; status = 6; accepts = IsGood; refuses = TellsFault }
+
+-- that of a partition of a design
+abbrev pub partition_file_of : (design : Ordered) (name : List ℕ) → File
+partition_file_of design name = partition_file name (IsPartitionOf design) (TellsPartitionOf design)
+
+-- a partition of the circuit that these bytes are
+abbrev pub IsPartitionFor : (circuit bytes : List ℕ) → Type 0
+IsPartitionFor circuit bytes = (design : Ordered) × MeansDesign circuit design × IsPartitionOf design bytes
+
+-- and this is said of one with a fault
+abbrev pub TellsPartitionFor : (circuit bytes : List ℕ) → Said → Type 0
+TellsPartitionFor circuit bytes said = (design : Ordered) × MeansDesign circuit design × TellsPartitionOf design bytes said
+
+-- its file
+abbrev pub partition_file_for : (circuit name : List ℕ) → File
+partition_file_for circuit name = partition_file name (IsPartitionFor circuit) (TellsPartitionFor circuit)
