@@ -140,12 +140,12 @@ module _ (circuit : CircuitTree) (one other : FlatCircuit) (p : IsFlat circuit o
 
   readers-same : map (λ (x : Memory). x.readers) one.memories ≡ map (λ (x : Memory). x.readers) other.memories
   readers-same = map-same (λ (x : Memory). x.readers) one.memories other.memories banks-count
-      (λ m any lt. let below = omega (arith, lt, p.memory_count) in let said = some-default (memories_of circuit) m below in
+      (λ m any lt. let below : m < length (memories_of circuit) = omega (arith, lt, p.memory_count) in let said = some-default (memories_of circuit) m below in
       (p.memories m said any below).readers ∙ sym (q.memories m said any below).readers)
 
   writers-same : map (λ (x : Memory). x.writers) one.memories ≡ map (λ (x : Memory). x.writers) other.memories
   writers-same = map-same (λ (x : Memory). x.writers) one.memories other.memories banks-count
-      (λ m any lt. let below = omega (arith, lt, p.memory_count) in let said = some-default (memories_of circuit) m below in
+      (λ m any lt. let below : m < length (memories_of circuit) = omega (arith, lt, p.memory_count) in let said = some-default (memories_of circuit) m below in
       (p.memories m said any below).writers ∙ sym (q.memories m said any below).writers)
 
   pub readers-at-same : (m : ℕ) → readers_at one m ≡ readers_at other m
