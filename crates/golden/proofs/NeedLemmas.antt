@@ -11,7 +11,7 @@ use Rattle.gg_flat.specs.Circuit.{FlatCircuit, driver_at}
 use Rattle.gg_flat.specs.Reads.{Names, NamesSignal, Reads, IsPath, Reaches}
 use Rattle.gg_part.specs.Part.{IsPart, IsFrom, renamed_op, renamed_line}
 use Rattle.gg_part.proofs.AlongLemmas.{named-in}
-use Rattle.zz.specs.CheckText.{IsPathInside}
+use Rattle.golden.specs.CheckText.{IsPathInside}
 
 -- ---- what a driver of the whole names, the part's driver names
 
