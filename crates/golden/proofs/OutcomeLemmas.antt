@@ -22,7 +22,8 @@ use Rattle.gg_words.specs.declared.command.WordFault.TheVariants as word
 use Rattle.golden.specs.Lines.{Said, TellsUnread, partition_fault, trace_fault}
 use Rattle.golden.specs.Order.{Order, Write, StopsAt, IsWritten, DueAt, IsDueAccepted, IsExact, IsUnique, IsJudgement}
 use Rattle.golden.specs.Outcome.{Ends, Refused, Done, Unwritten, WantsMemory, Outcome, Asked, Unasked, WantsMemoryFirst, Answered, Reports}
-use Rattle.golden.specs.Words.{Command, Run, Asks, AskForCommand, TellsUnasked, TellsWords, circuit_of, order_of, partition_of, trace_of}
+use Rattle.golden.specs.Check.{IsOnlyCutText, cut_order}
+use Rattle.golden.specs.Words.{Command, Run, Check, Asks, AskForCommand, TellsUnasked, TellsWords, circuit_of, cmd_of, order_behind, order_of, partition_of}
 use Rattle.golden.specs.Promised.{Promised, Tells}
 use Rattle.golden.specs.Partition.{HasFault, IsPartitionFor, TellsPartitionFor, partition_file_for}
 use Rattle.golden.specs.Run.{IsOnlyText, TellsCircuit, TellsTraceFor, circuit_file, partition_order, trace_file_for, trace_order}
@@ -36,11 +37,9 @@ OneMeaning = (words : List (List ℕ)) (one other : Result Cmd (List ℕ)) → S
 -- so they ask for one command at most
 asks-once : OneMeaning → (words : List (List ℕ)) (command other : Command) → Asks words command → Asks words other → command ≡ other
 asks-once once words (Run a b c k w m) (Run x y z l v n) asks others = let e = once words (Ok (cmd.Run a b c k w m)) (Ok (cmd.Run x y z l v n)) asks others in cc
-
--- words that ask for `check` ask for no command that is there
-pub check-unasked : OneMeaning → (words : List (List ℕ)) (circuit partition : List ℕ) (capacity : ℕ) → command_line.IsCommand words (cmd.Check circuit partition capacity) → AskForCommand words → ⊥
-check-unasked once words circuit partition capacity check (Run a b c k w m, asks) =
-    let e = once words (Ok (cmd.Check circuit partition capacity)) (Ok (cmd.Run a b c k w m)) check asks in cc
+asks-once once words (Run a b c k w m) (Check x y l) asks others = let e = once words (Ok (cmd.Run a b c k w m)) (Ok (cmd.Check x y l)) asks others in absurd (cc)
+asks-once once words (Check a b k) (Run x y z l v n) asks others = let e = once words (Ok (cmd.Check a b k)) (Ok (cmd.Run x y z l v n)) asks others in absurd (cc)
+asks-once once words (Check a b k) (Check x y l) asks others = let e = once words (Ok (cmd.Check a b k)) (Ok (cmd.Check x y l)) asks others in cc
 
 -- a fault that is no want of memory is one of the words
 pub word-fault : (words : List (List ℕ)) (fault : WordFault) → fault ≢ word.NoMemory → command_line.IfWordFault words fault → command_line.IsWordFault words fault
@@ -55,8 +54,7 @@ fault-status (word.Number value) said tells = ap (λ (s : Said). s.status) tells
 fault-status word.NoMemory said tells = absurd tells
 
 unasked-status : (words : List (List ℕ)) (said : Said) → TellsUnasked words said → said.status ≡ 2
-unasked-status words said (inl (fault, has, tells)) = fault-status fault said tells
-unasked-status words said (inr (circuit, partition, capacity, asks, is)) = ap (λ (s : Said). s.status) is
+unasked-status words said (fault, has, tells) = fault-status fault said tells
 
 -- the other statuses are none of a judgement
 unjudged-0 : IsJudgement 0 → ⊥
@@ -240,7 +238,7 @@ OneReading = (bytes : List ℕ) (fault : ReadFault) (said other : Said) → HasR
 
 -- of a partition and a trace one thing is said at most
 abbrev pub UniqueOrders : Type 0
-UniqueOrders = (circuit partition trace : List ℕ) → IsUnique (partition_order circuit partition trace)
+UniqueOrders = (command : Command) (circuit : List ℕ) → IsUnique (order_behind command circuit)
 
 -- what is promised of a call that answered this status
 module _ {words : List (List ℕ)} {files : List ℕ → Told} {lost cut unwritten trouble : Type 0} {out out' err err' : Option (List ℕ)} {status : ℕ} (a : Answered words files lost cut unwritten trouble out out' err err' status) where
@@ -294,6 +292,13 @@ module _ {words : List (List ℕ)} {files : List ℕ → Told} {lost cut unwritt
           (λ other d. one bytes fault said other has tells
           (due-refused files (circuit_file circuit) (λ c. partition_order c partition trace) bytes said other (exact command).0 told short refuses d))
           (tells-due command said asks (bytes, told, inl (inr (short, refuses))))
+      tells-unread one (Check circuit partition capacity) bytes fault said asks told short has tells =
+          let command : Command = Check circuit partition capacity in
+          let refuses : TellsCircuit bytes said = (front.Read fault, (has, tells.0), (λ e. absurd (cc)), tells.1) in
+          only-due (order_of command) said
+          (λ other d. one bytes fault said other has tells
+          (due-refused files (circuit_file circuit) (λ c. cut_order c partition capacity) bytes said other (exact command).0 told short refuses d))
+          (tells-due command said asks (bytes, told, inl (inr (short, refuses))))
 
       tells-partitioned : UniqueOrders → (command : Command) (c p : List ℕ) (design : Ordered) (fault : List ℕ) → Asks words command
           → files (circuit_of command) ≡ Holds c → length c ≤ 4194304 → MeansDesign c design
@@ -308,15 +313,27 @@ module _ {words : List (List ℕ)} {files : List ℕ → Told} {lost cut unwritt
           (λ other d.
           let at_partition = due-behind files (circuit_file circuit) (λ b. partition_order b partition trace) c other (exact command).0 hc lc accepted d in
           let same = due-refused files (partition_file_for c partition) (λ _. trace_order c trace) p said other ((exact command).1 c).0 hp lp refuses at_partition in
-          (unique c partition trace).0 p other said same refuses)
+          (unique command c).0 p other said same refuses)
+          (tells-due command said asks (c, hc, inr (lc, accepted, (p, hp, inl (inr (lp, refuses))))))
+      tells-partitioned unique (Check circuit partition capacity) c p design fault asks hc lc means hp lp has =
+          let command : Command = Check circuit partition capacity in
+          let said : Said = partition_fault fault in
+          let refuses : TellsPartitionFor c p said = (design, means, (fault, has, refl)) in
+          let accepted = means.means.text in
+          only-due (order_of command) said
+          (λ other d.
+          let at_partition = due-behind files (circuit_file circuit) (λ b. cut_order b partition capacity) c other (exact command).0 hc lc accepted d in
+          let same = due-refused files (partition_file_for c partition) (λ b. Write (IsOnlyCutText c b capacity)) p said other ((exact command).1 c).0 hp lp refuses at_partition in
+          (unique command c).0 p other said same refuses)
           (tells-due command said asks (c, hc, inr (lc, accepted, (p, hp, inl (inr (lp, refuses))))))
 
-      tells-traced : UniqueOrders → (command : Command) (c p t : List ℕ) (flat : FlatCircuit) (fault : TraceFault) → Asks words command
-          → files (circuit_of command) ≡ Holds c → length c ≤ 4194304 → Means c flat
-          → files (partition_of command) ≡ Holds p → length p ≤ 1048576 → IsPartitionFor c p
-          → files (trace_of command) ≡ Holds t → length t ≤ 67108864 → IsFirstFault (in_ports flat) t fault
+      tells-traced : UniqueOrders → (circuit partition trace : List ℕ) (capacity workers : ℕ) (mono : Bool) (c p t : List ℕ) (flat : FlatCircuit) (fault : TraceFault)
+          → Asks words (Run circuit partition trace capacity workers mono)
+          → files circuit ≡ Holds c → length c ≤ 4194304 → Means c flat
+          → files partition ≡ Holds p → length p ≤ 1048576 → IsPartitionFor c p
+          → files trace ≡ Holds t → length t ≤ 67108864 → IsFirstFault (in_ports flat) t fault
           → Tells err err' trouble status (trace_fault (fault_words fault)) ⊎ (status ≡ 5)
-      tells-traced unique (Run circuit partition trace capacity workers mono) c p t flat fault asks hc lc means hp lp fits ht lt first =
+      tells-traced unique circuit partition trace capacity workers mono c p t flat fault asks hc lc means hp lp fits ht lt first =
           let command : Command = Run circuit partition trace capacity workers mono in
           let said : Said = trace_fault (fault_words fault) in
           let refuses : TellsTraceFor c t said = (flat, means, (fault, first, refl)) in
@@ -326,7 +343,7 @@ module _ {words : List (List ℕ)} {files : List ℕ → Told} {lost cut unwritt
           let at_partition = due-behind files (circuit_file circuit) (λ b. partition_order b partition trace) c other (exact command).0 hc lc accepted d in
           let at_trace = due-behind files (partition_file_for c partition) (λ _. trace_order c trace) p other ((exact command).1 c).0 hp lp fits at_partition in
           let same = due-refused files (trace_file_for c trace) (λ b. Write (IsOnlyText c b)) t said other (((exact command).1 c).1 p).0 ht lt refuses at_trace in
-          ((unique c partition trace).1 p).0 t other said same refuses)
+          ((unique command c).1 p).0 t other said same refuses)
           (tells-due command said asks (c, hc, inr (lc, accepted, (p, hp, inr (lp, fits, (t, ht, inl (inr (lt, refuses))))))))
 
     pub promised : OneMeaning → UniqueOrders → OneReading → Promised words files lost cut unwritten trouble out out' err err' status
@@ -350,3 +367,8 @@ module _ {words : List (List ℕ)} {files : List ℕ → Told} {lost cut unwritt
 pub asks-same : (words : List (List ℕ)) (a b c x y z : List ℕ) (k w : ℕ) (m : Bool) → x ≡ a → y ≡ b → z ≡ c → Asks words (Run a b c k w m) → Asks words (Run x y z k w m)
 asks-same words a b c x y z k w m p q r asks =
     subst (λ (n : List ℕ). Asks words (Run n y z k w m)) (sym p) (subst (λ (n : List ℕ). Asks words (Run a n z k w m)) (sym q) (subst (λ (n : List ℕ). Asks words (Run a b n k w m)) (sym r) asks))
+
+-- and so with `check`
+pub asks-check : (words : List (List ℕ)) (a b x y : List ℕ) (k : ℕ) → x ≡ a → y ≡ b → Asks words (Check a b k) → Asks words (Check x y k)
+asks-check words a b x y k p q asks =
+    subst (λ (n : List ℕ). Asks words (Check n y k)) (sym p) (subst (λ (n : List ℕ). Asks words (Check a n k)) (sym q) asks)

@@ -45,7 +45,7 @@ asked-once d a b p q =
     requests-equal a b (some-same a.units b.units (sym p.units ∙ q.units)) (some-same a.share b.share (sym p.share ∙ q.share))
     (some-same a.memories b.memories (sym p.memories ∙ q.memories)) (some-same a.capacity b.capacity (sym p.capacity ∙ q.capacity))
 
-request-once : (bytes : List ℕ) (a b : Request) → IsPartition bytes a → IsPartition bytes b → a ≡ b
+pub request-once : (bytes : List ℕ) (a b : Request) → IsPartition bytes a → IsPartition bytes b → a ≡ b
 request-once bytes a b p q =
     asked-once q.value a b (subst (λ (d : Data). Asks d a) (some-same p.value q.value (sym p.is ∙ q.is)) p.asks) q.asks
 

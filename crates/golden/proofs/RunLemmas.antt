@@ -1,5 +1,5 @@
--- The order of `run`.
-use Rattle.std.proofs.Common.{◌≡◌, ℕ, List, refl, sym, ap, ◌∙◌, subst, inr}
+-- The orders of the commands.
+use Rattle.std.proofs.Common.{◌≡◌, ℕ, List, refl, sym, ap, ◌∙◌, subst, inl, inr}
 use Rattle.gg_flat.specs.Circuit.{FlatCircuit}
 use Rattle.gg_flat.specs.declared.ports.Port.{Port}
 use Rattle.gg_front.specs.Meaning.{Means}
@@ -9,8 +9,8 @@ use Rattle.gg_trace.specs.Trace.{Columns, IsFirstFault}
 use Rattle.gg_trace.specs.declared.faults.TraceFault.{TraceFault}
 use Rattle.golden.specs.Lines.{Said, trace_fault}
 use Rattle.golden.specs.Order.{IsExact, IsExactFile, IsUnique, IsUniqueFile}
-use Rattle.golden.specs.Run.{trace_file_for, partition_order, IsTraceFor, TellsTraceFor}
-use Rattle.golden.specs.Words.{Command, Run, order_of}
+use Rattle.golden.specs.Run.{trace_file_for, IsTraceFor, TellsTraceFor}
+use Rattle.golden.specs.Words.{Command, Run, Check, order_behind, order_of}
 use Rattle.golden.proofs.FrontLemmas.{NoFaultAccepted, circuit_file-exact}
 use Rattle.golden.proofs.PartitionLemmas.{DesignsAgree, FileApart, OneKey, partition_file-exact, partition_file-unique}
 
@@ -51,7 +51,10 @@ module _ (agree : InsAgree) (once : OneFirstFault) (never : NoFault) (circuit : 
 pub order-exact : NoFaultAccepted → DesignsAgree → FileApart → OneKey → InsAgree → OneFirstFault → NoFault → (command : Command) → IsExact (order_of command)
 order-exact never designs apart key agree once none (Run circuit partition trace capacity workers mono) =
     (circuit_file-exact never circuit, λ c. (partition_file-exact designs apart key c partition, λ p. (trace_file-exact agree once none c trace, λ t. tt)))
+order-exact never designs apart key agree once none (Check circuit partition capacity) =
+    (circuit_file-exact never circuit, λ c. (partition_file-exact designs apart key c partition, λ p. tt))
 
-pub order-unique : DesignsAgree → FileApart → OneKey → InsAgree → OneFirstFault → NoFault → (circuit partition trace : List ℕ) → IsUnique (partition_order circuit partition trace)
-order-unique designs apart key agree once none circuit partition trace =
+pub order-unique : DesignsAgree → FileApart → OneKey → InsAgree → OneFirstFault → NoFault → (command : Command) (circuit : List ℕ) → IsUnique (order_behind command circuit)
+order-unique designs apart key agree once none (Check name partition capacity) circuit = (partition_file-unique designs apart key circuit partition, λ p. tt)
+order-unique designs apart key agree once none (Run name partition trace capacity workers mono) circuit =
     (partition_file-unique designs apart key circuit partition, λ p. (trace_file-unique agree once none circuit trace, λ t. tt))

@@ -20,15 +20,11 @@ words_said text = record { status = 2; line = line_of (codes "golden: words" ++ 
 
 -- the words are none of the commands
 abbrev pub no_command : Said
-no_command = words_said (codes ": the command is run CIRCUIT PARTITION TRACE [--capacity K] [--workers W] [--mono]")
+no_command = words_said (codes ": the commands are run CIRCUIT PARTITION TRACE [--capacity K] [--workers W] [--mono] and check CIRCUIT PARTITION [--capacity K]")
 
 -- this value of an option is no number in its range
 abbrev pub bad_number : List ℕ → Said
 bad_number value = words_said (codes ": '" ++ value ++ codes "' is not a number in its range: --capacity takes 1 to 4096, --workers 0 to 64")
-
--- the words ask for `check`
-abbrev pub no_check : Said
-no_check = words_said (codes ": check is not there yet; the command is run CIRCUIT PARTITION TRACE [--capacity K] [--workers W] [--mono]")
 
 -- the circuit has this fault
 abbrev pub circuit_fault : List ℕ → Said

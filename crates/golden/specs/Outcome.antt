@@ -39,10 +39,10 @@ pub data Ends (files : List ℕ → Told) (lost cut unwritten : Type 0) (order :
   -- memory ran out, and nothing or a front part of the text is written
   WantsMemory : (front : (text ≡ []) ⊎ ((whole : List ℕ) × IsWritten files order whole × IsFront text whole)) (says : Says status line out_of_memory) → Ends files lost cut unwritten order status text line
 
--- The outcome of a call with these words: that of the command that they ask for, or that they ask for none that is there.
+-- The outcome of a call with these words: that of the command that they ask for, or that they ask for none.
 pub data Outcome (words : List (List ℕ)) (files : List ℕ → Told) (lost cut unwritten : Type 0) (status : ℕ) (text line : List ℕ) : Type 0 where
   Asked : (command : Command) (asks : Asks words command) (ends : Ends files lost cut unwritten (order_of command) status text line) → Outcome words files lost cut unwritten status text line
-  -- the words are no command that is there, and nothing is written
+  -- the words are no command, and nothing is written
   Unasked : (unasked : ¬ AskForCommand words) (said : Said) (tells : TellsUnasked words said) (says : Says status line said) (none : text ≡ []) → Outcome words files lost cut unwritten status text line
   -- memory ran out while the words were read, and nothing is written
   WantsMemoryFirst : (says : Says status line out_of_memory) (none : text ≡ []) → Outcome words files lost cut unwritten status text line

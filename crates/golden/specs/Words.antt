@@ -1,28 +1,31 @@
 -- What the words of a call ask for. Which words are which command is defined in gg_words, by `clap`'s own definitions.
-use Rattle.std.specs.Prelude.{◌≡◌, ◌⊎◌, ℕ, Bool, List}
+use Rattle.std.specs.Prelude.{◌≡◌, ℕ, Bool, List}
 use Rattle.gg_words.specs.Meaning as command_line
 use Rattle.gg_words.specs.declared.command.Cmd.{Cmd}
 use Rattle.gg_words.specs.declared.command.Cmd.TheVariants as cmd
 use Rattle.gg_words.specs.declared.command.WordFault.{WordFault}
 use Rattle.gg_words.specs.declared.command.WordFault.TheVariants.{Refused, Number, NoMemory}
-use Rattle.golden.specs.Lines.{Said, bad_number, no_check, no_command}
+use Rattle.golden.specs.Lines.{Said, bad_number, no_command}
+use Rattle.golden.specs.Check.{check_order, cut_order}
 use Rattle.golden.specs.Order.{Order}
-use Rattle.golden.specs.Run.{run_order}
+use Rattle.golden.specs.Run.{partition_order, run_order}
 
--- The commands that are there: `run`, with the names of its files, its numbers, and whether it runs without a network.
--- The command line has `check` too; it has no order yet, so words that ask for it ask for none of these.
+-- The commands: `run`, with the names of its files, its numbers, and whether it runs without a network; and `check`, with the names
+-- of its files and its number.
 pub data Command : Type 0 where
   Run : (circuit partition trace : List ℕ) (capacity workers : ℕ) (mono : Bool) → Command
+  Check : (circuit partition : List ℕ) (capacity : ℕ) → Command
 
 -- the same as a command of the command line
 abbrev pub cmd_of : Command → Cmd
 cmd_of (Run circuit partition trace capacity workers mono) = cmd.Run circuit partition trace capacity workers mono
+cmd_of (Check circuit partition capacity) = cmd.Check circuit partition capacity
 
 -- the words ask for this command
 abbrev pub Asks : List (List ℕ) → Command → Type 0
 Asks words command = command_line.IsCommand words (cmd_of command)
 
--- the words are a command that is there
+-- the words are a command
 abbrev pub AskForCommand : List (List ℕ) → Type 0
 AskForCommand words = (command : Command) × Asks words command
 
@@ -32,24 +35,26 @@ TellsWords (Refused kind) said = said ≡ no_command
 TellsWords (Number value) said = said ≡ bad_number value
 TellsWords NoMemory said = ⊥
 
--- this is said of words that are no command that is there: their fault, or that they ask for `check`
+-- this is said of words that are no command: their fault
 abbrev pub TellsUnasked : List (List ℕ) → Said → Type 0
-TellsUnasked words said =
-    ((fault : WordFault) × command_line.IsWordFault words fault × TellsWords fault said)
-    ⊎ ((circuit partition : List ℕ) × (capacity : ℕ) × command_line.IsCommand words (cmd.Check circuit partition capacity) × (said ≡ no_check))
+TellsUnasked words said = (fault : WordFault) × command_line.IsWordFault words fault × TellsWords fault said
 
--- the order of refusals of a command: neither its numbers nor the network have a part in it yet
+-- the order of refusals of a command: neither the numbers of `run` nor the network have a part in it yet
 abbrev pub order_of : Command → Order
 order_of (Run circuit partition trace capacity workers mono) = run_order circuit partition trace
+order_of (Check circuit partition capacity) = check_order circuit partition capacity
+
+-- what is left of it where the circuit's bytes are known
+abbrev pub order_behind : Command → List ℕ → Order
+order_behind (Run circuit partition trace capacity workers mono) bytes = partition_order bytes partition trace
+order_behind (Check circuit partition capacity) bytes = cut_order bytes partition capacity
 
 -- the name of its circuit's file
 abbrev pub circuit_of : Command → List ℕ
 circuit_of (Run circuit partition trace capacity workers mono) = circuit
+circuit_of (Check circuit partition capacity) = circuit
 
--- of its partition's
+-- and of its partition's
 abbrev pub partition_of : Command → List ℕ
 partition_of (Run circuit partition trace capacity workers mono) = partition
-
--- and of its trace's
-abbrev pub trace_of : Command → List ℕ
-trace_of (Run circuit partition trace capacity workers mono) = trace
+partition_of (Check circuit partition capacity) = partition

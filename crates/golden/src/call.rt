@@ -8,10 +8,11 @@ ghost use Rattle.golden.specs.Outcome.{Answered, Reports, HasTrouble};
 ghost use Rattle.golden.specs.Promised.{Promised};
 ghost use Rattle.golden.specs.WentOn.{ShelfWentOn, SinkWentOn};
 
+use crate::check::check;
 use crate::endings::Ending;
 use crate::laws::refusals_are_exact;
 use crate::run::run;
-use crate::words::{end_at_check, end_at_words};
+use crate::words::end_at_words;
 use crate::writing::report;
 use gg_io::{Gate, Shelf, Sink};
 use gg_words::{Cmd, one_meaning, words};
@@ -24,13 +25,13 @@ fn do_command<S: Shelf, K: Sink>(
     shelf: &mut S,
     out: &mut K,
 ) -> Result<(), Ending>
+    requires { (words : List (List ℕ)) × command_line.IsCommand words cmd.now }
     ensures ended { (words : List (List ℕ)) → command_line.IsCommand words cmd.now → CallEnded (S.files shelf.old)
         (Rose (S.faults shelf.old) (S.faults shelf.new)) (Rose (S.cuts shelf.old) (S.cuts shelf.new)) (Rose (K.faults out.old) (K.faults out.new))
         (K.written out.old) (K.written out.new) words result }
     ensures shelf { ShelfWentOn (S.files shelf.old) (S.files shelf.new) (S.faults shelf.old) (S.faults shelf.new) (S.cuts shelf.old) (S.cuts shelf.new) }
     ensures out { SinkWentOn (K.faults out.old) (K.faults out.new) (K.refused out.old) (K.refused out.new) }
 {
-    one_meaning();
     match cmd {
         Cmd::Run {
             circuit,
@@ -45,7 +46,18 @@ fn do_command<S: Shelf, K: Sink>(
             shelf,
             out,
         ),
-        Cmd::Check { .. } => Err(end_at_check(alloc)),
+        Cmd::Check {
+            circuit,
+            partition,
+            capacity,
+        } => check(
+            alloc,
+            circuit.as_str(),
+            partition.as_str(),
+            *capacity,
+            shelf,
+            out,
+        ),
     }
 }
 
@@ -107,11 +119,11 @@ fn answer<S: Shelf, K: Sink, E: Sink>(
 /// isn't called yet.
 ///
 /// `run CIRCUIT PARTITION TRACE` writes the text of the circuit's own run on the trace: a header, then a row for each
-/// cycle. Statuses:
+/// cycle. `check CIRCUIT PARTITION` writes a line for each machine of the cut, then one for each channel. Statuses:
 ///
 /// - 0: the text was written whole;
 /// - 1: the circuit has a fault; nothing was written;
-/// - 2: the words are no command that is there; nothing was written;
+/// - 2: the words are no command; nothing was written;
 /// - 3: a load failed, which the shelf counts as a fault; nothing was written;
 /// - 4: a put on `out` failed, which it counts as a fault; a front part of the text stands there;
 /// - 5: memory ran out; nothing or a front part of the text stands there;

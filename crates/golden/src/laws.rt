@@ -4,8 +4,8 @@ ghost use Rattle.gg_read.specs.Text.{HasReadFault};
 ghost use Rattle.gg_read.specs.declared.text.ReadFault.{ReadFault};
 ghost use Rattle.golden.specs.Lines.{Said, TellsUnread};
 ghost use Rattle.golden.specs.Order.{IsExact, IsUnique};
-ghost use Rattle.golden.specs.Run.{TellsCircuit, partition_order};
-ghost use Rattle.golden.specs.Words.{Command, order_of};
+ghost use Rattle.golden.specs.Run.{TellsCircuit};
+ghost use Rattle.golden.specs.Words.{Command, order_behind, order_of};
 
 use gg_front::{designs_agree, faults_apart, one_run, ports_agree};
 use gg_partfile::one_answer;
@@ -16,7 +16,7 @@ use gg_trace::one_first_fault;
 /// status. Of a partition and of a trace one thing is said at most, and of a circuit with a fault of reading just that.
 pub fn refusals_are_exact()
     ensures exact { (command : Command) → IsExact (order_of command) }
-    ensures unique { (circuit partition trace : List ℕ) → IsUnique (partition_order circuit partition trace) }
+    ensures unique { (command : Command) (circuit : List ℕ) → IsUnique (order_behind command circuit) }
     ensures unread { (bytes : List ℕ) (fault : ReadFault) (said other : Said) → HasReadFault bytes fault → TellsUnread fault said → TellsCircuit bytes other → other ≡ said }
 {
     one_fault_line();

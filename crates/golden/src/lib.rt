@@ -1,7 +1,7 @@
 //! The program golden as one call: [`golden`] does what the words of a call ask for, with files from a shelf, the
 //! text on one sink and at most one refusal's line on another, and answers the status. Which words are which command gg_words
-//! says. The one command that is there is `run`: the circuit's own run on the trace, printed, whatever the partition asks; but a
-//! partition with a fault is refused. `check` is refused by name.
+//! says: `run` prints the circuit's own run on the trace, whatever the partition asks; `check` prints the machines, the channels
+//! and the needs of the cut that the partition asks for. A partition with a fault is refused.
 //!
 //! What it promises (`Promised`), for every shelf and every sink:
 //!
@@ -9,7 +9,7 @@
 //!   or of words that ask for none. A command is an order of files; it ends where one is refused (each before it being
 //!   accepted), where a put fails, for want of memory, or with its whole text. With status 0 the text on `out` is that
 //!   of the circuit's own run on the trace (`IsOnlyText`): whichever flat circuit the bytes are taken to mean, each of its
-//!   runs on the trace has this text and no other.
+//!   runs on the trace has this text and no other; and so it is with the text of the cut (`IsOnlyCutText`).
 //! - Causes (`judged`, `no_command`, `not_loaded`, `not_written`, `over`): each status but 0 and 5 has its reason; a load or a
 //!   put that failed is counted where it failed. `nothing_written`: a refusal leaves `out` as it was.
 //! - What is due is said (`unasked`, `due`, `unread`, `partitioned`, `traced`): words that are no command give their status, and
@@ -26,6 +26,8 @@
 #![tactic(auto)]
 
 mod call;
+mod check;
+mod checking;
 mod endings;
 mod laws;
 mod loading;

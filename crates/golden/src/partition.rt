@@ -104,6 +104,7 @@ pub(crate) fn read_partition<S: Shelf>(
     design: &Design,
 ) -> Result<Request, Ending>
     ensures accepted { IfOk result (λ request. (bytes : List ℕ) × CanBe (S.files shelf.old) (partition_file_of design.now name.now) bytes × Cuts design.now bytes request) }
+    ensures small { IfOk result cut.IsSmall }
     ensures refused { IfErr result (IfRefused (IsRefused (S.files shelf.old)
         (Rose (S.faults shelf.old) (S.faults shelf.new)) (Rose (S.cuts shelf.old) (S.cuts shelf.new)) (partition_file_of design.now name.now))) }
     ensures shelf { ShelfWentOn (S.files shelf.old) (S.files shelf.new) (S.faults shelf.old) (S.faults shelf.new) (S.cuts shelf.old) (S.cuts shelf.new) }

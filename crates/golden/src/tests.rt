@@ -1,6 +1,7 @@
 //! Calls of golden with files and sinks in memory. The expected texts are worked by hand from docs/FORMATS.md.
 mod circuits;
 mod commands;
+mod cuts;
 mod files;
 mod outputs;
 mod partitions;

@@ -1,7 +1,7 @@
-//! The words of a call that are no command that is there.
+//! The words of a call that are no command.
 ghost use Rattle.std.specs.Prelude.{◌≡◌, ◌≢◌};
 ghost use Rattle.golden.specs.Endings.{IfRefused};
-ghost use Rattle.golden.specs.Lines.{bad_number, no_check, no_command};
+ghost use Rattle.golden.specs.Lines.{bad_number, no_command};
 ghost use Rattle.golden.specs.Words.{TellsWords};
 ghost use Rattle.gg_words.specs.declared.command.WordFault.{WordFault};
 
@@ -17,7 +17,7 @@ fn end_at_no_command(alloc: Global) -> Ending
         alloc,
         2,
         "golden: words",
-        ": the command is run CIRCUIT PARTITION TRACE [--capacity K] [--workers W] [--mono]",
+        ": the commands are run CIRCUIT PARTITION TRACE [--capacity K] [--workers W] [--mono] and check CIRCUIT PARTITION [--capacity K]",
         "",
     ))
 }
@@ -32,19 +32,6 @@ fn end_at_number(alloc: Global, value: &str) -> Ending
         "golden: words: '",
         value,
         "' is not a number in its range: --capacity takes 1 to 4096, --workers 0 to 64",
-    ))
-}
-
-/// The ending at words that ask for `check`.
-pub(crate) fn end_at_check(alloc: Global) -> Ending
-    ensures { IfRefused (λ said. said ≡ no_check) result }
-{
-    end_with(make_refusal(
-        alloc,
-        2,
-        "golden: words",
-        ": check is not there yet; the command is run CIRCUIT PARTITION TRACE [--capacity K] [--workers W] [--mono]",
-        "",
     ))
 }
 

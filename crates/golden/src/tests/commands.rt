@@ -20,10 +20,10 @@ static ASKED: [&str; 12] = [
 ];
 
 const COMMANDS: &str =
-    "golden: words: the command is run CIRCUIT PARTITION TRACE [--capacity K] [--workers W] [--mono]\n";
+    "golden: words: the commands are run CIRCUIT PARTITION TRACE [--capacity K] [--workers W] [--mono] and check CIRCUIT PARTITION [--capacity K]\n";
 
-// Words that are no command that is there, and the line of their refusal.
-static UNASKED: [(&str, &str); 14] = [
+// Words that are no command, and the line of their refusal.
+static UNASKED: [(&str, &str); 13] = [
     ("golden", COMMANDS),
     ("golden run k1.fir", COMMANDS),
     ("golden run k1.fir p.json k1.trace k1.trace", COMMANDS),
@@ -48,10 +48,6 @@ static UNASKED: [(&str, &str); 14] = [
     (
         "golden check k1.fir p.json --capacity +7",
         "golden: words: '+7' is not a number in its range: --capacity takes 1 to 4096, --workers 0 to 64\n",
-    ),
-    (
-        "golden check k1.fir p.json",
-        "golden: words: check is not there yet; the command is run CIRCUIT PARTITION TRACE [--capacity K] [--workers W] [--mono]\n",
     ),
 ];
 

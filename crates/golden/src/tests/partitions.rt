@@ -5,11 +5,11 @@ use std::alloc::{AllocError, Global};
 use std::test::Fail;
 
 // Two instances of a module with a register.
-const TWO: &str =
+pub(super) const TWO: &str =
     "circuit Two :\nmodule Acc :\ninput clock : Clock\ninput a : UInt<8>\noutput s : UInt<8>\nreg r : UInt<8>, clock\ns <= r\nr <= bits(add(r, a), 7, 0)\nmodule Two :\ninput clock : Clock\ninput x : UInt<8>\noutput p : UInt<8>\noutput q : UInt<8>\ninst u of Acc\ninst v of Acc\nu.clock <= clock\nv.clock <= clock\nu.a <= x\nv.a <= not(x)\np <= u.s\nq <= v.s\n";
 
 // An instance in an instance.
-const TILES: &str =
+pub(super) const TILES: &str =
     "circuit Top :\nmodule Core :\noutput o : UInt<4>\no <= UInt<4>(10)\nmodule Tile :\noutput o : UInt<4>\ninst core of Core\no <= core.o\nmodule Top :\noutput o : UInt<4>\ninst tile of Tile\no <= tile.o\n";
 
 // Two instances of a module with a memory.

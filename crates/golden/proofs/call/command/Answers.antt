@@ -1,4 +1,3 @@
-use Rattle.std.proofs.Common.{inl}
 use Rattle.gg_words.specs.Meaning.{texts}
 use Rattle.golden.specs.Words.{cmd_of}
 use Rattle.golden.proofs.EndingLemmas.{unasked-ends}
@@ -12,6 +11,6 @@ returns-in-Err-clause-ended g c =
     (IfRefused-map
     (λ said h. (
       (λ t. c.in-Err.ensures.none h.0 (cmd_of t.0) t.1),
-      inl (c.in-Err.fault, word-fault (texts c.args.given.now) c.in-Err.fault h.0 c.in-Err.ensures.fault, h.1),
+      (c.in-Err.fault, word-fault (texts c.args.given.now) c.in-Err.fault h.0 c.in-Err.ensures.fault, h.1),
     ))
     c.end_at_words.result c.end_at_words.ensures)

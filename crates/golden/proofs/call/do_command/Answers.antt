@@ -1,12 +1,17 @@
-use Rattle.std.proofs.Common.{subst, inr}
+use Rattle.std.proofs.Common.{subst}
 use Rattle.gg_words.specs.Meaning as command_line
 use Rattle.gg_words.specs.declared.command.Cmd.{Cmd}
 use Rattle.golden.specs.Outcome.{Asked}
-use Rattle.golden.specs.Words.{Run}
-use Rattle.golden.proofs.EndingLemmas.{unasked-ends}
-use Rattle.golden.proofs.OutcomeLemmas.{asks-same, check-unasked}
-use Rattle.golden.proofs.ReadingLemmas.{IfRefused-map}
+use Rattle.golden.specs.Words.{Run, Check}
+use Rattle.golden.proofs.CapacityLemmas.{capacity-range}
+use Rattle.golden.proofs.OutcomeLemmas.{asks-same, asks-check}
 use Rattle.golden.proofs.call.do_command.Goals as goal
+
+pub check-requires-clause-some : goal.check-requires-clause-some
+check-requires-clause-some g c = (capacity-range c.requires.0 _ _ c.in-Check.capacity (subst (λ (k : Cmd). command_line.IsCommand c.requires.0 k) c.in-Check.is c.requires.1)).0
+
+pub check-requires-clause-bounded : goal.check-requires-clause-bounded
+check-requires-clause-bounded g c = (capacity-range c.requires.0 _ _ c.in-Check.capacity (subst (λ (k : Cmd). command_line.IsCommand c.requires.0 k) c.in-Check.is c.requires.1)).1
 
 pub returns-in-Run-clause-ended : goal.returns-in-Run-clause-ended
 returns-in-Run-clause-ended g c = λ words asks.
@@ -21,11 +26,11 @@ returns-in-Run-clause-ended g c = λ words asks.
 
 pub returns-in-Check-clause-ended : goal.returns-in-Check-clause-ended
 returns-in-Check-clause-ended g c = λ words asks.
-    let check = subst (λ (k : Cmd). command_line.IsCommand words k) c.in-Check.is asks in
-    unasked-ends _ _ _ _ (Unit {0}) _ words c.end_at_check.result
-    (IfRefused-map
-    (λ said is. (
-      check-unasked c.one_meaning.ensures.once words _ _ c.in-Check.capacity check,
-      inr (_, _, c.in-Check.capacity, check, is),
-    ))
-    c.end_at_check.result c.end_at_check.ensures)
+    let ended = c.check.ensures.ended in (
+      ended.0,
+      ended.1,
+      Asked (Check c.as_str-in-Check.result.now c.as_str-in-Check-2.result.now c.in-Check.capacity)
+          (asks-check words _ _ _ _ c.in-Check.capacity c.as_str-in-Check.ensures c.as_str-in-Check-2.ensures
+          (subst (λ (k : Cmd). command_line.IsCommand words k) c.in-Check.is asks))
+          ended.2,
+    )

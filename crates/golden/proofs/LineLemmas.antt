@@ -1,0 +1,90 @@
+-- Lines that are put one by one.
+use Rattle.std.proofs.Common.{◌≡◌, ℕ, zero, suc, ◌+◌, ◌<◌, ◌≤◌, List, [], ◌∷◌, ◌++◌, length, map, take, drop, get_or, refl, sym, ap, ◌∙◌, subst, arith, append_assoc, append-nil}
+use Rattle.std.specs.Prelude.{Option, Result, Ok, Err, flat_map}
+use Rattle.std.specs.Io.KnownBytes.{append_known}
+use Rattle.gg_io.specs.Count.{Rose}
+use Rattle.golden.specs.declared.endings.Ending.{Ending}
+use Rattle.gg_cut.specs.declared.plan.Machine.{Machine}
+use Rattle.gg_cut.specs.declared.plan.Plan.{Plan}
+use Rattle.golden.specs.CheckText.{spaced}
+use Rattle.golden.specs.PlanText.{channel_names, line_of_channel, line_of_machine, machine_names, plan_text}
+use Rattle.golden.specs.Outcome.{IsFront}
+use Rattle.golden.specs.Endings.{Prints}
+use Rattle.golden.proofs.PrintingLemmas.{rose-earlier, prints-more, stop-within}
+use Rattle.golden.proofs.WritingLemmas.{append_known-append, append_known-nil}
+
+module _ {A : Type 0} (f : A → List ℕ) where
+  -- one line more
+  pub lines-more : (xs : List A) (i : ℕ) (d : A) → i < length xs → flat_map f (take i xs) ++ f (get_or xs i d) ≡ flat_map f (take (i + 1) xs)
+  lines-more xs i d lt = by xs i lt ∙ ap (λ k. flat_map f (take k xs)) (let e : suc i ≡ i + 1 = omega arith in e)
+    where
+      by : (ys : List A) (k : ℕ) → k < length ys → flat_map f (take k ys) ++ f (get_or ys k d) ≡ flat_map f (take (suc k) ys)
+      by [] k lt = absurd (omega (arith, lt))
+      by (y ∷ ys) zero lt = sym (append-nil (f y))
+      by (y ∷ ys) (suc k) lt = append_assoc (f y) (flat_map f (take k ys)) (f (get_or ys k d)) ∙ ap (λ l. f y ++ l) (by ys k (omega (arith, lt)))
+
+  -- some lines are a front part of all
+  pub lines-front : (xs : List A) (i : ℕ) → IsFront (flat_map f (take i xs)) (flat_map f xs)
+  lines-front xs zero = (flat_map f xs, refl)
+  lines-front [] (suc i) = ([], refl)
+  lines-front (x ∷ xs) (suc i) =
+      let front = lines-front xs i in
+      (front.0, append_assoc (f x) (flat_map f (take i xs)) front.0 ∙ ap (λ l. f x ++ l) front.1)
+
+-- so many lines stand on a sink behind what stood before
+pub record LinesTo {A : Type 0} (f : A → List ℕ) (xs : List A) (before now : Option (List ℕ)) (faults faults' refused refused' i : ℕ) : Type 0 where
+  pub written : now ≡ append_known before (flat_map f (take i xs))
+  pub faults_stay_or_rise : faults ≤ faults'
+  pub refused_stay_or_rise : refused ≤ refused'
+
+pub lines-begin : {A : Type 0} (f : A → List ℕ) (xs : List A) (before : Option (List ℕ)) (faults refused : ℕ) → LinesTo f xs before before faults faults refused refused 0
+lines-begin f xs before faults refused = record { written = sym (append_known-nil before); faults_stay_or_rise = omega arith; refused_stay_or_rise = omega arith }
+
+module _ {A : Type 0} (f : A → List ℕ) (xs : List A) (before now now' : Option (List ℕ)) (b b' b'' r r' r'' i : ℕ) (x d : A) where
+  pub lines-next : i < length xs → get_or xs i d ≡ x → LinesTo f xs before now b b' r r' i → now' ≡ append_known now (f x) → b' ≤ b'' → r' ≤ r''
+      → LinesTo f xs before now' b b'' r r'' (i + 1)
+  lines-next lt is so puts bs rs = record {
+    written =
+        puts ∙ ap (λ w. append_known w (f x)) so.written ∙ append_known-append before (flat_map f (take i xs)) (f x)
+        ∙ ap (append_known before) (ap (λ y. flat_map f (take i xs) ++ f y) (sym is) ∙ lines-more f xs i d lt);
+    faults_stay_or_rise = let s = so.faults_stay_or_rise in omega arith;
+    refused_stay_or_rise = let s = so.refused_stay_or_rise in omega arith;
+  }
+
+  pub lines-stop : (T : Type 0) (ending : Ending) → i < length xs → get_or xs i d ≡ x → LinesTo f xs before now b b' r r' i
+      → Prints {T = T} now now' (Rose b' b'') (f x) (Err ending) → Prints {T = T} before now' (Rose b b'') (flat_map f xs) (Err ending)
+  lines-stop T ending lt is so prints =
+      stop-within T before now now' (Rose b' b'') (Rose b b'') (flat_map f (take i xs)) (f x) (flat_map f xs) ending so.written (rose-earlier b b' b'' so.faults_stay_or_rise)
+      (subst (λ l. IsFront l (flat_map f xs)) (sym (ap (λ y. flat_map f (take i xs) ++ f y) (sym is) ∙ lines-more f xs i d lt)) (lines-front f xs (i + 1))) prints
+
+-- a text and then another
+pub prints-then : (T : Type 0) (before now now' : Option (List ℕ)) (b b' b'' : ℕ) (one other : List ℕ) (r : Result T Ending) → b ≤ b' → now ≡ append_known before one
+    → Prints now now' (Rose b' b'') other r → Prints before now' (Rose b b'') (one ++ other) r
+prints-then T before now now' b b' b'' one other (Ok done) le e prints = prints ∙ ap (λ w. append_known w other) e ∙ append_known-append before one other
+prints-then T before now now' b b' b'' one other (Err ending) le e prints =
+    stop-within T before now now' (Rose b' b'') (Rose b b'') one other (one ++ other) ending e (rose-earlier b b' b'' le) ([], append-nil (one ++ other)) prints
+
+-- a text that stopped before another
+pub prints-first : (T : Type 0) (before now : Option (List ℕ)) (failed : Type 0) (one other : List ℕ) (ending : Ending)
+    → Prints {T = T} before now failed one (Err ending) → Prints {T = T} before now failed (one ++ other) (Err ending)
+prints-first T before now failed one other ending prints =
+    stop-within T before before now failed failed [] one (one ++ other) ending (sym (append_known-nil before)) (λ x. x) (other, refl) prints
+
+-- names with a blank before each are lines too
+spaced-lines : (f : ℕ → List ℕ) (xs : List ℕ) → spaced (map f xs) ≡ flat_map (λ x. 32 ∷ f x) xs
+spaced-lines f [] = refl
+spaced-lines f (x ∷ xs) = ap (λ l. (32 ∷ f x) ++ l) (spaced-lines f xs)
+
+pub spaced-more : (f : ℕ → List ℕ) (xs : List ℕ) (i d : ℕ) → i < length xs → (spaced (map f (take i xs)) ++ 32 ∷ []) ++ f (get_or xs i d) ≡ spaced (map f (take (i + 1) xs))
+spaced-more f xs i d lt =
+    append_assoc (spaced (map f (take i xs))) (32 ∷ []) (f (get_or xs i d))
+    ∙ ap (λ l. l ++ (32 ∷ f (get_or xs i d))) (spaced-lines f (take i xs))
+    ∙ lines-more (λ x. 32 ∷ f x) xs i d lt
+    ∙ sym (spaced-lines f (take (i + 1) xs))
+
+-- a plan's text that stopped among the machines
+pub plan-first : (T : Type 0) (before now : Option (List ℕ)) (failed : Type 0) (machines : List Machine) (plan : Plan) (ending : Ending) → machines ≡ plan.machines
+    → Prints {T = T} before now failed (flat_map line_of_machine machines) (Err ending) → Prints {T = T} before now failed (plan_text plan) (Err ending)
+plan-first T before now failed machines plan ending e prints =
+    prints-first T before now failed (flat_map line_of_machine plan.machines) (flat_map (line_of_channel (machine_names plan.machines) (channel_names plan.channels)) plan.channels) ending
+    (subst (λ (ms : List Machine). Prints {T = T} before now failed (flat_map line_of_machine ms) (Err ending)) e prints)

@@ -1,0 +1,251 @@
+-- The needs of a plan's channels are those of the circuit.
+use Rattle.std.proofs.Common.{◌≡◌, ℕ, zero, suc, ◌+◌, ◌<◌, ◌≤◌, List, [], ◌∷◌, length, map, filter, get_or, Bool, true, false, cond, ◌==◌, eq-eqb, true-eqb, refl, sym, ◌∙◌, ap, subst, inl, inr, ◌⊎◌, arith}
+use Rattle.std.specs.Prelude.{◌↔◌, Contains, AllPairs, slice_index_or}
+use Rattle.std.specs.List.{range_with_len}
+use Rattle.std.proofs.lemmas.Bool.{cases_lt, cases_order}
+use Rattle.std.proofs.lemmas.List.{get_or-map, get_or_default, get_or_past, length-map}
+use Rattle.std.proofs.lemmas.List.FromFn.{get_or-range_with_len, length-range_with_len}
+use Rattle.gg_flat.specs.declared.piece.Driver.TheVariants.{Input}
+use Rattle.gg_flat.specs.declared.piece.Driver.{Driver}
+use Rattle.gg_flat.specs.Line.{value_at}
+use Rattle.gg_flat.specs.Circuit.{FlatCircuit, driver_at}
+use Rattle.gg_flat.specs.Reads.{IsPath}
+use Rattle.gg_order.specs.Design.{Ordered}
+use Rattle.gg_part.specs.Part.{IsPart, IsFrom}
+use Rattle.gg_part.specs.declared.part.Part.{Part}
+use Rattle.gg_partfile.specs.declared.request.Request.{Request}
+use Rattle.gg_cut.specs.Channels.{first_memory, first_source, first_tray, machine_count, wires_of, capacity_of}
+use Rattle.gg_cut.specs.Listed.{listed_of}
+use Rattle.gg_cut.specs.Plan.{AreNeedsOf, IsBody, IsChannel, IsCutPart, IsMachine, IsNeed, IsPlan, NeedsIn, channels_from, channels_to, signals_of, wire_at}
+use Rattle.gg_cut.specs.declared.listed.Listed.{Listed}
+use Rattle.gg_cut.specs.declared.plan.Body.{Body}
+use Rattle.gg_cut.specs.declared.plan.Body.TheVariants.{Cut, Memory, Source, Tray}
+use Rattle.gg_cut.specs.declared.plan.Channel.{Channel}
+use Rattle.gg_cut.specs.declared.plan.Machine.{Machine}
+use Rattle.gg_cut.specs.declared.plan.Plan.{Plan}
+use Rattle.gg_cut.specs.declared.wires.Wire.{Wire}
+use Rattle.golden.specs.CheckText.{AreChannelNeeds, IsPathInside, NeedsChannel}
+use Rattle.golden.proofs.NeedLemmas.{Gets, path-back, path-out}
+
+-- ---- what a filter leaves
+
+there : {A : Type 0} (x y : A) (xs : List A) → Contains xs x → Contains (y ∷ xs) x
+there x y xs (k, lt, is) = (suc k, omega (arith, lt), is)
+
+-- what is found is of the list, and passes the test
+record IsPicked {A : Type 0} (test : A → Bool) (xs : List A) (x : A) : Type 0 where
+  pub listed : Contains xs x
+  pub passes : test x ≡ true
+
+picked-more : {A : Type 0} (test : A → Bool) (y : A) (ys : List A) (x : A) → IsPicked test ys x → IsPicked test (y ∷ ys) x
+picked-more test y ys x p = record { listed = there x y ys p.listed; passes = p.passes }
+
+picked-by : {A : Type 0} (test : A → Bool) (y : A) (ys : List A) (x : A) (b : Bool) → test y ≡ b → (Contains (filter test ys) x → IsPicked test ys x)
+    → Contains (cond b (y ∷ filter test ys) (filter test ys)) x → IsPicked test (y ∷ ys) x
+picked-by test y ys x true e more (zero, lt, is) = record { listed = (zero, omega arith, is); passes = ap test (sym is) ∙ e }
+picked-by test y ys x true e more (suc k, lt, is) = picked-more test y ys x (more (k, omega (arith, lt), is))
+picked-by test y ys x false e more h = picked-more test y ys x (more h)
+
+picked : {A : Type 0} (test : A → Bool) (xs : List A) (x : A) → Contains (filter test xs) x → IsPicked test xs x
+picked test [] x (k, lt, is) = absurd (omega (arith, lt))
+picked test (y ∷ ys) x h = picked-by test y ys x (test y) refl (picked test ys x) h
+
+kept-by : {A : Type 0} (test : A → Bool) (y : A) (ys : List A) (x : A) (b : Bool) → test y ≡ b → test x ≡ true → (Contains ys x → Contains (filter test ys) x)
+    → Contains (y ∷ ys) x → Contains (cond b (y ∷ filter test ys) (filter test ys)) x
+kept-by test y ys x true e p more (zero, lt, is) = (zero, omega arith, is)
+kept-by test y ys x true e p more (suc k, lt, is) = there x y (filter test ys) (more (k, omega (arith, lt), is))
+kept-by test y ys x false e p more (zero, lt, is) = let h : false ≡ true = sym e ∙ ap test is ∙ p in absurd (cc)
+kept-by test y ys x false e p more (suc k, lt, is) = more (k, omega (arith, lt), is)
+
+kept : {A : Type 0} (test : A → Bool) (xs : List A) (x : A) → Contains xs x → test x ≡ true → Contains (filter test xs) x
+kept test [] x (k, lt, is) p = absurd (omega (arith, lt))
+kept test (y ∷ ys) x h p = kept-by test y ys x (test y) refl p (λ g. kept test ys x g p) h
+
+-- ---- channels by machine
+
+range-below : (n d : ℕ) → Contains (range_with_len 0 n) d → d < n
+range-below n d (k, lt, is) =
+    let below : k < n = omega (arith, lt, length-range_with_len 0 n) in
+    let same : 0 + k ≡ d = sym (get_or-range_with_len 0 n k d below) ∙ is in omega arith
+
+below-range : (n d : ℕ) → d < n → Contains (range_with_len 0 n) d
+below-range n d lt =
+    (d, omega (arith, lt, length-range_with_len 0 n), get_or-range_with_len 0 n d d lt ∙ (let same : 0 + d ≡ d = omega arith in same))
+
+module _ (wires : List Wire) (m : ℕ) where
+  -- a channel that the machine takes
+  record IsTaken (d : ℕ) : Type 0 where
+    pub known : d < length wires
+    pub consumer : (wire_at wires d).consumer ≡ m
+
+  taken : (d : ℕ) → Contains (channels_to wires m) d → IsTaken d
+  taken d h =
+      let p = picked (λ c. (wire_at wires c).consumer == m) (range_with_len 0 (length wires)) d h in
+      record { known = range-below (length wires) d p.listed; consumer = true-eqb (wire_at wires d).consumer m (sym p.passes) }
+
+  takes : (d : ℕ) → d < length wires → (wire_at wires d).consumer ≡ m → Contains (channels_to wires m) d
+  takes d lt e = kept (λ c. (wire_at wires c).consumer == m) (range_with_len 0 (length wires)) d (below-range (length wires) d lt) (eq-eqb (wire_at wires d).consumer m e)
+
+  gives : (c : ℕ) → c < length wires → (wire_at wires c).producer ≡ m → Contains (channels_from wires m) c
+  gives c lt e = kept (λ k. (wire_at wires k).producer == m) (range_with_len 0 (length wires)) c (below-range (length wires) c lt) (eq-eqb (wire_at wires c).producer m e)
+
+-- what f makes of an element is an element of what f makes of the list
+mapped-has : {A : Type 0} (f : A → ℕ) (xs : List A) (x : A) → Contains xs x → Contains (map f xs) (f x)
+mapped-has f xs x (k, lt, is) =
+    (k, omega (arith, lt, length-map xs f), get_or_default (map f xs) k (f x) (f x) (omega (arith, lt, length-map xs f)) ∙ get_or-map f xs k x (f x) lt ∙ ap f is)
+
+-- an element of what f makes of a list
+record IsMadeOf (f : ℕ → ℕ) (xs : List ℕ) (y : ℕ) : Type 0 where
+  pub place : ℕ
+  pub within : place < length xs
+  pub is : f (value_at xs place) ≡ y
+
+made-of : (f : ℕ → ℕ) (xs : List ℕ) (y : ℕ) → Contains (map f xs) y → IsMadeOf f xs y
+made-of f xs y (k, lt, is) =
+    let within : k < length xs = omega (arith, lt, length-map xs f) in
+    record { place = k; within = within; is = sym (get_or-map f xs k 0 y within) ∙ is }
+
+-- ---- a machine's piece
+
+-- a signal of a part has one number there
+one-number : (globals : List ℕ) (a b : ℕ) → AllPairs (λ x y. ¬ (x ≡ y)) globals → a < length globals → b < length globals → value_at globals a ≡ value_at globals b → a ≡ b
+one-number globals a b once la lb e = by (cases_order a b)
+  where
+    by : (a ≡ b) ⊎ ((a < b) ⊎ (b < a)) → a ≡ b
+    by (inl is) = is
+    by (inr (inl lt)) = absurd (once a b 0 lt lb e)
+    by (inr (inr lt)) = absurd (once b a 0 lt la (sym e))
+
+-- the in-signals of a piece are what it gets from outside
+piece-gets : (whole piece : FlatCircuit) (globals held memories taken : List ℕ) → IsPart whole piece globals held memories → map (value_at globals) piece.ins ≡ taken → Gets piece globals taken
+piece-gets whole piece globals held memories taken is ins = record {
+  not_taken = λ a place lt free e.
+      let from = subst (λ (d : Driver). IsFrom piece.ins globals held memories a (driver_at whole (value_at globals a)) d) e (is.drivers a lt) in
+      free (subst (λ l. Contains l (value_at globals a)) ins (mapped-has (value_at globals) piece.ins a (place, from.0, get_or_default piece.ins place a 0 from.0 ∙ from.1)));
+  input = λ a lt has.
+      let found = made-of (value_at globals) piece.ins (value_at globals a) (subst (λ l. Contains l (value_at globals a)) (sym ins) has) in
+      let at = is.ins found.place found.within in
+      (found.place, subst (λ x. driver_at piece x ≡ Input found.place) (one-number globals (value_at piece.ins found.place) a is.once at.0 lt found.is) at.1);
+}
+
+module _ (design : Ordered) (listed : Listed) (wires : List Wire) (m : ℕ) (part : Part) (cut : IsCutPart design listed wires m part) where
+  -- the in-signal at a place is that of the channel at that place
+  in-signal : (place : ℕ) → place < length part.piece.ins → value_at part.globals (value_at part.piece.ins place) ≡ (wire_at wires (value_at (channels_to wires m) place)).signal
+  in-signal place lt =
+      let count : length part.piece.ins ≡ length (channels_to wires m) =
+      sym (length-map part.piece.ins (value_at part.globals)) ∙ ap (λ (l : List ℕ). length l) cut.ins ∙ length-map (channels_to wires m) (λ c. (wire_at wires c).signal) in
+      sym (get_or-map (value_at part.globals) part.piece.ins place 0 0 lt)
+      ∙ ap (λ (l : List ℕ). get_or l place 0) cut.ins
+      ∙ get_or-map (λ c. (wire_at wires c).signal) (channels_to wires m) place 0 0 (omega (arith, lt, count))
+
+  in-count : length part.piece.ins ≡ length (channels_to wires m)
+  in-count = sym (length-map part.piece.ins (value_at part.globals)) ∙ ap (λ (l : List ℕ). length l) cut.ins ∙ length-map (channels_to wires m) (λ c. (wire_at wires c).signal)
+
+  -- the number in the part of the signal of a channel that the machine gives
+  record IsOut (s : ℕ) : Type 0 where
+    pub out : ℕ
+    pub within : out < length part.globals
+    pub same : value_at part.globals out ≡ s
+
+  out-of : (c : ℕ) → c < length wires → (wire_at wires c).producer ≡ m → IsOut (wire_at wires c).signal
+  out-of c lt e =
+      let has = mapped-has (λ k. (wire_at wires k).signal) (channels_from wires m) c (gives wires m c lt e) in
+      let found = made-of (value_at part.globals) part.piece.outs (wire_at wires c).signal (subst (λ l. Contains l (wire_at wires c).signal) (sym cut.outs) has) in
+      record { out = value_at part.piece.outs found.place; within = cut.is.outs found.place found.within; same = found.is }
+
+  gets : Gets part.piece part.globals (signals_of wires (channels_to wires m))
+  gets = piece-gets design.circuit part.piece part.globals part.held part.memories (signals_of wires (channels_to wires m)) cut.is cut.ins
+
+  -- a need of the part is one in the circuit
+  need-out : (channels : List ℕ) (c d out : ℕ) → channels ≡ channels_to wires m → m < first_source listed → (wire_at wires c).producer ≡ m → value_at part.globals out ≡ (wire_at wires c).signal
+      → IsNeed part channels out d → NeedsChannel design.circuit listed wires c d
+  need-out channels c d out same made e is need =
+      let at : value_at (channels_to wires m) need.place ≡ d = ap (λ (l : List ℕ). value_at l need.place) (sym same) ∙ need.is in
+      let within : need.place < length (channels_to wires m) = omega (arith, need.known, in-count) in
+      let has : Contains (channels_to wires m) d = (need.place, within, get_or_default (channels_to wires m) need.place d 0 within ∙ at) in
+      let t = taken wires m d has in
+      let inside = path-out design.circuit part.piece part.globals part.held part.memories (signals_of wires (channels_to wires m)) cut.is gets out (value_at part.piece.ins need.place) need.reached.path need.reached.reads in
+      record {
+        made = subst (λ x. x < first_source listed) (sym e) made;
+        known = t.known;
+        taken = t.consumer ∙ sym e;
+        path = map (value_at part.globals) need.reached.path;
+        reads =
+            subst (λ k. IsPathInside design.circuit (signals_of wires (channels_to wires k)) (wire_at wires c).signal (map (value_at part.globals) need.reached.path) (wire_at wires d).signal) (sym e)
+            (subst (λ x. IsPathInside design.circuit (signals_of wires (channels_to wires m)) (wire_at wires c).signal (map (value_at part.globals) need.reached.path) x) (in-signal need.place need.known ∙ ap (λ x. (wire_at wires x).signal) at)
+            (subst (λ x. IsPathInside design.circuit (signals_of wires (channels_to wires m)) x (map (value_at part.globals) need.reached.path) (value_at part.globals (value_at part.piece.ins need.place))) is inside));
+      }
+
+  -- and the other way round
+  need-back : (channels : List ℕ) (c d out : ℕ) → channels ≡ channels_to wires m → (wire_at wires c).producer ≡ m → out < length part.globals → value_at part.globals out ≡ (wire_at wires c).signal
+      → NeedsChannel design.circuit listed wires c d → IsNeed part channels out d
+  need-back channels c d out same e lt is needs =
+      let has = takes wires m d needs.known (needs.taken ∙ e) in
+      let within : has.0 < length part.piece.ins = omega (arith, has.1, in-count) in
+      let at : value_at (channels_to wires m) has.0 ≡ d = get_or_default (channels_to wires m) has.0 0 d has.1 ∙ has.2 in
+      let reads = subst (λ k. IsPathInside design.circuit (signals_of wires (channels_to wires k)) (wire_at wires c).signal needs.path (wire_at wires d).signal) e needs.reads in
+      let back = path-back design.circuit part.piece part.globals part.held part.memories (signals_of wires (channels_to wires m)) cut.is gets out (wire_at wires c).signal (wire_at wires d).signal needs.path lt is reads in
+      let ends : value_at part.globals back.place ≡ value_at part.globals (value_at part.piece.ins has.0) =
+      back.same ∙ ap (λ x. (wire_at wires x).signal) (sym at) ∙ sym (in-signal has.0 within) in
+      let place : back.place ≡ value_at part.piece.ins has.0 = one-number part.globals back.place (value_at part.piece.ins has.0) cut.is.once back.within (cut.is.ins has.0 within).0 ends in
+      record {
+        place = has.0;
+        known = within;
+        is = ap (λ (l : List ℕ). value_at l has.0) same ∙ at;
+        reached = record { path = back.path; reads = subst (λ x. IsPath part.piece out back.path x) place back.reads };
+      }
+
+  part-needs : (channels : List ℕ) (c : ℕ) (needs : List ℕ) → channels ≡ channels_to wires m → m < first_source listed → c < length wires → (wire_at wires c).producer ≡ m
+      → ((out : ℕ) → out < length part.globals → value_at part.globals out ≡ (wire_at wires c).signal → AreNeedsOf part channels out needs)
+      → (d : ℕ) → Contains needs d ↔ NeedsChannel design.circuit listed wires c d
+  part-needs channels c needs same made lt e are d =
+      let o = out-of c lt e in
+      let each = are o.out o.within o.same d in
+      (λ h. need-out channels c d o.out same made e o.same (each.0 h), λ h. each.1 (need-back channels c d o.out same e o.within o.same h))
+
+-- ---- a channel of the plan
+
+none-needed : (circuit : FlatCircuit) (listed : Listed) (wires : List Wire) (c : ℕ) (needs : List ℕ) → needs ≡ [] → first_source listed ≤ (wire_at wires c).producer
+    → (d : ℕ) → Contains needs d ↔ NeedsChannel circuit listed wires c d
+none-needed circuit listed wires c needs none past d =
+    (λ h. let e = ap (λ (l : List ℕ). length l) none in absurd (omega (arith, h.1, e)), λ h. absurd (omega (arith, h.made, past)))
+
+body-needs : (design : Ordered) (listed : Listed) (wires : List Wire) (body : Body) (channels : List ℕ) (c : ℕ) (needs : List ℕ)
+    → IsBody design listed wires (wire_at wires c).producer body → channels ≡ channels_to wires (wire_at wires c).producer → c < length wires
+    → NeedsIn body channels (wire_at wires c).signal needs → (d : ℕ) → Contains needs d ↔ NeedsChannel design.circuit listed wires c d
+body-needs design listed wires (Cut part) channels c needs is same lt are =
+    part-needs design listed wires (wire_at wires c).producer part is.1 channels c needs same (omega (arith, is.0)) lt refl are
+body-needs design listed wires (Memory part) channels c needs is same lt are =
+    part-needs design listed wires (wire_at wires c).producer part is.2 channels c needs same is.1 lt refl are
+body-needs design listed wires Source channels c needs is same lt are = none-needed design.circuit listed wires c needs are is.0
+body-needs design listed wires Tray channels c needs is same lt are = none-needed design.circuit listed wires c needs are (omega (arith, is))
+
+abbrev pub no_machine : Machine
+no_machine = record { name = []; host = 0; body = Source; ins = []; outs = [] }
+
+needs-by : (design : Ordered) (request : Request) (listed : Listed) (wires : List Wire) (plan : Plan) (c : ℕ) (needs : List ℕ) → length plan.machines ≡ machine_count design.circuit listed
+    → ((m : ℕ) → m < length plan.machines → IsMachine design request listed wires m (slice_index_or plan.machines m no_machine))
+    → c < length wires → NeedsIn (slice_index_or plan.machines (wire_at wires c).producer no_machine).body (slice_index_or plan.machines (wire_at wires c).producer no_machine).ins (wire_at wires c).signal needs
+    → ((wire_at wires c).producer < length plan.machines) ⊎ (length plan.machines ≤ (wire_at wires c).producer)
+    → (d : ℕ) → Contains needs d ↔ NeedsChannel design.circuit listed wires c d
+needs-by design request listed wires plan c needs total machines lt are (inl below) =
+    let machine = machines (wire_at wires c).producer below in
+    body-needs design listed wires (slice_index_or plan.machines (wire_at wires c).producer no_machine).body (slice_index_or plan.machines (wire_at wires c).producer no_machine).ins c needs machine.body machine.ins lt are
+needs-by design request listed wires plan c needs total machines lt are (inr past) =
+    none-needed design.circuit listed wires c needs
+    (subst (λ (x : Machine). NeedsIn x.body x.ins (wire_at wires c).signal needs) (get_or_past plan.machines (wire_at wires c).producer no_machine past) are)
+    (omega (arith, past, total))
+
+-- the needs of a channel of the plan are those of the circuit
+pub channel-needs : (design : Ordered) (request : Request) (default : ℕ) (plan : Plan) → IsPlan design request default plan → (c : ℕ) (any : Channel)
+    → c < length (wires_of design.circuit design.tree (listed_of design.tree request))
+    → AreChannelNeeds design.circuit (listed_of design.tree request) (wires_of design.circuit design.tree (listed_of design.tree request)) c (slice_index_or plan.channels c any).needs
+channel-needs design request default plan is c any lt =
+    let listed = listed_of design.tree request in
+    let wires = wires_of design.circuit design.tree listed in
+    let channel : IsChannel design (capacity_of request.capacity default) plan.machines (wire_at wires c) (slice_index_or plan.channels c any) = is.channel c any (omega (arith, lt, is.channel_total)) in
+    let m = (wire_at wires c).producer in
+    record {
+      ascending = channel.ascending;
+      each = needs-by design request listed wires plan c (slice_index_or plan.channels c any).needs is.machine_total (λ k lt. is.machine k no_machine lt) lt (channel.needs no_machine) (cases_lt m (length plan.machines));
+    }

@@ -1,0 +1,84 @@
+-- The lines of `check` for two units that feed each other in one cycle (gg_cut's WorkedPair), and needs of their channels, worked by
+-- hand. The channels are, from 0 on: `x`, `a.x`, `a.k`, `a.p`, `a.q`, `b.m`, `b.n`, `q`.
+use Rattle.std.proofs.Common.{◌≡◌, ℕ, zero, suc, ◌<◌, List, [], ◌∷◌, ◌++◌, length, map, refl, ap, subst, arith}
+use Rattle.std.specs.Prelude.{codes, flat_map, Contains}
+use Rattle.std.specs.Fmt.{digits}
+use Rattle.std.proofs.lemmas.Fmt.{decimal_digit}
+use Rattle.gg_flat.specs.Circuit.{driver_at}
+use Rattle.gg_flat.specs.Reads.{NamesSignal, Reads}
+use Rattle.gg_order.specs.Design.{Ordered}
+use Rattle.gg_cut.specs.Channels.{wires_of}
+use Rattle.gg_cut.specs.Plan.{channels_to, signals_of}
+use Rattle.gg_cut.specs.declared.wires.Wire.{Wire}
+use Rattle.gg_cut.proofs.WorkedPair.{circuit, tree, listed, both_units}
+use Rattle.golden.specs.CheckText.{IsPathInside, NeedsChannel, channel_text, machine_text}
+
+abbrev pub design : Ordered
+design = record { circuit = circuit; tree = tree; order = 0 ∷ 2 ∷ 4 ∷ 6 ∷ 7 ∷ 3 ∷ 5 ∷ 1 ∷ [] }
+
+abbrev pub wires : List Wire
+wires = wires_of circuit tree listed
+
+hub : machine_text design both_units listed 0 ≡ codes "machine hub: host 0\n"
+hub = ap (λ (h : List ℕ). codes "machine hub: host " ++ h ++ codes "\n") (decimal_digit 0 (omega arith))
+
+others : flat_map (machine_text design both_units listed) (1 ∷ 2 ∷ 3 ∷ 4 ∷ []) ≡ codes "machine a host 1\nmachine b host 2\nmachine in:x host 3\nmachine out:q host 4\n"
+unfolding digits
+others = refl
+
+-- a line with two needs, one with one, and one without
+two-needs : channel_text design both_units 1 listed wires 4 (1 ∷ 2 ∷ []) ≡ codes "channel a.q a hub: UInt<8> capacity 1 needs a.x a.k\n"
+unfolding digits
+two-needs = refl
+
+one-need : channel_text design both_units 1 listed wires 7 (4 ∷ []) ≡ codes "channel q hub: out:q UInt<8> capacity 1 needs a.q\n"
+unfolding digits
+one-need = refl
+
+no-need : channel_text design both_units 1 listed wires 0 [] ≡ codes "channel x in:x hub: UInt<8> capacity 1 needs -\n"
+unfolding digits
+no-need = refl
+
+-- ---- needs
+
+-- `a` takes the channels of the signals 2 and 3
+abbrev pub two_three : List ℕ
+two_three = 2 ∷ 3 ∷ []
+
+a-takes : signals_of wires (channels_to wires 1) ≡ two_three
+a-takes = refl
+
+five-free : Contains two_three 5 → ⊥
+five-free (zero, lt, is) = absurd (omega (arith, is))
+five-free (suc zero, lt, is) = absurd (omega (arith, is))
+five-free (suc (suc k), lt, is) = absurd (omega (arith, lt))
+
+-- `a.q` needs `a.x`, which it reads
+q-needs-x : NeedsChannel circuit listed wires 4 1
+q-needs-x = record {
+  made = omega arith;
+  known = omega arith;
+  taken = refl;
+  path = 2 ∷ [];
+  reads = (five-free, record { signal = omega arith; names = (0, omega arith, refl) }, refl);
+}
+
+-- `a.p` reads `a.x` alone, from which no path goes on: so it doesn't need `a.k`
+two-ends : (path : List ℕ) → IsPathInside circuit two_three 2 path 3 → ⊥
+two-ends [] e = absurd (omega (arith, e))
+two-ends (next ∷ path) h = h.0 (0, omega arith, refl)
+
+reads-two : (next : ℕ) → NamesSignal (driver_at circuit 4) next → 2 ≡ next
+reads-two next (zero, lt, is) = cc
+reads-two next (suc k, lt, is) = absurd (omega (arith, lt))
+
+p-path : (path : List ℕ) → IsPathInside circuit two_three 4 path 3 → ⊥
+p-path [] e = absurd (omega (arith, e))
+p-path (next ∷ path) h = two-ends path (subst (λ s. IsPathInside circuit two_three s path 3) (let same : next ≡ 2 = let e = reads-two next h.1.names in omega (arith, e) in same) h.2)
+
+p-needs-no-k : NeedsChannel circuit listed wires 3 2 → ⊥
+p-needs-no-k needs = p-path needs.path needs.reads
+
+-- a source's channel needs nothing
+x-needs-none : (d : ℕ) → NeedsChannel circuit listed wires 0 d → ⊥
+x-needs-none d needs = let made = needs.made in absurd (omega (arith, made))

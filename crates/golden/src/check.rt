@@ -1,0 +1,89 @@
+//! The command `check`.
+ghost use Rattle.std.specs.Prelude.{◌≡◌, ◌<◌, ◌≤◌, ◌⊎◌, ℕ, List, Err, None};
+ghost use Rattle.gg_cut.specs.Fault.{IsSmall, first_fault};
+ghost use Rattle.gg_front.specs.Meaning.{MeansDesign};
+ghost use Rattle.gg_io.specs.Count.{Rose};
+ghost use Rattle.golden.specs.Check.{check_order, cut_order};
+ghost use Rattle.golden.specs.CheckText.{IsTextOfCut};
+ghost use Rattle.golden.specs.Endings.{EndedOn, Prints};
+ghost use Rattle.golden.specs.WentOn.{ShelfWentOn, SinkWentOn};
+ghost use Rattle.golden.specs.declared.endings.Ending.TheVariants.{NoMemory};
+
+use crate::checking::print_plan;
+use crate::endings::Ending;
+use crate::partition::read_partition;
+use crate::reading::read_circuit;
+use gg_front::{designs_agree, one_run};
+use gg_io::{Shelf, Sink};
+use gg_order::Design;
+use gg_partfile::Request;
+use gg_plan::cut;
+use std::alloc::Global;
+
+// Prints the cut of a request that has no fault for the design. Where memory runs out before there is a plan, nothing is
+// printed.
+fn print_cut<K: Sink>(
+    alloc: Global,
+    design: &Design,
+    request: &Request,
+    capacity: u32,
+    out: &mut K,
+) -> Result<(), Ending>
+    requires small { IsSmall request.now }
+    requires faultless { first_fault design.now request.now ≡ None }
+    requires some { 0 < capacity }
+    requires bounded { capacity ≤ 4096 }
+    ensures prints { ((text : List ℕ) × IsTextOfCut design.now request.now capacity text
+        × Prints (K.written out.old) (K.written out.new) (Rose (K.faults out.old) (K.faults out.new)) text result)
+        ⊎ ((result ≡ Err NoMemory) × (K.written out.new ≡ K.written out.old)) }
+    ensures out { SinkWentOn (K.faults out.old) (K.faults out.new) (K.refused out.old) (K.refused out.new) }
+{
+    match cut(alloc, design, request, capacity) {
+        Ok(plan) => print_plan(alloc, &plan, out),
+        Err(_) => Err(Ending::NoMemory),
+    }
+}
+
+// `check`, where the circuit is read.
+fn check_design<S: Shelf, K: Sink>(
+    alloc: Global,
+    design: &Design,
+    partition: &str,
+    capacity: u32,
+    shelf: &mut S,
+    out: &mut K,
+) -> Result<(), Ending>
+    requires some { 0 < capacity }
+    requires bounded { capacity ≤ 4096 }
+    ensures ended { (circuit : List ℕ) → MeansDesign circuit design.now → EndedOn (S.files shelf.old)
+        (Rose (S.faults shelf.old) (S.faults shelf.new)) (Rose (S.cuts shelf.old) (S.cuts shelf.new)) (Rose (K.faults out.old) (K.faults out.new))
+        (K.written out.old) (K.written out.new) (cut_order circuit partition.now capacity) result }
+    ensures shelf { ShelfWentOn (S.files shelf.old) (S.files shelf.new) (S.faults shelf.old) (S.faults shelf.new) (S.cuts shelf.old) (S.cuts shelf.new) }
+    ensures out { SinkWentOn (K.faults out.old) (K.faults out.new) (K.refused out.old) (K.refused out.new) }
+{
+    designs_agree();
+    one_run();
+    let request = read_partition(alloc, shelf, partition, design)?;
+    print_cut(alloc, design, &request, capacity, out)
+}
+
+/// `check`: reads the circuit and the partition, and writes the text of the cut.
+pub(crate) fn check<S: Shelf, K: Sink>(
+    alloc: Global,
+    circuit: &str,
+    partition: &str,
+    capacity: u32,
+    shelf: &mut S,
+    out: &mut K,
+) -> Result<(), Ending>
+    requires some { 0 < capacity }
+    requires bounded { capacity ≤ 4096 }
+    ensures ended { EndedOn (S.files shelf.old)
+        (Rose (S.faults shelf.old) (S.faults shelf.new)) (Rose (S.cuts shelf.old) (S.cuts shelf.new)) (Rose (K.faults out.old) (K.faults out.new))
+        (K.written out.old) (K.written out.new) (check_order circuit.now partition.now capacity) result }
+    ensures shelf { ShelfWentOn (S.files shelf.old) (S.files shelf.new) (S.faults shelf.old) (S.faults shelf.new) (S.cuts shelf.old) (S.cuts shelf.new) }
+    ensures out { SinkWentOn (K.faults out.old) (K.faults out.new) (K.refused out.old) (K.refused out.new) }
+{
+    let design = read_circuit(alloc, shelf, circuit)?;
+    check_design(alloc, &design, partition, capacity, shelf, out)
+}
