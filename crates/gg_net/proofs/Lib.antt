@@ -1,0 +1,2 @@
+pub mod LatchLemmas
+pub mod StateLemmas
