@@ -1,2 +1,3 @@
 pub mod LatchLemmas
 pub mod StateLemmas
+pub mod MachineLemmas
