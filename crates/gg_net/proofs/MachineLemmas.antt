@@ -159,3 +159,115 @@ module _ (lists : List (List ℕ)) (runs : List (List (List ℕ))) (frame : Fram
     -- The next state is that of the rows.
     pub next_is : (next : State) → x.cycle < frame.end → AllLatched x → x.served ≡ length x.ports → IsNextState x next → IsStateOf x.behaviour x.ports rows (suc x.cycle) 0 next
     next_is next lt all whole goes = next-by x.behaviour x.ports next behaviour-is refl lt all whole at.stands goes
+
+    -- ---- steps
+
+    -- A token was latched.
+    pub own_latch : (c value : ℕ) → c < length frame.wires → (wire_at frame.wires c).consumer ≡ m → x.cycle < frame.end → latch_at x.latches (wire_at frame.wires c).place ≡ None → value ≡ value_at (list_at lists c) x.cycle
+        → MachineAt lists runs frame m (with_latch x (wire_at frame.wires c).place value)
+    own_latch c value known is lt empty token =
+        let i : ℕ = (wire_at frame.wires c).place in
+        let within : i < length x.latches = place-within c known is in
+        record {
+          kind = ap (λ n. record { behaviour = x.behaviour; limit = x.limit; needs = x.needs; ports = x.ports; ins = n; outs = length x.flags }) (length-set x.latches i (Some value)) ∙ at.kind;
+          within = at.within;
+          stands = at.stands;
+          latched = λ d v there to has. ⊎_elim
+            (λ (same : (wire_at frame.wires d).place ≡ i).
+            let one : d ≡ c = sound.wired.one_in d c there known (to ∙ sym is) same in
+            let value_is : value ≡ v = same_Some value v (sym (get_or-set_same x.latches i (Some value) None within) ∙ ap (latch_at (slice_set x.latches i (Some value))) (sym same) ∙ has) in
+            (lt, sym value_is ∙ token ∙ ap (λ k. value_at (list_at lists k) x.cycle) (sym one)))
+            (λ other. at.latched d v there to (sym (get_or-set_other x.latches i (wire_at frame.wires d).place (Some value) None other) ∙ has))
+            (cases_eq (wire_at frame.wires d).place i);
+          fired = λ o flag. ((at.fired o flag).0, missing-grows x.latches i value (needs_at x.needs o) within (at.fired o flag).1);
+          served = at.served;
+          serving = at.serving;
+          fields = λ k d lt j e there. latch-grows x.latches i value (slice_index_or (fields_of (slice_index_or (take x.served x.ports) k d).access) j e) within (at.fields k d lt j e there);
+          kept = at.kept;
+        }
+
+    -- A token was given.
+    pub own_fire : (c : ℕ) → c < length frame.wires → (wire_at frame.wires c).producer ≡ m → x.cycle < frame.end → flag_at x.flags (wire_at frame.wires c).out ≡ false → missing x (wire_at frame.wires c).out ≡ None
+        → MachineAt lists runs frame m (with_flag x (wire_at frame.wires c).out)
+    own_fire c known is lt clear needed =
+        let o : ℕ = (wire_at frame.wires c).out in
+        let within : o < length x.flags = out-within c known is in
+        record {
+          kind = ap (λ n. record { behaviour = x.behaviour; limit = x.limit; needs = x.needs; ports = x.ports; ins = length x.latches; outs = n }) (length-set x.flags o true) ∙ at.kind;
+          within = at.within;
+          stands = at.stands;
+          latched = at.latched;
+          fired = λ p flag. ⊎_elim
+            (λ (same : p ≡ o). (lt, ap (missing x) same ∙ needed))
+            (λ other. at.fired p (sym (get_or-set_other x.flags o p true false other) ∙ flag))
+            (cases_eq p o);
+          served = at.served;
+          serving = λ pos. let none : x.served ≡ 0 = unserved o within clear in absurd (omega (arith, pos, none));
+          fields = at.fields;
+          kept = at.kept;
+        }
+
+    stands-served : (b : Behaviour) (q : Port) → kind.behaviour ≡ b → slice_get x.ports x.served ≡ Some q → first_empty x.latches (fields_of q.access) ≡ None → IsStateOf b x.ports rows x.cycle x.served x.state
+        → IsStateOf b x.ports rows x.cycle (suc x.served) (accessed x.latches x.state (slice_get x.ports x.served))
+    stands-served (RunsPiece piece) q is port none stands =
+        let inputs : List ℕ = ins_of piece row in
+        let start : State = run_state piece rows x.cycle in
+        ap (accessed x.latches x.state) port
+        ∙ accessed-is x.latches inputs x.state q (λ k d lt.
+          let i : ℕ = slice_index_or (fields_of q.access) k d in
+          let has : latch_at x.latches i ≡ Some (latched_value (latch_at x.latches i)) = has-value (latch_at x.latches i) (all-filled x.latches (fields_of q.access) none k d lt) in
+          value-latched x.latches i (latched_value (latch_at x.latches i)) has ∙ sym (in-value piece is i (latched_value (latch_at x.latches i)) has))
+        ∙ ap (λ s. served_one inputs s q) stands
+        ∙ sym (served-next inputs start x.ports x.served q port)
+    stands-served (GivesColumn column) q is port none stands = tt
+    stands-served KeepsValues q is port none stands = tt
+
+    -- A port was served.
+    pub own_serve : (p : ℕ) → x.cycle < frame.end → AllFired x → due x ≡ Some p → first_empty x.latches (due_fields x) ≡ None → MachineAt lists runs frame m (with_served x)
+    own_serve p lt fired due none =
+        let q : Port = (due-port (slice_get x.ports x.served) p due).0 in
+        let port : slice_get x.ports x.served ≡ Some q = (due-port (slice_get x.ports x.served) p due).1 in
+        let within : x.served < length x.ports = slice_get_within x.ports x.served q port in
+        let filled : first_empty x.latches (fields_of q.access) ≡ None = subst (λ (o : Option Port). first_empty x.latches (fields_at o) ≡ None) port none in
+        record {
+          kind = at.kind;
+          within = at.within;
+          stands = stands-served x.behaviour q behaviour-is port filled at.stands;
+          latched = at.latched;
+          fired = at.fired;
+          served = omega (arith, within);
+          serving = λ pos. fired;
+          fields =
+            subst (All (HasFields x.latches)) (sym (take-suc x.ports x.served q within ∙ ap (λ (r : Port). take x.served x.ports ++ r ∷ []) (get_or_from_slice_get x.ports x.served q q port)))
+            (All-append (HasFields x.latches) (take x.served x.ports) (q ∷ []) at.fields (one (HasFields x.latches) q (all-filled x.latches (fields_of q.access) filled)));
+          kept = at.kept;
+        }
+
+    kept-by : (b : Behaviour) (c : ℕ) → kind.behaviour ≡ b → c < length frame.wires → (wire_at frame.wires c).consumer ≡ m → AllLatched x → Keeps b (list_at lists c) x.cycle x.kept → Keeps b (list_at lists c) (suc x.cycle) (kept_after b x.latches x.kept)
+    kept-by (RunsPiece piece) c is known to all keeps = tt
+    kept-by (GivesColumn column) c is known to all keeps = tt
+    kept-by KeepsValues c is known to all keeps =
+        let lone : kind.ins ≡ 1 = subst (λ b. Runs b kind rows frame.end) is (sound.solves.does m below) in
+        let within : (wire_at frame.wires c).place < length x.latches = place-within c known to in
+        let first : (wire_at frame.wires c).place ≡ 0 = omega (arith, within, ins-is, lone) in
+        let has : latch_at x.latches 0 ≡ Some (latched_value (latch_at x.latches 0)) = has-value (latch_at x.latches 0) (all 0 None (omega (arith, ins-is, lone))) in
+        kept-more (list_at lists c) x.kept x.cycle (latched_value (latch_at x.latches 0)) keeps
+        (at.latched c (latched_value (latch_at x.latches 0)) known to (ap (latch_at x.latches) first ∙ has)).1
+
+    -- The cycle was finished.
+    pub own_finish : (next : State) → x.cycle < frame.end → AllLatched x → x.served ≡ length x.ports → IsNextState x next → MachineAt lists runs frame m (finished x next)
+    own_finish next lt all whole goes =
+        record {
+          kind =
+            ap (λ n. record { behaviour = x.behaviour; limit = x.limit; needs = x.needs; ports = x.ports; ins = n; outs = length (replicate (length x.flags) false) }) (length-replicate (length x.latches) None)
+            ∙ ap (λ n. record { behaviour = x.behaviour; limit = x.limit; needs = x.needs; ports = x.ports; ins = length x.latches; outs = n }) (length-replicate (length x.flags) false)
+            ∙ at.kind;
+          within = omega (arith, lt);
+          stands = next_is next lt all whole goes;
+          latched = λ c v known to has. absurd (no-latch (length x.latches) (wire_at frame.wires c).place v has);
+          fired = λ o flag. absurd (no-flag (length x.flags) o flag);
+          served = omega arith;
+          serving = λ pos. absurd (omega (arith, pos));
+          fields = none-of-none (HasFields (replicate (length x.latches) None)) x.ports;
+          kept = λ c known to. kept-by x.behaviour c behaviour-is known to all (at.kept c known to);
+        }
