@@ -1,3 +1,5 @@
 pub mod LatchLemmas
 pub mod StateLemmas
 pub mod MachineLemmas
+pub mod ChannelLemmas
+pub mod StepLemmas

@@ -119,12 +119,12 @@ module _ (lists : List (List ℕ)) (runs : List (List (List ℕ))) (frame : Fram
     unserved o within clear =
         ⊎_elim (λ (lt : 0 < x.served). absurd (true-is-no-false (sym (at.serving lt o false within) ∙ clear))) (λ (le : x.served ≤ 0). omega (arith, le)) (cases_lt 0 x.served)
 
-    out-within : (c : ℕ) → c < length frame.wires → (wire_at frame.wires c).producer ≡ m → (wire_at frame.wires c).out < length x.flags
+    pub out-within : (c : ℕ) → c < length frame.wires → (wire_at frame.wires c).producer ≡ m → (wire_at frame.wires c).out < length x.flags
     out-within c known is =
         let within : (wire_at frame.wires c).out < kind.outs = subst (λ p. (wire_at frame.wires c).out < (kind_at frame.kinds p).outs) is (sound.wired.out c known) in
         omega (arith, within, outs-is)
 
-    place-within : (c : ℕ) → c < length frame.wires → (wire_at frame.wires c).consumer ≡ m → (wire_at frame.wires c).place < length x.latches
+    pub place-within : (c : ℕ) → c < length frame.wires → (wire_at frame.wires c).consumer ≡ m → (wire_at frame.wires c).place < length x.latches
     place-within c known is =
         let within : (wire_at frame.wires c).place < kind.ins = subst (λ q. (wire_at frame.wires c).place < (kind_at frame.kinds q).ins) is (sound.wired.place c known) in
         omega (arith, within, ins-is)
