@@ -3,3 +3,4 @@ pub mod StateLemmas
 pub mod MachineLemmas
 pub mod ChannelLemmas
 pub mod StepLemmas
+pub mod SeatLemmas

@@ -15,7 +15,7 @@ use Rattle.gg_flat.specs.Run.{row_at}
 use Rattle.gg_node.specs.Machine.{Behaviour, RunsPiece, GivesColumn, KeepsValues, Port, Machine, latch_at, flag_at, latched_value, latched_values, first_empty, needs_at, missing, port_number, due}
 use Rattle.gg_node.specs.Token.{IsToken, IsTokenOf, IsNextState, IsNextOf, accessed}
 use Rattle.gg_node.specs.Step.{with_latch, with_flag, with_served, finished, kept_after, fields_of, HasFields, AllFired, AllLatched}
-use Rattle.gg_net.specs.Network.{Wire, wire_at, IsAtIn, Kind, kind_of, kind_at, Frame}
+use Rattle.gg_net.specs.Network.{wire_at, IsAtIn, Kind, kind_of, kind_at, Frame}
 use Rattle.gg_net.specs.Step.{fields_at, due_fields}
 use Rattle.gg_net.specs.Kept.{list_at, rows_at, ins_of, run_state, served_one, served_by, RunsRows, Runs, Answers, Asks, ServesRows, IsSound, IsStateOf, HasKept, Keeps, MachineAt}
 use Rattle.gg_net.proofs.LatchLemmas.{none-is-no-some, true-is-no-false, has-value, latch-within, latch-grows, value-latched, all-filled, missing-grows, flag-within, no-latch, no-flag}

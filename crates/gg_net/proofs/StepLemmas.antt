@@ -14,7 +14,8 @@ use Rattle.gg_node.specs.Token.{IsToken, IsNextState}
 use Rattle.gg_node.specs.Step.{with_latch, with_flag, with_served, finished, AllFired, AllLatched}
 use Rattle.gg_net.specs.declared.event.Event.{Event}
 use Rattle.gg_net.specs.declared.event.Event.TheVariants.{Latch, Fire, Serve, Finish}
-use Rattle.gg_net.specs.Network.{Wire, wire_at, Network, queue_at, producer_of, consumer_of, given_by, got_by, puts, takes, Kind, kind_of, kind_at, Frame, frame_of}
+use Rattle.gg_net.specs.declared.shape.Wire.{Wire}
+use Rattle.gg_net.specs.Network.{wire_at, Network, queue_at, producer_of, consumer_of, given_by, got_by, puts, takes, Kind, kind_of, kind_at, Frame, frame_of}
 use Rattle.gg_net.specs.Step.{CanLatch, CanFire, CanServe, CanFinish, front_of, after_latch, after_fire, after_serve, after_finish, Step}
 use Rattle.gg_net.specs.Kept.{list_at, IsSound, MachineAt, BetweenAt, Kept}
 use Rattle.gg_net.proofs.LatchLemmas.{none-is-no-some, some-is-no-none, has-value}

@@ -13,7 +13,7 @@ use Rattle.gg_flat.specs.Served.{after_access}
 use Rattle.gg_flat.specs.WellFormed.{IsWellFormed}
 use Rattle.gg_node.specs.Machine.{Behaviour, RunsPiece, GivesColumn, KeepsValues, Port, Machine, machine_at, latch_at, flag_at, needs_at, missing}
 use Rattle.gg_node.specs.Step.{AllFired, HasFields}
-use Rattle.gg_net.specs.Network.{Wire, wire_at, IsAtIn, IsAtOut, Network, queue_at, puts, takes, Kind, kind_of, kind_at, Frame, frame_of}
+use Rattle.gg_net.specs.Network.{wire_at, IsAtIn, IsAtOut, Network, queue_at, puts, takes, Kind, kind_of, kind_at, Frame, frame_of}
 
 -- ---- lists and rows
 

@@ -1,3 +1,5 @@
 pub mod Network
 pub mod Step
 pub mod Kept
+pub mod Queue
+pub mod Seats

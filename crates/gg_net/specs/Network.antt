@@ -2,18 +2,10 @@
 -- Source: MEMOCODE 2009 (a bounded dataflow network: nodes joined by queues of a bounded length); ICCAD 2019 (units of a
 -- target that pass one another a token for each target cycle).
 use Rattle.std.specs.Prelude.{◌≡◌, ℕ, suc, ◌<◌, List, [], Option, Some, None, Bool, true, false, Contains, length, map, slice_index_or}
+use Rattle.gg_net.specs.declared.shape.Wire.{Wire}
 use Rattle.gg_node.specs.Machine.{Behaviour, KeepsValues, Port, Machine, machine_at, latch_at, flag_at}
 
 -- ---- channels
-
--- A channel: the machine that gives its tokens and the place of its out, the machine that takes them and the place of its
--- in, and how many tokens its queue holds at most.
-pub record Wire : Type 0 where
-  pub producer : ℕ
-  pub out : ℕ
-  pub consumer : ℕ
-  pub place : ℕ
-  pub capacity : ℕ
 
 -- the channel of a number
 abbrev pub wire_at : List Wire → ℕ → Wire

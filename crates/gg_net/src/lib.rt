@@ -2,5 +2,12 @@
 #![tactic(auto)]
 
 mod event;
+mod queue;
+mod seats;
+mod shape;
+mod streams;
 
 pub use event::{Event, Refusal};
+pub use queue::Queue;
+pub use shape::{ServedPort, Shape, Station, Wire};
+pub use streams::Streams;
