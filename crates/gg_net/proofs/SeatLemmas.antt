@@ -3,17 +3,33 @@ use Rattle.std.proofs.Common.{◌≡◌, ◌≢◌, ℕ, ◌<◌, List, [], leng
 use Rattle.std.specs.Prelude.{All, slice_index_or, slice_set}
 use Rattle.std.proofs.lemmas.Bool.{cases_eq}
 use Rattle.std.proofs.lemmas.List.{map-set, get_or-map, length-map, length-set, ext_get_or}
+use Rattle.gg_flat.specs.State.{State}
 use Rattle.gg_node.specs.Machine.{Machine, no_machine, machine_at}
+use Rattle.gg_node.specs.Token.{IsNextState}
+use Rattle.gg_node.specs.Step.{finished}
 use Rattle.gg_net.specs.declared.shape.Station.{Station}
-use Rattle.gg_net.specs.Seats.{hosted, seated, machines_by, IsSeated, AreSeated, IsReseated}
+use Rattle.gg_net.specs.Seats.{hosted, seated, machines_by, IsSeated, AreSeated, IsReseated, HasGoneOn}
 
--- a call changed the machine at its thread of a host
-pub reseated : {X : Type 0} (machines : X → List Machine) (hosts : List X) (station : Station) (host new : X) (change : Machine → Machine) → IsSeated (map machines hosts) station → host ≡ slice_index_or hosts station.host host
-    → machines new ≡ slice_set (machines host) station.thread (change (machine_at (machines host) station.thread)) → IsReseated (map machines hosts) (map machines (slice_set hosts station.host new)) station (change (seated (map machines hosts) station))
-reseated machines hosts station host new change seat is step =
-    let at : hosted (map machines hosts) station.host ≡ machines host = get_or-map machines hosts station.host host [] (omega (arith, seat.host, length-map hosts machines)) ∙ ap machines (sym is) in
-    map-set machines hosts station.host new
-    ∙ ap (slice_set (map machines hosts) station.host) (step ∙ ap (λ (all : List Machine). slice_set all station.thread (change (machine_at all station.thread))) (sym at))
+module _ {X : Type 0} (machines : X → List Machine) (hosts : List X) (station : Station) (host new : X) (seat : IsSeated (map machines hosts) station) (is : host ≡ slice_index_or hosts station.host host) where
+  hosted-is : hosted (map machines hosts) station.host ≡ machines host
+  hosted-is = get_or-map machines hosts station.host host [] (omega (arith, seat.host, length-map hosts machines)) ∙ ap machines (sym is)
+
+  -- a call changed the machine at its thread of a host
+  pub reseated : (change : Machine → Machine) → machines new ≡ slice_set (machines host) station.thread (change (machine_at (machines host) station.thread)) → IsReseated (map machines hosts) (map machines (slice_set hosts station.host new)) station (change (seated (map machines hosts) station))
+  reseated change step =
+      map-set machines hosts station.host new
+      ∙ ap (slice_set (map machines hosts) station.host) (step ∙ ap (λ (all : List Machine). slice_set all station.thread (change (machine_at all station.thread))) (sym hosted-is))
+
+  -- a call finished the cycle of the machine at its thread of a host
+  pub gone-on : IsNextState (machine_at (machines host) station.thread) (machine_at (machines new) station.thread).state
+      → machines new ≡ slice_set (machines host) station.thread (finished (machine_at (machines host) station.thread) (machine_at (machines new) station.thread).state) → HasGoneOn (map machines hosts) (map machines (slice_set hosts station.host new)) station
+  gone-on next step =
+      let state : State = (machine_at (machines new) station.thread).state in
+      record {
+        state = state;
+        is = subst (λ x. IsNextState x state) (sym (ap (λ all. machine_at all station.thread) hosted-is)) next;
+        step = reseated (λ x. finished x state) step;
+      }
 
 -- ---- all stations
 

@@ -3,3 +3,4 @@ pub mod Step
 pub mod Kept
 pub mod Queue
 pub mod Seats
+pub mod Net

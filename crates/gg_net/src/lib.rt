@@ -2,12 +2,14 @@
 #![tactic(auto)]
 
 mod event;
+mod net;
 mod queue;
 mod seats;
 mod shape;
 mod streams;
 
 pub use event::{Event, Refusal};
+pub use net::Net;
 pub use queue::Queue;
 pub use shape::{ServedPort, Shape, Station, Wire};
 pub use streams::Streams;
