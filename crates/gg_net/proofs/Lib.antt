@@ -4,3 +4,4 @@ pub mod MachineLemmas
 pub mod ChannelLemmas
 pub mod StepLemmas
 pub mod SeatLemmas
+pub mod PortLemmas

@@ -12,7 +12,7 @@ use Rattle.gg_flat.specs.Run.{IsRun, row_at, column, state_at, opening_start}
 use Rattle.gg_flat.specs.Served.{after_access}
 use Rattle.gg_flat.specs.WellFormed.{IsWellFormed}
 use Rattle.gg_node.specs.Machine.{Behaviour, RunsPiece, GivesColumn, KeepsValues, Port, Machine, machine_at, latch_at, flag_at, needs_at, missing}
-use Rattle.gg_node.specs.Step.{AllFired, HasFields}
+use Rattle.gg_node.specs.Step.{AllFired, HasFields, fields_of}
 use Rattle.gg_net.specs.Network.{wire_at, IsAtIn, IsAtOut, Network, queue_at, puts, takes, Kind, kind_of, kind_at, Frame, frame_of}
 
 -- ---- lists and rows
@@ -89,7 +89,8 @@ pub record Solves (lists : List (List ℕ)) (runs : List (List (List ℕ))) (fra
 
 -- ---- the wiring
 
--- Each channel leads from an out that is there to an in that is there; each in and each out is at just one channel.
+-- Each channel leads from an out that is there to an in that is there; each in and each out is at just one channel; needs and
+-- fields of ports are ins that are there.
 pub record IsWired (frame : Frame) : Type 0 where
   pub producer : (c : ℕ) → c < length frame.wires → (wire_at frame.wires c).producer < length frame.kinds
   pub out : (c : ℕ) → c < length frame.wires → (wire_at frame.wires c).out < (kind_at frame.kinds (wire_at frame.wires c).producer).outs
@@ -98,6 +99,8 @@ pub record IsWired (frame : Frame) : Type 0 where
   pub into : (m i : ℕ) → m < length frame.kinds → i < (kind_at frame.kinds m).ins → (c : ℕ) × IsAtIn frame.wires m i c
   pub from : (m o : ℕ) → m < length frame.kinds → o < (kind_at frame.kinds m).outs → (c : ℕ) × IsAtOut frame.wires m o c
   pub one_in : (c d : ℕ) → c < length frame.wires → d < length frame.wires → (wire_at frame.wires c).consumer ≡ (wire_at frame.wires d).consumer → (wire_at frame.wires c).place ≡ (wire_at frame.wires d).place → c ≡ d
+  pub needs : (m o i : ℕ) → m < length frame.kinds → Contains (needs_at (kind_at frame.kinds m).needs o) i → i < (kind_at frame.kinds m).ins
+  pub fields : (m : ℕ) → m < length frame.kinds → All (λ port. All (λ i. i < (kind_at frame.kinds m).ins) (fields_of port.access)) (kind_at frame.kinds m).ports
   pub one_out : (c d : ℕ) → c < length frame.wires → d < length frame.wires → (wire_at frame.wires c).producer ≡ (wire_at frame.wires d).producer → (wire_at frame.wires c).out ≡ (wire_at frame.wires d).out → c ≡ d
 
 -- Channel c needs channel d in the same cycle: d is at an in that c's out needs.

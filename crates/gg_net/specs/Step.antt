@@ -2,7 +2,7 @@
 -- Source: MEMOCODE 2009 (a node takes a token from each input queue once in a cycle, gives one to each output queue as soon
 -- as what it depends on is there and the queue has room, and then finishes the cycle); ICCAD 2019 for memories that are
 -- served port by port. The order in which conditions are judged is this program's.
-use Rattle.std.specs.Prelude.{◌≡◌, ℕ, suc, ◌<◌, ◌≤◌, ◌++◌, List, [], ◌∷◌, Option, Some, None, Bool, true, false, IsSome, All, Contains, length, map, drop, max, slice_set, slice_get}
+use Rattle.std.specs.Prelude.{◌≡◌, ℕ, suc, ◌<◌, ◌≤◌, ◌++◌, List, [], ◌∷◌, Option, Some, None, Bool, true, false, IsSome, All, Contains, length, map, drop, fold, max, slice_set, slice_get}
 use Rattle.gg_flat.specs.Line.{value_at}
 use Rattle.gg_flat.specs.State.{State}
 use Rattle.gg_node.specs.Machine.{Port, Machine, machine_at, latch_at, flag_at, first_empty, missing, due}
@@ -20,10 +20,9 @@ use Rattle.gg_net.specs.Network.{Network, wire_at, queue_at, producer_of, consum
 abbrev pub numbers : List Port → List ℕ
 numbers ports = map (λ port. port.number) ports
 
--- one more than the greatest number of a port
-abbrev pub port_bound : List Port → ℕ
-port_bound [] = 0
-port_bound (port ∷ ports) = max (suc port.number) (port_bound ports)
+-- one more than the greatest of these numbers; 0 where there is none
+abbrev pub bound_of : List ℕ → ℕ
+bound_of ns = fold (λ most n. max most (suc n)) 0 ns
 
 -- the ins that the port of this place among those that are served looks at
 abbrev pub fields_at : Option Port → List ℕ
@@ -171,25 +170,33 @@ abbrev pub IsWanted : Network → ℕ → Option ℕ → ℕ → Type 0
 IsWanted net m None d = ⊥
 IsWanted net m (Some i) d = IsAtIn net.wires m i d
 
+-- The first flag that is clear.
+pub record IsFirstClear (flags : List Bool) (out : ℕ) : Type 0 where
+  pub known : out < length flags
+  pub clear : flag_at flags out ≡ false
+  pub before : (k : ℕ) → k < out → flag_at flags k ≡ true
+
 -- Channel d is at the first out of machine m that hasn't given its token.
 pub record IsUnfired (net : Network) (m d : ℕ) : Type 0 where
   pub out : ℕ
-  pub known : out < length (machine_at net.machines m).flags
-  pub clear : flag_at (machine_at net.machines m).flags out ≡ false
-  pub first : (k : ℕ) → k < out → flag_at (machine_at net.machines m).flags k ≡ true
+  pub first : IsFirstClear (machine_at net.machines m).flags out
   pub at : IsAtOut net.wires m out d
+
+-- The first latch that is empty.
+pub record IsFirstEmpty (latches : List (Option ℕ)) (place : ℕ) : Type 0 where
+  pub known : place < length latches
+  pub empty : latch_at latches place ≡ None
+  pub before : (k : ℕ) → k < place → IsSome (latch_at latches k)
 
 -- Channel d is at the first in of machine m that has no token.
 pub record IsUnlatched (net : Network) (m d : ℕ) : Type 0 where
   pub place : ℕ
-  pub known : place < length (machine_at net.machines m).latches
-  pub empty : latch_at (machine_at net.machines m).latches place ≡ None
-  pub first : (k : ℕ) → k < place → IsSome (latch_at (machine_at net.machines m).latches k)
+  pub first : IsFirstEmpty (machine_at net.machines m).latches place
   pub at : IsAtIn net.wires m place d
 
 -- the port that is due; where none is, the number of the machine's ports
 abbrev pub due_or_count : List Port → Option ℕ → ℕ
-due_or_count ports None = port_bound ports
+due_or_count ports None = bound_of (numbers ports)
 due_or_count ports (Some p) = p
 
 -- `Latch` is refused

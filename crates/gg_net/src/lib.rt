@@ -3,10 +3,12 @@
 
 mod event;
 mod net;
+mod ports;
 mod queue;
 mod seats;
 mod shape;
 mod streams;
+mod tells;
 
 pub use event::{Event, Refusal};
 pub use net::Net;
