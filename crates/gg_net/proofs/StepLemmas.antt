@@ -8,7 +8,6 @@ use Rattle.std.proofs.lemmas.List.{length-map, length-set}
 use Rattle.std.proofs.lemmas.Option.{slice_get-get_or}
 use Rattle.gg_flat.specs.Line.{value_at}
 use Rattle.gg_flat.specs.State.{State}
-use Rattle.gg_flat.specs.Served.{ByReader}
 use Rattle.gg_node.specs.Machine.{Port, Machine, no_machine, machine_at, latch_at, flag_at, latched_value, port_number, due}
 use Rattle.gg_node.specs.Token.{IsToken, IsNextState}
 use Rattle.gg_node.specs.Step.{with_latch, with_flag, with_served, finished, AllFired, AllLatched}
@@ -20,6 +19,7 @@ use Rattle.gg_net.specs.Step.{CanLatch, CanFire, CanServe, CanFinish, front_of, 
 use Rattle.gg_net.specs.Kept.{list_at, IsSound, MachineAt, BetweenAt, Kept}
 use Rattle.gg_net.proofs.LatchLemmas.{none-is-no-some, some-is-no-none, has-value}
 use Rattle.gg_net.proofs.MachineLemmas.{token_is, out-within, place-within, own_latch, own_fire, own_serve, own_finish}
+use Rattle.gg_net.proofs.PortLemmas.{any_port}
 use Rattle.gg_net.proofs.ChannelLemmas.{between-same, front-is, taken-one, put-one}
 
 -- ---- over plain variables
@@ -37,10 +37,6 @@ empty-after (suc n) (suc i) = empty-after n i
 no-port : (port : Option Port) → port_number port ≡ None → port ≡ None
 no-port None is = refl
 no-port (Some q) is = absurd (some-is-no-none q.number is)
-
--- some port, to stand where none is
-abbrev no_port : Port
-no_port = record { number = 0; access = ByReader 0 (record { addr = 0; en = 0; word = 0 }) }
 
 -- where no port is due all are served
 pub all-served : (ports : List Port) (n : ℕ) (any : Port) → n ≤ length ports → port_number (slice_get ports n) ≡ None → n ≡ length ports
@@ -184,7 +180,7 @@ module _ (lists : List (List ℕ)) (runs : List (List (List ℕ))) (net : Networ
       let below : m < length (map kind_of net.machines) = omega (arith, there, kinds-count) in
       let at : MachineAt lists runs (frame_of net) m x = kept.machines m there in
       let y : Machine = finished x next in
-      let whole : x.served ≡ length x.ports = all-served x.ports x.served no_port at.served can.served in
+      let whole : x.served ≡ length x.ports = all-served x.ports x.served any_port at.served can.served in
       let own : MachineAt lists runs (frame_of net) m y = own_finish lists runs (frame_of net) kept.sound m below x at next can.below can.latched whole goes in
       joined m there y own net.queues kept.queues (λ d lt.
       between-same (list_at lists d) (wire_at net.wires d).capacity (takes net d) (takes (changed m there y own net.queues) d) (puts net d) (puts (changed m there y own net.queues) d) (queue_at net.queues d) (queue_at net.queues d)

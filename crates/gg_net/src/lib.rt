@@ -2,6 +2,7 @@
 #![tactic(auto)]
 
 mod event;
+mod judge;
 mod net;
 mod ports;
 mod queue;

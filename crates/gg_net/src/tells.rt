@@ -1,5 +1,5 @@
 //! What a network tells of its machines and channels, for its steps.
-ghost use Rattle.std.specs.Prelude.{◌≡◌, ◌<◌, Contains, length, map, is_some, MatchOption};
+ghost use Rattle.std.specs.Prelude.{◌≡◌, ◌<◌, Contains, length, map, is_some, Some, MatchOption};
 ghost use Rattle.std.specs.Bool.{Decides};
 ghost use Rattle.gg_node.specs.Machine.{machine_at, latch_at, flag_at, missing, due, first_empty};
 ghost use Rattle.gg_node.specs.Step.{AllFired, AllLatched};
@@ -67,5 +67,67 @@ impl<H: Host, Z: Streams> Net<H, Z> {
         ensures { result ≡ due (machine_at self.now.machines machine) }
     {
         seats::due(&self.hosts, &self.stations[machine as usize])
+    }
+
+    // The channel at an in of a machine.
+    pub(crate) fn in_channel(&self, machine: u32, place: u32) -> u32
+        requires there { machine < length self.now.machines }
+        requires within { place < length (machine_at self.now.machines machine).latches }
+        ensures { IsAtIn self.now.wires machine place result }
+    {
+        self.stations[machine as usize].ins.as_slice()[place as usize]
+    }
+
+    // The channel at an out of a machine.
+    pub(crate) fn out_channel(&self, machine: u32, place: u32) -> u32
+        requires there { machine < length self.now.machines }
+        requires within { place < length (machine_at self.now.machines machine).flags }
+        ensures { IsAtOut self.now.wires machine place result }
+    {
+        self.stations[machine as usize].outs.as_slice()[place as usize]
+    }
+
+    // The first out of a machine that hasn't given its token of this cycle.
+    pub(crate) fn first_unfired(&self, machine: u32) -> Option<u32>
+        requires { machine < length self.now.machines }
+        ensures { MatchOption result (AllFired (machine_at self.now.machines machine)) (IsFirstClear (machine_at self.now.machines machine).flags) }
+    {
+        seats::first_unfired(&self.hosts, &self.stations[machine as usize])
+    }
+
+    // The first in of a machine that has no token of this cycle.
+    pub(crate) fn first_unlatched(&self, machine: u32) -> Option<u32>
+        requires { machine < length self.now.machines }
+        ensures { MatchOption result (AllLatched (machine_at self.now.machines machine)) (IsFirstEmpty (machine_at self.now.machines machine).latches) }
+    {
+        seats::first_unlatched(&self.hosts, &self.stations[machine as usize])
+    }
+
+    // The first in that the port that is due looks at and that has no token yet.
+    pub(crate) fn missing_field(&self, machine: u32, port: u32) -> Option<u32>
+        requires there { machine < length self.now.machines }
+        requires due { due (machine_at self.now.machines machine) ≡ Some port }
+        ensures { result ≡ first_empty (machine_at self.now.machines machine).latches (due_fields (machine_at self.now.machines machine)) }
+    {
+        let station = &self.stations[machine as usize];
+        let served = seats::served(&self.hosts, station);
+        let port = &station.ports.as_slice()[served as usize];
+        seats::first_missing(&self.hosts, station, port.fields.as_slice())
+    }
+
+    // Whether a machine has a port of this number.
+    pub(crate) fn has_port(&self, machine: u32, port: u32) -> bool
+        requires { machine < length self.now.machines }
+        ensures { Decides result (Contains (numbers (machine_at self.now.machines machine).ports) port) }
+    {
+        ports::has(self.stations[machine as usize].ports.as_slice(), port)
+    }
+
+    // One more than the greatest number of a machine's ports.
+    pub(crate) fn port_bound(&self, machine: u32) -> u32
+        requires { machine < length self.now.machines }
+        ensures { result ≡ bound_of (numbers (machine_at self.now.machines machine).ports) }
+    {
+        ports::bound(self.stations[machine as usize].ports.as_slice())
     }
 }
