@@ -1,7 +1,8 @@
 -- Latches and flags: what one more token changes, and what is empty after a cycle.
 use Rattle.std.proofs.Common.{◌≡◌, ℕ, zero, suc, ◌<◌, List, [], ◌∷◌, Option, None, Some, Bool, true, false, length, refl, sym, ap, subst, ◌∙◌, ⊎_elim, arith, get_or-set_same, get_or-set_other}
-use Rattle.std.specs.Prelude.{All, IsSome, slice_set, slice_index_or, replicate}
+use Rattle.std.specs.Prelude.{All, Contains, IsSome, slice_set, slice_index_or, replicate}
 use Rattle.std.proofs.lemmas.Bool.{cases_eq}
+use Rattle.std.proofs.lemmas.Option.{same_Some}
 use Rattle.std.proofs.Math.ListN.{get_or-map}
 use Rattle.gg_flat.specs.Line.{value_at}
 use Rattle.gg_node.specs.Machine.{latch_at, flag_at, latched_value, latched_values, first_empty, empty_or}
@@ -60,6 +61,15 @@ none-empty latches (i ∷ ins) all = by (latch_at latches i) (all zero 0 (omega 
     by : (latch : Option ℕ) → IsSome latch → first_empty latches ins ≡ None → empty_or latch i (first_empty latches ins) ≡ None
     by None some none = absurd (true-is-no-false (sym some))
     by (Some value) some none = none
+
+-- the first that is empty is one of the ins
+pub first-among : (latches : List (Option ℕ)) (ins : List ℕ) (i : ℕ) → first_empty latches ins ≡ Some i → Contains ins i
+first-among latches [] i is = absurd (none-is-no-some i is)
+first-among latches (j ∷ ins) i is = by (latch_at latches j) (λ rest. first-among latches ins i rest) is
+  where
+    by : (latch : Option ℕ) → (first_empty latches ins ≡ Some i → Contains ins i) → empty_or latch j (first_empty latches ins) ≡ Some i → Contains (j ∷ ins) i
+    by None among is = (0, omega arith, same_Some j i is)
+    by (Some value) among is = let has : Contains ins i = among is in (suc has.0, omega (arith, has.1), has.2)
 
 -- a token more, and still none is empty
 pub missing-grows : (latches : List (Option ℕ)) (i value : ℕ) (ins : List ℕ) → i < length latches → first_empty latches ins ≡ None → first_empty (slice_set latches i (Some value)) ins ≡ None

@@ -5,3 +5,4 @@ pub mod ChannelLemmas
 pub mod StepLemmas
 pub mod SeatLemmas
 pub mod PortLemmas
+pub mod NetLemmas

@@ -31,7 +31,7 @@ none-of-none : {X : Type 0} (P : X → Type 0) (xs : List X) → All P (take 0 x
 none-of-none P xs k d below = absurd (omega arith)
 
 -- the port that is due
-due-port : (port : Option Port) (p : ℕ) → port_number port ≡ Some p → (q : Port) × (port ≡ Some q)
+pub due-port : (port : Option Port) (p : ℕ) → port_number port ≡ Some p → (q : Port) × (port ≡ Some q)
 due-port None p is = absurd (none-is-no-some p is)
 due-port (Some q) p is = (q, refl)
 

@@ -3,6 +3,7 @@ ghost use Rattle.std.specs.Prelude.{◌≡◌, ℕ, ◌+◌, ◌*◌, ◌<◌, [
 ghost use Rattle.gg_flat.specs.Line.{value_at};
 ghost use Rattle.gg_node.specs.Machine.{machine_at};
 ghost use Rattle.gg_net.specs.Network.{Network, queue_at, puts, takes};
+ghost use Rattle.gg_net.specs.Kept.{Kept};
 ghost use Rattle.gg_net.specs.Seats.{machines_by};
 ghost use Rattle.gg_net.specs.Net.{held_at, HasRoom, Opens, opening_net};
 
@@ -38,6 +39,13 @@ impl<H: Host, Z: Streams> Model for Net<H, Z> {
 }
 
 impl<H: Host, Z: Streams> Net<H, Z> {
+    /// What every network keeps.
+    pub fn kept(&self)
+        ensures { Kept Z.lists Z.runs self.now }
+    {
+        let _ = &self.wires;
+    }
+
     /// How many cycles it is to do.
     pub fn end(&self) -> u64
         ensures { result ≡ self.now.end }
