@@ -6,3 +6,5 @@ pub mod StepLemmas
 pub mod SeatLemmas
 pub mod PortLemmas
 pub mod NetLemmas
+pub mod MayLemmas
+pub mod CloseLemmas

@@ -54,19 +54,19 @@ module _ (lists : List (List ℕ)) (runs : List (List (List ℕ))) (frame : Fram
   rows = rows_at runs m
 
   -- a channel's value is what its in takes
-  asks : (c t : ℕ) → c < length frame.wires → (wire_at frame.wires c).consumer ≡ m → t < frame.end → Asks kind.behaviour rows (wire_at frame.wires c).place t (value_at (list_at lists c) t)
+  pub asks : (c t : ℕ) → c < length frame.wires → (wire_at frame.wires c).consumer ≡ m → t < frame.end → Asks kind.behaviour rows (wire_at frame.wires c).place t (value_at (list_at lists c) t)
   asks c t known is lt = subst (λ q. Asks (kind_at frame.kinds q).behaviour (rows_at runs q) (wire_at frame.wires c).place t (value_at (list_at lists c) t)) is (sound.solves.taken c known t lt)
 
   -- a channel's value is what its out gives
-  answers : (c t : ℕ) → c < length frame.wires → (wire_at frame.wires c).producer ≡ m → t < frame.end → Answers kind.behaviour rows (wire_at frame.wires c).out t (value_at (list_at lists c) t)
+  pub answers : (c t : ℕ) → c < length frame.wires → (wire_at frame.wires c).producer ≡ m → t < frame.end → Answers kind.behaviour rows (wire_at frame.wires c).out t (value_at (list_at lists c) t)
   answers c t known is lt = subst (λ p. Answers (kind_at frame.kinds p).behaviour (rows_at runs p) (wire_at frame.wires c).out t (value_at (list_at lists c) t)) is (sound.solves.given c known t lt)
 
   -- what a machine of a piece does
-  does : (piece : FlatCircuit) → kind.behaviour ≡ RunsPiece piece → RunsRows piece kind rows frame.end
+  pub does : (piece : FlatCircuit) → kind.behaviour ≡ RunsPiece piece → RunsRows piece kind rows frame.end
   does piece is = subst (λ b. Runs b kind rows frame.end) is (sound.solves.does m below)
 
   module _ (x : Machine) (at : MachineAt lists runs frame m x) where
-    behaviour-is : kind.behaviour ≡ x.behaviour
+    pub behaviour-is : kind.behaviour ≡ x.behaviour
     behaviour-is = sym (ap (λ (k : Kind). k.behaviour) at.kind)
 
     ports-is : kind.ports ≡ x.ports
