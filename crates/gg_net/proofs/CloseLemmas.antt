@@ -8,7 +8,7 @@ use Rattle.std.proofs.Math.Seq.{map-set_same}
 use Rattle.gg_flat.specs.Line.{value_at}
 use Rattle.gg_flat.specs.State.{State}
 use Rattle.gg_node.specs.Machine.{Machine, no_machine, machine_at}
-use Rattle.gg_node.specs.Token.{IsToken}
+use Rattle.gg_node.specs.Token.{IsToken, IsNextState}
 use Rattle.gg_node.specs.Step.{MayLatch, MayFire, MayServe, MayFinish, with_latch, with_flag, with_served, finished}
 use Rattle.gg_net.specs.declared.shape.Wire.{Wire}
 use Rattle.gg_net.specs.declared.shape.Station.{Station}
@@ -154,3 +154,75 @@ module _ {lists : List (List ℕ)} {runs : List (List (List ℕ))} {hosts : List
               closes w.consumer station consumer-seat s-is after (with_latch (seated hosts station) w.place token) step (slice_set queues c new) (kind-latch (seated hosts station) w.place token)
               (room-set wires queues c queue new (queues-there c known) q-is room net.room)
               (kept-step lists runs old (Latch c) (net_of after stations wires (slice_set queues c new) end) net.kept (record { ready = can; after = latch-is }))
+
+      -- ---- `Fire`
+
+      pub fire-room : CanFire old c → length queue.tokens < queue.room
+      fire-room can =
+          let at : held_at queues c ≡ queue = get_or_default queues c no_tokens queue (queues-there c known) ∙ sym q-is in
+          omega (arith, can.room, net.room c known, ap length queue-is, ap (λ (q : Held). q.room) at)
+
+      module _ (station : Station) (s-is : station ≡ slice_index_or stations w.producer station) where
+        giver-is : seated hosts station ≡ machine_at (machines_by hosts stations) (wire_at wires c).producer
+        giver-is = sym (machine-is w.producer station producer-seat s-is) ∙ ap (λ (v : Wire). machine_at (machines_by hosts stations) v.producer) wire-is
+
+        pub fire-may : CanFire old c → MayFire (seated hosts station) w.out
+        fire-may can =
+            subst (λ (v : Wire). MayFire (seated hosts station) v.out) (sym wire-is)
+            (subst (λ x. MayFire x (wire_at wires c).out) (sym giver-is) (may-fire lists runs old net.kept c can))
+
+        module _ (can : CanFire old c) (after : List (List Machine)) (token : ℕ) (gives : IsToken (seated hosts station) w.out token) (new : Held) (put : new.tokens ≡ queue.tokens ++ token ∷ []) (room : new.room ≡ queue.room) (step : IsReseated hosts after station (with_flag (seated hosts station) w.out)) where
+          pub fire-gives : Gives old c (net_of after stations wires (slice_set queues c new) end)
+          fire-gives =
+              record {
+                token = token;
+                is = subst (λ x. IsToken x (wire_at wires c).out token) giver-is (subst (λ (v : Wire). IsToken (seated hosts station) v.out token) wire-is gives);
+                after =
+                  parts-are w.producer station producer-seat s-is after (with_flag (seated hosts station) w.out) step (slice_set queues c new)
+                  ∙ ap (λ (qs : List (List ℕ)). record old { machines = slice_set (machines_by hosts stations) w.producer (with_flag (seated hosts station) w.out); queues = qs })
+                    (map-set tokens queues c new ∙ ap (slice_set (map tokens queues) c) (put ∙ ap (λ (q : List ℕ). q ++ token ∷ []) queue-is))
+                  ∙ ap (λ x. record old { machines = slice_set (machines_by hosts stations) w.producer (with_flag x w.out); queues = slice_set (map tokens queues) c (queue_at (map tokens queues) c ++ token ∷ []) }) giver-is
+                  ∙ ap (λ (v : Wire). record old { machines = slice_set (machines_by hosts stations) v.producer (with_flag (producer_of old c) v.out); queues = slice_set (map tokens queues) c (queue_at (map tokens queues) c ++ token ∷ []) }) wire-is;
+              }
+
+          pub fire-closes : IsNet lists runs after stations wires (slice_set queues c new) end
+          fire-closes =
+              closes w.producer station producer-seat s-is after (with_flag (seated hosts station) w.out) step (slice_set queues c new) (kind-flag (seated hosts station) w.out)
+              (room-set wires queues c queue new (queues-there c known) q-is room net.room)
+              (kept-step lists runs old (Fire c) (net_of after stations wires (slice_set queues c new) end) net.kept (record { ready = can; after = fire-gives }))
+
+  -- ---- `Serve` and `Finish`
+
+  module _ (m : ℕ) (station : Station) (below : m < length stations) (is : station ≡ slice_index_or stations m station) where
+    pub serve-may : (p : ℕ) → CanServe old m p → MayServe (seated hosts station) p
+    serve-may p can = subst (λ x. MayServe x p) (machine-is m station below is) (may-serve lists runs old net.kept m p can)
+
+    pub finish-may : CanFinish old m → MayFinish (seated hosts station)
+    finish-may can = subst MayFinish (machine-is m station below is) (may-finish lists runs old net.kept m can)
+
+    module _ (p : ℕ) (can : CanServe old m p) (after : List (List Machine)) (step : IsReseated hosts after station (with_served (seated hosts station))) where
+      pub serve-is : net_of after stations wires queues end ≡ after_serve old m
+      serve-is =
+          parts-are m station below is after (with_served (seated hosts station)) step queues
+          ∙ ap (λ x. record old { machines = slice_set (machines_by hosts stations) m (with_served x) }) (sym (machine-is m station below is))
+
+      pub serve-closes : IsNet lists runs after stations wires queues end
+      serve-closes =
+          closes m station below is after (with_served (seated hosts station)) step queues refl net.room
+          (kept-step lists runs old (Serve m p) (net_of after stations wires queues end) net.kept (record { ready = can; after = serve-is }))
+
+    module _ (can : CanFinish old m) (after : List (List Machine)) (goes : HasGoneOn hosts after station) where
+      pub finish-goes : GoesOn old m (net_of after stations wires queues end)
+      finish-goes =
+          record {
+            state = goes.state;
+            is = subst (λ x. IsNextState x goes.state) (sym (machine-is m station below is)) goes.is;
+            after =
+              parts-are m station below is after (finished (seated hosts station) goes.state) goes.step queues
+              ∙ ap (λ x. record old { machines = slice_set (machines_by hosts stations) m (finished x goes.state) }) (sym (machine-is m station below is));
+          }
+
+      pub finish-closes : IsNet lists runs after stations wires queues end
+      finish-closes =
+          closes m station below is after (finished (seated hosts station) goes.state) goes.step queues (kind-finished (seated hosts station) goes.state) net.room
+          (kept-step lists runs old (Finish m) (net_of after stations wires queues end) net.kept (record { ready = can; after = finish-goes }))

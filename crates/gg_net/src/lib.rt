@@ -8,6 +8,7 @@ mod ports;
 mod queue;
 mod seats;
 mod shape;
+mod step;
 mod streams;
 mod tells;
 
