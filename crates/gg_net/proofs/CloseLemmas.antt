@@ -117,6 +117,15 @@ module _ {lists : List (List ℕ)} {runs : List (List (List ℕ))} {hosts : List
     pub producer-seat : w.producer < length stations
     producer-seat = subst (λ (v : Wire). v.producer < length stations) (sym wire-is) (producer-within c known)
 
+    module _ (giver : Station) (g-is : giver ≡ slice_index_or stations w.producer giver) where
+      giver-is : seated hosts giver ≡ machine_at (machines_by hosts stations) (wire_at wires c).producer
+      giver-is = sym (machine-is w.producer giver producer-seat g-is) ∙ ap (λ (v : Wire). machine_at (machines_by hosts stations) v.producer) wire-is
+
+      pub fire-may : CanFire old c → MayFire (seated hosts giver) w.out
+      fire-may can =
+          subst (λ (v : Wire). MayFire (seated hosts giver) v.out) (sym wire-is)
+          (subst (λ x. MayFire x (wire_at wires c).out) (sym giver-is) (may-fire lists runs old net.kept c can))
+
     module _ (queue : Held) (q-is : queue ≡ slice_index_or queues c queue) where
       pub queue-is : queue.tokens ≡ queue_at (map (λ (q : Held). q.tokens) queues) c
       queue-is = tokens-at queues c queue (queues-there c known) q-is
@@ -163,25 +172,17 @@ module _ {lists : List (List ℕ)} {runs : List (List (List ℕ))} {hosts : List
           omega (arith, can.room, net.room c known, ap length queue-is, ap (λ (q : Held). q.room) at)
 
       module _ (station : Station) (s-is : station ≡ slice_index_or stations w.producer station) where
-        giver-is : seated hosts station ≡ machine_at (machines_by hosts stations) (wire_at wires c).producer
-        giver-is = sym (machine-is w.producer station producer-seat s-is) ∙ ap (λ (v : Wire). machine_at (machines_by hosts stations) v.producer) wire-is
-
-        pub fire-may : CanFire old c → MayFire (seated hosts station) w.out
-        fire-may can =
-            subst (λ (v : Wire). MayFire (seated hosts station) v.out) (sym wire-is)
-            (subst (λ x. MayFire x (wire_at wires c).out) (sym giver-is) (may-fire lists runs old net.kept c can))
-
         module _ (can : CanFire old c) (after : List (List Machine)) (token : ℕ) (gives : IsToken (seated hosts station) w.out token) (new : Held) (put : new.tokens ≡ queue.tokens ++ token ∷ []) (room : new.room ≡ queue.room) (step : IsReseated hosts after station (with_flag (seated hosts station) w.out)) where
           pub fire-gives : Gives old c (net_of after stations wires (slice_set queues c new) end)
           fire-gives =
               record {
                 token = token;
-                is = subst (λ x. IsToken x (wire_at wires c).out token) giver-is (subst (λ (v : Wire). IsToken (seated hosts station) v.out token) wire-is gives);
+                is = subst (λ x. IsToken x (wire_at wires c).out token) (giver-is station s-is) (subst (λ (v : Wire). IsToken (seated hosts station) v.out token) wire-is gives);
                 after =
                   parts-are w.producer station producer-seat s-is after (with_flag (seated hosts station) w.out) step (slice_set queues c new)
                   ∙ ap (λ (qs : List (List ℕ)). record old { machines = slice_set (machines_by hosts stations) w.producer (with_flag (seated hosts station) w.out); queues = qs })
                     (map-set tokens queues c new ∙ ap (slice_set (map tokens queues) c) (put ∙ ap (λ (q : List ℕ). q ++ token ∷ []) queue-is))
-                  ∙ ap (λ x. record old { machines = slice_set (machines_by hosts stations) w.producer (with_flag x w.out); queues = slice_set (map tokens queues) c (queue_at (map tokens queues) c ++ token ∷ []) }) giver-is
+                  ∙ ap (λ x. record old { machines = slice_set (machines_by hosts stations) w.producer (with_flag x w.out); queues = slice_set (map tokens queues) c (queue_at (map tokens queues) c ++ token ∷ []) }) (giver-is station s-is)
                   ∙ ap (λ (v : Wire). record old { machines = slice_set (machines_by hosts stations) v.producer (with_flag (producer_of old c) v.out); queues = slice_set (map tokens queues) c (queue_at (map tokens queues) c ++ token ∷ []) }) wire-is;
               }
 

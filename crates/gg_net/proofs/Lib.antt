@@ -8,3 +8,4 @@ pub mod PortLemmas
 pub mod NetLemmas
 pub mod MayLemmas
 pub mod CloseLemmas
+pub mod WorkedNets

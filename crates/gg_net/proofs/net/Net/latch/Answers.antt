@@ -6,7 +6,7 @@ use Rattle.gg_net.proofs.net.Net.latch.Goals as goal
 pub latch-requires-clause-may : goal.latch-requires-clause-may
 latch-requires-clause-may g c =
     let can = subst (λ n. CanLatch n c.args.channel) (sym c.self.view_is) c.requires in
-    latch-may c.self.invariant c.args.channel c.index-wire.result.now c.index-wire.ensures can.can.0 c.index_mut.result.now c.index_mut.ensures.value c.index.result.now c.index.ensures c.take-token.result c.take-token.ensures.token can
+    λ κs outlive. latch-may c.self.invariant c.args.channel c.index-wire.result.now c.index-wire.ensures can.can.0 c.index_mut.result.now c.index_mut.ensures.value c.index.result.now c.index.ensures c.take-token.result c.take-token.ensures.token can
 
 pub invariant_of-self : goal.invariant_of-self
 invariant_of-self g c =
