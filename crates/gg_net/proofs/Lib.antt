@@ -9,3 +9,4 @@ pub mod NetLemmas
 pub mod MayLemmas
 pub mod CloseLemmas
 pub mod WorkedNets
+pub mod OpenLemmas

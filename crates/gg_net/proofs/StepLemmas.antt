@@ -24,12 +24,12 @@ use Rattle.gg_net.proofs.ChannelLemmas.{between-same, front-is, taken-one, put-o
 
 -- ---- over plain variables
 
-clear-after : (n o : ℕ) → flag_at (replicate n false) o ≡ false
+pub clear-after : (n o : ℕ) → flag_at (replicate n false) o ≡ false
 clear-after zero o = refl
 clear-after (suc n) zero = refl
 clear-after (suc n) (suc o) = clear-after n o
 
-empty-after : (n i : ℕ) → ◌≡◌ {A = Option ℕ} (latch_at (replicate n None) i) None
+pub empty-after : (n i : ℕ) → ◌≡◌ {A = Option ℕ} (latch_at (replicate n None) i) None
 empty-after zero i = refl
 empty-after (suc n) zero = refl
 empty-after (suc n) (suc i) = empty-after n i

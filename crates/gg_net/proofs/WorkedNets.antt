@@ -4,6 +4,7 @@ use Rattle.std.proofs.Common.{◌≡◌, ℕ, zero, suc, ◌<◌, ◌≤◌, Lis
 use Rattle.std.specs.Prelude.{◌+◌, Contains, slice_index_or}
 use Rattle.gg_flat.specs.declared.line.Op.TheVariants.{Ref}
 use Rattle.gg_flat.specs.declared.piece.Driver.TheVariants.{Input, Held, Computed}
+use Rattle.gg_flat.specs.Line.{value_at}
 use Rattle.gg_flat.specs.Circuit.{FlatCircuit, no_circuit}
 use Rattle.gg_flat.specs.State.{State}
 use Rattle.gg_flat.specs.Served.{ByReader, ByWriter}
@@ -86,6 +87,10 @@ still-put = refl
 
 -- ---- when: an out needs its ins alone
 
+all-true : (k : ℕ) (d : Bool) → k < 1 → slice_index_or (true ∷ []) k d ≡ true
+all-true zero d below = refl
+all-true (suc k) d below = absurd (omega arith)
+
 a-first : CanFire opens 0
 a-first = record { can = (lit< tt, lit< tt); clear = refl; needed = refl; room = lit< tt }
 
@@ -105,12 +110,7 @@ not-whole : FinishRefused opens 0 (Unfired 0)
 not-whole = (lit< tt, lit< tt, record { out = 0; first = record { known = lit< tt; clear = refl; before = λ k below. absurd (omega arith) }; at = record { known = lit< tt; machine = refl; out = refl } })
 
 without-in : FinishRefused (after_fire opens 0 3) 0 (NeedsInput 1)
-without-in =
-    (lit< tt, lit< tt, λ k d below. fired k below, refl, record { place = 0; first = record { known = lit< tt; empty = refl; before = λ k below. absurd (omega arith) }; at = record { known = lit< tt; machine = refl; place = refl } })
-  where
-    fired : (k : ℕ) → k < 1 → slice_index_or (true ∷ []) k false ≡ true
-    fired zero below = refl
-    fired (suc k) below = absurd (omega arith)
+without-in = (lit< tt, lit< tt, all-true, refl, record { place = 0; first = record { known = lit< tt; empty = refl; before = λ k below. absurd (omega arith) }; at = record { known = lit< tt; machine = refl; place = refl } })
 
 -- the first condition that fails is told: a flag before a queue without room
 twice : FireRefused (after_fire opens 0 3) 0 Fired
@@ -128,25 +128,25 @@ ended = (lit< tt, λ below. omega (arith, below))
 
 -- ---- no ring: only the channel of `b` needs another
 
+second : (place d : ℕ) → IsAtIn wires 1 place d → value_at (0 ∷ 1 ∷ []) d < 1
+second place zero at = lit< tt
+second place (suc zero) at = absurd (omega (arith, at.machine))
+second place (suc (suc d)) at = absurd (omega (arith, at.known))
+
+lower : (c d : ℕ) → NeedsChannel (frame_of opens) c d → value_at (0 ∷ 1 ∷ []) d < value_at (0 ∷ 1 ∷ []) c
+lower zero d needs = absurd (omega (arith, needs.needed.1))
+lower (suc zero) d needs = second needs.place d needs.at
+lower (suc (suc c)) d needs = absurd (omega (arith, needs.known))
+
 ranked : HasNoRing (frame_of opens)
-ranked = record { ranks = 0 ∷ 1 ∷ []; lower = λ c d needs. lower c d needs.known needs.place needs.needed needs.at }
-  where
-    second : (place d : ℕ) → Contains {X = ℕ} (0 ∷ []) place → IsAtIn wires 1 place d → slice_index_or (0 ∷ 1 ∷ []) d 0 < 1
-    second place zero has at = lit< tt
-    second place (suc zero) has at = absurd (omega (arith, at.machine))
-    second place (suc (suc d)) has at = absurd (omega (arith, at.known))
-    lower : (c d : ℕ) → c < 2 → (place : ℕ) → Contains (slice_index_or (slice_index_or ((frame_of opens).kinds) (slice_index_or wires c (record { producer = 0; out = 0; consumer = 0; place = 0; capacity = 0 })).producer (record { behaviour = RunsPiece no_circuit; limit = 0; needs = []; ports = []; ins = 0; outs = 0 })).needs (slice_index_or wires c (record { producer = 0; out = 0; consumer = 0; place = 0; capacity = 0 })).out []) place
-        → IsAtIn wires (slice_index_or wires c (record { producer = 0; out = 0; consumer = 0; place = 0; capacity = 0 })).producer place d → slice_index_or (0 ∷ 1 ∷ []) d 0 < slice_index_or (0 ∷ 1 ∷ []) c 0
-    lower zero d known place has at = absurd (omega (arith, has.1))
-    lower (suc zero) d known place has at = second place d has at
-    lower (suc (suc c)) d known place has at = absurd (omega (arith, known))
+ranked = record { ranks = 0 ∷ 1 ∷ []; lower = lower }
 
 -- ---- a queue: the list from the tokens taken to those put
 
 queued : BetweenAt (3 ∷ 5 ∷ []) 1 0 1 (3 ∷ [])
 queued = record { held = refl; room = omega arith; tokens = λ j below. first j below }
   where
-    first : (j : ℕ) → j < 1 → slice_index_or (3 ∷ []) j 0 ≡ slice_index_or (3 ∷ 5 ∷ []) (0 + j) 0
+    first : (j : ℕ) → j < 1 → value_at (3 ∷ []) j ≡ value_at (3 ∷ 5 ∷ []) (0 + j)
     first zero below = refl
     first (suc j) below = absurd (omega arith)
 
@@ -189,15 +189,11 @@ alone machine =
 abbrev with_reader : List (Option ℕ)
 with_reader = Some 1 ∷ Some 1 ∷ None ∷ None ∷ None ∷ None ∷ []
 
-all-true : (k : ℕ) (d : Bool) → k < 1 → slice_index_or (true ∷ []) k d ≡ true
-all-true zero d below = refl
-all-true (suc k) d below = absurd (omega arith)
-
 reader-first : CanServe (alone (memory 0 with_reader true)) 0 0
-reader-first = record { there = (lit< tt, 0, lit< tt, refl); below = lit< tt; fired = all-true; due = refl; fields = refl }
+reader-first = record { there = (lit< tt, (0, lit< tt, refl)); below = lit< tt; fired = all-true; due = refl; fields = refl }
 
 not-the-writer : ServeRefused (alone (memory 0 with_reader true)) 0 1 (Order 0)
-not-the-writer = ((lit< tt, 1, lit< tt, refl), lit< tt, all-true, (λ is. let same : ◌≡◌ {A = Option ℕ} (Some 0) (Some 1) = is in cc), refl)
+not-the-writer = ((lit< tt, (1, lit< tt, refl)), lit< tt, all-true, (λ is. let same : ◌≡◌ {A = Option ℕ} (Some 0) (Some 1) = is in cc), refl)
 
 none-due : due_or_count ports None ≡ 2
 none-due = refl
@@ -206,12 +202,12 @@ not-before-the-token : CanServe (alone (memory 0 with_reader false)) 0 0 → ⊥
 not-before-the-token can = let is : false ≡ true = can.fired 0 false (lit< tt) in cc
 
 field-wanted : ServeRefused (alone (memory 0 (Some 1 ∷ None ∷ None ∷ None ∷ None ∷ None ∷ []) true)) 0 0 (NeedsInput 1)
-field-wanted = ((lit< tt, 0, lit< tt, refl), lit< tt, all-true, refl, record { known = lit< tt; machine = refl; place = refl })
+field-wanted = ((lit< tt, (0, lit< tt, refl)), lit< tt, all-true, refl, record { known = lit< tt; machine = refl; place = refl })
 
 no-such-port : ServeRefused (alone (memory 0 with_reader true)) 0 2 Stranger
 no-such-port has = by has.1.0 has.1.1 has.1.2
   where
-    by : (k : ℕ) → k < 2 → slice_index_or (0 ∷ 1 ∷ []) k 2 ≡ 2 → ⊥
+    by : (k : ℕ) → k < 2 → ◌≡◌ {A = ℕ} (slice_index_or (0 ∷ 1 ∷ []) k 2) 2 → ⊥
     by zero below is = omega (arith, is)
     by (suc zero) below is = omega (arith, is)
     by (suc (suc k)) below is = omega (arith, below)

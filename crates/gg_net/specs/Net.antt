@@ -82,3 +82,9 @@ pub record Opens (lists : List (List ℕ)) (runs : List (List (List ℕ))) (host
   pub opening : All IsOpening (machines_by hosts stations)
   pub listed : AreListed (frame_of (opening_net (machines_by hosts stations) wires end)) stations
   pub sound : IsSound lists runs (frame_of (opening_net (machines_by hosts stations) wires end))
+
+-- The queues of the first n channels before the first cycle: empty, with room for their capacities.
+pub record AreOpen (wires : List Wire) (n : ℕ) (queues : List Held) : Type 0 where
+  pub count : length queues ≡ n
+  pub empty : (c : ℕ) → c < n → (held_at queues c).tokens ≡ []
+  pub room : (c : ℕ) → c < n → (wire_at wires c).capacity ≤ (held_at queues c).room
