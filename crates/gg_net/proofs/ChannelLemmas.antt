@@ -31,7 +31,7 @@ put-one list capacity taken put queue token between room is =
       held = omega (arith, between.held, length-append queue (token ∷ []));
       room = omega (arith, room, length-append queue (token ∷ []));
       tokens = λ j below. ⊎_elim
-        (λ (lt : j < length queue). get_or_append_left queue (token ∷ []) 0 j lt ∙ between.tokens j lt)
-        (λ (le : length queue ≤ j). let same : length queue ≡ j = omega (arith, le, below, length-append queue (token ∷ [])) in get_or_at queue token [] 0 j same ∙ is ∙ ap (value_at list) (omega (arith, same, between.held)))
-        (cases_lt j (length queue));
+          (λ (lt : j < length queue). get_or_append_left queue (token ∷ []) 0 j lt ∙ between.tokens j lt)
+          (λ (le : length queue ≤ j). let same : length queue ≡ j = omega (arith, le, below, length-append queue (token ∷ [])) in get_or_at queue token [] 0 j same ∙ is ∙ ap (value_at list) (omega (arith, same, between.held)))
+          (cases_lt j (length queue));
     }

@@ -153,7 +153,7 @@ module _ {lists : List (List ℕ)} {runs : List (List (List ℕ))} {hosts : List
           latch-is =
               parts-are w.consumer station consumer-seat s-is after (with_latch (seated hosts station) w.place token) step (slice_set queues c new)
               ∙ ap (λ (qs : List (List ℕ)). record old { machines = slice_set (machines_by hosts stations) w.consumer (with_latch (seated hosts station) w.place token); queues = qs })
-                (map-set tokens queues c new ∙ ap (slice_set (map tokens queues) c) (rest ∙ ap (drop 1) queue-is))
+              (map-set tokens queues c new ∙ ap (slice_set (map tokens queues) c) (rest ∙ ap (drop 1) queue-is))
               ∙ ap (λ x. record old { machines = slice_set (machines_by hosts stations) w.consumer (with_latch x w.place token); queues = slice_set (map tokens queues) c (drop 1 (queue_at (map tokens queues) c)) }) seat-is
               ∙ ap (λ t. record old { machines = slice_set (machines_by hosts stations) w.consumer (with_latch (consumer_of old c) w.place t); queues = slice_set (map tokens queues) c (drop 1 (queue_at (map tokens queues) c)) }) token-is
               ∙ ap (λ (v : Wire). record old { machines = slice_set (machines_by hosts stations) v.consumer (with_latch (consumer_of old c) v.place (front_of old c)); queues = slice_set (map tokens queues) c (drop 1 (queue_at (map tokens queues) c)) }) wire-is
@@ -179,11 +179,11 @@ module _ {lists : List (List ℕ)} {runs : List (List (List ℕ))} {hosts : List
                 token = token;
                 is = subst (λ x. IsToken x (wire_at wires c).out token) (giver-is station s-is) (subst (λ (v : Wire). IsToken (seated hosts station) v.out token) wire-is gives);
                 after =
-                  parts-are w.producer station producer-seat s-is after (with_flag (seated hosts station) w.out) step (slice_set queues c new)
-                  ∙ ap (λ (qs : List (List ℕ)). record old { machines = slice_set (machines_by hosts stations) w.producer (with_flag (seated hosts station) w.out); queues = qs })
+                    parts-are w.producer station producer-seat s-is after (with_flag (seated hosts station) w.out) step (slice_set queues c new)
+                    ∙ ap (λ (qs : List (List ℕ)). record old { machines = slice_set (machines_by hosts stations) w.producer (with_flag (seated hosts station) w.out); queues = qs })
                     (map-set tokens queues c new ∙ ap (slice_set (map tokens queues) c) (put ∙ ap (λ (q : List ℕ). q ++ token ∷ []) queue-is))
-                  ∙ ap (λ x. record old { machines = slice_set (machines_by hosts stations) w.producer (with_flag x w.out); queues = slice_set (map tokens queues) c (queue_at (map tokens queues) c ++ token ∷ []) }) (giver-is station s-is)
-                  ∙ ap (λ (v : Wire). record old { machines = slice_set (machines_by hosts stations) v.producer (with_flag (producer_of old c) v.out); queues = slice_set (map tokens queues) c (queue_at (map tokens queues) c ++ token ∷ []) }) wire-is;
+                    ∙ ap (λ x. record old { machines = slice_set (machines_by hosts stations) w.producer (with_flag x w.out); queues = slice_set (map tokens queues) c (queue_at (map tokens queues) c ++ token ∷ []) }) (giver-is station s-is)
+                    ∙ ap (λ (v : Wire). record old { machines = slice_set (machines_by hosts stations) v.producer (with_flag (producer_of old c) v.out); queues = slice_set (map tokens queues) c (queue_at (map tokens queues) c ++ token ∷ []) }) wire-is;
               }
 
           pub fire-closes : IsNet lists runs after stations wires (slice_set queues c new) end
@@ -219,8 +219,8 @@ module _ {lists : List (List ℕ)} {runs : List (List (List ℕ))} {hosts : List
             state = goes.state;
             is = subst (λ x. IsNextState x goes.state) (sym (machine-is m station below is)) goes.is;
             after =
-              parts-are m station below is after (finished (seated hosts station) goes.state) goes.step queues
-              ∙ ap (λ x. record old { machines = slice_set (machines_by hosts stations) m (finished x goes.state) }) (sym (machine-is m station below is));
+                parts-are m station below is after (finished (seated hosts station) goes.state) goes.step queues
+                ∙ ap (λ x. record old { machines = slice_set (machines_by hosts stations) m (finished x goes.state) }) (sym (machine-is m station below is));
           }
 
       pub finish-closes : IsNet lists runs after stations wires queues end

@@ -41,9 +41,9 @@ kept-more list kept cycle value has is =
     record {
       count = length-append kept (value ∷ []) ∙ (omega (arith, has.count));
       is = λ t below. ⊎_elim
-        (λ (lt : t < cycle). get_or_append_left kept (value ∷ []) 0 t (omega (arith, lt, has.count)) ∙ has.is t lt)
-        (λ (le : cycle ≤ t). let same : t ≡ cycle = omega (arith, le, below) in get_or_at kept value [] 0 t (omega (arith, has.count, same)) ∙ is ∙ ap (value_at list) (sym same))
-        (cases_lt t cycle);
+          (λ (lt : t < cycle). get_or_append_left kept (value ∷ []) 0 t (omega (arith, lt, has.count)) ∙ has.is t lt)
+          (λ (le : cycle ≤ t). let same : t ≡ cycle = omega (arith, le, below) in get_or_at kept value [] 0 t (omega (arith, has.count, same)) ∙ is ∙ ap (value_at list) (sym same))
+          (cases_lt t cycle);
     }
 
 module _ (lists : List (List ℕ)) (runs : List (List (List ℕ))) (frame : Frame) (sound : IsSound lists runs frame) (m : ℕ) (below : m < length frame.kinds) where
@@ -173,12 +173,12 @@ module _ (lists : List (List ℕ)) (runs : List (List (List ℕ))) (frame : Fram
           within = at.within;
           stands = at.stands;
           latched = λ d v there to has. ⊎_elim
-            (λ (same : (wire_at frame.wires d).place ≡ i).
-            let one : d ≡ c = sound.wired.one_in d c there known (to ∙ sym is) same in
-            let value_is : value ≡ v = same_Some value v (sym (get_or-set_same x.latches i (Some value) None within) ∙ ap (latch_at (slice_set x.latches i (Some value))) (sym same) ∙ has) in
-            (lt, sym value_is ∙ token ∙ ap (λ k. value_at (list_at lists k) x.cycle) (sym one)))
-            (λ other. at.latched d v there to (sym (get_or-set_other x.latches i (wire_at frame.wires d).place (Some value) None other) ∙ has))
-            (cases_eq (wire_at frame.wires d).place i);
+              (λ (same : (wire_at frame.wires d).place ≡ i).
+              let one : d ≡ c = sound.wired.one_in d c there known (to ∙ sym is) same in
+              let value_is : value ≡ v = same_Some value v (sym (get_or-set_same x.latches i (Some value) None within) ∙ ap (latch_at (slice_set x.latches i (Some value))) (sym same) ∙ has) in
+              (lt, sym value_is ∙ token ∙ ap (λ k. value_at (list_at lists k) x.cycle) (sym one)))
+              (λ other. at.latched d v there to (sym (get_or-set_other x.latches i (wire_at frame.wires d).place (Some value) None other) ∙ has))
+              (cases_eq (wire_at frame.wires d).place i);
           fired = λ o flag. ((at.fired o flag).0, missing-grows x.latches i value (needs_at x.needs o) within (at.fired o flag).1);
           served = at.served;
           serving = at.serving;
@@ -198,9 +198,9 @@ module _ (lists : List (List ℕ)) (runs : List (List (List ℕ))) (frame : Fram
           stands = at.stands;
           latched = at.latched;
           fired = λ p flag. ⊎_elim
-            (λ (same : p ≡ o). (lt, ap (missing x) same ∙ needed))
-            (λ other. at.fired p (sym (get_or-set_other x.flags o p true false other) ∙ flag))
-            (cases_eq p o);
+              (λ (same : p ≡ o). (lt, ap (missing x) same ∙ needed))
+              (λ other. at.fired p (sym (get_or-set_other x.flags o p true false other) ∙ flag))
+              (cases_eq p o);
           served = at.served;
           serving = λ pos. let none : x.served ≡ 0 = unserved o within clear in absurd (omega (arith, pos, none));
           fields = at.fields;
@@ -214,9 +214,9 @@ module _ (lists : List (List ℕ)) (runs : List (List (List ℕ))) (frame : Fram
         let start : State = run_state piece rows x.cycle in
         ap (accessed x.latches x.state) port
         ∙ accessed-is x.latches inputs x.state q (λ k d lt.
-          let i : ℕ = slice_index_or (fields_of q.access) k d in
-          let has : latch_at x.latches i ≡ Some (latched_value (latch_at x.latches i)) = has-value (latch_at x.latches i) (all-filled x.latches (fields_of q.access) none k d lt) in
-          value-latched x.latches i (latched_value (latch_at x.latches i)) has ∙ sym (in-value piece is i (latched_value (latch_at x.latches i)) has))
+        let i : ℕ = slice_index_or (fields_of q.access) k d in
+        let has : latch_at x.latches i ≡ Some (latched_value (latch_at x.latches i)) = has-value (latch_at x.latches i) (all-filled x.latches (fields_of q.access) none k d lt) in
+        value-latched x.latches i (latched_value (latch_at x.latches i)) has ∙ sym (in-value piece is i (latched_value (latch_at x.latches i)) has))
         ∙ ap (λ s. served_one inputs s q) stands
         ∙ sym (served-next inputs start x.ports x.served q port)
     stands-served (GivesColumn column) q is port none stands = tt
@@ -238,8 +238,8 @@ module _ (lists : List (List ℕ)) (runs : List (List (List ℕ))) (frame : Fram
           served = omega (arith, within);
           serving = λ pos. fired;
           fields =
-            subst (All (HasFields x.latches)) (sym (take-suc x.ports x.served q within ∙ ap (λ (r : Port). take x.served x.ports ++ r ∷ []) (get_or_from_slice_get x.ports x.served q q port)))
-            (All-append (HasFields x.latches) (take x.served x.ports) (q ∷ []) at.fields (one (HasFields x.latches) q (all-filled x.latches (fields_of q.access) filled)));
+              subst (All (HasFields x.latches)) (sym (take-suc x.ports x.served q within ∙ ap (λ (r : Port). take x.served x.ports ++ r ∷ []) (get_or_from_slice_get x.ports x.served q q port)))
+              (All-append (HasFields x.latches) (take x.served x.ports) (q ∷ []) at.fields (one (HasFields x.latches) q (all-filled x.latches (fields_of q.access) filled)));
           kept = at.kept;
         }
 
@@ -259,9 +259,9 @@ module _ (lists : List (List ℕ)) (runs : List (List (List ℕ))) (frame : Fram
     own_finish next lt all whole goes =
         record {
           kind =
-            ap (λ n. record { behaviour = x.behaviour; limit = x.limit; needs = x.needs; ports = x.ports; ins = n; outs = length (replicate (length x.flags) false) }) (length-replicate (length x.latches) None)
-            ∙ ap (λ n. record { behaviour = x.behaviour; limit = x.limit; needs = x.needs; ports = x.ports; ins = length x.latches; outs = n }) (length-replicate (length x.flags) false)
-            ∙ at.kind;
+              ap (λ n. record { behaviour = x.behaviour; limit = x.limit; needs = x.needs; ports = x.ports; ins = n; outs = length (replicate (length x.flags) false) }) (length-replicate (length x.latches) None)
+              ∙ ap (λ n. record { behaviour = x.behaviour; limit = x.limit; needs = x.needs; ports = x.ports; ins = length x.latches; outs = n }) (length-replicate (length x.flags) false)
+              ∙ at.kind;
           within = omega (arith, lt);
           stands = next_is next lt all whole goes;
           latched = λ c v known to has. absurd (no-latch (length x.latches) (wire_at frame.wires c).place v has);

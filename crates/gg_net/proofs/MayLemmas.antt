@@ -67,13 +67,13 @@ module _ (lists : List (List ℕ)) (runs : List (List (List ℕ))) (net : Networ
       let x : Machine = consumer_of net c in
       let at : MachineAt lists runs (frame_of net) m x = kept.machines m (there m below) in
       let token : front_of net c ≡ value_at (list_at lists c) x.cycle =
-        front-is (list_at lists c) w.capacity (takes net c) (puts net c) (queue_at net.queues c) (kept.channels c lt) can.held ∙ ap (value_at (list_at lists c)) (ap (got_by x.cycle) can.empty) in
+      front-is (list_at lists c) w.capacity (takes net c) (puts net c) (queue_at net.queues c) (kept.channels c lt) can.held ∙ ap (value_at (list_at lists c)) (ap (got_by x.cycle) can.empty) in
       record {
         there = place-within lists runs (frame_of net) kept.sound m below x at c lt refl;
         empty = can.empty;
         typed =
-          subst (λ v. FitsIn x.behaviour w.place v) (sym token)
-          (fits-by lists runs (frame_of net) kept.sound m below x.behaviour c x.cycle (behaviour-is lists runs (frame_of net) kept.sound m below x at) lt refl can.can.1);
+            subst (λ v. FitsIn x.behaviour w.place v) (sym token)
+            (fits-by lists runs (frame_of net) kept.sound m below x.behaviour c x.cycle (behaviour-is lists runs (frame_of net) kept.sound m below x at) lt refl can.can.1);
       }
 
   pub may-fire : (c : ℕ) → CanFire net c → MayFire (producer_of net c) (wire_at net.wires c).out

@@ -24,28 +24,6 @@ use Rattle.gg_net.proofs.StepLemmas.{clear-after, empty-after}
 abbrev no_tokens : Held
 no_tokens = record { tokens = []; room = 0 }
 
--- one more queue is open
-pub open-more : (wires : List Wire) (n : ℕ) (queues : List Held) (queue : Held) → AreOpen wires n queues → queue.tokens ≡ [] → (wire_at wires n).capacity ≤ queue.room → AreOpen wires (n + 1) (queues ++ queue ∷ [])
-open-more wires n queues queue are empty room =
-    record {
-      count = omega (arith, length-append queues (queue ∷ []), are.count);
-      empty = λ c lt. ⊎_elim
-        (λ (old : c < n). ap (λ (q : Held). q.tokens) (before c old) ∙ are.empty c old)
-        (λ (le : n ≤ c). ap (λ (q : Held). q.tokens) (last c (omega (arith, lt, le))) ∙ empty)
-        (cases_lt c n);
-      room = λ c lt. ⊎_elim
-        (λ (old : c < n). subst (λ (q : Held). (wire_at wires c).capacity ≤ q.room) (sym (before c old)) (are.room c old))
-        (λ (le : n ≤ c).
-        let is : c ≡ n = omega (arith, lt, le) in
-        subst (λ (q : Held). (wire_at wires c).capacity ≤ q.room) (sym (last c is)) (subst (λ k. (wire_at wires k).capacity ≤ queue.room) (sym is) room))
-        (cases_lt c n);
-    }
-  where
-    before : (c : ℕ) → c < n → held_at (queues ++ queue ∷ []) c ≡ held_at queues c
-    before c old = get_or_append_left queues (queue ∷ []) no_tokens c (omega (arith, old, are.count))
-    last : (c : ℕ) → c ≡ n → held_at (queues ++ queue ∷ []) c ≡ queue
-    last c is = get_or_at queues queue [] no_tokens c (omega (arith, is, are.count))
-
 -- open queues hold nothing
 pub all-empty : (wires : List Wire) (queues : List Held) → AreOpen wires (length wires) queues → map (λ (q : Held). q.tokens) queues ≡ replicate (length wires) []
 all-empty wires queues are =
@@ -109,14 +87,14 @@ module _ {lists : List (List ℕ)} {runs : List (List (List ℕ))} {hosts : List
         sound = opens.sound;
         machines = λ m there. machine-open lists runs machines wires end m (opens.opening m no_machine there);
         channels = λ c known.
-          let queue : queue_at net.queues c ≡ [] = get_or-replicate (length wires) c [] [] known in
-          let put : puts net c ≡ 0 = given-open (machine_at machines (wire_at wires c).producer) (wire_at wires c).out (opening-at (wire_at wires c).producer (opens.sound.wired.producer c known)) in
-          let took : takes net c ≡ 0 = got-open (machine_at machines (wire_at wires c).consumer) (wire_at wires c).place (opening-at (wire_at wires c).consumer (opens.sound.wired.consumer c known)) in
-          record {
-            held = omega (arith, put, took, ap length queue);
-            room = omega (arith, ap length queue);
-            tokens = λ j lt. absurd (omega (arith, lt, ap length queue));
-          };
+            let queue : queue_at net.queues c ≡ [] = get_or-replicate (length wires) c [] [] known in
+            let put : puts net c ≡ 0 = given-open (machine_at machines (wire_at wires c).producer) (wire_at wires c).out (opening-at (wire_at wires c).producer (opens.sound.wired.producer c known)) in
+            let took : takes net c ≡ 0 = got-open (machine_at machines (wire_at wires c).consumer) (wire_at wires c).place (opening-at (wire_at wires c).consumer (opens.sound.wired.consumer c known)) in
+            record {
+              held = omega (arith, put, took, ap length queue);
+              room = omega (arith, ap length queue);
+              tokens = λ j lt. absurd (omega (arith, lt, ap length queue));
+            };
       }
 
   module _ (queues : List Held) (are : AreOpen wires (length wires) queues) where

@@ -79,13 +79,13 @@ module _ (old new : List (List Machine)) (stations : List Station) (m : ℕ) (s 
       let t : Station = slice_index_or stations k s in
       get_or-map (seated new) stations k s no_machine within
       ∙ ⊎_elim
-        (λ (same : k ≡ m).
-        seated-here t (ap (λ j. (slice_index_or stations j s).host) same) (ap (λ j. (slice_index_or stations j s).thread) same)
-        ∙ sym (ap (machine_at (slice_set (machines_by old stations) m machine)) same ∙ get_or-set_same (machines_by old stations) m machine no_machine (omega (arith, there, length-map stations (seated old)))))
-        (λ (other : k ≢ m).
-        seated-other t (λ host thread. other (are.alone k m s s within there host thread))
-        ∙ sym (get_or-set_other (machines_by old stations) m k machine no_machine other ∙ get_or-map (seated old) stations k s no_machine within))
-        (cases_eq k m))
+      (λ (same : k ≡ m).
+      seated-here t (ap (λ j. (slice_index_or stations j s).host) same) (ap (λ j. (slice_index_or stations j s).thread) same)
+      ∙ sym (ap (machine_at (slice_set (machines_by old stations) m machine)) same ∙ get_or-set_same (machines_by old stations) m machine no_machine (omega (arith, there, length-map stations (seated old)))))
+      (λ (other : k ≢ m).
+      seated-other t (λ host thread. other (are.alone k m s s within there host thread))
+      ∙ sym (get_or-set_other (machines_by old stations) m k machine no_machine other ∙ get_or-map (seated old) stations k s no_machine within))
+      (cases_eq k m))
 
   -- a host has as many threads as before
   threads-same : (h : ℕ) → length (hosted new h) ≡ length (hosted old h)
@@ -100,10 +100,10 @@ module _ (old new : List (List Machine)) (stations : List Station) (m : ℕ) (s 
   are-seated =
       record {
         each = λ k d lt.
-          let seat : IsSeated old (slice_index_or stations k d) = are.each k d lt in
-          record {
-            host = omega (arith, seat.host, ap length step, length-set old at.host threads);
-            thread = omega (arith, seat.thread, threads-same (slice_index_or stations k d).host);
-          };
+            let seat : IsSeated old (slice_index_or stations k d) = are.each k d lt in
+            record {
+              host = omega (arith, seat.host, ap length step, length-set old at.host threads);
+              thread = omega (arith, seat.thread, threads-same (slice_index_or stations k d).host);
+            };
         alone = are.alone;
       }

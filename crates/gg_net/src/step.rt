@@ -17,7 +17,12 @@ impl<H: Host, Z: Streams> Net<H, Z> {
     {
         let wire = self.wires[channel as usize];
         let token = self.queues[channel as usize].take();
-        seats::latch(&mut self.hosts, &self.stations[wire.consumer as usize], wire.place, token);
+        seats::latch(
+            &mut self.hosts,
+            &self.stations[wire.consumer as usize],
+            wire.place,
+            token,
+        );
     }
 
     // Gives the token of a channel.
@@ -26,7 +31,11 @@ impl<H: Host, Z: Streams> Net<H, Z> {
         ensures { Gives self.old channel self.new }
     {
         let wire = self.wires[channel as usize];
-        let token = seats::fire(&mut self.hosts, &self.stations[wire.producer as usize], wire.out);
+        let token = seats::fire(
+            &mut self.hosts,
+            &self.stations[wire.producer as usize],
+            wire.out,
+        );
         self.queues[channel as usize].put(token);
     }
 

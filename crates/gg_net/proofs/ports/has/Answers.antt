@@ -11,7 +11,9 @@ loop-port-preserved c =
     (λ is. c.if-port-number.false (sym (number-at c.args.ports.now c.loop-port.port-index c.port-item.result c.loop-port-test.true c.port-item.is) ∙ is))
 
 pub returns : goal.returns
-returns c =
-    (λ is. absurd (true-is-no-false (sym is)), λ has.
-    let numbers = map (λ (p : ServedPort). p.number) c.args.ports.now in
-    absurd (c.loop-port.invariant has.0 (omega (arith, has.1, c.loop-port-test.false, length-map c.args.ports.now (λ (p : ServedPort). p.number))) (get_or_default numbers has.0 0 c.args.number has.1 ∙ has.2)))
+returns c = (
+  λ is. absurd (true-is-no-false (sym is)),
+  λ has.
+      let numbers = map (λ (p : ServedPort). p.number) c.args.ports.now in
+      absurd (c.loop-port.invariant has.0 (omega (arith, has.1, c.loop-port-test.false, length-map c.args.ports.now (λ (p : ServedPort). p.number))) (get_or_default numbers has.0 0 c.args.number has.1 ∙ has.2)),
+)
