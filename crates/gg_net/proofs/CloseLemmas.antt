@@ -1,9 +1,8 @@
 -- A network's parts after a step: they are a network again, and it is the step's.
-use Rattle.std.proofs.Common.{◌≡◌, ◌≢◌, ℕ, ◌<◌, ◌≤◌, ◌++◌, List, [], ◌∷◌, Option, None, Some, true, false, length, map, drop, refl, sym, ap, subst, ◌∙◌, ⊎_elim, arith, get_or-set_same, get_or-set_other}
+use Rattle.std.proofs.Common.{◌≡◌, ◌≢◌, ℕ, ◌<◌, ◌≤◌, ◌++◌, List, [], ◌∷◌, None, Some, true, false, length, map, drop, refl, sym, ap, subst, ◌∙◌, ⊎_elim, arith, get_or-set_same, get_or-set_other}
 use Rattle.std.specs.Prelude.{slice_set, slice_index_or, replicate}
 use Rattle.std.proofs.lemmas.Bool.{cases_eq}
 use Rattle.std.proofs.lemmas.List.{length-map, length-set, length-replicate, map-set, get_or-map, get_or_default}
-use Rattle.std.proofs.Math.ListN as exact
 use Rattle.std.proofs.Math.Seq.{map-set_same}
 use Rattle.gg_flat.specs.Line.{value_at}
 use Rattle.gg_flat.specs.State.{State}
@@ -12,10 +11,9 @@ use Rattle.gg_node.specs.Token.{IsToken, IsNextState}
 use Rattle.gg_node.specs.Step.{MayLatch, MayFire, MayServe, MayFinish, with_latch, with_flag, with_served, finished}
 use Rattle.gg_net.specs.declared.shape.Wire.{Wire}
 use Rattle.gg_net.specs.declared.shape.Station.{Station}
-use Rattle.gg_net.specs.declared.event.Event.{Event}
 use Rattle.gg_net.specs.declared.event.Event.TheVariants.{Latch, Fire, Serve, Finish}
-use Rattle.gg_net.specs.Network.{Network, wire_at, queue_at, producer_of, consumer_of, Kind, kind_of, Frame, frame_of}
-use Rattle.gg_net.specs.Step.{CanLatch, CanFire, CanServe, CanFinish, front_of, after_latch, after_fire, after_serve, after_finish, Step, Gives, GoesOn}
+use Rattle.gg_net.specs.Network.{Network, wire_at, queue_at, producer_of, consumer_of, Kind, kind_of, frame_of}
+use Rattle.gg_net.specs.Step.{CanLatch, CanFire, CanServe, CanFinish, front_of, after_latch, after_serve, Gives, GoesOn}
 use Rattle.gg_net.specs.Kept.{Kept}
 use Rattle.gg_net.specs.Queue.{Held}
 use Rattle.gg_net.specs.Seats.{machines_by, seated, IsReseated, HasGoneOn}

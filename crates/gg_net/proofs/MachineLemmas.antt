@@ -1,7 +1,7 @@
--- One machine of a network that is kept: its tokens and its next state are those of its rows, and each of its steps leaves
--- it a machine that may stand at its place.
-use Rattle.std.proofs.Common.{◌≡◌, ◌≢◌, ℕ, zero, suc, ◌<◌, ◌≤◌, ◌++◌, List, [], ◌∷◌, Option, None, Some, Bool, true, false, length, map, take, refl, sym, ap, subst, ◌∙◌, ⊎_elim, arith, get_or-set_same, get_or-set_other}
-use Rattle.std.specs.Prelude.{All, IsSome, slice_index_or, slice_set, slice_get, replicate}
+-- One machine of a network that is kept: its tokens and its next state are those of its rows, and each of its steps
+-- leaves it a machine that may stand at its place.
+use Rattle.std.proofs.Common.{◌≡◌, ℕ, zero, suc, ◌<◌, ◌≤◌, ◌++◌, List, [], ◌∷◌, Option, None, Some, true, false, length, take, refl, sym, ap, subst, ◌∙◌, ⊎_elim, arith, get_or-set_same, get_or-set_other}
+use Rattle.std.specs.Prelude.{All, slice_index_or, slice_set, slice_get, replicate}
 use Rattle.std.proofs.lemmas.Bool.{cases_eq, cases_lt}
 use Rattle.std.proofs.lemmas.List.{length-set, length-map, length-append, length-replicate, get_or-map, get_or_at, get_or_append_left, ext_get_or, take_all}
 use Rattle.std.proofs.lemmas.List.Elements.{All-append}
@@ -15,10 +15,10 @@ use Rattle.gg_flat.specs.Run.{row_at}
 use Rattle.gg_node.specs.Machine.{Behaviour, RunsPiece, GivesColumn, KeepsValues, Port, Machine, latch_at, flag_at, latched_value, latched_values, first_empty, needs_at, missing, port_number, due}
 use Rattle.gg_node.specs.Token.{IsToken, IsTokenOf, IsNextState, IsNextOf, accessed}
 use Rattle.gg_node.specs.Step.{with_latch, with_flag, with_served, finished, kept_after, fields_of, HasFields, AllFired, AllLatched}
-use Rattle.gg_net.specs.Network.{wire_at, IsAtIn, Kind, kind_of, kind_at, Frame}
+use Rattle.gg_net.specs.Network.{wire_at, IsAtIn, Kind, kind_at, Frame}
 use Rattle.gg_net.specs.Step.{fields_at, due_fields}
 use Rattle.gg_net.specs.Kept.{list_at, rows_at, ins_of, run_state, served_one, served_by, RunsRows, Runs, Answers, Asks, ServesRows, IsSound, IsStateOf, HasKept, Keeps, MachineAt}
-use Rattle.gg_net.proofs.LatchLemmas.{none-is-no-some, true-is-no-false, has-value, latch-within, latch-grows, value-latched, all-filled, missing-grows, flag-within, no-latch, no-flag}
+use Rattle.gg_net.proofs.LatchLemmas.{none-is-no-some, true-is-no-false, has-value, latch-within, latch-grows, value-latched, all-filled, missing-grows, no-latch, no-flag}
 use Rattle.gg_net.proofs.StateLemmas.{inputs-are, accessed-is, served-next}
 
 -- ---- over plain variables

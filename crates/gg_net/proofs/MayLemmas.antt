@@ -1,15 +1,13 @@
 -- What a host is owed at a step: an event that may be done meets it.
 use Rattle.std.proofs.Common.{◌≡◌, ℕ, ◌<◌, ◌≤◌, List, Option, None, Some, length, map, refl, sym, ap, subst, ◌∙◌, arith}
-use Rattle.std.specs.Prelude.{IfSome, slice_get, slice_index_or}
+use Rattle.std.specs.Prelude.{IfSome, slice_get}
 use Rattle.std.proofs.lemmas.List.{length-map, get_or-map}
-use Rattle.std.proofs.Math.ListN as exact
 use Rattle.gg_bits.specs.Shape.{Shape, Fits, uint, shape}
 use Rattle.gg_flat.specs.declared.piece.Signal.{Signal}
 use Rattle.gg_flat.specs.Line.{value_at, shape_at}
-use Rattle.gg_flat.specs.Circuit.{FlatCircuit, signal_shapes}
-use Rattle.gg_flat.specs.Settled.{in_shapes}
+use Rattle.gg_flat.specs.Circuit.{signal_shapes}
 use Rattle.gg_flat.specs.Run.{row_at}
-use Rattle.gg_node.specs.Machine.{Behaviour, RunsPiece, GivesColumn, KeepsValues, Port, Machine, no_machine, machine_at, latch_at, first_empty, due}
+use Rattle.gg_node.specs.Machine.{Behaviour, RunsPiece, GivesColumn, KeepsValues, Port, Machine, machine_at, first_empty}
 use Rattle.gg_node.specs.Step.{FitsIn, HasValueAt, HasFields, MayLatch, MayFire, MayServe, MayFinish, fields_of}
 use Rattle.gg_net.specs.declared.shape.Wire.{Wire}
 use Rattle.gg_net.specs.Network.{Network, wire_at, queue_at, producer_of, consumer_of, takes, puts, got_by, Kind, kind_of, kind_at, Frame, frame_of}

@@ -1,17 +1,15 @@
 -- A network's parts: what its machines need is there, and its queues are within their capacities.
-use Rattle.std.proofs.Common.{◌≡◌, ℕ, ◌<◌, ◌≤◌, List, Option, Some, None, length, map, refl, sym, ap, subst, ◌∙◌, arith}
-use Rattle.std.specs.Prelude.{All, Contains, IfSome, slice_get, slice_index_or}
-use Rattle.std.proofs.lemmas.List.{length-map, get_or_default}
+use Rattle.std.proofs.Common.{◌≡◌, ℕ, ◌<◌, ◌≤◌, List, Option, Some, length, map, sym, subst, arith}
+use Rattle.std.specs.Prelude.{All, Contains, slice_get}
+use Rattle.std.proofs.lemmas.List.{length-map}
 use Rattle.std.proofs.lemmas.Option.{slice_get_within, get_or_from_slice_get}
 use Rattle.std.proofs.Math.ListN as exact
 use Rattle.gg_node.specs.Machine.{Port, Machine, no_machine, machine_at, first_empty, needs_at, missing, due}
 use Rattle.gg_node.specs.Step.{fields_of}
-use Rattle.gg_net.specs.declared.shape.Wire.{Wire}
-use Rattle.gg_net.specs.declared.shape.Station.{Station}
 use Rattle.gg_net.specs.Network.{Network, queue_at, wire_at, Kind, kind_of, kind_at, frame_of}
 use Rattle.gg_net.specs.Step.{fields_at, due_fields}
 use Rattle.gg_net.specs.Kept.{Kept}
-use Rattle.gg_net.proofs.LatchLemmas.{none-is-no-some, first-among}
+use Rattle.gg_net.proofs.LatchLemmas.{first-among}
 use Rattle.gg_net.proofs.MachineLemmas.{due-port}
 
 module _ (lists : List (List ℕ)) (runs : List (List (List ℕ))) (net : Network) (kept : Kept lists runs net) where

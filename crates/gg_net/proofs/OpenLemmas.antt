@@ -1,21 +1,17 @@
 -- A network before its first cycle is kept.
-use Rattle.std.proofs.Common.{◌≡◌, ◌≢◌, ℕ, suc, ◌+◌, ◌<◌, ◌≤◌, ◌++◌, List, [], ◌∷◌, Option, None, Some, true, false, length, map, take, replicate, refl, sym, ap, subst, ◌∙◌, ⊎_elim, arith}
-use Rattle.std.specs.Prelude.{All, slice_index_or}
-use Rattle.std.proofs.lemmas.Bool.{cases_lt}
-use Rattle.std.proofs.lemmas.List.{length-map, length-append, length-replicate, get_or-map, get_or_at, get_or_append_left, get_or-replicate, ext_get_or}
+use Rattle.std.proofs.Common.{◌≡◌, ℕ, ◌<◌, List, [], length, map, take, replicate, sym, ap, subst, ◌∙◌, arith}
+use Rattle.std.proofs.lemmas.List.{length-map, length-replicate, get_or-replicate, ext_get_or}
 use Rattle.std.proofs.Math.ListN as exact
-use Rattle.gg_flat.specs.Line.{value_at}
 use Rattle.gg_flat.specs.State.{State}
 use Rattle.gg_flat.specs.Run.{row_at}
 use Rattle.gg_node.specs.Machine.{Behaviour, RunsPiece, GivesColumn, KeepsValues, Port, Machine, no_machine, machine_at, latch_at, flag_at}
-use Rattle.gg_node.specs.Step.{HasFields}
 use Rattle.gg_net.specs.declared.shape.Wire.{Wire}
 use Rattle.gg_net.specs.declared.shape.Station.{Station}
 use Rattle.gg_net.specs.Network.{Network, wire_at, queue_at, given_by, got_by, puts, takes, kind_of, frame_of}
-use Rattle.gg_net.specs.Kept.{list_at, rows_at, ins_of, run_state, served_by, IsStateOf, HasKept, Keeps, MachineAt, BetweenAt, Kept}
+use Rattle.gg_net.specs.Kept.{list_at, rows_at, ins_of, run_state, served_by, IsStateOf, Keeps, MachineAt, Kept}
 use Rattle.gg_net.specs.Queue.{Held}
-use Rattle.gg_net.specs.Seats.{machines_by, seated}
-use Rattle.gg_net.specs.Net.{net_of, held_at, AreListed, IsNet, OpensIn, IsOpening, opening_net, Opens, AreOpen}
+use Rattle.gg_net.specs.Seats.{machines_by}
+use Rattle.gg_net.specs.Net.{net_of, IsNet, OpensIn, IsOpening, opening_net, Opens, AreOpen}
 use Rattle.gg_net.proofs.LatchLemmas.{no-latch, no-flag}
 use Rattle.gg_net.proofs.StepLemmas.{clear-after, empty-after}
 

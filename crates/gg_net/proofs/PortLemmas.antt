@@ -12,8 +12,8 @@ use Rattle.gg_net.specs.declared.shape.ServedPort.{ServedPort}
 use Rattle.gg_net.specs.Network.{Kind, kind_of, kind_at, frame_of}
 use Rattle.gg_net.specs.Step.{numbers}
 use Rattle.gg_net.specs.Queue.{Held}
-use Rattle.gg_net.specs.Seats.{machines_by, seated}
-use Rattle.gg_net.specs.Net.{net_of, entry_of, IsListed, IsNet}
+use Rattle.gg_net.specs.Seats.{machines_by}
+use Rattle.gg_net.specs.Net.{net_of, entry_of, IsNet}
 
 -- some port, to stand where none is
 abbrev pub any_port : Port

@@ -1,6 +1,6 @@
 -- A step of a network that is kept leads to one that is kept.
-use Rattle.std.proofs.Common.{◌≡◌, ◌≢◌, ℕ, zero, suc, ◌<◌, ◌≤◌, ◌++◌, List, [], ◌∷◌, Option, None, Some, Bool, true, false, length, map, drop, refl, sym, ap, subst, ◌∙◌, ⊎_elim, arith, get_or-set_same, get_or-set_other}
-use Rattle.std.specs.Prelude.{slice_set, slice_get, slice_index_or, replicate, IsSome}
+use Rattle.std.proofs.Common.{◌≡◌, ◌≢◌, ℕ, zero, suc, ◌<◌, ◌≤◌, ◌++◌, List, [], ◌∷◌, Option, None, Some, true, false, length, map, drop, refl, sym, ap, subst, ◌∙◌, ⊎_elim, arith, get_or-set_same, get_or-set_other}
+use Rattle.std.specs.Prelude.{slice_set, slice_get, slice_index_or, replicate}
 use Rattle.std.proofs.Math.Seq.{map-set_same}
 use Rattle.std.proofs.Math.ListN.{get_or-map}
 use Rattle.std.proofs.lemmas.Bool.{cases_eq, cases_lt}
@@ -8,16 +8,16 @@ use Rattle.std.proofs.lemmas.List.{length-map, length-set}
 use Rattle.std.proofs.lemmas.Option.{slice_get-get_or}
 use Rattle.gg_flat.specs.Line.{value_at}
 use Rattle.gg_flat.specs.State.{State}
-use Rattle.gg_node.specs.Machine.{Port, Machine, no_machine, machine_at, latch_at, flag_at, latched_value, port_number, due}
+use Rattle.gg_node.specs.Machine.{Port, Machine, no_machine, machine_at, latch_at, flag_at, port_number}
 use Rattle.gg_node.specs.Token.{IsToken, IsNextState}
-use Rattle.gg_node.specs.Step.{with_latch, with_flag, with_served, finished, AllFired, AllLatched}
+use Rattle.gg_node.specs.Step.{with_latch, with_flag, with_served, finished}
 use Rattle.gg_net.specs.declared.event.Event.{Event}
 use Rattle.gg_net.specs.declared.event.Event.TheVariants.{Latch, Fire, Serve, Finish}
 use Rattle.gg_net.specs.declared.shape.Wire.{Wire}
-use Rattle.gg_net.specs.Network.{wire_at, Network, queue_at, producer_of, consumer_of, given_by, got_by, puts, takes, Kind, kind_of, kind_at, Frame, frame_of}
+use Rattle.gg_net.specs.Network.{wire_at, Network, queue_at, producer_of, consumer_of, given_by, got_by, puts, takes, Kind, kind_of, frame_of}
 use Rattle.gg_net.specs.Step.{CanLatch, CanFire, CanServe, CanFinish, front_of, after_latch, after_fire, after_serve, after_finish, Step}
 use Rattle.gg_net.specs.Kept.{list_at, IsSound, MachineAt, BetweenAt, Kept}
-use Rattle.gg_net.proofs.LatchLemmas.{none-is-no-some, some-is-no-none, has-value}
+use Rattle.gg_net.proofs.LatchLemmas.{some-is-no-none, has-value}
 use Rattle.gg_net.proofs.MachineLemmas.{token_is, out-within, place-within, own_latch, own_fire, own_serve, own_finish}
 use Rattle.gg_net.proofs.PortLemmas.{any_port}
 use Rattle.gg_net.proofs.ChannelLemmas.{between-same, front-is, taken-one, put-one}

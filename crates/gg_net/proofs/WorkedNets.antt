@@ -1,7 +1,7 @@
--- Networks by hand: two units that feed each other, and a memory that is served; what each event makes of them, why it is
--- refused, and what must not hold.
-use Rattle.std.proofs.Common.{◌≡◌, ℕ, zero, suc, ◌<◌, ◌≤◌, List, [], ◌∷◌, Option, Some, None, Bool, true, false, refl, arith, lit<}
-use Rattle.std.specs.Prelude.{◌+◌, Contains, slice_index_or}
+-- Networks by hand: two units that feed each other, and a memory that is served; what each event makes of them, why
+-- it is refused, and what must not hold.
+use Rattle.std.proofs.Common.{◌≡◌, ℕ, zero, suc, ◌<◌, List, [], ◌∷◌, Option, Some, None, Bool, true, false, refl, arith, lit<}
+use Rattle.std.specs.Prelude.{◌+◌, slice_index_or, All, length}
 use Rattle.gg_flat.specs.declared.line.Op.TheVariants.{Ref}
 use Rattle.gg_flat.specs.declared.piece.Driver.TheVariants.{Input, Held, Computed}
 use Rattle.gg_flat.specs.Line.{value_at}
@@ -9,12 +9,15 @@ use Rattle.gg_flat.specs.Circuit.{FlatCircuit, no_circuit}
 use Rattle.gg_flat.specs.State.{State}
 use Rattle.gg_flat.specs.Served.{ByReader, ByWriter}
 use Rattle.gg_flat.proofs.WorkedCircuits.{eight, node}
-use Rattle.gg_node.specs.Machine.{RunsPiece, Port, Machine, no_state, source_machine, tray_machine}
+use Rattle.gg_node.specs.Machine.{RunsPiece, Port, Machine, no_state, needs_at, source_machine, tray_machine}
+use Rattle.gg_node.specs.Step.{fields_of}
+use Rattle.gg_flat.proofs.WorkedForms.{only, both}
 use Rattle.gg_net.specs.declared.shape.Wire.{Wire}
-use Rattle.gg_net.specs.declared.event.Refusal.TheVariants.{Stranger, Ended, Latched, Fired, NoToken, NeedsInput, Full, Order, Unfired, Unserved}
-use Rattle.gg_net.specs.Network.{Network, IsAtIn, IsAtOut, puts, takes, Kind, Frame, frame_of}
-use Rattle.gg_net.specs.Step.{CanLatch, CanFire, CanServe, CanFinish, after_latch, after_fire, after_serve, after_finish, numbers, bound_of, due_or_count, LatchRefused, FireRefused, ServeRefused, FinishRefused}
-use Rattle.gg_net.specs.Kept.{NeedsChannel, HasNoRing, BetweenAt}
+use Rattle.gg_net.specs.declared.event.Refusal.TheVariants.{Stranger, Ended, Fired, NoToken, NeedsInput, Full, Order, Unfired, Unserved}
+use Rattle.gg_net.specs.Network.{Network, IsAtIn, puts, takes, frame_of, wire_at, IsAtOut, kind_at}
+use Rattle.gg_net.specs.Step.{CanFire, CanServe, after_latch, after_fire, after_serve, after_finish, due_or_count, LatchRefused, FireRefused, ServeRefused, FinishRefused}
+use Rattle.gg_net.specs.Kept.{list_at, rows_at, Runs, Answers, Asks, Solves, IsWired, NeedsChannel, HasNoRing, BetweenAt}
+use Rattle.gg_net.specs.Net.{opening_net}
 
 -- ---- two units: the out of `a` is its register, which takes its in; the out of `b` is its in
 
@@ -218,3 +221,70 @@ left = (lit< tt, lit< tt, all-true, refl)
 -- the reader has the word at 1; the writer hasn't written
 served-one : after_serve (alone (memory 0 with_reader true)) 0 ≡ alone (record (memory 1 with_reader true) { state = record { registers = []; banks = record { words = 7 ∷ 9 ∷ []; reads = 9 ∷ [] } ∷ [] } })
 served-one = refl
+
+-- ---- a source that feeds a tray: the lists that its channel and its rows are to have do solve it
+
+abbrev fed : Network
+fed = opening_net (source_machine (4 ∷ 6 ∷ []) 0 false ∷ tray_machine 2 0 [] None ∷ []) (record { producer = 0; out = 0; consumer = 1; place = 0; capacity = 1 } ∷ []) 2
+
+fed-into : (m i : ℕ) → m < 2 → i < (kind_at (frame_of fed).kinds m).ins → (c : ℕ) × IsAtIn fed.wires m i c
+fed-into zero i there below = absurd (omega (arith, below))
+fed-into (suc zero) zero there below = (0, record { known = lit< tt; machine = refl; place = refl })
+fed-into (suc zero) (suc i) there below = absurd (omega (arith, below))
+fed-into (suc (suc m)) i there below = absurd (omega (arith, there))
+
+fed-from : (m o : ℕ) → m < 2 → o < (kind_at (frame_of fed).kinds m).outs → (c : ℕ) × IsAtOut fed.wires m o c
+fed-from zero zero there below = (0, record { known = lit< tt; machine = refl; out = refl })
+fed-from zero (suc o) there below = absurd (omega (arith, below))
+fed-from (suc zero) o there below = absurd (omega (arith, below))
+fed-from (suc (suc m)) o there below = absurd (omega (arith, there))
+
+no-needs : (o i : ℕ) → Contains (needs_at ([] ∷ []) o) i → ⊥
+no-needs zero i has = omega (arith, has.1)
+no-needs (suc o) i has = omega (arith, has.1)
+
+fed-needs : (m o i : ℕ) → m < 2 → Contains (needs_at (kind_at (frame_of fed).kinds m).needs o) i → i < (kind_at (frame_of fed).kinds m).ins
+fed-needs zero o i there has = absurd (no-needs o i has)
+fed-needs (suc zero) o i there has = absurd (omega (arith, has.1))
+fed-needs (suc (suc m)) o i there has = absurd (omega (arith, there))
+
+fed-fields : (m : ℕ) → m < 2 → All (λ (port : Port). All (λ i. i < (kind_at (frame_of fed).kinds m).ins) (fields_of port.access)) (kind_at (frame_of fed).kinds m).ports
+fed-fields zero there k d below = absurd (omega (arith, below))
+fed-fields (suc zero) there k d below = absurd (omega (arith, below))
+fed-fields (suc (suc m)) there k d below = absurd (omega (arith, there))
+
+fed-wired : IsWired (frame_of fed)
+fed-wired =
+    record {
+      producer = only (λ c. (wire_at fed.wires c).producer < 2) (lit< tt);
+      out = only (λ c. (wire_at fed.wires c).out < (kind_at (frame_of fed).kinds (wire_at fed.wires c).producer).outs) (lit< tt);
+      consumer = only (λ c. (wire_at fed.wires c).consumer < 2) (lit< tt);
+      place = only (λ c. (wire_at fed.wires c).place < (kind_at (frame_of fed).kinds (wire_at fed.wires c).consumer).ins) (lit< tt);
+      into = fed-into;
+      from = fed-from;
+      one_in = λ c d known there same_machine same_place. omega (arith, known, there);
+      needs = fed-needs;
+      fields = fed-fields;
+      one_out = λ c d known there same_machine same_out. omega (arith, known, there);
+    }
+
+fed-solved : Solves ((4 ∷ 6 ∷ []) ∷ []) ([] ∷ [] ∷ []) (frame_of fed)
+fed-solved =
+    record {
+      able = both (λ m. 2 ≤ (kind_at (frame_of fed).kinds m).limit) (omega arith) (omega arith);
+      does = both (λ m. Runs (kind_at (frame_of fed).kinds m).behaviour (kind_at (frame_of fed).kinds m) [] 2) (omega arith) refl;
+      long = only (λ c. length (list_at ((4 ∷ 6 ∷ []) ∷ []) c) ≡ 2) refl;
+      given = λ c known t lt. given c known t;
+      taken = λ c known t lt. taken c known t;
+    }
+  where
+    given : (c : ℕ) → c < 1 → (t : ℕ) → Answers (kind_at (frame_of fed).kinds (wire_at fed.wires c).producer).behaviour (rows_at ([] ∷ [] ∷ []) (wire_at fed.wires c).producer) (wire_at fed.wires c).out t (value_at (list_at ((4 ∷ 6 ∷ []) ∷ []) c) t)
+    given zero known t = refl
+    given (suc c) known t = absurd (omega (arith, known))
+    taken : (c : ℕ) → c < 1 → (t : ℕ) → Asks (kind_at (frame_of fed).kinds (wire_at fed.wires c).consumer).behaviour (rows_at ([] ∷ [] ∷ []) (wire_at fed.wires c).consumer) (wire_at fed.wires c).place t (value_at (list_at ((4 ∷ 6 ∷ []) ∷ []) c) t)
+    taken zero known t = tt
+    taken (suc c) known t = absurd (omega (arith, known))
+
+-- another list does not
+not-solved : Solves ((4 ∷ 7 ∷ []) ∷ []) ([] ∷ [] ∷ []) (frame_of fed) → ⊥
+not-solved solves = let is : value_at (4 ∷ 6 ∷ []) 1 ≡ value_at (4 ∷ 7 ∷ []) 1 = solves.given 0 (lit< tt) 1 (lit< tt) in omega (arith, is)

@@ -1,8 +1,8 @@
--- What holds of a network at all times, for the lists of values that its channels are to carry: each machine is in the state
--- of its run, each latch, flag and queue is what the lists and the counts say.
--- Source: MEMOCODE 2009 (the k-th token of each queue is the signal's value in cycle k; a queue holds the tokens that were
--- put and not yet taken, at most its bound; without a ring among dependencies the network can go on); ICCAD 2019 for
--- memories that are served port by port.
+-- What holds of a network at all times, for the lists of values that its channels are to carry: each machine is in
+-- the state of its run, each latch, flag and queue is what the lists and the counts say.
+-- Source: MEMOCODE 2009 (the k-th token of each queue is the signal's value in cycle k; a queue holds the tokens that
+-- were put and not yet taken, at most its bound; without a ring among dependencies the network can go on); ICCAD 2019
+-- for memories that are served port by port.
 use Rattle.std.specs.Prelude.{◌≡◌, ℕ, suc, ◌+◌, ◌<◌, ◌≤◌, List, [], ◌∷◌, Some, None, true, All, Contains, length, map, take, fold, slice_index_or, ⊤}
 use Rattle.gg_flat.specs.Line.{value_at}
 use Rattle.gg_flat.specs.Circuit.{FlatCircuit}
@@ -78,8 +78,8 @@ Asks (RunsPiece piece) rows i t value = value_at (row_at rows t) (value_at piece
 Asks (GivesColumn column) rows i t value = ⊥
 Asks KeepsValues rows i t value = ⊤
 
--- The lists and the rows solve a network: each machine can do all cycles, and its rows are a run; each channel's list has a
--- value for each cycle, which is its producer's there, and its consumer's too.
+-- The lists and the rows solve a network: each machine can do all cycles, and its rows are a run; each channel's list
+-- has a value for each cycle, which is its producer's there, and its consumer's too.
 pub record Solves (lists : List (List ℕ)) (runs : List (List (List ℕ))) (frame : Frame) : Type 0 where
   pub able : (m : ℕ) → m < length frame.kinds → frame.end ≤ (kind_at frame.kinds m).limit
   pub does : (m : ℕ) → m < length frame.kinds → Runs (kind_at frame.kinds m).behaviour (kind_at frame.kinds m) (rows_at runs m) frame.end
@@ -89,8 +89,8 @@ pub record Solves (lists : List (List ℕ)) (runs : List (List (List ℕ))) (fra
 
 -- ---- the wiring
 
--- Each channel leads from an out that is there to an in that is there; each in and each out is at just one channel; needs and
--- fields of ports are ins that are there.
+-- Each channel leads from an out that is there to an in that is there; each in and each out is at just one channel;
+-- needs and fields of ports are ins that are there.
 pub record IsWired (frame : Frame) : Type 0 where
   pub producer : (c : ℕ) → c < length frame.wires → (wire_at frame.wires c).producer < length frame.kinds
   pub out : (c : ℕ) → c < length frame.wires → (wire_at frame.wires c).out < (kind_at frame.kinds (wire_at frame.wires c).producer).outs
@@ -140,9 +140,10 @@ Keeps (RunsPiece piece) list cycle kept = ⊤
 Keeps (GivesColumn column) list cycle kept = ⊤
 Keeps KeepsValues list cycle kept = HasKept list cycle kept
 
--- A machine may stand at place m: it is of the kind there; it has done at most all cycles; its state is that of its rows; a
--- latch holds its channel's value of this cycle; an out has given its token only where all that it needs was latched; ports
--- were served only after all outs had given theirs, with their fields latched; and a tray has the values of its channel.
+-- A machine may stand at place m: it is of the kind there; it has done at most all cycles; its state is that of its
+-- rows; a latch holds its channel's value of this cycle; an out has given its token only where all that it needs was
+-- latched; ports were served only after all outs had given theirs, with their fields latched; and a tray has the
+-- values of its channel.
 pub record MachineAt (lists : List (List ℕ)) (runs : List (List (List ℕ))) (frame : Frame) (m : ℕ) (machine : Machine) : Type 0 where
   pub kind : kind_of machine ≡ kind_at frame.kinds m
   pub within : machine.cycle ≤ frame.end

@@ -1,5 +1,6 @@
 -- A network as its program holds it: hosts with their machines, stations, channels and queues.
--- Source: MEMOCODE 2009 (a network before its first cycle: all queues, latches and flags empty); ICCAD 2019 for hosts.
+-- Source: MEMOCODE 2009 (a network before its first cycle: all queues, latches and flags empty); ICCAD 2019 for
+-- hosts.
 use Rattle.std.specs.Prelude.{◌≡◌, ℕ, ◌-◌, ◌^◌, ◌<◌, ◌≤◌, List, [], None, false, All, length, map, replicate, slice_index_or, ⊤}
 use Rattle.gg_flat.specs.Line.{value_at}
 use Rattle.gg_flat.specs.State.{State, opening}
@@ -28,8 +29,8 @@ held_at queues c = slice_index_or queues c (record { tokens = []; room = 0 })
 abbrev pub entry_of : Port → ServedPort
 entry_of port = record { number = port.number; fields = fields_of port.access }
 
--- A station lists the channels at the ins and outs of its machine, and the ports that are served; of each kind there are
--- few enough to be named.
+-- A station lists the channels at the ins and outs of its machine, and the ports that are served; of each kind there
+-- are few enough to be named.
 pub record IsListed (wires : List Wire) (m : ℕ) (kind : Kind) (station : Station) : Type 0 where
   pub ins : length station.ins ≡ kind.ins
   pub into : (i : ℕ) → i < kind.ins → IsAtIn wires m i (value_at station.ins i)
@@ -75,8 +76,8 @@ pub record IsOpening (machine : Machine) : Type 0 where
 abbrev pub opening_net : List Machine → List Wire → ℕ → Network
 opening_net machines wires end = record { machines = machines; wires = wires; queues = replicate (length wires) []; end = end }
 
--- These hosts and stations make a network for these lists and rows: each machine stands at a thread of its own, before its
--- first cycle, is joined to its channels as its station lists them, and the lists solve it.
+-- These hosts and stations make a network for these lists and rows: each machine stands at a thread of its own,
+-- before its first cycle, is joined to its channels as its station lists them, and the lists solve it.
 pub record Opens (lists : List (List ℕ)) (runs : List (List (List ℕ))) (hosts : List (List Machine)) (stations : List Station) (wires : List Wire) (end : ℕ) : Type 0 where
   pub seated : AreSeated hosts stations
   pub opening : All IsOpening (machines_by hosts stations)

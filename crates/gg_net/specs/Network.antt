@@ -1,7 +1,7 @@
 -- A network: machines joined by channels, each with a queue of its own.
--- Source: MEMOCODE 2009 (a bounded dataflow network: nodes joined by queues of a bounded length); ICCAD 2019 (units of a
--- target that pass one another a token for each target cycle).
-use Rattle.std.specs.Prelude.{◌≡◌, ℕ, suc, ◌<◌, List, [], Option, Some, None, Bool, true, false, Contains, length, map, slice_index_or}
+-- Source: MEMOCODE 2009 (a bounded dataflow network: nodes joined by queues of a bounded length); ICCAD 2019 (units
+-- of a target that pass one another a token for each target cycle).
+use Rattle.std.specs.Prelude.{◌≡◌, ℕ, suc, ◌<◌, List, [], Option, Some, None, Bool, true, false, length, map, slice_index_or}
 use Rattle.gg_net.specs.declared.shape.Wire.{Wire}
 use Rattle.gg_node.specs.Machine.{Behaviour, KeepsValues, Port, Machine, machine_at, latch_at, flag_at}
 
@@ -66,8 +66,8 @@ takes net c = got_by (consumer_of net c).cycle (latch_at (consumer_of net c).lat
 
 -- ---- what no step changes
 
--- What stays of a machine: what it does, how many cycles it can do, what its outs need, which ports are served, and how many
--- ins and outs it has.
+-- What stays of a machine: what it does, how many cycles it can do, what its outs need, which ports are served, and
+-- how many ins and outs it has.
 pub record Kind : Type 0 where
   pub behaviour : Behaviour
   pub limit : ℕ

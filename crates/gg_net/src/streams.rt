@@ -3,8 +3,8 @@ ghost use Rattle.std.specs.Prelude.{ℕ, List, []};
 
 use std::marker::Brand;
 
-/// The values that the channels of a network are to carry, and the rows of its machines. No code reads them: they stand in
-/// the type of a network, so that a contract can speak of them.
+/// The values that the channels of a network are to carry, and the rows of its machines. No code reads them: they
+/// stand in the type of a network, so that a contract can speak of them.
 pub trait Streams: Send {
     // For each channel the list of its values, by cycle.
     ghost lists: { List (List ℕ) };

@@ -1,4 +1,4 @@
-use Rattle.std.proofs.Common.{◌≡◌, ℕ, suc, max, drop, map}
+use Rattle.std.proofs.Common.{◌≡◌, suc, max, drop, map}
 use Rattle.std.specs.Prelude.{fold}
 use Rattle.gg_net.specs.Step.{bound_of}
 use Rattle.gg_net.proofs.ports.bound.Given as goal

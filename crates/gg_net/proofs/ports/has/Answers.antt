@@ -1,4 +1,4 @@
-use Rattle.std.proofs.Common.{length, map, sym, ◌∙◌, arith, below_more}
+use Rattle.std.proofs.Common.{map, sym, ◌∙◌, arith, below_more}
 use Rattle.std.proofs.lemmas.List.{length-map, get_or_default}
 use Rattle.gg_net.specs.declared.shape.ServedPort.{ServedPort}
 use Rattle.gg_net.proofs.LatchLemmas.{true-is-no-false}

@@ -1,4 +1,4 @@
-use Rattle.std.proofs.Common.{◌≡◌, ℕ, ◌<◌, map, true}
+use Rattle.std.proofs.Common.{ℕ, ◌<◌, map}
 use Rattle.std.specs.Prelude.{IsSome}
 use Rattle.gg_node.specs.Machine.{latch_at}
 use Rattle.gg_net.specs.Seats.{seated}

@@ -1,4 +1,4 @@
-use Rattle.std.proofs.Common.{◌<◌, length, map, sym, ap, subst, ◌∙◌}
+use Rattle.std.proofs.Common.{map, sym, ap, subst, ◌∙◌}
 use Rattle.gg_net.specs.Step.{CanLatch, after_latch}
 use Rattle.gg_net.proofs.CloseLemmas.{latch-may, latch-is, latch-closes}
 use Rattle.gg_net.proofs.net.Net.latch.Goals as goal
