@@ -1,7 +1,7 @@
 -- Networks by hand: two units that feed each other, and a memory that is served; what each event makes of them, why
 -- it is refused, and what must not hold.
 use Rattle.std.proofs.Common.{◌≡◌, ℕ, zero, suc, ◌<◌, List, [], ◌∷◌, Option, Some, None, Bool, true, false, refl, arith, lit<}
-use Rattle.std.specs.Prelude.{◌+◌, slice_index_or, All, length}
+use Rattle.std.specs.Prelude.{◌+◌, ◌≤◌, slice_index_or, All, Contains, length}
 use Rattle.gg_flat.specs.declared.line.Op.TheVariants.{Ref}
 use Rattle.gg_flat.specs.declared.piece.Driver.TheVariants.{Input, Held, Computed}
 use Rattle.gg_flat.specs.Line.{value_at}
@@ -272,7 +272,7 @@ fed-solved : Solves ((4 ∷ 6 ∷ []) ∷ []) ([] ∷ [] ∷ []) (frame_of fed)
 fed-solved =
     record {
       able = both (λ m. 2 ≤ (kind_at (frame_of fed).kinds m).limit) (omega arith) (omega arith);
-      does = both (λ m. Runs (kind_at (frame_of fed).kinds m).behaviour (kind_at (frame_of fed).kinds m) [] 2) (omega arith) refl;
+      does = both (λ m. Runs (kind_at (frame_of fed).kinds m).behaviour (kind_at (frame_of fed).kinds m) (rows_at ([] ∷ [] ∷ []) m) 2) (omega arith) refl;
       long = only (λ c. length (list_at ((4 ∷ 6 ∷ []) ∷ []) c) ≡ 2) refl;
       given = λ c known t lt. given c known t;
       taken = λ c known t lt. taken c known t;
@@ -281,6 +281,7 @@ fed-solved =
     given : (c : ℕ) → c < 1 → (t : ℕ) → Answers (kind_at (frame_of fed).kinds (wire_at fed.wires c).producer).behaviour (rows_at ([] ∷ [] ∷ []) (wire_at fed.wires c).producer) (wire_at fed.wires c).out t (value_at (list_at ((4 ∷ 6 ∷ []) ∷ []) c) t)
     given zero known t = refl
     given (suc c) known t = absurd (omega (arith, known))
+
     taken : (c : ℕ) → c < 1 → (t : ℕ) → Asks (kind_at (frame_of fed).kinds (wire_at fed.wires c).consumer).behaviour (rows_at ([] ∷ [] ∷ []) (wire_at fed.wires c).consumer) (wire_at fed.wires c).place t (value_at (list_at ((4 ∷ 6 ∷ []) ∷ []) c) t)
     taken zero known t = tt
     taken (suc c) known t = absurd (omega (arith, known))
