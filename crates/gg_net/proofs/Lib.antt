@@ -1,0 +1,12 @@
+pub mod LatchLemmas
+pub mod StateLemmas
+pub mod MachineLemmas
+pub mod ChannelLemmas
+pub mod StepLemmas
+pub mod SeatLemmas
+pub mod PortLemmas
+pub mod NetLemmas
+pub mod MayLemmas
+pub mod CloseLemmas
+pub mod WorkedNets
+pub mod OpenLemmas

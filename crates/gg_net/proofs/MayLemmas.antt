@@ -1,0 +1,117 @@
+-- What a host is owed at a step: an event that may be done meets it.
+use Rattle.std.proofs.Common.{◌≡◌, ℕ, ◌<◌, ◌≤◌, List, Option, None, Some, length, map, refl, sym, ap, subst, ◌∙◌, arith}
+use Rattle.std.specs.Prelude.{IfSome, slice_get}
+use Rattle.std.proofs.lemmas.List.{length-map, get_or-map}
+use Rattle.gg_bits.specs.Shape.{Shape, Fits, uint, shape}
+use Rattle.gg_flat.specs.declared.piece.Signal.{Signal}
+use Rattle.gg_flat.specs.Line.{value_at, shape_at}
+use Rattle.gg_flat.specs.Circuit.{signal_shapes}
+use Rattle.gg_flat.specs.Run.{row_at}
+use Rattle.gg_node.specs.Machine.{Behaviour, RunsPiece, GivesColumn, KeepsValues, Port, Machine, machine_at, first_empty}
+use Rattle.gg_node.specs.Step.{FitsIn, HasValueAt, HasFields, MayLatch, MayFire, MayServe, MayFinish, fields_of}
+use Rattle.gg_net.specs.declared.shape.Wire.{Wire}
+use Rattle.gg_net.specs.Network.{Network, wire_at, queue_at, producer_of, consumer_of, takes, puts, got_by, Kind, kind_of, kind_at, Frame, frame_of}
+use Rattle.gg_net.specs.Step.{CanLatch, CanFire, CanServe, CanFinish, front_of, fields_at}
+use Rattle.gg_net.specs.Kept.{list_at, rows_at, RunsRows, Runs, Asks, IsSound, MachineAt, Kept}
+use Rattle.gg_net.proofs.LatchLemmas.{all-filled}
+use Rattle.gg_net.proofs.MachineLemmas.{asks, does, behaviour-is, place-within, out-within}
+use Rattle.gg_net.proofs.ChannelLemmas.{front-is}
+use Rattle.gg_net.proofs.StepLemmas.{all-served}
+use Rattle.gg_net.proofs.PortLemmas.{any_port}
+
+module _ (lists : List (List ℕ)) (runs : List (List (List ℕ))) (frame : Frame) (sound : IsSound lists runs frame) (m : ℕ) (below : m < length frame.kinds) where
+  -- a channel's value is of the type of its in
+  fits-by : (b : Behaviour) (c t : ℕ) → (kind_at frame.kinds m).behaviour ≡ b → c < length frame.wires → (wire_at frame.wires c).consumer ≡ m → t < frame.end → FitsIn b (wire_at frame.wires c).place (value_at (list_at lists c) t)
+  fits-by (RunsPiece piece) c t is known to lt =
+      let i : ℕ = (wire_at frame.wires c).place in
+      let s : ℕ = value_at piece.ins i in
+      let row : List ℕ = row_at (rows_at runs m) t in
+      let run : RunsRows piece (kind_at frame.kinds m) (rows_at runs m) frame.end = does lists runs frame sound m below piece is in
+      let place : i < (kind_at frame.kinds m).ins = subst (λ q. i < (kind_at frame.kinds q).ins) to (sound.wired.place c known) in
+      let within : i < length piece.ins = omega (arith, place, run.ins) in
+      let there : s < length piece.signals = (run.formed.ins i within).0 in
+      let typed : Fits (shape_at (signal_shapes piece) s) (value_at row s) = (run.is.settled t lt).typed.fits s (omega (arith, there, length-map piece.signals (λ (signal : Signal). shape signal.ty))) in
+      let asked : value_at row s ≡ value_at (list_at lists c) t = subst (λ b. Asks b (rows_at runs m) i t (value_at (list_at lists c) t)) is (asks lists runs frame sound m below c t known to lt) in
+      subst (λ (to_shape : Shape). Fits to_shape (value_at (list_at lists c) t)) (sym (get_or-map (shape_at (signal_shapes piece)) piece.ins i 0 (uint 0) within))
+      (subst (Fits (shape_at (signal_shapes piece) s)) asked typed)
+  fits-by (GivesColumn column) c t is known to lt = tt
+  fits-by KeepsValues c t is known to lt = tt
+
+  -- a column has a value for each cycle
+  known-by : (b : Behaviour) (t : ℕ) → (kind_at frame.kinds m).behaviour ≡ b → t < frame.end → HasValueAt b t
+  known-by (RunsPiece piece) t is lt = tt
+  known-by (GivesColumn column) t is lt = let long : frame.end ≤ length column = subst (λ b. Runs b (kind_at frame.kinds m) (rows_at runs m) frame.end) is (sound.solves.does m below) in omega (arith, lt, long)
+  known-by KeepsValues t is lt = tt
+
+module _ (lists : List (List ℕ)) (runs : List (List (List ℕ))) (net : Network) (kept : Kept lists runs net) where
+  known : (m : ℕ) → m < length net.machines → m < length (map kind_of net.machines)
+  known m there = omega (arith, there, length-map net.machines kind_of)
+
+  there : (m : ℕ) → m < length (map kind_of net.machines) → m < length net.machines
+  there m below = omega (arith, below, length-map net.machines kind_of)
+
+  pub consumer-there : (c : ℕ) → c < length net.wires → (wire_at net.wires c).consumer < length net.machines
+  consumer-there c lt = there (wire_at net.wires c).consumer (kept.sound.wired.consumer c lt)
+
+  pub producer-there : (c : ℕ) → c < length net.wires → (wire_at net.wires c).producer < length net.machines
+  producer-there c lt = there (wire_at net.wires c).producer (kept.sound.wired.producer c lt)
+
+  pub may-latch : (c : ℕ) → CanLatch net c → MayLatch (consumer_of net c) (wire_at net.wires c).place (front_of net c)
+  may-latch c can =
+      let w : Wire = wire_at net.wires c in
+      let m : ℕ = w.consumer in
+      let lt : c < length net.wires = can.can.0 in
+      let below : m < length (map kind_of net.machines) = kept.sound.wired.consumer c lt in
+      let x : Machine = consumer_of net c in
+      let at : MachineAt lists runs (frame_of net) m x = kept.machines m (there m below) in
+      let token : front_of net c ≡ value_at (list_at lists c) x.cycle =
+      front-is (list_at lists c) w.capacity (takes net c) (puts net c) (queue_at net.queues c) (kept.channels c lt) can.held ∙ ap (value_at (list_at lists c)) (ap (got_by x.cycle) can.empty) in
+      record {
+        there = place-within lists runs (frame_of net) kept.sound m below x at c lt refl;
+        empty = can.empty;
+        typed =
+            subst (λ v. FitsIn x.behaviour w.place v) (sym token)
+            (fits-by lists runs (frame_of net) kept.sound m below x.behaviour c x.cycle (behaviour-is lists runs (frame_of net) kept.sound m below x at) lt refl can.can.1);
+      }
+
+  pub may-fire : (c : ℕ) → CanFire net c → MayFire (producer_of net c) (wire_at net.wires c).out
+  may-fire c can =
+      let w : Wire = wire_at net.wires c in
+      let m : ℕ = w.producer in
+      let lt : c < length net.wires = can.can.0 in
+      let below : m < length (map kind_of net.machines) = kept.sound.wired.producer c lt in
+      let x : Machine = producer_of net c in
+      let at : MachineAt lists runs (frame_of net) m x = kept.machines m (there m below) in
+      record {
+        there = out-within lists runs (frame_of net) kept.sound m below x at c lt refl;
+        clear = can.clear;
+        needed = can.needed;
+        known = known-by lists runs (frame_of net) kept.sound m below x.behaviour x.cycle (behaviour-is lists runs (frame_of net) kept.sound m below x at) can.can.1;
+      }
+
+  pub may-serve : (m p : ℕ) → CanServe net m p → MayServe (machine_at net.machines m) p
+  may-serve m p can =
+      let x : Machine = machine_at net.machines m in
+      record {
+        fired = can.fired;
+        due = can.due;
+        fields = filled (slice_get x.ports x.served) can.fields;
+      }
+    where
+      filled : (port : Option Port) → first_empty (machine_at net.machines m).latches (fields_at port) ≡ None → IfSome port (HasFields (machine_at net.machines m).latches)
+      filled None none = tt
+      filled (Some port) none = all-filled (machine_at net.machines m).latches (fields_of port.access) none
+
+  pub may-finish : (m : ℕ) → CanFinish net m → MayFinish (machine_at net.machines m)
+  may-finish m can =
+      let x : Machine = machine_at net.machines m in
+      let below : m < length (map kind_of net.machines) = known m can.there in
+      let at : MachineAt lists runs (frame_of net) m x = kept.machines m can.there in
+      let able : net.end ≤ (kind_at (map kind_of net.machines) m).limit = kept.sound.solves.able m below in
+      let limit : x.limit ≡ (kind_at (map kind_of net.machines) m).limit = ap (λ (k : Kind). k.limit) at.kind in
+      record {
+        fired = can.fired;
+        served = all-served x.ports x.served any_port at.served can.served;
+        latched = can.latched;
+        below = omega (arith, can.below, able, limit);
+      }

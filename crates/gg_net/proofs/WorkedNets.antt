@@ -1,0 +1,291 @@
+-- Networks by hand: two units that feed each other, and a memory that is served; what each event makes of them, why
+-- it is refused, and what must not hold.
+use Rattle.std.proofs.Common.{◌≡◌, ℕ, zero, suc, ◌<◌, List, [], ◌∷◌, Option, Some, None, Bool, true, false, refl, arith, lit<}
+use Rattle.std.specs.Prelude.{◌+◌, ◌≤◌, slice_index_or, All, Contains, length}
+use Rattle.gg_flat.specs.declared.line.Op.TheVariants.{Ref}
+use Rattle.gg_flat.specs.declared.piece.Driver.TheVariants.{Input, Held, Computed}
+use Rattle.gg_flat.specs.Line.{value_at}
+use Rattle.gg_flat.specs.Circuit.{FlatCircuit, no_circuit}
+use Rattle.gg_flat.specs.State.{State}
+use Rattle.gg_flat.specs.Served.{ByReader, ByWriter}
+use Rattle.gg_flat.proofs.WorkedCircuits.{eight, node}
+use Rattle.gg_node.specs.Machine.{RunsPiece, Port, Machine, no_state, needs_at, source_machine, tray_machine}
+use Rattle.gg_node.specs.Step.{fields_of}
+use Rattle.gg_flat.proofs.WorkedForms.{only, both}
+use Rattle.gg_net.specs.declared.shape.Wire.{Wire}
+use Rattle.gg_net.specs.declared.event.Refusal.TheVariants.{Stranger, Ended, Fired, NoToken, NeedsInput, Full, Order, Unfired, Unserved}
+use Rattle.gg_net.specs.Network.{Network, IsAtIn, puts, takes, frame_of, wire_at, IsAtOut, kind_at}
+use Rattle.gg_net.specs.Step.{CanFire, CanServe, after_latch, after_fire, after_serve, after_finish, due_or_count, LatchRefused, FireRefused, ServeRefused, FinishRefused}
+use Rattle.gg_net.specs.Kept.{list_at, rows_at, Runs, Answers, Asks, Solves, IsWired, NeedsChannel, HasNoRing, BetweenAt}
+use Rattle.gg_net.specs.Net.{opening_net}
+
+-- ---- two units: the out of `a` is its register, which takes its in; the out of `b` is its in
+
+abbrev held : FlatCircuit
+held =
+    record {
+      paths = (120 ∷ []) ∷ (121 ∷ []) ∷ [];
+      signals = record { ty = eight; driver = Input 0 } ∷ record { ty = eight; driver = Held 0 } ∷ [];
+      registers = record { ty = eight; reset = None; next = Some (node eight (Ref 0) ∷ []) } ∷ [];
+      memories = [];
+      ins = 0 ∷ [];
+      outs = 1 ∷ [];
+    }
+
+abbrev passed : FlatCircuit
+passed =
+    record {
+      paths = (120 ∷ []) ∷ (121 ∷ []) ∷ [];
+      signals = record { ty = eight; driver = Input 0 } ∷ record { ty = eight; driver = Computed (node eight (Ref 0) ∷ []) } ∷ [];
+      registers = [];
+      memories = [];
+      ins = 0 ∷ [];
+      outs = 1 ∷ [];
+    }
+
+abbrev holds : ℕ → State
+holds v = record { registers = v ∷ []; banks = [] }
+
+abbrev a : ℕ → ℕ → Option ℕ → Bool → Machine
+a cycle v latch flag = record { behaviour = RunsPiece held; limit = 10; needs = [] ∷ []; ports = []; cycle = cycle; state = holds v; served = 0; latches = latch ∷ []; flags = flag ∷ []; kept = [] }
+
+abbrev b : Option ℕ → Bool → Machine
+b latch flag = record { behaviour = RunsPiece passed; limit = 10; needs = (0 ∷ []) ∷ []; ports = []; cycle = 0; state = no_state; served = 0; latches = latch ∷ []; flags = flag ∷ []; kept = [] }
+
+abbrev wires : List Wire
+wires = record { producer = 0; out = 0; consumer = 1; place = 0; capacity = 1 } ∷ record { producer = 1; out = 0; consumer = 0; place = 0; capacity = 2 } ∷ []
+
+abbrev pair : Machine → Machine → List ℕ → List ℕ → Network
+pair first second to_b to_a = record { machines = first ∷ second ∷ []; wires = wires; queues = to_b ∷ to_a ∷ []; end = 2 }
+
+abbrev opens : Network
+opens = pair (a 0 3 None false) (b None false) [] []
+
+-- ---- one cycle of `a`, event by event
+
+gives : after_fire opens 0 3 ≡ pair (a 0 3 None true) (b None false) (3 ∷ []) []
+gives = refl
+
+takes-it : after_latch (pair (a 0 3 None true) (b None false) (3 ∷ []) []) 0 ≡ pair (a 0 3 None true) (b (Some 3) false) [] []
+takes-it = refl
+
+gives-back : after_fire (pair (a 0 3 None true) (b (Some 3) false) [] []) 1 3 ≡ pair (a 0 3 None true) (b (Some 3) true) [] (3 ∷ [])
+gives-back = refl
+
+takes-back : after_latch (pair (a 0 3 None true) (b (Some 3) true) [] (3 ∷ [])) 1 ≡ pair (a 0 3 (Some 3) true) (b (Some 3) true) [] []
+takes-back = refl
+
+finishes : after_finish (pair (a 0 3 (Some 3) true) (b (Some 3) true) [] []) 0 (holds 3) ≡ pair (a 1 3 None false) (b (Some 3) true) [] []
+finishes = refl
+
+-- the counts are those of both sides
+one-put : puts (after_fire opens 0 3) 0 ≡ 1
+one-put = refl
+
+none-taken : takes (after_fire opens 0 3) 0 ≡ 0
+none-taken = refl
+
+still-put : puts (pair (a 1 3 None false) (b (Some 3) true) [] []) 0 ≡ 1
+still-put = refl
+
+-- ---- when: an out needs its ins alone
+
+all-true : (k : ℕ) (d : Bool) → k < 1 → slice_index_or (true ∷ []) k d ≡ true
+all-true zero d below = refl
+all-true (suc k) d below = absurd (omega arith)
+
+a-first : CanFire opens 0
+a-first = record { can = (lit< tt, lit< tt); clear = refl; needed = refl; room = lit< tt }
+
+b-waits : FireRefused opens 1 (NeedsInput 0)
+b-waits = ((lit< tt, lit< tt), refl, record { known = lit< tt; machine = refl; place = refl })
+
+b-not-yet : CanFire opens 1 → ⊥
+b-not-yet can = let is : ◌≡◌ {A = Option ℕ} (Some 0) None = can.needed in cc
+
+nothing-to-take : LatchRefused opens 0 (NoToken 0)
+nothing-to-take = ((lit< tt, lit< tt), refl, refl, refl)
+
+no-channel : LatchRefused opens 2 Stranger
+no-channel = omega arith
+
+not-whole : FinishRefused opens 0 (Unfired 0)
+not-whole = (lit< tt, lit< tt, record { out = 0; first = record { known = lit< tt; clear = refl; before = λ k below. absurd (omega arith) }; at = record { known = lit< tt; machine = refl; out = refl } })
+
+without-in : FinishRefused (after_fire opens 0 3) 0 (NeedsInput 1)
+without-in = (lit< tt, lit< tt, all-true, refl, record { place = 0; first = record { known = lit< tt; empty = refl; before = λ k below. absurd (omega arith) }; at = record { known = lit< tt; machine = refl; place = refl } })
+
+-- the first condition that fails is told: a flag before a queue without room
+twice : FireRefused (after_fire opens 0 3) 0 Fired
+twice = ((lit< tt, lit< tt), refl)
+
+not-full-first : FireRefused (after_fire opens 0 3) 0 (Full 0 1) → ⊥
+not-full-first refused = let is : true ≡ false = refused.1 in cc
+
+no-room : FireRefused (pair (a 1 3 None false) (b None false) (3 ∷ []) []) 0 (Full 0 1)
+no-room = ((lit< tt, lit< tt), refl, refl, omega arith, refl, refl)
+
+-- a machine that has done all its cycles
+ended : FireRefused (pair (a 2 3 None false) (b None false) [] []) 0 Ended
+ended = (lit< tt, λ below. omega (arith, below))
+
+-- ---- no ring: only the channel of `b` needs another
+
+second : (place d : ℕ) → IsAtIn wires 1 place d → value_at (0 ∷ 1 ∷ []) d < 1
+second place zero at = lit< tt
+second place (suc zero) at = absurd (omega (arith, at.machine))
+second place (suc (suc d)) at = absurd (omega (arith, at.known))
+
+lower : (c d : ℕ) → NeedsChannel (frame_of opens) c d → value_at (0 ∷ 1 ∷ []) d < value_at (0 ∷ 1 ∷ []) c
+lower zero d needs = absurd (omega (arith, needs.needed.1))
+lower (suc zero) d needs = second needs.place d needs.at
+lower (suc (suc c)) d needs = absurd (omega (arith, needs.known))
+
+ranked : HasNoRing (frame_of opens)
+ranked = record { ranks = 0 ∷ 1 ∷ []; lower = lower }
+
+-- ---- a queue: the list from the tokens taken to those put
+
+queued : BetweenAt (3 ∷ 5 ∷ []) 1 0 1 (3 ∷ [])
+queued = record { held = refl; room = omega arith; tokens = λ j below. first j below }
+  where
+    first : (j : ℕ) → j < 1 → value_at (3 ∷ []) j ≡ value_at (3 ∷ 5 ∷ []) (0 + j)
+    first zero below = refl
+    first (suc j) below = absurd (omega arith)
+
+not-another : BetweenAt (3 ∷ 5 ∷ []) 1 0 1 (5 ∷ []) → ⊥
+not-another between = omega (arith, between.tokens 0 (lit< tt))
+
+not-longer : BetweenAt (3 ∷ 5 ∷ []) 1 0 2 (3 ∷ 5 ∷ []) → ⊥
+not-longer between = omega (arith, between.room)
+
+not-lost : BetweenAt (3 ∷ 5 ∷ []) 1 0 1 [] → ⊥
+not-lost between = omega (arith, between.held)
+
+-- ---- a memory that is served: a late reader (port 0) before a writer (port 1)
+
+abbrev ports : List Port
+ports =
+    record { number = 0; access = ByReader 0 (record { addr = 0; en = 1; word = 6 }) }
+    ∷ record { number = 1; access = ByWriter 0 (record { addr = 2; en = 3; word = 4; mask = 5 }) }
+    ∷ []
+
+abbrev memory : ℕ → List (Option ℕ) → Bool → Machine
+memory served latches flag =
+    record {
+      behaviour = RunsPiece no_circuit;
+      limit = 10;
+      needs = [] ∷ [];
+      ports = ports;
+      cycle = 0;
+      state = record { registers = []; banks = record { words = 7 ∷ 9 ∷ []; reads = 0 ∷ [] } ∷ [] };
+      served = served;
+      latches = latches;
+      flags = flag ∷ [];
+      kept = [];
+    }
+
+abbrev alone : Machine → Network
+alone machine =
+    record { machines = machine ∷ []; wires = record { producer = 0; out = 0; consumer = 0; place = 0; capacity = 1 } ∷ record { producer = 0; out = 0; consumer = 0; place = 1; capacity = 1 } ∷ []; queues = [] ∷ [] ∷ []; end = 2 }
+
+abbrev with_reader : List (Option ℕ)
+with_reader = Some 1 ∷ Some 1 ∷ None ∷ None ∷ None ∷ None ∷ []
+
+reader-first : CanServe (alone (memory 0 with_reader true)) 0 0
+reader-first = record { there = (lit< tt, (0, lit< tt, refl)); below = lit< tt; fired = all-true; due = refl; fields = refl }
+
+not-the-writer : ServeRefused (alone (memory 0 with_reader true)) 0 1 (Order 0)
+not-the-writer = ((lit< tt, (1, lit< tt, refl)), lit< tt, all-true, (λ is. let same : ◌≡◌ {A = Option ℕ} (Some 0) (Some 1) = is in cc), refl)
+
+none-due : due_or_count ports None ≡ 2
+none-due = refl
+
+not-before-the-token : CanServe (alone (memory 0 with_reader false)) 0 0 → ⊥
+not-before-the-token can = let is : false ≡ true = can.fired 0 false (lit< tt) in cc
+
+field-wanted : ServeRefused (alone (memory 0 (Some 1 ∷ None ∷ None ∷ None ∷ None ∷ None ∷ []) true)) 0 0 (NeedsInput 1)
+field-wanted = ((lit< tt, (0, lit< tt, refl)), lit< tt, all-true, refl, record { known = lit< tt; machine = refl; place = refl })
+
+no-such-port : ServeRefused (alone (memory 0 with_reader true)) 0 2 Stranger
+no-such-port has = by has.1.0 has.1.1 has.1.2
+  where
+    by : (k : ℕ) → k < 2 → ◌≡◌ {A = ℕ} (slice_index_or (0 ∷ 1 ∷ []) k 2) 2 → ⊥
+    by zero below is = omega (arith, is)
+    by (suc zero) below is = omega (arith, is)
+    by (suc (suc k)) below is = omega (arith, below)
+
+left : FinishRefused (alone (memory 1 with_reader true)) 0 (Unserved 1)
+left = (lit< tt, lit< tt, all-true, refl)
+
+-- the reader has the word at 1; the writer hasn't written
+served-one : after_serve (alone (memory 0 with_reader true)) 0 ≡ alone (record (memory 1 with_reader true) { state = record { registers = []; banks = record { words = 7 ∷ 9 ∷ []; reads = 9 ∷ [] } ∷ [] } })
+served-one = refl
+
+-- ---- a source that feeds a tray: the lists that its channel and its rows are to have do solve it
+
+abbrev fed : Network
+fed = opening_net (source_machine (4 ∷ 6 ∷ []) 0 false ∷ tray_machine 2 0 [] None ∷ []) (record { producer = 0; out = 0; consumer = 1; place = 0; capacity = 1 } ∷ []) 2
+
+fed-into : (m i : ℕ) → m < 2 → i < (kind_at (frame_of fed).kinds m).ins → (c : ℕ) × IsAtIn fed.wires m i c
+fed-into zero i there below = absurd (omega (arith, below))
+fed-into (suc zero) zero there below = (0, record { known = lit< tt; machine = refl; place = refl })
+fed-into (suc zero) (suc i) there below = absurd (omega (arith, below))
+fed-into (suc (suc m)) i there below = absurd (omega (arith, there))
+
+fed-from : (m o : ℕ) → m < 2 → o < (kind_at (frame_of fed).kinds m).outs → (c : ℕ) × IsAtOut fed.wires m o c
+fed-from zero zero there below = (0, record { known = lit< tt; machine = refl; out = refl })
+fed-from zero (suc o) there below = absurd (omega (arith, below))
+fed-from (suc zero) o there below = absurd (omega (arith, below))
+fed-from (suc (suc m)) o there below = absurd (omega (arith, there))
+
+no-needs : (o i : ℕ) → Contains (needs_at ([] ∷ []) o) i → ⊥
+no-needs zero i has = omega (arith, has.1)
+no-needs (suc o) i has = omega (arith, has.1)
+
+fed-needs : (m o i : ℕ) → m < 2 → Contains (needs_at (kind_at (frame_of fed).kinds m).needs o) i → i < (kind_at (frame_of fed).kinds m).ins
+fed-needs zero o i there has = absurd (no-needs o i has)
+fed-needs (suc zero) o i there has = absurd (omega (arith, has.1))
+fed-needs (suc (suc m)) o i there has = absurd (omega (arith, there))
+
+fed-fields : (m : ℕ) → m < 2 → All (λ (port : Port). All (λ i. i < (kind_at (frame_of fed).kinds m).ins) (fields_of port.access)) (kind_at (frame_of fed).kinds m).ports
+fed-fields zero there k d below = absurd (omega (arith, below))
+fed-fields (suc zero) there k d below = absurd (omega (arith, below))
+fed-fields (suc (suc m)) there k d below = absurd (omega (arith, there))
+
+fed-wired : IsWired (frame_of fed)
+fed-wired =
+    record {
+      producer = only (λ c. (wire_at fed.wires c).producer < 2) (lit< tt);
+      out = only (λ c. (wire_at fed.wires c).out < (kind_at (frame_of fed).kinds (wire_at fed.wires c).producer).outs) (lit< tt);
+      consumer = only (λ c. (wire_at fed.wires c).consumer < 2) (lit< tt);
+      place = only (λ c. (wire_at fed.wires c).place < (kind_at (frame_of fed).kinds (wire_at fed.wires c).consumer).ins) (lit< tt);
+      into = fed-into;
+      from = fed-from;
+      one_in = λ c d known there same_machine same_place. omega (arith, known, there);
+      needs = fed-needs;
+      fields = fed-fields;
+      one_out = λ c d known there same_machine same_out. omega (arith, known, there);
+    }
+
+fed-solved : Solves ((4 ∷ 6 ∷ []) ∷ []) ([] ∷ [] ∷ []) (frame_of fed)
+fed-solved =
+    record {
+      able = both (λ m. 2 ≤ (kind_at (frame_of fed).kinds m).limit) (omega arith) (omega arith);
+      does = both (λ m. Runs (kind_at (frame_of fed).kinds m).behaviour (kind_at (frame_of fed).kinds m) (rows_at ([] ∷ [] ∷ []) m) 2) (omega arith) refl;
+      long = only (λ c. length (list_at ((4 ∷ 6 ∷ []) ∷ []) c) ≡ 2) refl;
+      given = λ c known t lt. given c known t;
+      taken = λ c known t lt. taken c known t;
+    }
+  where
+    given : (c : ℕ) → c < 1 → (t : ℕ) → Answers (kind_at (frame_of fed).kinds (wire_at fed.wires c).producer).behaviour (rows_at ([] ∷ [] ∷ []) (wire_at fed.wires c).producer) (wire_at fed.wires c).out t (value_at (list_at ((4 ∷ 6 ∷ []) ∷ []) c) t)
+    given zero known t = refl
+    given (suc c) known t = absurd (omega (arith, known))
+
+    taken : (c : ℕ) → c < 1 → (t : ℕ) → Asks (kind_at (frame_of fed).kinds (wire_at fed.wires c).consumer).behaviour (rows_at ([] ∷ [] ∷ []) (wire_at fed.wires c).consumer) (wire_at fed.wires c).place t (value_at (list_at ((4 ∷ 6 ∷ []) ∷ []) c) t)
+    taken zero known t = tt
+    taken (suc c) known t = absurd (omega (arith, known))
+
+-- another list does not
+not-solved : Solves ((4 ∷ 7 ∷ []) ∷ []) ([] ∷ [] ∷ []) (frame_of fed) → ⊥
+not-solved solves = let is : value_at (4 ∷ 6 ∷ []) 1 ≡ value_at (4 ∷ 7 ∷ []) 1 = solves.given 0 (lit< tt) 1 (lit< tt) in omega (arith, is)

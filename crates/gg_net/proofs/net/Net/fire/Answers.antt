@@ -1,0 +1,29 @@
+use Rattle.std.proofs.Common.{map, sym, subst}
+use Rattle.std.specs.Prelude.{slice_set}
+use Rattle.gg_net.specs.Net.{net_of}
+use Rattle.gg_net.specs.Step.{CanFire, Gives}
+use Rattle.gg_net.proofs.CloseLemmas.{fire-may, fire-room, fire-gives, fire-closes}
+use Rattle.gg_net.proofs.net.Net.fire.Goals as goal
+
+pub fire-token-requires-clause-may : goal.fire-token-requires-clause-may
+fire-token-requires-clause-may g c =
+    let can = subst (λ n. CanFire n c.args.channel) (sym c.self.view_is) c.requires in
+    λ κs outlive. fire-may c.self.invariant c.args.channel c.index-wire.result.now c.index-wire.ensures can.can.0 c.index.result.now c.index.ensures can
+
+pub put-requires : goal.put-requires
+put-requires g c =
+    let can = subst (λ n. CanFire n c.args.channel) (sym c.self.view_is) c.requires in
+    fire-room c.self.invariant c.args.channel c.index-wire.result.now c.index-wire.ensures can.can.0 c.index_mut.result.now c.index_mut.ensures.value can
+
+pub invariant_of-self : goal.invariant_of-self
+invariant_of-self g c =
+    let can = subst (λ n. CanFire n c.args.channel) (sym c.self.view_is) c.requires in
+    fire-closes c.self.invariant c.args.channel c.index-wire.result.now c.index-wire.ensures can.can.0 c.index_mut.result.now c.index_mut.ensures.value c.index.result.now c.index.ensures can
+    (map g.H.Host.machines c.fire-token.new.hosts.items) c.fire-token.result c.fire-token.ensures.token c.put.new.self c.put.ensures.tokens c.put.ensures.room c.fire-token.ensures.step
+
+pub returns : goal.returns
+returns g c =
+    let can = subst (λ n. CanFire n c.args.channel) (sym c.self.view_is) c.requires in
+    subst (λ n. Gives n c.args.channel (net_of (map g.H.Host.machines c.fire-token.new.hosts.items) c.self.inside.stations.items c.self.inside.wires.items (slice_set c.self.inside.queues.items c.args.channel c.put.new.self) c.self.inside.end)) c.self.view_is
+    (fire-gives c.self.invariant c.args.channel c.index-wire.result.now c.index-wire.ensures can.can.0 c.index_mut.result.now c.index_mut.ensures.value c.index.result.now c.index.ensures can
+    (map g.H.Host.machines c.fire-token.new.hosts.items) c.fire-token.result c.fire-token.ensures.token c.put.new.self c.put.ensures.tokens c.put.ensures.room c.fire-token.ensures.step)

@@ -1,0 +1,22 @@
+use Rattle.std.proofs.Common.{map, sym, ap, subst, ◌∙◌}
+use Rattle.gg_net.specs.Step.{CanLatch, after_latch}
+use Rattle.gg_net.proofs.CloseLemmas.{latch-may, latch-is, latch-closes}
+use Rattle.gg_net.proofs.net.Net.latch.Goals as goal
+
+pub latch-requires-clause-may : goal.latch-requires-clause-may
+latch-requires-clause-may g c =
+    let can = subst (λ n. CanLatch n c.args.channel) (sym c.self.view_is) c.requires in
+    λ κs outlive. latch-may c.self.invariant c.args.channel c.index-wire.result.now c.index-wire.ensures can.can.0 c.index_mut.result.now c.index_mut.ensures.value c.index.result.now c.index.ensures c.take-token.result c.take-token.ensures.token can
+
+pub invariant_of-self : goal.invariant_of-self
+invariant_of-self g c =
+    let can = subst (λ n. CanLatch n c.args.channel) (sym c.self.view_is) c.requires in
+    latch-closes c.self.invariant c.args.channel c.index-wire.result.now c.index-wire.ensures can.can.0 c.index_mut.result.now c.index_mut.ensures.value c.index.result.now c.index.ensures c.take-token.result c.take-token.ensures.token can
+    (map g.H.Host.machines c.latch.new.hosts.items) c.take-token.new.self c.take-token.ensures.rest c.take-token.ensures.room c.latch.ensures
+
+pub returns : goal.returns
+returns g c =
+    let can = subst (λ n. CanLatch n c.args.channel) (sym c.self.view_is) c.requires in
+    latch-is c.self.invariant c.args.channel c.index-wire.result.now c.index-wire.ensures can.can.0 c.index_mut.result.now c.index_mut.ensures.value c.index.result.now c.index.ensures c.take-token.result c.take-token.ensures.token can
+    (map g.H.Host.machines c.latch.new.hosts.items) c.take-token.new.self c.take-token.ensures.rest c.take-token.ensures.room c.latch.ensures
+    ∙ ap (λ n. after_latch n c.args.channel) c.self.view_is

@@ -1,0 +1,173 @@
+-- What holds of a network at all times, for the lists of values that its channels are to carry: each machine is in
+-- the state of its run, each latch, flag and queue is what the lists and the counts say.
+-- Source: MEMOCODE 2009 (the k-th token of each queue is the signal's value in cycle k; a queue holds the tokens that
+-- were put and not yet taken, at most its bound; without a ring among dependencies the network can go on); ICCAD 2019
+-- for memories that are served port by port.
+use Rattle.std.specs.Prelude.{◌≡◌, ℕ, suc, ◌+◌, ◌<◌, ◌≤◌, List, [], ◌∷◌, Some, None, true, All, Contains, length, map, take, fold, slice_index_or, ⊤}
+use Rattle.gg_flat.specs.Line.{value_at}
+use Rattle.gg_flat.specs.Circuit.{FlatCircuit}
+use Rattle.gg_flat.specs.State.{State}
+use Rattle.gg_flat.specs.Memory.{bank_at}
+use Rattle.gg_flat.specs.Run.{IsRun, row_at, column, state_at, opening_start}
+use Rattle.gg_flat.specs.Served.{after_access}
+use Rattle.gg_flat.specs.WellFormed.{IsWellFormed}
+use Rattle.gg_node.specs.Machine.{Behaviour, RunsPiece, GivesColumn, KeepsValues, Port, Machine, machine_at, latch_at, flag_at, needs_at, missing}
+use Rattle.gg_node.specs.Step.{AllFired, HasFields, fields_of}
+use Rattle.gg_net.specs.Network.{wire_at, IsAtIn, IsAtOut, Network, queue_at, puts, takes, Kind, kind_of, kind_at, Frame, frame_of}
+
+-- ---- lists and rows
+
+-- the list of values of a channel
+abbrev pub list_at : List (List ℕ) → ℕ → List ℕ
+list_at lists c = slice_index_or lists c []
+
+-- the rows of a machine
+abbrev pub rows_at : List (List (List ℕ)) → ℕ → List (List ℕ)
+rows_at runs m = slice_index_or runs m []
+
+-- the values of the in-signals in a row
+abbrev pub ins_of : FlatCircuit → List ℕ → List ℕ
+ins_of piece row = map (value_at row) piece.ins
+
+-- the columns of the in-signals
+abbrev pub in_columns : FlatCircuit → List (List ℕ) → List (List ℕ)
+in_columns piece rows = map (column rows) piece.ins
+
+-- the state of a piece before cycle t of its rows
+abbrev pub run_state : FlatCircuit → List (List ℕ) → ℕ → State
+run_state piece rows t = state_at piece (opening_start piece) rows t
+
+-- the state of a memory after the access of a port, with these values as its fields
+abbrev pub served_one : List ℕ → State → Port → State
+served_one inputs state port = record { registers = state.registers; banks = after_access inputs (bank_at state.banks 0) port.access ∷ [] }
+
+-- the state of a memory after the accesses of these ports
+abbrev pub served_by : List ℕ → State → List Port → State
+served_by inputs state ports = fold (served_one inputs) state ports
+
+-- ---- the lists solve the network
+
+-- Where ports are served, they make the next state of the piece together.
+abbrev pub ServesRows : FlatCircuit → List (List ℕ) → ℕ → List Port → Type 0
+ServesRows piece rows end [] = ⊤
+ServesRows piece rows end (port ∷ ports) = (t : ℕ) → t < end → served_by (ins_of piece (row_at rows t)) (run_state piece rows t) (port ∷ ports) ≡ run_state piece rows (suc t)
+
+-- The rows of a machine that runs a piece are a run of it, on the columns of its own in-signals.
+pub record RunsRows (piece : FlatCircuit) (kind : Kind) (rows : List (List ℕ)) (end : ℕ) : Type 0 where
+  pub formed : IsWellFormed piece
+  pub ins : kind.ins ≡ length piece.ins
+  pub outs : kind.outs ≡ length piece.outs
+  pub is : IsRun piece (in_columns piece rows) end rows
+  pub serves : ServesRows piece rows end kind.ports
+
+-- what a machine does for all its cycles
+abbrev pub Runs : Behaviour → Kind → List (List ℕ) → ℕ → Type 0
+Runs (RunsPiece piece) kind rows end = RunsRows piece kind rows end
+Runs (GivesColumn column) kind rows end = end ≤ length column
+Runs KeepsValues kind rows end = kind.ins ≡ 1
+
+-- a value is that of an out in cycle t
+abbrev pub Answers : Behaviour → List (List ℕ) → ℕ → ℕ → ℕ → Type 0
+Answers (RunsPiece piece) rows o t value = value_at (row_at rows t) (value_at piece.outs o) ≡ value
+Answers (GivesColumn column) rows o t value = value_at column t ≡ value
+Answers KeepsValues rows o t value = ⊥
+
+-- a value is what an in takes in cycle t
+abbrev pub Asks : Behaviour → List (List ℕ) → ℕ → ℕ → ℕ → Type 0
+Asks (RunsPiece piece) rows i t value = value_at (row_at rows t) (value_at piece.ins i) ≡ value
+Asks (GivesColumn column) rows i t value = ⊥
+Asks KeepsValues rows i t value = ⊤
+
+-- The lists and the rows solve a network: each machine can do all cycles, and its rows are a run; each channel's list
+-- has a value for each cycle, which is its producer's there, and its consumer's too.
+pub record Solves (lists : List (List ℕ)) (runs : List (List (List ℕ))) (frame : Frame) : Type 0 where
+  pub able : (m : ℕ) → m < length frame.kinds → frame.end ≤ (kind_at frame.kinds m).limit
+  pub does : (m : ℕ) → m < length frame.kinds → Runs (kind_at frame.kinds m).behaviour (kind_at frame.kinds m) (rows_at runs m) frame.end
+  pub long : (c : ℕ) → c < length frame.wires → length (list_at lists c) ≡ frame.end
+  pub given : (c : ℕ) → c < length frame.wires → let p : ℕ = (wire_at frame.wires c).producer in (t : ℕ) → t < frame.end → Answers (kind_at frame.kinds p).behaviour (rows_at runs p) (wire_at frame.wires c).out t (value_at (list_at lists c) t)
+  pub taken : (c : ℕ) → c < length frame.wires → let q : ℕ = (wire_at frame.wires c).consumer in (t : ℕ) → t < frame.end → Asks (kind_at frame.kinds q).behaviour (rows_at runs q) (wire_at frame.wires c).place t (value_at (list_at lists c) t)
+
+-- ---- the wiring
+
+-- Each channel leads from an out that is there to an in that is there; each in and each out is at just one channel;
+-- needs and fields of ports are ins that are there.
+pub record IsWired (frame : Frame) : Type 0 where
+  pub producer : (c : ℕ) → c < length frame.wires → (wire_at frame.wires c).producer < length frame.kinds
+  pub out : (c : ℕ) → c < length frame.wires → (wire_at frame.wires c).out < (kind_at frame.kinds (wire_at frame.wires c).producer).outs
+  pub consumer : (c : ℕ) → c < length frame.wires → (wire_at frame.wires c).consumer < length frame.kinds
+  pub place : (c : ℕ) → c < length frame.wires → (wire_at frame.wires c).place < (kind_at frame.kinds (wire_at frame.wires c).consumer).ins
+  pub into : (m i : ℕ) → m < length frame.kinds → i < (kind_at frame.kinds m).ins → (c : ℕ) × IsAtIn frame.wires m i c
+  pub from : (m o : ℕ) → m < length frame.kinds → o < (kind_at frame.kinds m).outs → (c : ℕ) × IsAtOut frame.wires m o c
+  pub one_in : (c d : ℕ) → c < length frame.wires → d < length frame.wires → (wire_at frame.wires c).consumer ≡ (wire_at frame.wires d).consumer → (wire_at frame.wires c).place ≡ (wire_at frame.wires d).place → c ≡ d
+  pub needs : (m o i : ℕ) → m < length frame.kinds → Contains (needs_at (kind_at frame.kinds m).needs o) i → i < (kind_at frame.kinds m).ins
+  pub fields : (m : ℕ) → m < length frame.kinds → All (λ port. All (λ i. i < (kind_at frame.kinds m).ins) (fields_of port.access)) (kind_at frame.kinds m).ports
+  pub one_out : (c d : ℕ) → c < length frame.wires → d < length frame.wires → (wire_at frame.wires c).producer ≡ (wire_at frame.wires d).producer → (wire_at frame.wires c).out ≡ (wire_at frame.wires d).out → c ≡ d
+
+-- Channel c needs channel d in the same cycle: d is at an in that c's out needs.
+pub record NeedsChannel (frame : Frame) (c d : ℕ) : Type 0 where
+  pub known : c < length frame.wires
+  pub place : ℕ
+  pub needed : Contains (needs_at (kind_at frame.kinds (wire_at frame.wires c).producer).needs (wire_at frame.wires c).out) place
+  pub at : IsAtIn frame.wires (wire_at frame.wires c).producer place d
+
+-- There is no ring among the needs: each channel has a rank, and needs channels of lower ranks alone.
+pub record HasNoRing (frame : Frame) : Type 0 where
+  pub ranks : List ℕ
+  pub lower : (c d : ℕ) → NeedsChannel frame c d → value_at ranks d < value_at ranks c
+
+-- What no step changes: the network is wired, has no ring, and is solved by the lists and rows.
+pub record IsSound (lists : List (List ℕ)) (runs : List (List (List ℕ))) (frame : Frame) : Type 0 where
+  pub wired : IsWired frame
+  pub no_ring : HasNoRing frame
+  pub solves : Solves lists runs frame
+
+-- ---- a machine
+
+-- The state of a machine in a cycle, after the accesses of its first `served` ports: that of its rows.
+abbrev pub IsStateOf : Behaviour → List Port → List (List ℕ) → ℕ → ℕ → State → Type 0
+IsStateOf (RunsPiece piece) ports rows cycle served state = state ≡ served_by (ins_of piece (row_at rows cycle)) (run_state piece rows cycle) (take served ports)
+IsStateOf (GivesColumn column) ports rows cycle served state = ⊤
+IsStateOf KeepsValues ports rows cycle served state = ⊤
+
+-- The values that a machine kept are those of a list in the cycles before this one.
+pub record HasKept (list : List ℕ) (cycle : ℕ) (kept : List ℕ) : Type 0 where
+  pub count : length kept ≡ cycle
+  pub is : (t : ℕ) → t < cycle → value_at kept t ≡ value_at list t
+
+-- what a machine kept of a channel that it takes
+abbrev pub Keeps : Behaviour → List ℕ → ℕ → List ℕ → Type 0
+Keeps (RunsPiece piece) list cycle kept = ⊤
+Keeps (GivesColumn column) list cycle kept = ⊤
+Keeps KeepsValues list cycle kept = HasKept list cycle kept
+
+-- A machine may stand at place m: it is of the kind there; it has done at most all cycles; its state is that of its
+-- rows; a latch holds its channel's value of this cycle; an out has given its token only where all that it needs was
+-- latched; ports were served only after all outs had given theirs, with their fields latched; and a tray has the
+-- values of its channel.
+pub record MachineAt (lists : List (List ℕ)) (runs : List (List (List ℕ))) (frame : Frame) (m : ℕ) (machine : Machine) : Type 0 where
+  pub kind : kind_of machine ≡ kind_at frame.kinds m
+  pub within : machine.cycle ≤ frame.end
+  pub stands : IsStateOf machine.behaviour machine.ports (rows_at runs m) machine.cycle machine.served machine.state
+  pub latched : (c value : ℕ) → c < length frame.wires → (wire_at frame.wires c).consumer ≡ m → latch_at machine.latches (wire_at frame.wires c).place ≡ Some value → (machine.cycle < frame.end) × (value ≡ value_at (list_at lists c) machine.cycle)
+  pub fired : (o : ℕ) → flag_at machine.flags o ≡ true → (machine.cycle < frame.end) × (missing machine o ≡ None)
+  pub served : machine.served ≤ length machine.ports
+  pub serving : 0 < machine.served → AllFired machine
+  pub fields : All (HasFields machine.latches) (take machine.served machine.ports)
+  pub kept : (c : ℕ) → c < length frame.wires → (wire_at frame.wires c).consumer ≡ m → Keeps machine.behaviour (list_at lists c) machine.cycle machine.kept
+
+-- ---- a channel
+
+-- A queue is a channel's list from the tokens taken to the tokens put, and no longer than the capacity.
+pub record BetweenAt (list : List ℕ) (capacity taken put : ℕ) (queue : List ℕ) : Type 0 where
+  pub held : taken + length queue ≡ put
+  pub room : length queue ≤ capacity
+  pub tokens : (j : ℕ) → j < length queue → value_at queue j ≡ value_at list (taken + j)
+
+-- ---- a network
+
+-- What a network keeps.
+pub record Kept (lists : List (List ℕ)) (runs : List (List (List ℕ))) (net : Network) : Type 0 where
+  pub queues : length net.queues ≡ length net.wires
+  pub sound : IsSound lists runs (frame_of net)
+  pub machines : (m : ℕ) → m < length net.machines → MachineAt lists runs (frame_of net) m (machine_at net.machines m)
+  pub channels : (c : ℕ) → c < length net.wires → BetweenAt (list_at lists c) (wire_at net.wires c).capacity (takes net c) (puts net c) (queue_at net.queues c)

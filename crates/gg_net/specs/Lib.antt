@@ -1,0 +1,6 @@
+pub mod Network
+pub mod Step
+pub mod Kept
+pub mod Queue
+pub mod Seats
+pub mod Net

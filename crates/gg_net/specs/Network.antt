@@ -1,0 +1,107 @@
+-- A network: machines joined by channels, each with a queue of its own.
+-- Source: MEMOCODE 2009 (a bounded dataflow network: nodes joined by queues of a bounded length); ICCAD 2019 (units
+-- of a target that pass one another a token for each target cycle).
+use Rattle.std.specs.Prelude.{◌≡◌, ℕ, suc, ◌<◌, List, [], Option, Some, None, Bool, true, false, length, map, slice_index_or}
+use Rattle.gg_net.specs.declared.shape.Wire.{Wire}
+use Rattle.gg_node.specs.Machine.{Behaviour, KeepsValues, Port, Machine, machine_at, latch_at, flag_at}
+
+-- ---- channels
+
+-- the channel of a number
+abbrev pub wire_at : List Wire → ℕ → Wire
+wire_at wires c = slice_index_or wires c (record { producer = 0; out = 0; consumer = 0; place = 0; capacity = 0 })
+
+-- Channel c is at the in of a machine.
+pub record IsAtIn (wires : List Wire) (m i c : ℕ) : Type 0 where
+  pub known : c < length wires
+  pub machine : (wire_at wires c).consumer ≡ m
+  pub place : (wire_at wires c).place ≡ i
+
+-- Channel c is at the out of a machine.
+pub record IsAtOut (wires : List Wire) (m o c : ℕ) : Type 0 where
+  pub known : c < length wires
+  pub machine : (wire_at wires c).producer ≡ m
+  pub out : (wire_at wires c).out ≡ o
+
+-- ---- networks
+
+-- A network: its machines, its channels with their queues, the front first, and how many cycles it is to do.
+pub record Network : Type 0 where
+  pub machines : List Machine
+  pub wires : List Wire
+  pub queues : List (List ℕ)
+  pub end : ℕ
+
+-- the queue of a channel
+abbrev pub queue_at : List (List ℕ) → ℕ → List ℕ
+queue_at queues c = slice_index_or queues c []
+
+-- the machine that gives the tokens of a channel
+abbrev pub producer_of : Network → ℕ → Machine
+producer_of net c = machine_at net.machines (wire_at net.wires c).producer
+
+-- the machine that takes the tokens of a channel
+abbrev pub consumer_of : Network → ℕ → Machine
+consumer_of net c = machine_at net.machines (wire_at net.wires c).consumer
+
+-- ---- counts
+
+-- how many tokens an out gave up to a cycle, with its flag
+abbrev pub given_by : ℕ → Bool → ℕ
+given_by cycle false = cycle
+given_by cycle true = suc cycle
+
+-- how many tokens an in got up to a cycle, with its latch
+abbrev pub got_by : ℕ → Option ℕ → ℕ
+got_by cycle None = cycle
+got_by cycle (Some value) = suc cycle
+
+-- how many tokens were put into a channel
+abbrev pub puts : Network → ℕ → ℕ
+puts net c = given_by (producer_of net c).cycle (flag_at (producer_of net c).flags (wire_at net.wires c).out)
+
+-- how many tokens were taken from a channel
+abbrev pub takes : Network → ℕ → ℕ
+takes net c = got_by (consumer_of net c).cycle (latch_at (consumer_of net c).latches (wire_at net.wires c).place)
+
+-- ---- what no step changes
+
+-- What stays of a machine: what it does, how many cycles it can do, what its outs need, which ports are served, and
+-- how many ins and outs it has.
+pub record Kind : Type 0 where
+  pub behaviour : Behaviour
+  pub limit : ℕ
+  pub needs : List (List ℕ)
+  pub ports : List Port
+  pub ins : ℕ
+  pub outs : ℕ
+
+-- the kind of a machine
+abbrev pub kind_of : Machine → Kind
+kind_of machine =
+    record {
+      behaviour = machine.behaviour;
+      limit = machine.limit;
+      needs = machine.needs;
+      ports = machine.ports;
+      ins = length machine.latches;
+      outs = length machine.flags;
+    }
+
+-- the kind of a machine that can do nothing
+abbrev pub no_kind : Kind
+no_kind = record { behaviour = KeepsValues; limit = 0; needs = []; ports = []; ins = 0; outs = 0 }
+
+-- the kind at a place
+abbrev pub kind_at : List Kind → ℕ → Kind
+kind_at kinds m = slice_index_or kinds m no_kind
+
+-- What stays of a network: the kinds of its machines, its channels, and its end.
+pub record Frame : Type 0 where
+  pub kinds : List Kind
+  pub wires : List Wire
+  pub end : ℕ
+
+-- the frame of a network
+abbrev pub frame_of : Network → Frame
+frame_of net = record { kinds = map kind_of net.machines; wires = net.wires; end = net.end }

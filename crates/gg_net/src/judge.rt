@@ -1,0 +1,166 @@
+//! Whether an event may be done, and else why not.
+ghost use Rattle.std.specs.Prelude.{◌≡◌, ◌<◌, ◌≤◌, Some, None, length, MatchOption, MatchResult};
+ghost use Rattle.gg_node.specs.Machine.{machine_at, missing, due};
+ghost use Rattle.gg_net.specs.Network.{wire_at, queue_at};
+ghost use Rattle.gg_net.specs.Step.{missing_field, IsWanted, Ready, Refused, CanLatch, CanFire, CanServe, CanFinish, LatchRefused, FireRefused, ServeRefused, FinishRefused};
+
+use crate::event::{Event, Refusal};
+use crate::net::Net;
+use crate::streams::Streams;
+use gg_node::Host;
+
+impl<H: Host, Z: Streams> Net<H, Z> {
+    // How many tokens the queue of a channel holds: no more than its capacity.
+    fn filled(&self, channel: u32) -> usize
+        requires { channel < length self.now.wires }
+        ensures count { result ≡ length (queue_at self.now.queues channel) }
+        ensures few { result ≤ (wire_at self.now.wires channel).capacity }
+    {
+        self.kept();
+        self.queued(channel)
+    }
+
+    // The channel at the first in that an out of a machine needs and that has no token yet.
+    fn missing_channel(&self, machine: u32, out: u32) -> Option<u32>
+        requires there { machine < length self.now.machines }
+        requires within { out < length (machine_at self.now.machines machine).flags }
+        ensures { MatchOption result (missing (machine_at self.now.machines machine) out ≡ None) (IsWanted self.now machine (missing (machine_at self.now.machines machine) out)) }
+    {
+        self.kept();
+        let Some(place) = self.missing(machine, out) else {
+            return None;
+        };
+        Some(self.in_channel(machine, place))
+    }
+
+    // The channel at the first field of the port that is due that has no token yet.
+    fn field_channel(&self, machine: u32, port: u32) -> Option<u32>
+        requires there { machine < length self.now.machines }
+        requires due { due (machine_at self.now.machines machine) ≡ Some port }
+        ensures { MatchOption result (missing_field self.now machine ≡ None) (IsWanted self.now machine (missing_field self.now machine)) }
+    {
+        self.kept();
+        let Some(place) = self.missing_field(machine, port) else {
+            return None;
+        };
+        Some(self.in_channel(machine, place))
+    }
+
+    // Whether the front token of a channel may be latched.
+    pub(crate) fn judge_latch(&self, channel: u32) -> Result<(), Refusal>
+        ensures { MatchResult result (λ _. CanLatch self.now channel) (LatchRefused self.now channel) }
+    {
+        if channel as usize >= self.channels() {
+            return Err(Refusal::Stranger);
+        }
+        let wire = self.wire(channel);
+        if self.cycle(wire.consumer) >= self.end() {
+            return Err(Refusal::Ended);
+        }
+        if self.latched(wire.consumer, wire.place) {
+            return Err(Refusal::Latched);
+        }
+        if self.queued(channel) == 0 {
+            return Err(Refusal::NoToken { channel });
+        }
+        Ok(())
+    }
+
+    // Whether the token of a channel may be given.
+    pub(crate) fn judge_fire(&self, channel: u32) -> Result<(), Refusal>
+        ensures { MatchResult result (λ _. CanFire self.now channel) (FireRefused self.now channel) }
+    {
+        if channel as usize >= self.channels() {
+            return Err(Refusal::Stranger);
+        }
+        let wire = self.wire(channel);
+        if self.cycle(wire.producer) >= self.end() {
+            return Err(Refusal::Ended);
+        }
+        if self.fired(wire.producer, wire.out) {
+            return Err(Refusal::Fired);
+        }
+        if let Some(channel) = self.missing_channel(wire.producer, wire.out) {
+            return Err(Refusal::NeedsInput { channel });
+        }
+        if self.filled(channel) >= wire.capacity as usize {
+            let len = wire.capacity;
+            return Err(Refusal::Full { channel, len });
+        }
+        Ok(())
+    }
+
+    // Whether a port may be served.
+    pub(crate) fn judge_serve(&self, machine: u32, port: u32) -> Result<(), Refusal>
+        ensures { MatchResult result (λ _. CanServe self.now machine port) (ServeRefused self.now machine port) }
+    {
+        if machine as usize >= self.machines() {
+            return Err(Refusal::Stranger);
+        }
+        if !self.has_port(machine, port) {
+            return Err(Refusal::Stranger);
+        }
+        if self.cycle(machine) >= self.end() {
+            return Err(Refusal::Ended);
+        }
+        if let Some(place) = self.first_unfired(machine) {
+            return Err(Refusal::Unfired {
+                channel: self.out_channel(machine, place),
+            });
+        }
+        let Some(due) = self.due(machine) else {
+            return Err(Refusal::Order {
+                due: self.port_bound(machine),
+            });
+        };
+        if due != port {
+            return Err(Refusal::Order { due });
+        }
+        if let Some(channel) = self.field_channel(machine, port) {
+            return Err(Refusal::NeedsInput { channel });
+        }
+        Ok(())
+    }
+
+    // Whether a machine may finish its cycle.
+    pub(crate) fn judge_finish(&self, machine: u32) -> Result<(), Refusal>
+        ensures { MatchResult result (λ _. CanFinish self.now machine) (FinishRefused self.now machine) }
+    {
+        if machine as usize >= self.machines() {
+            return Err(Refusal::Stranger);
+        }
+        if self.cycle(machine) >= self.end() {
+            return Err(Refusal::Ended);
+        }
+        if let Some(place) = self.first_unfired(machine) {
+            return Err(Refusal::Unfired {
+                channel: self.out_channel(machine, place),
+            });
+        }
+        if let Some(port) = self.due(machine) {
+            return Err(Refusal::Unserved { port });
+        }
+        if let Some(place) = self.first_unlatched(machine) {
+            return Err(Refusal::NeedsInput {
+                channel: self.in_channel(machine, place),
+            });
+        }
+        Ok(())
+    }
+
+    /// What `step` would answer.
+    ///
+    /// # Errors
+    ///
+    /// The first condition of the event that fails.
+    pub fn test(&self, event: Event) -> Result<(), Refusal>
+        ensures { MatchResult result (λ _. Ready self.now event) (Refused self.now event) }
+    {
+        match event {
+            Event::Latch { channel } => self.judge_latch(channel),
+            Event::Fire { channel } => self.judge_fire(channel),
+            Event::Serve { machine, port } => self.judge_serve(machine, port),
+            Event::Finish { machine } => self.judge_finish(machine),
+        }
+    }
+}

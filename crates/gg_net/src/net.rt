@@ -1,0 +1,164 @@
+//! `Net`: a network of machines.
+ghost use Rattle.std.specs.Prelude.{◌≡◌, ◌-◌, ◌<◌, [], length, map, IfOk, MatchOption};
+ghost use Rattle.gg_flat.specs.Line.{value_at};
+ghost use Rattle.gg_node.specs.Machine.{machine_at};
+ghost use Rattle.gg_net.specs.Network.{queue_at, puts, takes};
+ghost use Rattle.gg_net.specs.Kept.{Kept};
+ghost use Rattle.gg_net.specs.Seats.{machines_by};
+ghost use Rattle.gg_net.specs.Net.{AreOpen, Opens, opening_net};
+
+use crate::queue::Queue;
+use crate::seats;
+use crate::shape::{Shape, Station, Wire};
+use crate::streams::Streams;
+use gg_node::Host;
+use std::alloc::{AllocError, Global};
+use std::marker::{Model, PhantomData};
+
+/// A network of machines. A contract sees it as its machines, its channels with their queues, and its end.
+#[derive(Drop)]
+pub struct Net<H: Host, Z: Streams> {
+    pub(crate) hosts: Vec<H>,
+    pub(crate) stations: Vec<Station>,
+    pub(crate) wires: Vec<Wire>,
+    pub(crate) queues: Vec<Queue>,
+    pub(crate) end: u64,
+    of: PhantomData<Z>,
+}
+
+impl<H: Host, Z: Streams> Model for Net<H, Z> {
+    ghost use Rattle.std.specs.Prelude.{map};
+    ghost use Rattle.gg_net.specs.Network.{Network};
+    ghost use Rattle.gg_net.specs.Net.{net_of, IsNet};
+
+    ghost Value = { Network };
+
+    ghost view = { λ net. net_of (map H.machines net.hosts.items) net.stations.items net.wires.items net.queues.items net.end };
+
+    ghost invariant = { λ net. IsNet Z.lists Z.runs (map H.machines net.hosts.items) net.stations.items net.wires.items net.queues.items net.end };
+}
+
+// The queues of these channels.
+fn open_queues(alloc: Global, wires: &[Wire]) -> Result<Vec<Queue>, AllocError>
+    ensures { IfOk result (λ queues. AreOpen wires.now (length wires.now) queues.items) }
+{
+    let mut queues = Vec::new(alloc);
+    for wire in wires {
+        queues.push(Queue::new(alloc, wire.capacity)?)?;
+    }
+    Ok(queues)
+}
+
+impl<H: Host, Z: Streams> Net<H, Z> {
+    /// A network of these hosts' machines before the first cycle. It takes the room that its queues will want.
+    ///
+    /// # Errors
+    ///
+    /// Where memory is refused.
+    pub fn new(alloc: Global, hosts: Vec<H>, shape: Shape) -> Result<Net<H, Z>, AllocError>
+        requires { Opens Z.lists Z.runs (map H.machines hosts.items) shape.stations.items shape.wires.items shape.end }
+        ensures { IfOk result (λ net. net ≡ opening_net (machines_by (map H.machines hosts.items) shape.stations.items) shape.wires.items shape.end) }
+    {
+        let queues = open_queues(alloc, &shape.wires)?;
+        Ok(Net {
+            hosts,
+            stations: shape.stations,
+            wires: shape.wires,
+            queues,
+            end: shape.end,
+            of: PhantomData,
+        })
+    }
+
+    /// What every network keeps.
+    pub fn kept(&self)
+        ensures { Kept Z.lists Z.runs self.now }
+    {
+        let _ = &self.wires;
+    }
+
+    /// How many cycles it is to do.
+    pub fn end(&self) -> u64
+        ensures { result ≡ self.now.end }
+    {
+        self.end
+    }
+
+    /// How many machines it has.
+    pub fn machines(&self) -> usize
+        ensures { result ≡ length self.now.machines }
+    {
+        self.stations.len()
+    }
+
+    /// How many channels it has.
+    pub fn channels(&self) -> usize
+        ensures { result ≡ length self.now.wires }
+    {
+        self.wires.len()
+    }
+
+    /// The cycle that a machine is in.
+    pub fn cycle(&self, machine: u32) -> u64
+        requires { machine < length self.now.machines }
+        ensures { result ≡ (machine_at self.now.machines machine).cycle }
+    {
+        seats::cycle(&self.hosts, &self.stations[machine as usize])
+    }
+
+    /// How many ports of a machine were served in this cycle.
+    pub fn served(&self, machine: u32) -> u32
+        requires { machine < length self.now.machines }
+        ensures { result ≡ (machine_at self.now.machines machine).served }
+    {
+        seats::served(&self.hosts, &self.stations[machine as usize])
+    }
+
+    /// How many ports of a machine are served in a cycle.
+    pub fn dues(&self, machine: u32) -> u32
+        requires { machine < length self.now.machines }
+        ensures { result ≡ length (machine_at self.now.machines machine).ports }
+    {
+        seats::dues(&self.hosts, &self.stations[machine as usize])
+    }
+
+    /// How many tokens were put into a channel.
+    pub fn puts(&self, channel: u32) -> u64
+        requires { channel < length self.now.wires }
+        ensures { result ≡ puts self.now channel }
+    {
+        self.kept();
+        let _ = self.end();
+        let wire = self.wire(channel);
+        let cycle = self.cycle(wire.producer);
+        if self.fired(wire.producer, wire.out) {
+            cycle + 1
+        } else {
+            cycle
+        }
+    }
+
+    /// How many tokens were taken from a channel.
+    pub fn takes(&self, channel: u32) -> u64
+        requires { channel < length self.now.wires }
+        ensures { result ≡ takes self.now channel }
+    {
+        self.kept();
+        let _ = self.end();
+        let wire = self.wire(channel);
+        let cycle = self.cycle(wire.consumer);
+        if self.latched(wire.consumer, wire.place) {
+            cycle + 1
+        } else {
+            cycle
+        }
+    }
+
+    /// The token that was put into a channel last and not yet taken; none where its queue is empty.
+    pub fn newest(&self, channel: u32) -> Option<u128>
+        requires { channel < length self.now.wires }
+        ensures { MatchOption result (queue_at self.now.queues channel ≡ []) (λ token. (0 < length (queue_at self.now.queues channel)) × (token ≡ value_at (queue_at self.now.queues channel) (length (queue_at self.now.queues channel) - 1))) }
+    {
+        self.queues[channel as usize].newest()
+    }
+}

@@ -1,0 +1,69 @@
+//! `Queue`: the tokens of a channel, in a room that is reserved.
+ghost use Rattle.std.specs.Prelude.{◌≡◌, ◌-◌, ◌<◌, ◌≤◌, ◌++◌, ◌∷◌, [], length, drop, IfOk, Some, None, MatchOption};
+ghost use Rattle.gg_flat.specs.Line.{value_at};
+
+use std::alloc::{AllocError, Global};
+use std::collections::VecDeque;
+use std::marker::Model;
+
+/// The tokens of a channel, the front first, and for how many there is room. No call but the new one takes memory.
+#[derive(Drop)]
+pub(crate) struct Queue {
+    tokens: VecDeque<u128>,
+}
+
+impl Model for Queue {
+    ghost use Rattle.gg_net.specs.Queue.{Held, held_of};
+
+    ghost Value = { Held };
+
+    ghost view = { λ queue. held_of queue.tokens };
+}
+
+impl Queue {
+    /// A queue without a token, with room for so many.
+    ///
+    /// # Errors
+    ///
+    /// Where memory is refused.
+    pub fn new(alloc: Global, capacity: u32) -> Result<Queue, AllocError>
+        ensures { IfOk result (λ queue. (queue.tokens ≡ []) × (capacity ≤ queue.room)) }
+    {
+        Ok(Queue {
+            tokens: VecDeque::with_capacity(alloc, capacity as usize)?,
+        })
+    }
+
+    /// How many tokens there are.
+    pub fn len(&self) -> usize
+        ensures { result ≡ length self.now.tokens }
+    {
+        self.tokens.len()
+    }
+
+    /// The token at the back.
+    pub fn newest(&self) -> Option<u128>
+        ensures { MatchOption result (self.now.tokens ≡ []) (λ token. (0 < length self.now.tokens) × (token ≡ value_at self.now.tokens (length self.now.tokens - 1))) }
+    {
+        self.tokens.back().copied()
+    }
+
+    /// Takes the token at the front.
+    pub fn take(&mut self) -> u128
+        requires { 0 < length self.old.tokens }
+        ensures token { result ≡ value_at self.old.tokens 0 }
+        ensures rest { self.new.tokens ≡ drop 1 self.old.tokens }
+        ensures room { self.new.room ≡ self.old.room }
+    {
+        self.tokens.pop_front().unwrap_or(0)
+    }
+
+    /// Puts a token to the back.
+    pub fn put(&mut self, token: u128)
+        requires { length self.old.tokens < self.old.room }
+        ensures tokens { self.new.tokens ≡ self.old.tokens ++ token ∷ [] }
+        ensures room { self.new.room ≡ self.old.room }
+    {
+        self.tokens.push_back_reserved(token);
+    }
+}

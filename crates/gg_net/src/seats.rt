@@ -1,0 +1,161 @@
+//! The machines of a network at their hosts: what they tell, and their steps.
+ghost use Rattle.std.specs.Prelude.{◌≡◌, ◌^◌, ◌<◌, All, length, map, is_some, MatchOption};
+ghost use Rattle.gg_node.specs.Machine.{machine_at, latch_at, flag_at, first_empty, missing, due};
+ghost use Rattle.gg_node.specs.Token.{IsToken};
+ghost use Rattle.gg_node.specs.Step.{MayLatch, MayFire, MayServe, MayFinish, with_latch, with_flag, with_served, AllFired, AllLatched};
+ghost use Rattle.gg_net.specs.Step.{IsFirstClear, IsFirstEmpty};
+ghost use Rattle.gg_net.specs.Seats.{IsSeated, seated, IsReseated, HasGoneOn};
+
+use crate::shape::Station;
+use gg_node::Host;
+
+// The host of a machine.
+fn host_of<'a, H: Host>(hosts: &'a [H], station: &Station) -> &'a H
+    requires { IsSeated (map H.machines hosts.now) station.now }
+    ensures within { station.now.thread < length (H.machines result.now) }
+    ensures machine { machine_at (H.machines result.now) station.now.thread ≡ seated (map H.machines hosts.now) station.now }
+{
+    &hosts[station.host as usize]
+}
+
+// The cycle that a machine is in.
+pub(crate) fn cycle<H: Host>(hosts: &[H], station: &Station) -> u64
+    requires { IsSeated (map H.machines hosts.now) station.now }
+    ensures { result ≡ (seated (map H.machines hosts.now) station.now).cycle }
+{
+    host_of(hosts, station).cycle(station.thread)
+}
+
+// Whether an in of a machine has its token of this cycle.
+pub(crate) fn latched<H: Host>(hosts: &[H], station: &Station, place: u32) -> bool
+    requires seated { IsSeated (map H.machines hosts.now) station.now }
+    requires there { place < length (seated (map H.machines hosts.now) station.now).latches }
+    ensures { result ≡ is_some (latch_at (seated (map H.machines hosts.now) station.now).latches place) }
+{
+    host_of(hosts, station).latched(station.thread, place)
+}
+
+// Whether an out of a machine has given its token of this cycle.
+pub(crate) fn fired<H: Host>(hosts: &[H], station: &Station, place: u32) -> bool
+    requires seated { IsSeated (map H.machines hosts.now) station.now }
+    requires there { place < length (seated (map H.machines hosts.now) station.now).flags }
+    ensures { result ≡ flag_at (seated (map H.machines hosts.now) station.now).flags place }
+{
+    host_of(hosts, station).fired(station.thread, place)
+}
+
+// The first in that an out of a machine needs and that has no token yet.
+pub(crate) fn missing<H: Host>(hosts: &[H], station: &Station, place: u32) -> Option<u32>
+    requires seated { IsSeated (map H.machines hosts.now) station.now }
+    requires there { place < length (seated (map H.machines hosts.now) station.now).flags }
+    ensures { result ≡ missing (seated (map H.machines hosts.now) station.now) place }
+{
+    host_of(hosts, station).missing(station.thread, place)
+}
+
+// The port of a machine that is to be served next.
+pub(crate) fn due<H: Host>(hosts: &[H], station: &Station) -> Option<u32>
+    requires { IsSeated (map H.machines hosts.now) station.now }
+    ensures { result ≡ due (seated (map H.machines hosts.now) station.now) }
+{
+    host_of(hosts, station).due(station.thread)
+}
+
+// How many ports of a machine were served in this cycle.
+pub(crate) fn served<H: Host>(hosts: &[H], station: &Station) -> u32
+    requires { IsSeated (map H.machines hosts.now) station.now }
+    ensures { result ≡ (seated (map H.machines hosts.now) station.now).served }
+{
+    host_of(hosts, station).served(station.thread)
+}
+
+// How many ports of a machine are served in a cycle.
+pub(crate) fn dues<H: Host>(hosts: &[H], station: &Station) -> u32
+    requires { IsSeated (map H.machines hosts.now) station.now }
+    ensures { result ≡ length (seated (map H.machines hosts.now) station.now).ports }
+{
+    host_of(hosts, station).dues(station.thread)
+}
+
+// Puts a token into the latch of an in.
+pub(crate) fn latch<H: Host>(hosts: &mut Vec<H>, station: &Station, place: u32, token: u128)
+    requires seated { IsSeated (map H.machines hosts.old.items) station.now }
+    requires may { MayLatch (seated (map H.machines hosts.old.items) station.now) place token }
+    ensures { IsReseated (map H.machines hosts.old.items) (map H.machines hosts.new.items) station.now (with_latch (seated (map H.machines hosts.old.items) station.now) place token) }
+{
+    hosts[station.host as usize].latch(station.thread, place, token);
+}
+
+// Gives the token of an out.
+pub(crate) fn fire<H: Host>(hosts: &mut Vec<H>, station: &Station, place: u32) -> u128
+    requires seated { IsSeated (map H.machines hosts.old.items) station.now }
+    requires may { MayFire (seated (map H.machines hosts.old.items) station.now) place }
+    ensures token { IsToken (seated (map H.machines hosts.old.items) station.now) place result }
+    ensures step { IsReseated (map H.machines hosts.old.items) (map H.machines hosts.new.items) station.now (with_flag (seated (map H.machines hosts.old.items) station.now) place) }
+{
+    hosts[station.host as usize].fire(station.thread, place)
+}
+
+// Serves the port that is due.
+pub(crate) fn serve<H: Host>(hosts: &mut Vec<H>, station: &Station, port: u32)
+    requires seated { IsSeated (map H.machines hosts.old.items) station.now }
+    requires may { MayServe (seated (map H.machines hosts.old.items) station.now) port }
+    ensures { IsReseated (map H.machines hosts.old.items) (map H.machines hosts.new.items) station.now (with_served (seated (map H.machines hosts.old.items) station.now)) }
+{
+    hosts[station.host as usize].serve(station.thread, port);
+}
+
+// Finishes the cycle of a machine.
+pub(crate) fn finish<H: Host>(hosts: &mut Vec<H>, station: &Station)
+    requires seated { IsSeated (map H.machines hosts.old.items) station.now }
+    requires may { MayFinish (seated (map H.machines hosts.old.items) station.now) }
+    ensures { HasGoneOn (map H.machines hosts.old.items) (map H.machines hosts.new.items) station.now }
+{
+    hosts[station.host as usize].finish(station.thread);
+}
+
+// The first out of a machine that hasn't given its token of this cycle.
+pub(crate) fn first_unfired<H: Host>(hosts: &[H], station: &Station) -> Option<u32>
+    requires seated { IsSeated (map H.machines hosts.now) station.now }
+    requires outs { length station.now.outs ≡ length (seated (map H.machines hosts.now) station.now).flags }
+    requires few { length station.now.outs < 2 ^ 32 }
+    ensures { MatchOption result (AllFired (seated (map H.machines hosts.now) station.now)) (IsFirstClear (seated (map H.machines hosts.now) station.now).flags) }
+{
+    let outs = station.outs.as_slice();
+    for place in 0..outs.len() as u32 {
+        if !fired(hosts, station, place) {
+            return Some(place);
+        }
+    }
+    None
+}
+
+// The first in of a machine that has no token of this cycle.
+pub(crate) fn first_unlatched<H: Host>(hosts: &[H], station: &Station) -> Option<u32>
+    requires seated { IsSeated (map H.machines hosts.now) station.now }
+    requires ins { length station.now.ins ≡ length (seated (map H.machines hosts.now) station.now).latches }
+    requires few { length station.now.ins < 2 ^ 32 }
+    ensures { MatchOption result (AllLatched (seated (map H.machines hosts.now) station.now)) (IsFirstEmpty (seated (map H.machines hosts.now) station.now).latches) }
+{
+    let ins = station.ins.as_slice();
+    for place in 0..ins.len() as u32 {
+        if !latched(hosts, station, place) {
+            return Some(place);
+        }
+    }
+    None
+}
+
+// The first of these ins of a machine that has no token of this cycle.
+pub(crate) fn first_missing<H: Host>(hosts: &[H], station: &Station, places: &[u32]) -> Option<u32>
+    requires seated { IsSeated (map H.machines hosts.now) station.now }
+    requires there { All (λ i. i < length (seated (map H.machines hosts.now) station.now).latches) places.now }
+    ensures { result ≡ first_empty (seated (map H.machines hosts.now) station.now).latches places.now }
+{
+    for place in places {
+        if !latched(hosts, station, *place) {
+            return Some(*place);
+        }
+    }
+    None
+}

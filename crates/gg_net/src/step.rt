@@ -1,0 +1,109 @@
+//! `step`: what an event makes of a network.
+ghost use Rattle.std.specs.Prelude.{◌≡◌, MatchResult};
+ghost use Rattle.gg_net.specs.Step.{CanLatch, CanFire, CanServe, CanFinish, after_latch, after_serve, Gives, GoesOn, Step, Refused, LatchRefused, FireRefused, ServeRefused, FinishRefused};
+ghost use Rattle.gg_net.specs.declared.event.Event.TheVariants.{Latch, Fire, Serve, Finish};
+
+use crate::event::{Event, Refusal};
+use crate::net::Net;
+use crate::seats;
+use crate::streams::Streams;
+use gg_node::Host;
+
+impl<H: Host, Z: Streams> Net<H, Z> {
+    // Puts the front token of a channel into the latch.
+    fn latch(&mut self, channel: u32)
+        requires { CanLatch self.old channel }
+        ensures { self.new ≡ after_latch self.old channel }
+    {
+        let wire = self.wires[channel as usize];
+        let token = self.queues[channel as usize].take();
+        seats::latch(
+            &mut self.hosts,
+            &self.stations[wire.consumer as usize],
+            wire.place,
+            token,
+        );
+    }
+
+    // Gives the token of a channel.
+    fn fire(&mut self, channel: u32)
+        requires { CanFire self.old channel }
+        ensures { Gives self.old channel self.new }
+    {
+        let wire = self.wires[channel as usize];
+        let token = seats::fire(
+            &mut self.hosts,
+            &self.stations[wire.producer as usize],
+            wire.out,
+        );
+        self.queues[channel as usize].put(token);
+    }
+
+    // Serves a port.
+    fn serve(&mut self, machine: u32, port: u32)
+        requires { CanServe self.old machine port }
+        ensures { self.new ≡ after_serve self.old machine }
+    {
+        seats::serve(&mut self.hosts, &self.stations[machine as usize], port);
+    }
+
+    // Finishes the cycle of a machine.
+    fn finish(&mut self, machine: u32)
+        requires { CanFinish self.old machine }
+        ensures { GoesOn self.old machine self.new }
+    {
+        seats::finish(&mut self.hosts, &self.stations[machine as usize]);
+    }
+
+    // Latches the front token of a channel, where that may be done.
+    fn try_latch(&mut self, channel: u32) -> Result<(), Refusal>
+        ensures { MatchResult result (λ _. Step self.old (Latch channel) self.new) (λ refusal. LatchRefused self.old channel refusal × (self.new ≡ self.old)) }
+    {
+        self.judge_latch(channel)?;
+        self.latch(channel);
+        Ok(())
+    }
+
+    // Gives the token of a channel, where that may be done.
+    fn try_fire(&mut self, channel: u32) -> Result<(), Refusal>
+        ensures { MatchResult result (λ _. Step self.old (Fire channel) self.new) (λ refusal. FireRefused self.old channel refusal × (self.new ≡ self.old)) }
+    {
+        self.judge_fire(channel)?;
+        self.fire(channel);
+        Ok(())
+    }
+
+    // Serves a port, where that may be done.
+    fn try_serve(&mut self, machine: u32, port: u32) -> Result<(), Refusal>
+        ensures { MatchResult result (λ _. Step self.old (Serve machine port) self.new) (λ refusal. ServeRefused self.old machine port refusal × (self.new ≡ self.old)) }
+    {
+        self.judge_serve(machine, port)?;
+        self.serve(machine, port);
+        Ok(())
+    }
+
+    // Finishes the cycle of a machine, where that may be done.
+    fn try_finish(&mut self, machine: u32) -> Result<(), Refusal>
+        ensures { MatchResult result (λ _. Step self.old (Finish machine) self.new) (λ refusal. FinishRefused self.old machine refusal × (self.new ≡ self.old)) }
+    {
+        self.judge_finish(machine)?;
+        self.finish(machine);
+        Ok(())
+    }
+
+    /// Does an event, where it may be done.
+    ///
+    /// # Errors
+    ///
+    /// The first condition of the event that fails; the network is as it was then.
+    pub fn step(&mut self, event: Event) -> Result<(), Refusal>
+        ensures { MatchResult result (λ _. Step self.old event self.new) (λ refusal. Refused self.old event refusal × (self.new ≡ self.old)) }
+    {
+        match event {
+            Event::Latch { channel } => self.try_latch(channel),
+            Event::Fire { channel } => self.try_fire(channel),
+            Event::Serve { machine, port } => self.try_serve(machine, port),
+            Event::Finish { machine } => self.try_finish(machine),
+        }
+    }
+}
