@@ -4,17 +4,12 @@ pub mod EndingLemmas
 pub mod EntryLemmas
 pub mod FrontLemmas
 pub mod LineLemmas
-pub mod NeedLemmas
 pub mod OrderLemmas
 pub mod OutcomeLemmas
 pub mod PartitionLemmas
-pub mod PlanLemmas
-pub mod PlanTextLemmas
 pub mod PortLemmas
 pub mod PrintingLemmas
 pub mod ReadingLemmas
 pub mod RunLemmas
-pub mod SameCutLemmas
 pub mod TextLemmas
 pub mod WritingLemmas
-mod WorkedCheck

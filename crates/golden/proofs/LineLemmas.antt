@@ -6,30 +6,20 @@ use Rattle.gg_io.specs.Count.{Rose}
 use Rattle.golden.specs.declared.endings.Ending.{Ending}
 use Rattle.gg_cut.specs.declared.plan.Machine.{Machine}
 use Rattle.gg_cut.specs.declared.plan.Plan.{Plan}
-use Rattle.golden.specs.CheckText.{spaced}
-use Rattle.golden.specs.PlanText.{channel_names, line_of_channel, line_of_machine, machine_names, plan_text}
+use Rattle.gg_check.specs.PlanText.{channel_names, line_of_channel, line_of_machine, machine_names, plan_text}
 use Rattle.golden.specs.Outcome.{IsFront}
+use Rattle.gg_check.proofs.LineLemmas.{lines-more}
 use Rattle.golden.specs.Endings.{Prints}
 use Rattle.golden.proofs.PrintingLemmas.{rose-earlier, prints-more, stop-within}
 use Rattle.golden.proofs.WritingLemmas.{append_known-append, append_known-nil}
 
-module _ {A : Type 0} (f : A → List ℕ) where
-  -- one line more
-  pub lines-more : (xs : List A) (i : ℕ) (d : A) → i < length xs → flat_map f (take i xs) ++ f (get_or xs i d) ≡ flat_map f (take (i + 1) xs)
-  lines-more xs i d lt = by xs i lt ∙ ap (λ k. flat_map f (take k xs)) (let e : suc i ≡ i + 1 = omega arith in e)
-    where
-      by : (ys : List A) (k : ℕ) → k < length ys → flat_map f (take k ys) ++ f (get_or ys k d) ≡ flat_map f (take (suc k) ys)
-      by [] k lt = absurd (omega (arith, lt))
-      by (y ∷ ys) zero lt = sym (append-nil (f y))
-      by (y ∷ ys) (suc k) lt = append_assoc (f y) (flat_map f (take k ys)) (f (get_or ys k d)) ∙ ap (λ l. f y ++ l) (by ys k (omega (arith, lt)))
-
-  -- some lines are a front part of all
-  pub lines-front : (xs : List A) (i : ℕ) → IsFront (flat_map f (take i xs)) (flat_map f xs)
-  lines-front xs zero = (flat_map f xs, refl)
-  lines-front [] (suc i) = ([], refl)
-  lines-front (x ∷ xs) (suc i) =
-      let front = lines-front xs i in
-      (front.0, append_assoc (f x) (flat_map f (take i xs)) front.0 ∙ ap (λ l. f x ++ l) front.1)
+-- some lines are a front part of all
+pub lines-front : {A : Type 0} (f : A → List ℕ) (xs : List A) (i : ℕ) → IsFront (flat_map f (take i xs)) (flat_map f xs)
+lines-front f xs zero = (flat_map f xs, refl)
+lines-front f [] (suc i) = ([], refl)
+lines-front f (x ∷ xs) (suc i) =
+    let front = lines-front f xs i in
+    (front.0, append_assoc (f x) (flat_map f (take i xs)) front.0 ∙ ap (λ l. f x ++ l) front.1)
 
 -- so many lines stand on a sink behind what stood before
 pub record LinesTo {A : Type 0} (f : A → List ℕ) (xs : List A) (before now : Option (List ℕ)) (faults faults' refused refused' i : ℕ) : Type 0 where
@@ -69,18 +59,6 @@ pub prints-first : (T : Type 0) (before now : Option (List ℕ)) (failed : Type 
     → Prints {T = T} before now failed one (Err ending) → Prints {T = T} before now failed (one ++ other) (Err ending)
 prints-first T before now failed one other ending prints =
     stop-within T before before now failed failed [] one (one ++ other) ending (sym (append_known-nil before)) (λ x. x) (other, refl) prints
-
--- names with a blank before each are lines too
-spaced-lines : (f : ℕ → List ℕ) (xs : List ℕ) → spaced (map f xs) ≡ flat_map (λ x. 32 ∷ f x) xs
-spaced-lines f [] = refl
-spaced-lines f (x ∷ xs) = ap (λ l. (32 ∷ f x) ++ l) (spaced-lines f xs)
-
-pub spaced-more : (f : ℕ → List ℕ) (xs : List ℕ) (i d : ℕ) → i < length xs → (spaced (map f (take i xs)) ++ 32 ∷ []) ++ f (get_or xs i d) ≡ spaced (map f (take (i + 1) xs))
-spaced-more f xs i d lt =
-    append_assoc (spaced (map f (take i xs))) (32 ∷ []) (f (get_or xs i d))
-    ∙ ap (λ l. l ++ (32 ∷ f (get_or xs i d))) (spaced-lines f (take i xs))
-    ∙ lines-more (λ x. 32 ∷ f x) xs i d lt
-    ∙ sym (spaced-lines f (take (i + 1) xs))
 
 -- a plan's text that stopped among the machines
 pub plan-first : (T : Type 0) (before now : Option (List ℕ)) (failed : Type 0) (machines : List Machine) (plan : Plan) (ending : Ending) → machines ≡ plan.machines

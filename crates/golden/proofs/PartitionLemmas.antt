@@ -9,7 +9,9 @@ use Rattle.gg_cut.specs.Listed.{listed_of}
 use Rattle.gg_cut.specs.declared.fault.CutFault.{CutFault}
 use Rattle.gg_cut.specs.declared.fault.CutFault.TheVariants.{UnknownChannel, TooManyUnits, TooManyChannels}
 use Rattle.gg_cut.specs.declared.listed.Listed.{Listed}
-use Rattle.gg_flat.specs.Circuit.{FlatCircuit, readers_at}
+use Rattle.gg_check.specs.Alike.{AreAlike}
+use Rattle.gg_flat.specs.Circuit.{FlatCircuit, readers_at, signal_shapes}
+use Rattle.gg_flat.specs.Reads.{Reads}
 use Rattle.gg_flat.specs.Scoped.{memory_fields, reader_fields, writer_fields, writers_at}
 use Rattle.gg_flat.specs.Tree.{InstanceTree, memory_at, path_at}
 use Rattle.gg_flat.specs.declared.memory.Reader.{Reader}
@@ -51,15 +53,6 @@ request-once bytes a b p q =
 
 -- ---- the fault of a request
 
--- what a request is judged by is the same in both
-pub record AskSame (one other : Ordered) : Type 0 where
-  pub tree : one.tree ≡ other.tree
-  pub paths : one.circuit.paths ≡ other.circuit.paths
-  pub ins : one.circuit.ins ≡ other.circuit.ins
-  pub outs : one.circuit.outs ≡ other.circuit.outs
-  pub readers : (m : ℕ) → readers_at one.circuit m ≡ readers_at other.circuit m
-  pub writers : (m : ℕ) → writers_at one.circuit m ≡ writers_at other.circuit m
-
 flattened-same : {A B : Type 0} (f g : A → List B) → ((a : A) → f a ≡ g a) → (xs : List A) → flattened f xs ≡ flattened g xs
 flattened-same f g h [] = refl
 flattened-same f g h (x ∷ xs) = ap (λ l. l ++ flattened f xs) (h x) ∙ ap (λ l. g x ++ l) (flattened-same f g h xs)
@@ -84,7 +77,7 @@ channel-fault-same one other request listed signals others paths same =
     (or_else (range_fault request.capacity) (or_else (option_map TooManyUnits (too_many_units listed)) (option_map TooManyChannels (too_many_channels signals))))) paths
     ∙ ap (λ (x : List ℕ). channel_fault other request listed x) same
 
-fault-same : (one other : Ordered) → AskSame one other → (request : Request) → first_fault one request ≡ first_fault other request
+fault-same : (one other : Ordered) → AreAlike one other → (request : Request) → first_fault one request ≡ first_fault other request
 fault-same one other a request =
     ap (λ (t : InstanceTree). fault_in one.circuit t request) a.tree
     ∙ ap (λ (later : Option CutFault). or_else (entry_fault other.tree request) (or_else (kind_fault other.tree request) later))
@@ -95,7 +88,7 @@ fault-same one other a request =
 -- ---- the fault of bytes
 
 -- a fault for one design is one for the other
-fault-carried : (one other : Ordered) → AskSame one other → (bytes text : List ℕ) → HasFault one bytes text → HasFault other bytes text
+fault-carried : (one other : Ordered) → AreAlike one other → (bytes text : List ℕ) → HasFault one bytes text → HasFault other bytes text
 fault-carried one other a bytes text (OfFile key wrong is) = OfFile key wrong is
 fault-carried one other a bytes text (OfRequest request asks fault first is) = OfRequest request asks fault (sym (fault-same one other a request) ∙ first) is
 
@@ -107,22 +100,26 @@ FileApart = (bytes key : List ℕ) (request : Request) → IsPartition bytes req
 abbrev pub OneKey : Type 0
 OneKey = (bytes first second : List ℕ) → file.IsRefused bytes first → file.IsRefused bytes second → first ≡ second
 
--- all designs that some bytes mean are judged alike
+-- all designs that some bytes mean are alike
 abbrev pub DesignsAgree : Type 0
-DesignsAgree = (bytes : List ℕ) (one other : Ordered) → MeansDesign bytes one → MeansDesign bytes other → AskSame one other
+DesignsAgree = (bytes : List ℕ) (one other : Ordered) → MeansDesign bytes one → MeansDesign bytes other → AreAlike one other
 
 pub designs-agree : ((bytes : List ℕ) (one other : Ordered) → MeansDesign bytes one → MeansDesign bytes other → one.tree ≡ other.tree)
     → ((bytes : List ℕ) (one other : FlatCircuit) → Means bytes one → Means bytes other → one.paths ≡ other.paths)
+    → ((bytes : List ℕ) (one other : FlatCircuit) → Means bytes one → Means bytes other → signal_shapes one ≡ signal_shapes other)
     → ((bytes : List ℕ) (one other : FlatCircuit) → Means bytes one → Means bytes other → one.ins ≡ other.ins)
     → ((bytes : List ℕ) (one other : FlatCircuit) → Means bytes one → Means bytes other → one.outs ≡ other.outs)
+    → ((bytes : List ℕ) (one other : FlatCircuit) (a b : ℕ) → Means bytes one → Means bytes other → Reads one a b → Reads other a b)
     → ((bytes : List ℕ) (one other : FlatCircuit) (m : ℕ) → Means bytes one → Means bytes other → readers_at one m ≡ readers_at other m)
     → ((bytes : List ℕ) (one other : FlatCircuit) (m : ℕ) → Means bytes one → Means bytes other → writers_at one m ≡ writers_at other m)
     → DesignsAgree
-designs-agree trees paths ins outs readers writers = λ bytes one other a b. record {
+designs-agree trees paths shapes ins outs reads readers writers = λ bytes one other a b. record {
   tree = trees bytes one other a b;
   paths = paths bytes one.circuit other.circuit a.means b.means;
+  shapes = shapes bytes one.circuit other.circuit a.means b.means;
   ins = ins bytes one.circuit other.circuit a.means b.means;
   outs = outs bytes one.circuit other.circuit a.means b.means;
+  reads = λ x y. (reads bytes one.circuit other.circuit x y a.means b.means, reads bytes other.circuit one.circuit x y b.means a.means);
   readers = λ m. readers bytes one.circuit other.circuit m a.means b.means;
   writers = λ m. writers bytes one.circuit other.circuit m a.means b.means;
 }

@@ -4,7 +4,7 @@ use Rattle.gg_front.specs.Meaning.{MeansDesign}
 use Rattle.gg_order.specs.Design.{Ordered}
 use Rattle.gg_partfile.specs.Partition.{IsPartition}
 use Rattle.gg_partfile.specs.declared.request.Request.{Request}
-use Rattle.golden.specs.CheckText.{IsTextOfCut}
+use Rattle.gg_check.specs.CheckText.{IsTextOfCut}
 use Rattle.golden.specs.Order.{Order, Load, Write}
 use Rattle.golden.specs.Partition.{partition_file_for}
 use Rattle.golden.specs.Run.{circuit_file}

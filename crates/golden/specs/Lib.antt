@@ -1,11 +1,9 @@
 -- What the contracts of the program speak of.
 pub mod Check
-pub mod CheckText
 pub mod Lines
 pub mod Order
 pub mod Outcome
 pub mod Partition
-pub mod PlanText
 pub mod Promised
 pub mod Run
 pub mod RunText

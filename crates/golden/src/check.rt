@@ -1,10 +1,10 @@
 //! The command `check`.
 ghost use Rattle.std.specs.Prelude.{◌≡◌, ◌<◌, ◌≤◌, ◌⊎◌, ℕ, List, Err, None};
+ghost use Rattle.gg_check.specs.CheckText.{IsTextOfCut};
 ghost use Rattle.gg_cut.specs.Fault.{IsSmall, first_fault};
 ghost use Rattle.gg_front.specs.Meaning.{MeansDesign};
 ghost use Rattle.gg_io.specs.Count.{Rose};
 ghost use Rattle.golden.specs.Check.{check_order, cut_order};
-ghost use Rattle.golden.specs.CheckText.{IsTextOfCut};
 ghost use Rattle.golden.specs.Endings.{EndedOn, Prints};
 ghost use Rattle.golden.specs.WentOn.{ShelfWentOn, SinkWentOn};
 ghost use Rattle.golden.specs.declared.endings.Ending.TheVariants.{NoMemory};
@@ -13,6 +13,7 @@ use crate::checking::print_plan;
 use crate::endings::Ending;
 use crate::partition::read_partition;
 use crate::reading::read_circuit;
+use gg_check::{one_text, plan_is_told};
 use gg_front::{designs_agree, one_run};
 use gg_io::{Shelf, Sink};
 use gg_order::Design;
@@ -38,6 +39,7 @@ fn print_cut<K: Sink>(
         ⊎ ((result ≡ Err NoMemory) × (K.written out.new ≡ K.written out.old)) }
     ensures out { SinkWentOn (K.faults out.old) (K.faults out.new) (K.refused out.old) (K.refused out.new) }
 {
+    plan_is_told();
     match cut(alloc, design, request, capacity) {
         Ok(plan) => print_plan(alloc, &plan, out),
         Err(_) => Err(Ending::NoMemory),
@@ -63,6 +65,7 @@ fn check_design<S: Shelf, K: Sink>(
 {
     designs_agree();
     one_run();
+    one_text();
     let request = read_partition(alloc, shelf, partition, design)?;
     print_cut(alloc, design, &request, capacity, out)
 }

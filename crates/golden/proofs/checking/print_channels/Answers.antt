@@ -1,6 +1,6 @@
 use Rattle.std.proofs.Common.{sym, arith}
 use Rattle.std.proofs.lemmas.Result.{err_from_is_err_and}
-use Rattle.golden.specs.PlanText.{channel_names, line_of_channel, machine_names}
+use Rattle.gg_check.specs.PlanText.{channel_names, line_of_channel, machine_names}
 use Rattle.golden.proofs.LineLemmas.{lines-next, lines-stop}
 use Rattle.golden.proofs.checking.print_channels.Goals as goal
 

@@ -1,6 +1,6 @@
 use Rattle.std.proofs.Common.{sym, arith}
 use Rattle.std.proofs.lemmas.Result.{err_from_is_err_and}
-use Rattle.golden.specs.PlanText.{line_of_machine}
+use Rattle.gg_check.specs.PlanText.{line_of_machine}
 use Rattle.golden.proofs.LineLemmas.{lines-stop}
 use Rattle.golden.proofs.checking.print_machines.Goals as goal
 

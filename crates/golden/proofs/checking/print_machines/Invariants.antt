@@ -1,5 +1,5 @@
 use Rattle.golden.proofs.LineLemmas.{LinesTo}
-use Rattle.golden.specs.PlanText.{line_of_machine}
+use Rattle.gg_check.specs.PlanText.{line_of_machine}
 use Rattle.golden.proofs.checking.print_machines.Given as goal
 
 abbrev pub invariant-loop-machine : goal.invariant-loop-machine

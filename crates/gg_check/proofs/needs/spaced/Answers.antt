@@ -1,9 +1,9 @@
 use Rattle.std.proofs.Common.{ap, ◌∙◌, ◌++◌, ◌∷◌, [], List, ℕ, map, take, arith}
 use Rattle.gg_flat.specs.Tree.{path_at}
-use Rattle.golden.specs.CheckText.{spaced}
-use Rattle.golden.specs.PlanText.{channel_names}
-use Rattle.golden.proofs.LineLemmas.{spaced-more}
-use Rattle.golden.proofs.checking.spaced.Goals as goal
+use Rattle.gg_check.specs.CheckText.{spaced}
+use Rattle.gg_check.specs.PlanText.{channel_names}
+use Rattle.gg_check.proofs.LineLemmas.{spaced-more}
+use Rattle.gg_check.proofs.needs.spaced.Goals as goal
 
 pub loop-need-preserved : goal.loop-need-preserved
 loop-need-preserved c =

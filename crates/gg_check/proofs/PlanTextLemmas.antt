@@ -1,8 +1,8 @@
 -- The text of a plan is the text of the cut.
-use Rattle.std.proofs.Common.{◌≡◌, ℕ, zero, suc, ◌+◌, ◌<◌, List, [], ◌∷◌, ◌++◌, length, map, get_or, refl, sym, ap, ◌∙◌, subst, arith}
+use Rattle.std.proofs.Common.{◌≡◌, ℕ, suc, ◌+◌, ◌<◌, List, [], ◌∷◌, ◌++◌, length, map, refl, sym, ap, ◌∙◌, subst, arith}
 use Rattle.std.specs.Prelude.{codes, flat_map, Contains, slice_index_or}
 use Rattle.std.specs.List.{range_with_len}
-use Rattle.std.proofs.lemmas.List.{get_or-map, get_or_default, length-append, length-map}
+use Rattle.std.proofs.lemmas.List.{get_or-map, length-append, length-map}
 use Rattle.gg_bits.specs.Shape.{Shape, shape}
 use Rattle.gg_flat.specs.Circuit.{signal_shapes}
 use Rattle.gg_flat.specs.Line.{shape_at}
@@ -11,16 +11,16 @@ use Rattle.gg_order.specs.Design.{Ordered}
 use Rattle.gg_partfile.specs.declared.request.Request.{Request}
 use Rattle.gg_cut.specs.Channels.{capacity_of, machine_count, wires_of}
 use Rattle.gg_cut.specs.Listed.{listed_of, instance_of}
-use Rattle.gg_cut.specs.Plan.{IsChannel, IsMachine, IsPlan, machine_names, wire_at}
+use Rattle.gg_cut.specs.Plan.{IsChannel, IsPlan, machine_names, wire_at}
 use Rattle.gg_cut.specs.declared.listed.Listed.{Listed}
 use Rattle.gg_cut.specs.declared.plan.Channel.{Channel}
 use Rattle.gg_cut.specs.declared.plan.Machine.{Machine}
 use Rattle.gg_cut.specs.declared.plan.Plan.{Plan}
 use Rattle.gg_cut.specs.declared.wires.Wire.{Wire}
-use Rattle.golden.specs.CheckText.{AreChannelNeeds, IsTextOfCut, channel_line, channel_name, channel_text, machine_line, machine_text}
-use Rattle.golden.specs.PlanText.{channel_names, line_of_channel, line_of_machine, plan_text}
-use Rattle.golden.specs.PlanText as plans
-use Rattle.golden.proofs.PlanLemmas.{channel-needs, no_machine}
+use Rattle.gg_check.specs.CheckText.{AreChannelNeeds, IsTextOfCut, channel_line, channel_name, channel_text, machine_line, machine_text}
+use Rattle.gg_check.specs.PlanText.{channel_names, line_of_channel, line_of_machine, plan_text}
+use Rattle.gg_check.specs.PlanText as plans
+use Rattle.gg_check.proofs.PlanLemmas.{channel-needs, no_machine}
 
 -- lines of items, by their places
 flat-range : {A : Type 0} (f : A → List ℕ) (g : ℕ → List ℕ) (xs : List A) (a : ℕ) → ((k : ℕ) (any : A) → k < length xs → f (slice_index_or xs k any) ≡ g (a + k))

@@ -1,8 +1,7 @@
--- The text of `check` is one, whichever design the circuit's bytes are taken to mean.
+-- The text of a cut is one, for all designs that are alike.
 use Rattle.std.proofs.Common.{◌≡◌, ℕ, zero, suc, ◌+◌, ◌<◌, ◌≤◌, List, [], ◌∷◌, ◌++◌, length, map, refl, sym, ◌∙◌, ap, subst, inl, inr, ◌⊎◌, arith}
 use Rattle.std.specs.Prelude.{codes, flat_map, Contains, AllPairs, slice_index_or}
 use Rattle.std.specs.List.{range_with_len}
-use Rattle.std.proofs.lemmas.Bool.{cases_lt, cases_order}
 use Rattle.gg_bits.specs.Shape.{Shape}
 use Rattle.gg_flat.specs.Circuit.{FlatCircuit, readers_at, signal_shapes}
 use Rattle.gg_flat.specs.Line.{shape_at}
@@ -19,8 +18,8 @@ use Rattle.gg_cut.specs.Listed.{listed_of, owner_of_instance}
 use Rattle.gg_cut.specs.Plan.{channels_to, machine_names, signals_of, wire_at}
 use Rattle.gg_cut.specs.declared.listed.Listed.{Listed}
 use Rattle.gg_cut.specs.declared.wires.Wire.{Wire}
-use Rattle.golden.specs.CheckText.{AreChannelNeeds, IsCutText, IsPathInside, IsTextOfCut, NeedsChannel, channel_line, channel_name, channel_text, machine_line, machine_text}
-use Rattle.golden.proofs.PartitionLemmas.{AskSame}
+use Rattle.gg_check.specs.Alike.{AreAlike}
+use Rattle.gg_check.specs.CheckText.{AreChannelNeeds, IsCutText, IsPathInside, IsTextOfCut, NeedsChannel, channel_line, channel_name, channel_text, machine_line, machine_text}
 
 -- ---- needs are one list
 
@@ -70,7 +69,7 @@ lines-same f g a zero h = refl
 lines-same f g a (suc n) h =
     ap (λ l. l ++ flat_map f (range_with_len (a + 1) n)) (h a (omega arith) (omega arith)) ∙ ap (λ l. g a ++ l) (lines-same f g (a + 1) n (λ k le lt. h k (omega (arith, le)) (omega (arith, lt))))
 
-pub cut-text-once : (design : Ordered) (request : Request) (default : ℕ) (listed : Listed) (wires : List Wire) (text other : List ℕ)
+cut-text-once : (design : Ordered) (request : Request) (default : ℕ) (listed : Listed) (wires : List Wire) (text other : List ℕ)
     → IsCutText design request default listed wires text → IsCutText design request default listed wires other → text ≡ other
 cut-text-once design request default listed wires text other a b =
     let machines = flat_map (machine_text design request listed) (range_with_len 0 (machine_count design.circuit listed)) in
@@ -81,7 +80,7 @@ cut-text-once design request default listed wires text other a b =
     (needs-same design.circuit listed wires c (slice_index_or a.needs c []) (slice_index_or b.needs c []) (a.are c (omega (arith, lt))) (b.are c (omega (arith, lt))))))
     ∙ sym b.is
 
--- ---- and all designs that are judged alike have it
+-- ---- and all designs that are alike have it
 
 numbered-same : {A B : Type 0} (f g : ℕ → A → List B) → ((k : ℕ) (x : A) → f k x ≡ g k x) → (n : ℕ) (xs : List A) → numbered f n xs ≡ numbered g n xs
 numbered-same f g h n [] = refl
@@ -117,23 +116,16 @@ need-carried one other reads listed wires c d n = record {
   reads = path-carried one other reads (signals_of wires (channels_to wires (wire_at wires c).producer)) (wire_at wires c).signal n.path (wire_at wires d).signal n.reads;
 }
 
--- what a request is judged and told by is the same in both
-pub record CutSame (one other : Ordered) : Type 0 where
-  pub same : AskSame one other
-  pub shapes : signal_shapes one.circuit ≡ signal_shapes other.circuit
-  pub reads : (a b : ℕ) → Reads one.circuit a b → Reads other.circuit a b
-  pub reads_back : (a b : ℕ) → Reads other.circuit a b → Reads one.circuit a b
-
-module _ (one other : Ordered) (s : CutSame one other) (request : Request) (default : ℕ) (listed : Listed) (wires : List Wire) where
+module _ (one other : Ordered) (s : AreAlike one other) (request : Request) (default : ℕ) (listed : Listed) (wires : List Wire) where
   names-same : machine_names one request listed ≡ machine_names other request listed
   names-same =
-      ap (λ (t : InstanceTree). codes "hub:" ∷ (request.units ++ map (path_at t.memory_paths) listed.memories ++ map (λ k. codes "in:" ++ path_at one.circuit.paths k) one.circuit.ins ++ map (λ k. codes "out:" ++ path_at one.circuit.paths k) one.circuit.outs)) s.same.tree
-      ∙ ap (λ (p : List (List ℕ)). codes "hub:" ∷ (request.units ++ map (path_at other.tree.memory_paths) listed.memories ++ map (λ k. codes "in:" ++ path_at p k) one.circuit.ins ++ map (λ k. codes "out:" ++ path_at p k) one.circuit.outs)) s.same.paths
-      ∙ ap (λ (x : List ℕ). codes "hub:" ∷ (request.units ++ map (path_at other.tree.memory_paths) listed.memories ++ map (λ k. codes "in:" ++ path_at other.circuit.paths k) x ++ map (λ k. codes "out:" ++ path_at other.circuit.paths k) one.circuit.outs)) s.same.ins
-      ∙ ap (λ (x : List ℕ). codes "hub:" ∷ (request.units ++ map (path_at other.tree.memory_paths) listed.memories ++ map (λ k. codes "in:" ++ path_at other.circuit.paths k) other.circuit.ins ++ map (λ k. codes "out:" ++ path_at other.circuit.paths k) x)) s.same.outs
+      ap (λ (t : InstanceTree). codes "hub:" ∷ (request.units ++ map (path_at t.memory_paths) listed.memories ++ map (λ k. codes "in:" ++ path_at one.circuit.paths k) one.circuit.ins ++ map (λ k. codes "out:" ++ path_at one.circuit.paths k) one.circuit.outs)) s.tree
+      ∙ ap (λ (p : List (List ℕ)). codes "hub:" ∷ (request.units ++ map (path_at other.tree.memory_paths) listed.memories ++ map (λ k. codes "in:" ++ path_at p k) one.circuit.ins ++ map (λ k. codes "out:" ++ path_at p k) one.circuit.outs)) s.paths
+      ∙ ap (λ (x : List ℕ). codes "hub:" ∷ (request.units ++ map (path_at other.tree.memory_paths) listed.memories ++ map (λ k. codes "in:" ++ path_at other.circuit.paths k) x ++ map (λ k. codes "out:" ++ path_at other.circuit.paths k) one.circuit.outs)) s.ins
+      ∙ ap (λ (x : List ℕ). codes "hub:" ∷ (request.units ++ map (path_at other.tree.memory_paths) listed.memories ++ map (λ k. codes "in:" ++ path_at other.circuit.paths k) other.circuit.ins ++ map (λ k. codes "out:" ++ path_at other.circuit.paths k) x)) s.outs
 
   count-same : machine_count one.circuit listed ≡ machine_count other.circuit listed
-  count-same = ap (λ (x : List ℕ). first_source listed + length x + length one.circuit.outs) s.same.ins ∙ ap (λ (x : List ℕ). first_source listed + length other.circuit.ins + length x) s.same.outs
+  count-same = ap (λ (x : List ℕ). first_source listed + length x + length one.circuit.outs) s.ins ∙ ap (λ (x : List ℕ). first_source listed + length other.circuit.ins + length x) s.outs
 
   machine-line-same : (m : ℕ) → machine_text one request listed m ≡ machine_text other request listed m
   machine-line-same m = ap (λ (names : List (List ℕ)). machine_line (path_at names m) (host_of request.units request.share m)) names-same
@@ -141,7 +133,7 @@ module _ (one other : Ordered) (s : CutSame one other) (request : Request) (defa
   channel-line-same : (c : ℕ) (needs : List ℕ) → channel_text one request default listed wires c needs ≡ channel_text other request default listed wires c needs
   channel-line-same c needs =
       let w = wire_at wires c in
-      ap (λ (p : List (List ℕ)). channel_line (path_at p w.signal) (path_at (machine_names one request listed) w.producer) (path_at (machine_names one request listed) w.consumer) (shape_at (signal_shapes one.circuit) w.signal) (capacity_of request.capacity default (path_at p w.signal)) (map (λ k. path_at p (wire_at wires k).signal) needs)) s.same.paths
+      ap (λ (p : List (List ℕ)). channel_line (path_at p w.signal) (path_at (machine_names one request listed) w.producer) (path_at (machine_names one request listed) w.consumer) (shape_at (signal_shapes one.circuit) w.signal) (capacity_of request.capacity default (path_at p w.signal)) (map (λ k. path_at p (wire_at wires k).signal) needs)) s.paths
       ∙ ap (λ (names : List (List ℕ)). channel_line (channel_name other.circuit wires c) (path_at names w.producer) (path_at names w.consumer) (shape_at (signal_shapes one.circuit) w.signal) (capacity_of request.capacity default (channel_name other.circuit wires c)) (map (channel_name other.circuit wires) needs)) names-same
       ∙ ap (λ (shapes : List Shape). channel_line (channel_name other.circuit wires c) (path_at (machine_names other request listed) w.producer) (path_at (machine_names other request listed) w.consumer) (shape_at shapes w.signal) (capacity_of request.capacity default (channel_name other.circuit wires c)) (map (channel_name other.circuit wires) needs)) s.shapes
 
@@ -152,8 +144,8 @@ module _ (one other : Ordered) (s : CutSame one other) (request : Request) (defa
     are = λ c lt. record {
       ascending = (a.are c lt).ascending;
       each = λ d. (
-        (λ h. need-carried one.circuit other.circuit s.reads listed wires c d (((a.are c lt).each d).0 h)),
-        (λ h. ((a.are c lt).each d).1 (need-carried other.circuit one.circuit s.reads_back listed wires c d h)),
+        (λ h. need-carried one.circuit other.circuit (λ a b. (s.reads a b).0) listed wires c d (((a.are c lt).each d).0 h)),
+        (λ h. ((a.are c lt).each d).1 (need-carried other.circuit one.circuit (λ a b. (s.reads a b).1) listed wires c d h)),
       );
     };
     is =
@@ -167,9 +159,14 @@ module _ (one other : Ordered) (s : CutSame one other) (request : Request) (defa
   }
 
 -- the text of a request's cut of one design is that of the other's
-pub text-of-cut-carried : (one other : Ordered) → CutSame one other → (request : Request) (default : ℕ) (text : List ℕ) → IsTextOfCut one request default text → IsTextOfCut other request default text
+text-of-cut-carried : (one other : Ordered) → AreAlike one other → (request : Request) (default : ℕ) (text : List ℕ) → IsTextOfCut one request default text → IsTextOfCut other request default text
 text-of-cut-carried one other s request default text a =
     let listed = listed_of other.tree request in
-    subst (λ (wires : List Wire). IsCutText other request default listed wires text) (wires-same one.circuit other.circuit s.same.readers s.same.writers other.tree listed s.same.ins s.same.outs)
+    subst (λ (wires : List Wire). IsCutText other request default listed wires text) (wires-same one.circuit other.circuit s.readers s.writers other.tree listed s.ins s.outs)
     (cut-text-carried one other s request default listed (wires_of one.circuit other.tree listed) text
-    (subst (λ (t : InstanceTree). IsCutText one request default (listed_of t request) (wires_of one.circuit t (listed_of t request)) text) s.same.tree a))
+    (subst (λ (t : InstanceTree). IsCutText one request default (listed_of t request) (wires_of one.circuit t (listed_of t request)) text) s.tree a))
+
+pub text-once : (one other : Ordered) (request : Request) (default : ℕ) (text others : List ℕ) → AreAlike one other → IsTextOfCut one request default text → IsTextOfCut other request default others → text ≡ others
+text-once one other request default text others s a b =
+    cut-text-once other request default (listed_of other.tree request) (wires_of other.circuit other.tree (listed_of other.tree request)) text others
+    (text-of-cut-carried one other s request default text a) b

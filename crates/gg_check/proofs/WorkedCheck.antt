@@ -1,17 +1,17 @@
 -- The lines of `check` for two units that feed each other in one cycle (gg_cut's WorkedPair), and needs of their channels, worked by
 -- hand. The channels are, from 0 on: `x`, `a.x`, `a.k`, `a.p`, `a.q`, `b.m`, `b.n`, `q`.
-use Rattle.std.proofs.Common.{◌≡◌, ℕ, zero, suc, ◌<◌, List, [], ◌∷◌, ◌++◌, length, map, refl, ap, subst, arith}
+use Rattle.std.proofs.Common.{◌≡◌, ℕ, zero, suc, List, [], ◌∷◌, ◌++◌, refl, ap, subst, arith}
 use Rattle.std.specs.Prelude.{codes, flat_map, Contains}
 use Rattle.std.specs.Fmt.{digits}
 use Rattle.std.proofs.lemmas.Fmt.{decimal_digit}
 use Rattle.gg_flat.specs.Circuit.{driver_at}
-use Rattle.gg_flat.specs.Reads.{NamesSignal, Reads}
+use Rattle.gg_flat.specs.Reads.{NamesSignal}
 use Rattle.gg_order.specs.Design.{Ordered}
 use Rattle.gg_cut.specs.Channels.{wires_of}
 use Rattle.gg_cut.specs.Plan.{channels_to, signals_of}
 use Rattle.gg_cut.specs.declared.wires.Wire.{Wire}
 use Rattle.gg_cut.proofs.WorkedPair.{circuit, tree, listed, both_units}
-use Rattle.golden.specs.CheckText.{IsPathInside, NeedsChannel, channel_text, machine_text}
+use Rattle.gg_check.specs.CheckText.{IsPathInside, NeedsChannel, channel_text, machine_text}
 
 abbrev pub design : Ordered
 design = record { circuit = circuit; tree = tree; order = 0 ∷ 2 ∷ 4 ∷ 6 ∷ 7 ∷ 3 ∷ 5 ∷ 1 ∷ [] }

@@ -1,6 +1,6 @@
 -- What a channel of a plan needs, it needs in the circuit.
 use Rattle.std.proofs.Common.{◌≡◌, ℕ, zero, suc, ◌<◌, List, [], ◌∷◌, length, map, refl, sym, ◌∙◌, ap, subst, inl, inr, ◌⊎◌, arith}
-use Rattle.std.specs.Prelude.{Contains, slice_index_or}
+use Rattle.std.specs.Prelude.{Contains}
 use Rattle.gg_flat.specs.declared.line.Node.{Node}
 use Rattle.gg_flat.specs.declared.line.Op.{Op}
 use Rattle.gg_flat.specs.declared.line.Op.TheVariants.{Ref, Literal, One, Two, Fix, Mux}
@@ -8,10 +8,10 @@ use Rattle.gg_flat.specs.declared.piece.Driver.{Driver}
 use Rattle.gg_flat.specs.declared.piece.Driver.TheVariants.{Input, Held, MemoryWord, ReadRegister, Computed}
 use Rattle.gg_flat.specs.Line.{value_at}
 use Rattle.gg_flat.specs.Circuit.{FlatCircuit, driver_at}
-use Rattle.gg_flat.specs.Reads.{Names, NamesSignal, Reads, IsPath, Reaches}
+use Rattle.gg_flat.specs.Reads.{Names, NamesSignal, Reads, IsPath}
 use Rattle.gg_part.specs.Part.{IsPart, IsFrom, renamed_op, renamed_line}
 use Rattle.gg_part.proofs.AlongLemmas.{named-in}
-use Rattle.golden.specs.CheckText.{IsPathInside}
+use Rattle.gg_check.specs.CheckText.{IsPathInside}
 
 -- ---- what a driver of the whole names, the part's driver names
 

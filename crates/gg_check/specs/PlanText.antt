@@ -5,7 +5,7 @@ use Rattle.gg_flat.specs.Tree.{path_at}
 use Rattle.gg_cut.specs.declared.plan.Channel.{Channel}
 use Rattle.gg_cut.specs.declared.plan.Machine.{Machine}
 use Rattle.gg_cut.specs.declared.plan.Plan.{Plan}
-use Rattle.golden.specs.CheckText.{channel_line, machine_line}
+use Rattle.gg_check.specs.CheckText.{channel_line, machine_line}
 
 -- the names of machines and of channels
 abbrev pub machine_names : List Machine → List (List ℕ)

@@ -14,7 +14,7 @@ use Rattle.gg_order.specs.Design.{Ordered}
 use Rattle.gg_part.specs.Part.{IsPart, IsFrom}
 use Rattle.gg_part.specs.declared.part.Part.{Part}
 use Rattle.gg_partfile.specs.declared.request.Request.{Request}
-use Rattle.gg_cut.specs.Channels.{first_memory, first_source, first_tray, machine_count, wires_of, capacity_of}
+use Rattle.gg_cut.specs.Channels.{first_source, machine_count, wires_of, capacity_of}
 use Rattle.gg_cut.specs.Listed.{listed_of}
 use Rattle.gg_cut.specs.Plan.{AreNeedsOf, IsBody, IsChannel, IsCutPart, IsMachine, IsNeed, IsPlan, NeedsIn, channels_from, channels_to, signals_of, wire_at}
 use Rattle.gg_cut.specs.declared.listed.Listed.{Listed}
@@ -24,8 +24,8 @@ use Rattle.gg_cut.specs.declared.plan.Channel.{Channel}
 use Rattle.gg_cut.specs.declared.plan.Machine.{Machine}
 use Rattle.gg_cut.specs.declared.plan.Plan.{Plan}
 use Rattle.gg_cut.specs.declared.wires.Wire.{Wire}
-use Rattle.golden.specs.CheckText.{AreChannelNeeds, IsPathInside, NeedsChannel}
-use Rattle.golden.proofs.NeedLemmas.{Gets, path-back, path-out}
+use Rattle.gg_check.specs.CheckText.{AreChannelNeeds, IsPathInside, NeedsChannel}
+use Rattle.gg_check.proofs.NeedLemmas.{Gets, path-back, path-out}
 
 -- ---- what a filter leaves
 

@@ -1,0 +1,27 @@
+//! Laws: facts about the definitions, each on a function with an empty body.
+ghost use Rattle.std.specs.Prelude.{◌≡◌, ℕ, ◌<◌, List, length, slice_index_or};
+ghost use Rattle.gg_order.specs.Design.{Ordered};
+ghost use Rattle.gg_partfile.specs.declared.request.Request.{Request};
+ghost use Rattle.gg_cut.specs.Channels.{wires_of};
+ghost use Rattle.gg_cut.specs.Listed.{listed_of};
+ghost use Rattle.gg_cut.specs.Plan.{IsPlan};
+ghost use Rattle.gg_cut.specs.declared.plan.Channel.{Channel};
+ghost use Rattle.gg_cut.specs.declared.plan.Plan.{Plan};
+ghost use Rattle.gg_check.specs.Alike.{AreAlike};
+ghost use Rattle.gg_check.specs.CheckText.{AreChannelNeeds, IsTextOfCut};
+ghost use Rattle.gg_check.specs.PlanText.{plan_text};
+
+/// What a channel of a plan needs is just what it needs in the circuit.
+pub fn needs_are_told()
+    ensures { (design : Ordered) (request : Request) (default : ℕ) (plan : Plan) → IsPlan design request default plan → (c : ℕ) (any : Channel) → c < length (wires_of design.circuit design.tree (listed_of design.tree request)) → AreChannelNeeds design.circuit (listed_of design.tree request) (wires_of design.circuit design.tree (listed_of design.tree request)) c (slice_index_or plan.channels c any).needs }
+{}
+
+/// The text of a plan is the text of its cut.
+pub fn plan_is_told()
+    ensures { (design : Ordered) (request : Request) (default : ℕ) (plan : Plan) → IsPlan design request default plan → IsTextOfCut design request default (plan_text plan) }
+{}
+
+/// The cut of a request has one text, for all designs that are alike.
+pub fn one_text()
+    ensures { (one other : Ordered) (request : Request) (default : ℕ) (text others : List ℕ) → AreAlike one other → IsTextOfCut one request default text → IsTextOfCut other request default others → text ≡ others }
+{}
