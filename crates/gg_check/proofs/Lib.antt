@@ -3,4 +3,5 @@ pub mod NeedLemmas
 pub mod PlanLemmas
 pub mod PlanTextLemmas
 pub mod SameCutLemmas
+pub mod SameFaultLemmas
 mod WorkedCheck

@@ -3,6 +3,7 @@ ghost use Rattle.std.specs.Prelude.{◌≡◌, ℕ, ◌<◌, List, length, slice
 ghost use Rattle.gg_order.specs.Design.{Ordered};
 ghost use Rattle.gg_partfile.specs.declared.request.Request.{Request};
 ghost use Rattle.gg_cut.specs.Channels.{wires_of};
+ghost use Rattle.gg_cut.specs.Fault.{first_fault};
 ghost use Rattle.gg_cut.specs.Listed.{listed_of};
 ghost use Rattle.gg_cut.specs.Plan.{IsPlan};
 ghost use Rattle.gg_cut.specs.declared.plan.Channel.{Channel};
@@ -19,6 +20,11 @@ pub fn needs_are_told()
 /// The text of a plan is the text of its cut.
 pub fn plan_is_told()
     ensures { (design : Ordered) (request : Request) (default : ℕ) (plan : Plan) → IsPlan design request default plan → IsTextOfCut design request default (plan_text plan) }
+{}
+
+/// A request has one first fault, or none, for all designs that are alike.
+pub fn one_fault()
+    ensures { (one other : Ordered) (request : Request) → AreAlike one other → first_fault one request ≡ first_fault other request }
 {}
 
 /// The cut of a request has one text, for all designs that are alike.

@@ -6,7 +6,7 @@
 //! - `machine_line` and `channel_line` give the line of a machine and of a channel of a plan;
 //! - each channel of a plan needs in the plan just what it needs in the circuit (`needs_are_told`);
 //! - the text of a plan is the text of its cut (`plan_is_told`);
-//! - the cut of a request has one text, for all designs that are alike (`one_text`).
+//! - for all designs that are alike a request has one first fault (`one_fault`), and its cut one text (`one_text`).
 #![tactic(auto)]
 
 mod laws;
@@ -14,5 +14,5 @@ mod lines;
 mod names;
 mod needs;
 
-pub use laws::{needs_are_told, one_text, plan_is_told};
+pub use laws::{needs_are_told, one_fault, one_text, plan_is_told};
 pub use lines::{channel_line, machine_line};

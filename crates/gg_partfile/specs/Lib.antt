@@ -1,3 +1,4 @@
 pub mod Partition
 pub mod Fault
 pub mod Order
+pub mod Size

@@ -7,8 +7,9 @@ ghost use Rattle.gg_partfile.specs.Fault.{IsRefused};
 ghost use Rattle.gg_partfile.specs.Order.{IsBefore, IsLeastUnknown};
 ghost use Rattle.gg_partfile.specs.declared.request.Request.{Request};
 
-/// Bytes that hold a request are not refused, and bytes that are refused are refused with one key.
+/// Bytes hold one request at most, or are refused with one key, and never both.
 pub fn one_answer()
+    ensures request { (bytes : List ℕ) (one other : Request) → IsPartition bytes one → IsPartition bytes other → one ≡ other }
     ensures apart { (bytes key : List ℕ) (request : Request) → IsPartition bytes request → ¬ IsRefused bytes key }
     ensures key { (bytes first second : List ℕ) → IsRefused bytes first → IsRefused bytes second → first ≡ second }
 {}

@@ -1,8 +1,9 @@
 //! The reader of partition files.
-ghost use Rattle.std.specs.Prelude.{◌≡◌, Some, None, IfOk, IfErr, codes};
+ghost use Rattle.std.specs.Prelude.{◌≡◌, Some, None, IfOk, IfErr, codes, length};
 ghost use Rattle.serde_json.specs.View.{view};
 ghost use Rattle.gg_partfile.specs.Partition.{texts, groups, numbers, under, Asks, IsPartition};
 ghost use Rattle.gg_partfile.specs.Fault.{IfKey, wrong_key, IsRefused};
+ghost use Rattle.gg_partfile.specs.Size.{HasAtMost};
 
 use crate::fault::PartFault;
 use crate::keys::first_unknown;
@@ -12,13 +13,14 @@ use gg_bits::{Name, Names};
 use serde_json::Value;
 use std::alloc::Global;
 
-/// The request that the bytes of a partition file hold.
+/// The request that the bytes of a partition file hold. It has no more entries of each kind than the file has bytes.
 ///
 /// # Errors
 ///
 /// `WrongKey`, exactly where the bytes hold none; `NoMemory`, where memory is refused.
 pub fn read_partition(alloc: Global, bytes: &[u8]) -> Result<Request, PartFault>
     ensures request { IfOk result (IsPartition bytes.now) }
+    ensures entries { IfOk result (HasAtMost (length bytes.now)) }
     ensures wrong { IfErr result (IfKey (IsRefused bytes.now)) }
 {
     match Value::from_slice(alloc, bytes) {

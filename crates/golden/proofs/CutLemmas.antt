@@ -15,7 +15,8 @@ use Rattle.golden.specs.Endings.{Prints, EndedOn}
 use Rattle.golden.specs.Order.{Order, Write}
 use Rattle.golden.specs.Outcome.{Ends}
 use Rattle.golden.proofs.EndingLemmas.{printed-ends}
-use Rattle.golden.proofs.PartitionLemmas.{DesignsAgree, request-once}
+use Rattle.gg_partfile.proofs.OnceLemmas.{request-once}
+use Rattle.golden.proofs.PartitionLemmas.{DesignsAgree}
 use Rattle.golden.proofs.WritingLemmas.{append_known-nil}
 
 -- the cut of a request has one text, for all designs that are alike

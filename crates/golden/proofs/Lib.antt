@@ -1,7 +1,6 @@
 pub mod CapacityLemmas
 pub mod CutLemmas
 pub mod EndingLemmas
-pub mod EntryLemmas
 pub mod FrontLemmas
 pub mod LineLemmas
 pub mod OrderLemmas

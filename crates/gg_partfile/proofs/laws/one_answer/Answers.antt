@@ -1,5 +1,6 @@
 use Rattle.gg_partfile.proofs.FaultLemmas.{refused-apart, refused-once}
+use Rattle.gg_partfile.proofs.OnceLemmas.{request-once}
 use Rattle.gg_partfile.proofs.laws.one_answer.Goals as goal
 
 pub returns : goal.returns
-returns c = record { apart = refused-apart; key = refused-once }
+returns c = record { request = request-once; apart = refused-apart; key = refused-once }

@@ -1,5 +1,7 @@
-use Rattle.golden.proofs.EntryLemmas.{request-small}
+use Rattle.std.proofs.Common.{arith}
 use Rattle.golden.proofs.partition.request_of.Goals as goal
 
 pub returns-in-Ok-clause-small : goal.returns-in-Ok-clause-small
-returns-in-Ok-clause-small c = request-small c.args.bytes.now c.in-Ok.request c.requires c.in-Ok.ensures.request
+returns-in-Ok-clause-small c =
+    let few = c.in-Ok.ensures.entries in
+    record { units = omega (arith, few.units, c.requires); share = omega (arith, few.share, c.requires); memories = omega (arith, few.memories, c.requires) }

@@ -1,6 +1,6 @@
 -- A request has no more entries than its file has bytes.
-use Rattle.std.proofs.Common.{◌≡◌, ℕ, zero, suc, ◌+◌, ◌≤◌, Bool, true, false, List, [], ◌∷◌, length, Option, None, Some, option_and_then, refl, subst, arith}
-use Rattle.std.specs.Prelude.{⊤, codes, option_map}
+use Rattle.std.proofs.Common.{◌≡◌, ℕ, zero, suc, ◌+◌, ◌≤◌, Bool, true, false, List, [], ◌∷◌, length, Option, None, Some, Result, Ok, Err, option_and_then, refl, ap, subst, arith}
+use Rattle.std.specs.Prelude.{⊤, IfOk, codes, option_map}
 use Rattle.std.specs.Ordering.{nat_cmp, match_ordering}
 use Rattle.std.specs.Cmp.Lexicographic.{slice_cmp}
 use Rattle.std.specs.declared.cmp.Ordering.{Ordering}
@@ -13,8 +13,10 @@ use Rattle.json.specs.Json as json
 use Rattle.serde_json.specs.Data.{Data, null, boolean, number, string, array, object, Items, no_items, item, Members, no_members, member, put}
 use Rattle.serde_json.specs.Find.{get, get_member, as_array, as_str}
 use Rattle.serde_json.specs.Read.{of_json, of_items, of_members, number_of, max_depth, read}
-use Rattle.gg_cut.specs.Fault.{IsSmall, entries}
-use Rattle.gg_partfile.specs.Partition.{IsPartition, each, groups, texts, or_empty, under}
+use Rattle.gg_partfile.specs.Partition.{Asks, each, groups, numbers, pairs, texts, or_empty, under, whole}
+use Rattle.gg_partfile.proofs.OnceLemmas.{some-same}
+use Rattle.gg_partfile.specs.Size.{HasAtMost, shared}
+use Rattle.gg_partfile.specs.declared.fault.PartFault.{PartFault}
 use Rattle.gg_partfile.specs.declared.request.Request.{Request}
 
 -- what is read has at most this weight, if something is read
@@ -303,13 +305,17 @@ member-light k no_members = tt
 member-light k (member l e ms) =
     found-by (slice_cmp nat_cmp k l) (size e + members_size ms) (members_size ms) e (get_member k ms) (omega arith) (omega arith) (member-light k ms)
 
-get-light : (k : List ℕ) (d : Data) → AtMost size (size d) (get k d)
+get-light : (k : List ℕ) (d : Data) → AtMost (λ e. suc (size e)) (size d) (get k d)
 get-light k null = tt
 get-light k (boolean b) = tt
 get-light k (number n) = tt
 get-light k (string s) = tt
 get-light k (array ds) = tt
-get-light k (object ms) = more size (members_size ms) (suc (members_size ms)) (get_member k ms) (omega arith) (member-light k ms)
+get-light k (object ms) = below (members_size ms) (get_member k ms) (member-light k ms)
+  where
+    below : (n : ℕ) (o : Option Data) → AtMost size n o → AtMost (λ e. suc (size e)) (suc n) o
+    below n None h = tt
+    below n (Some e) h = omega (arith, h)
 
 -- what f reads of a list's items has at most the weight of the items
 each-next : {A : Type 0} (w : List A → ℕ) (n m : ℕ) (o : Option A) (rest : Option (List A)) → ((a : A) (xs : List A) → o ≡ Some a → w (a ∷ xs) ≤ n + w xs) → AtMost w m rest
@@ -336,31 +342,58 @@ texts-light d =
     array-light (λ (xs : List (List ℕ)). length xs) (each as_str)
     (each-light (λ (xs : List (List ℕ)). length xs) as_str refl (λ e a xs is. omega (arith, some-part e))) d
 
-group-light : (n : ℕ) (o : Option (List (List ℕ))) (a : List (List ℕ)) (xs : List (List (List ℕ))) → AtMost (λ (x : List (List ℕ)). length x) n o → o ≡ Some a → length (entries (a ∷ xs)) ≤ n + length (entries xs)
+group-light : (n : ℕ) (o : Option (List (List ℕ))) (a : List (List ℕ)) (xs : List (List (List ℕ))) → AtMost (λ (x : List (List ℕ)). length x) n o → o ≡ Some a → length (shared (a ∷ xs)) ≤ n + length (shared xs)
 group-light n o a xs h is =
     let few : length a ≤ n = subst (λ (x : Option (List (List ℕ))). AtMost (λ (y : List (List ℕ)). length y) n x) is h in
-    omega (arith, few, length-append a (entries xs))
+    omega (arith, few, length-append a (shared xs))
 
-groups-light : (d : Data) → AtMost (λ (xs : List (List (List ℕ))). length (entries xs)) (size d) (groups d)
+groups-light : (d : Data) → AtMost (λ (xs : List (List (List ℕ))). length (shared xs)) (size d) (groups d)
 groups-light d =
-    array-light (λ (xs : List (List (List ℕ))). length (entries xs)) (each texts)
-    (each-light (λ (xs : List (List (List ℕ))). length (entries xs)) texts refl (λ e a xs is. group-light (size e) (texts e) a xs (texts-light e) is)) d
+    array-light (λ (xs : List (List (List ℕ))). length (shared xs)) (each texts)
+    (each-light (λ (xs : List (List (List ℕ))). length (shared xs)) texts refl (λ e a xs is. group-light (size e) (texts e) a xs (texts-light e) is)) d
 
-or-light : {A : Type 0} (w : List A → ℕ) (f : Data → Option (List A)) → w [] ≡ 0 → ((d : Data) → AtMost w (size d) (f d)) → (n : ℕ) (o : Option Data) → AtMost size n o → AtMost w n (or_empty f o)
-or-light w f z h n None k = omega (arith, z)
-or-light w f z h n (Some d) k = more w (size d) n (f d) k (h d)
+-- an object's whole numbers are no more than its members
+pairs-next : (k : List ℕ) (n m : ℕ) (o : Option ℕ) (rest : Option (List (List ℕ × ℕ))) → 1 ≤ n → AtMost (λ (xs : List (List ℕ × ℕ)). length xs) m rest
+    → AtMost (λ (xs : List (List ℕ × ℕ)). length xs) (n + m) (option_and_then (λ v. option_map (λ (xs : List (List ℕ × ℕ)). (k, v) ∷ xs) rest) o)
+pairs-next k n m None rest some h = tt
+pairs-next k n m (Some v) None some h = tt
+pairs-next k n m (Some v) (Some xs) some h = omega (arith, some, h)
+
+pairs-light : (ms : Members) → AtMost (λ (xs : List (List ℕ × ℕ)). length xs) (members_size ms) (pairs ms)
+pairs-light no_members = omega arith
+pairs-light (member k d ms) = pairs-next k (size d) (members_size ms) (whole d) (pairs ms) (some-part d) (pairs-light ms)
+
+numbers-light : (d : Data) → AtMost (λ (xs : List (List ℕ × ℕ)). length xs) (size d) (numbers d)
+numbers-light null = tt
+numbers-light (boolean b) = tt
+numbers-light (number n) = tt
+numbers-light (string s) = tt
+numbers-light (array ds) = tt
+numbers-light (object ms) = more (λ (xs : List (List ℕ × ℕ)). length xs) (members_size ms) (suc (members_size ms)) (pairs ms) (omega arith) (pairs-light ms)
 
 known-light : {A : Type 0} (w : A → ℕ) (n : ℕ) (o : Option A) (a : A) → AtMost w n o → o ≡ Some a → w a ≤ n
 known-light w n o a h is = subst (λ x. AtMost w n x) is h
 
-under-light : {A : Type 0} (w : List A → ℕ) (f : Data → Option (List A)) (key : List ℕ) (d : Data) (xs : List A) → w [] ≡ 0 → ((e : Data) → AtMost w (size e) (f e)) → under f key d ≡ Some xs → w xs ≤ size d
-under-light w f key d xs z h is = known-light w (size d) (under f key d) xs (or-light w f z h (size d) (get key d) (get-light key d)) is
+-- what stands under a key is less than the value
+or-light : {A : Type 0} (w : List A → ℕ) (f : Data → Option (List A)) → w [] ≡ 0 → ((d : Data) → AtMost w (size d) (f d))
+    → (n : ℕ) (o : Option Data) → 1 ≤ n → AtMost (λ e. suc (size e)) n o → (xs : List A) → or_empty f o ≡ Some xs → suc (w xs) ≤ n
+or-light w f z h n None some k xs is = omega (arith, z, ap w (some-same [] xs is), some)
+or-light w f z h n (Some d) some k xs is = omega (arith, known-light w (size d) (f d) xs (h d) is, k)
 
--- so a request that is read from a file of at most 1,048,576 bytes is small
-pub request-small : (bytes : List ℕ) (request : Request) → length bytes ≤ 1048576 → IsPartition bytes request → IsSmall request
-request-small bytes request short p =
-    let all : size p.value ≤ suc (length bytes) = known-light size (suc (length bytes)) (read bytes) p.value (read-light bytes) p.is in
-    let units : length request.units ≤ size p.value = under-light (λ (xs : List (List ℕ)). length xs) texts (codes "units") p.value request.units refl texts-light p.asks.units in
-    let share : length (entries request.share) ≤ size p.value = under-light (λ (xs : List (List (List ℕ))). length (entries xs)) groups (codes "share") p.value request.share refl groups-light p.asks.share in
-    let memories : length request.memories ≤ size p.value = under-light (λ (xs : List (List ℕ)). length xs) texts (codes "memories") p.value request.memories refl texts-light p.asks.memories in
-    record { units = omega arith; share = omega arith; memories = omega arith }
+under-light : {A : Type 0} (w : List A → ℕ) (f : Data → Option (List A)) (key : List ℕ) (d : Data) (xs : List A) → w [] ≡ 0 → ((e : Data) → AtMost w (size e) (f e)) → under f key d ≡ Some xs → suc (w xs) ≤ size d
+under-light w f key d xs z h is = or-light w f z h (size d) (get key d) (some-part d) (get-light key d) xs is
+
+-- so a request has no more entries than its file has bytes
+few-entries : (bytes : List ℕ) (d : Data) (request : Request) → read bytes ≡ Some d → Asks d request → HasAtMost (length bytes) request
+few-entries bytes d request is asks =
+    let all : size d ≤ suc (length bytes) = known-light size (suc (length bytes)) (read bytes) d (read-light bytes) is in
+    let units : suc (length request.units) ≤ size d = under-light (λ (xs : List (List ℕ)). length xs) texts (codes "units") d request.units refl texts-light asks.units in
+    let share : suc (length (shared request.share)) ≤ size d = under-light (λ (xs : List (List (List ℕ))). length (shared xs)) groups (codes "share") d request.share refl groups-light asks.share in
+    let memories : suc (length request.memories) ≤ size d = under-light (λ (xs : List (List ℕ)). length xs) texts (codes "memories") d request.memories refl texts-light asks.memories in
+    let capacity : suc (length request.capacity) ≤ size d = under-light (λ (xs : List (List ℕ × ℕ)). length xs) numbers (codes "capacity") d request.capacity refl numbers-light asks.capacity in
+    record { units = omega arith; share = omega arith; memories = omega arith; capacity = omega arith }
+
+-- if one is read of the value that they hold
+pub few-read : (bytes : List ℕ) (d : Data) (r : Result Request PartFault) → read bytes ≡ Some d → IfOk r (Asks d) → IfOk r (HasAtMost (length bytes))
+few-read bytes d (Ok request) is asks = few-entries bytes d request is asks
+few-read bytes d (Err fault) is asks = tt

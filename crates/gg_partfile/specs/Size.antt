@@ -1,0 +1,15 @@
+-- How much a partition file asks for.
+-- Source: RFC 8259: each text and each number of a JSON text takes bytes of its own, so it has no more of them than bytes.
+use Rattle.std.specs.Prelude.{ℕ, ◌≤◌, List, length, flat_map}
+use Rattle.gg_partfile.specs.declared.request.Request.{Request}
+
+-- the entries of all lists of `share`, in order
+abbrev pub shared : List (List (List ℕ)) → List (List ℕ)
+shared share = flat_map (λ group. group) share
+
+-- The request has at most n entries of each kind.
+pub record HasAtMost (n : ℕ) (request : Request) : Type 0 where
+  pub units : length request.units ≤ n
+  pub share : length (shared request.share) ≤ n
+  pub memories : length request.memories ≤ n
+  pub capacity : length request.capacity ≤ n
