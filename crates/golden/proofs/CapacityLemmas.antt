@@ -8,8 +8,8 @@ use Rattle.std.proofs.lemmas.Bool.{and_parts, leb-true}
 use Rattle.clap.specs.Walk.{Row, Text, first_of}
 use Rattle.clap.specs.Simple.{subcommand_of}
 use Rattle.gg_words.specs.Line.{golden_app}
-use Rattle.gg_words.specs.Meaning.{CommandSays, FoundSays, IsCommand, capacity_of, check_of, is_set, run_of, text_of, with_number, workers_of}
-use Rattle.gg_words.specs.Number.{number_in, number_of}
+use Rattle.gg_words.specs.Meaning.{FoundSays, IsCommand, capacity_of, check_of, is_set, run_of, text_of, with_number, workers_of}
+use Rattle.gg_words.specs.Number.{number_of}
 use Rattle.gg_words.specs.declared.command.Cmd.{Cmd}
 use Rattle.gg_words.specs.declared.command.Cmd.TheVariants.{Run, Check}
 

@@ -1,6 +1,6 @@
 -- How `check` has ended, where its files are accepted.
 use Rattle.std.proofs.Common.{◌≡◌, ℕ, List, [], refl, sym, ◌∙◌, subst, inl, inr, ◌⊎◌}
-use Rattle.std.specs.Prelude.{Option, Result, Ok, Err}
+use Rattle.std.specs.Prelude.{Option, Result, Err}
 use Rattle.gg_check.specs.Alike.{AreAlike}
 use Rattle.gg_front.specs.Meaning.{MeansDesign}
 use Rattle.gg_io.specs.Told.{Told}
@@ -9,10 +9,10 @@ use Rattle.gg_partfile.specs.Partition.{IsPartition}
 use Rattle.gg_partfile.specs.declared.request.Request.{Request}
 use Rattle.golden.specs.declared.endings.Ending.{Ending}
 use Rattle.golden.specs.declared.endings.Ending.TheVariants.{NoMemory}
-use Rattle.golden.specs.Check.{IsCutTextOf, IsOnlyCutText}
+use Rattle.golden.specs.Check.{IsOnlyCutText}
 use Rattle.gg_check.specs.CheckText.{IsTextOfCut}
 use Rattle.golden.specs.Endings.{Prints, EndedOn}
-use Rattle.golden.specs.Order.{Order, Write}
+use Rattle.golden.specs.Order.{Write}
 use Rattle.golden.specs.Outcome.{Ends}
 use Rattle.golden.proofs.EndingLemmas.{printed-ends}
 use Rattle.gg_partfile.proofs.OnceLemmas.{request-once}

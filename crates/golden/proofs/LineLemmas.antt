@@ -1,5 +1,5 @@
 -- Lines that are put one by one.
-use Rattle.std.proofs.Common.{◌≡◌, ℕ, zero, suc, ◌+◌, ◌<◌, ◌≤◌, List, [], ◌∷◌, ◌++◌, length, map, take, drop, get_or, refl, sym, ap, ◌∙◌, subst, arith, append_assoc, append-nil}
+use Rattle.std.proofs.Common.{◌≡◌, ℕ, zero, suc, ◌+◌, ◌<◌, ◌≤◌, List, [], ◌∷◌, ◌++◌, length, take, get_or, refl, sym, ap, ◌∙◌, subst, arith, append_assoc, append-nil}
 use Rattle.std.specs.Prelude.{Option, Result, Ok, Err, flat_map}
 use Rattle.std.specs.Io.KnownBytes.{append_known}
 use Rattle.gg_io.specs.Count.{Rose}
@@ -10,7 +10,7 @@ use Rattle.gg_check.specs.PlanText.{channel_names, line_of_channel, line_of_mach
 use Rattle.golden.specs.Outcome.{IsFront}
 use Rattle.gg_check.proofs.LineLemmas.{lines-more}
 use Rattle.golden.specs.Endings.{Prints}
-use Rattle.golden.proofs.PrintingLemmas.{rose-earlier, prints-more, stop-within}
+use Rattle.golden.proofs.PrintingLemmas.{rose-earlier, stop-within}
 use Rattle.golden.proofs.WritingLemmas.{append_known-append, append_known-nil}
 
 -- some lines are a front part of all

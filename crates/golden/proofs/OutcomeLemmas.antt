@@ -23,7 +23,7 @@ use Rattle.golden.specs.Lines.{Said, TellsUnread, partition_fault, trace_fault}
 use Rattle.golden.specs.Order.{Order, Write, StopsAt, IsWritten, DueAt, IsDueAccepted, IsExact, IsUnique, IsJudgement}
 use Rattle.golden.specs.Outcome.{Ends, Refused, Done, Unwritten, WantsMemory, Outcome, Asked, Unasked, WantsMemoryFirst, Answered, Reports}
 use Rattle.golden.specs.Check.{IsOnlyCutText, cut_order}
-use Rattle.golden.specs.Words.{Command, Run, Check, Asks, AskForCommand, TellsUnasked, TellsWords, circuit_of, cmd_of, order_behind, order_of, partition_of}
+use Rattle.golden.specs.Words.{Command, Run, Check, Asks, AskForCommand, TellsUnasked, TellsWords, circuit_of, order_behind, order_of, partition_of}
 use Rattle.golden.specs.Promised.{Promised, Tells}
 use Rattle.golden.specs.Partition.{HasFault, IsPartitionFor, TellsPartitionFor, partition_file_for}
 use Rattle.golden.specs.Run.{IsOnlyText, TellsCircuit, TellsTraceFor, circuit_file, partition_order, trace_file_for, trace_order}

@@ -7,7 +7,6 @@ use Rattle.golden.specs.Partition.{partition_file_for}
 use Rattle.golden.proofs.CutLemmas.{cut-ends}
 use Rattle.golden.proofs.EndingLemmas.{refused-ends, accepted-ends}
 use Rattle.golden.proofs.PartitionLemmas.{designs-agree, partition-refused}
-use Rattle.golden.proofs.PrintingLemmas.{rose-earlier}
 use Rattle.golden.proofs.ReadingLemmas.{IfRefused-map}
 use Rattle.golden.proofs.check.check_design.Goals as goal
 
