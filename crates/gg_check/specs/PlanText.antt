@@ -1,4 +1,5 @@
 -- The text of a plan: the lines of its machines, and then those of its channels.
+-- Source: this program's own, as the lines are (CheckText). A plan names machines and channels by their numbers, a line by their names.
 use Rattle.std.specs.Prelude.{ℕ, List, ◌++◌, flat_map, map}
 use Rattle.gg_bits.specs.Shape.{shape}
 use Rattle.gg_flat.specs.Tree.{path_at}

@@ -2,7 +2,8 @@
 //! the capacities of channels.
 //!
 //! A partition file is JSON text (RFC 8259). The crate promises that `read_partition` gives the request that the bytes
-//! hold (`IsPartition`), or the key that is wrong (`IsRefused`), or that memory was refused.
+//! hold (`IsPartition`), or the key that is wrong (`IsRefused`), or that memory was refused. A request has no more entries of
+//! each kind than the file has bytes (`HasAtMost`).
 #![tactic(auto)]
 
 mod fault;
