@@ -11,3 +11,8 @@ pub mod CountLemmas
 pub mod ChoiceLemmas
 pub mod FaultlessLemmas
 pub mod EndLemmas
+pub mod HoldLemmas
+pub mod BelowLemmas
+pub mod LongestLemmas
+pub mod ListedLemmas
+pub mod OwnerLemmas

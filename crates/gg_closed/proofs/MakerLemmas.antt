@@ -121,7 +121,7 @@ find-number (x ∷ xs) s = by (cases_eq x s) (find-number xs s)
         at (zero, lt, e) = ne e
         at (suc k, lt, e) = none (k, omega (arith, lt), e)
 
-any-contains : (xs : List ℕ) (s : ℕ) → list_any (λ t. t == s) xs ≡ true → Contains xs s
+pub any-contains : (xs : List ℕ) (s : ℕ) → list_any (λ t. t == s) xs ≡ true → Contains xs s
 any-contains [] s e = absurd (cc)
 any-contains (x ∷ xs) s e = by (x == s) refl e (λ f. any-contains xs s f)
   where

@@ -17,4 +17,4 @@
 
 mod laws;
 
-pub use laws::{channels_once, listed_apart, machine_closed, machine_makes_part};
+pub use laws::{channels_once, listed_apart, machine_closed, machine_makes_part, owner_by_path};

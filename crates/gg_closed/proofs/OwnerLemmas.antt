@@ -1,0 +1,36 @@
+-- The owner of a signal, and of an instance, by the paths that a request without a fault lists.
+use Rattle.std.proofs.Common.{◌≡◌, ℕ, ◌<◌, List, length, subst, None}
+use Rattle.std.specs.Prelude.{◌↔◌}
+use Rattle.gg_flat.specs.Tree.{path_at}
+use Rattle.gg_order.specs.Design.{Ordered, IsDesign}
+use Rattle.gg_partfile.specs.declared.request.Request.{Request}
+use Rattle.gg_cut.specs.Fault.{first_fault}
+use Rattle.gg_cut.specs.Listed.{listed_of, owner_of, owner_of_instance}
+use Rattle.gg_closed.specs.Apart.{AreApart}
+use Rattle.gg_closed.specs.Longest.{HoldsPath, Covers, IsOfLongest, listed_paths, IsLongestHolder, IsLongestCover}
+use Rattle.gg_closed.proofs.FaultlessLemmas.{faultless-apart, faultless-known}
+use Rattle.gg_closed.proofs.TreeLemmas.{innermost}
+use Rattle.gg_closed.proofs.LongestLemmas.{ArePaths, longest-one, instance-longest, signal-longest}
+use Rattle.gg_closed.proofs.ListedLemmas.{listed-are}
+
+-- the longest is one machine's
+only : (Has : List ℕ → Type 0) (paths : List (List ℕ)) (owner m : ℕ) → IsOfLongest Has paths owner → IsOfLongest Has paths m ↔ (owner ≡ m)
+only Has paths owner m is = (λ other. longest-one Has paths owner m is other, λ same. subst (IsOfLongest Has paths) same is)
+
+module _ (design : Ordered) (request : Request) (is : IsDesign design) (none : first_fault design request ≡ None) where
+  apart : AreApart design.tree (listed_of design.tree request)
+  apart = faultless-apart design request none is.fitting
+
+  are : ArePaths design.tree (listed_of design.tree request) (listed_paths design.tree request)
+  are = listed-are design.tree request is.fitting.memory_named (faultless-known design request none)
+
+  pub signal-owner : (s m : ℕ) → s < length design.circuit.signals → IsLongestHolder design request s m ↔ (owner_of design.circuit design.tree (listed_of design.tree request) s ≡ m)
+  signal-owner s m lt =
+      let at = innermost design.circuit design.tree is.fitting s lt in
+      only (λ path. HoldsPath path (path_at design.circuit.paths s)) (listed_paths design.tree request) (owner_of design.circuit design.tree (listed_of design.tree request) s) m
+      (signal-longest design.circuit design.tree (listed_of design.tree request) is.fitting is.scoped apart (listed_paths design.tree request) are at.place s at.is)
+
+  pub instance-owner : (k m : ℕ) → k < length design.tree.instances → IsLongestCover design request k m ↔ (owner_of_instance design.tree (listed_of design.tree request).units k ≡ m)
+  instance-owner k m lt =
+      only (λ path. Covers path (path_at design.tree.paths k)) (listed_paths design.tree request) (owner_of_instance design.tree (listed_of design.tree request).units k) m
+      (instance-longest design.circuit design.tree (listed_of design.tree request) is.fitting is.scoped apart (listed_paths design.tree request) are k lt)

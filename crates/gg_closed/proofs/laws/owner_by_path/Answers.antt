@@ -1,0 +1,8 @@
+use Rattle.gg_closed.proofs.OwnerLemmas.{signal-owner, instance-owner}
+use Rattle.gg_closed.proofs.laws.owner_by_path.Goals as goal
+
+pub returns-clause-signals : goal.returns-clause-signals
+returns-clause-signals c = λ design request s m is none lt. signal-owner design request is none s m lt
+
+pub returns-clause-instances : goal.returns-clause-instances
+returns-clause-instances c = λ design request k m is none lt. instance-owner design request is none k m lt
