@@ -16,3 +16,4 @@ pub mod BelowLemmas
 pub mod LongestLemmas
 pub mod ListedLemmas
 pub mod OwnerLemmas
+pub mod WorkedOwners
