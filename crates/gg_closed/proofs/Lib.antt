@@ -16,4 +16,5 @@ pub mod BelowLemmas
 pub mod LongestLemmas
 pub mod ListedLemmas
 pub mod OwnerLemmas
+pub mod OwnerEndLemmas
 pub mod WorkedOwners

@@ -187,7 +187,7 @@ module _ (circuit : FlatCircuit) (tree : InstanceTree) (listed : Listed) (fits :
       by (inl into) = into.field
       by (inr word) = subst (λ s. IsFieldOf circuit tree j s) (ap (λ (v : Wire). v.signal) (sym word.is)) (word-field circuit (memory_at tree j).memory word.reader word.known)
 
-  port-of : (w : Wire) → (p : IsPortWire tree listed w) → IsPort tree (value_at listed.units p.unit) w.signal
+  pub port-of : (w : Wire) → (p : IsPortWire tree listed w) → IsPort tree (value_at listed.units p.unit) w.signal
   port-of w p = record { known = apart.known p.unit 0 p.known; port = p.port; listed = p.among; is = by p.port.is_input refl }
     where
       by : (b : Bool) → p.port.is_input ≡ b → p.port.signal ≡ w.signal

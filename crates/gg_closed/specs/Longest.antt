@@ -10,12 +10,12 @@ use Rattle.gg_cut.specs.Listed.{is_among}
 
 -- ---- what a path holds
 
--- A path holds another: that other one is it, a dot and a rest.
+-- A path holds another: the other is this path, a dot and a rest.
 pub record HoldsPath (outer path : List ℕ) : Type 0 where
   pub rest : List ℕ
   pub is : path ≡ outer ++ 46 ∷ rest
 
--- a path is another, or holds it
+-- a path covers another: it is the other, or holds it
 abbrev pub Covers : List ℕ → List ℕ → Type 0
 Covers outer path = (outer ≡ path) ⊎ HoldsPath outer path
 
@@ -27,8 +27,8 @@ pub record IsLongest (Has : List ℕ → Type 0) (paths : List (List ℕ)) (k : 
   pub has : Has (path_at paths k)
   pub longest : (i : ℕ) → i < length paths → i ≢ k → Has (path_at paths i) → length (path_at paths i) < length (path_at paths k)
 
--- The machine is the one of the longest path with a property: the path at place k is that of machine k + 1, and machine 0, the hub, is
--- meant where no path has the property.
+-- The machine of the longest path that has a property: the path at place k is that of machine k + 1. It is machine 0, the hub, where no
+-- path has the property.
 abbrev pub IsOfLongest : (List ℕ → Type 0) → List (List ℕ) → ℕ → Type 0
 IsOfLongest Has paths zero = (i : ℕ) → i < length paths → ¬ Has (path_at paths i)
 IsOfLongest Has paths (suc k) = IsLongest Has paths k

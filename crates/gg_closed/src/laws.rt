@@ -12,7 +12,7 @@ ghost use Rattle.gg_cut.specs.Fault.{first_fault};
 ghost use Rattle.gg_cut.specs.Channels.{wires_of, first_source, machine_count};
 ghost use Rattle.gg_part.specs.Choice.{IsChoice};
 ghost use Rattle.gg_cut.specs.Plan.{channels_to, channels_from, signals_of, Makes, Takes, HasMemory};
-ghost use Rattle.gg_closed.specs.Apart.{AreApart, AreFew, AreEnds};
+ghost use Rattle.gg_closed.specs.Apart.{AreApart, AreFew, AreEnds, IsOwnerAtEnd};
 ghost use Rattle.gg_closed.specs.Longest.{IsLongestHolder, IsLongestCover};
 
 /// What a request without a fault lists lies apart, and there is no more of it than a plan may have.
@@ -28,6 +28,13 @@ pub fn listed_apart()
 pub fn owner_by_path()
     ensures signals { (design : Ordered) (request : Request) (s m : ℕ) → IsDesign design → first_fault design request ≡ None → s < length design.circuit.signals → IsLongestHolder design request s m ↔ (owner_of design.circuit design.tree (listed_of design.tree request) s ≡ m) }
     ensures instances { (design : Ordered) (request : Request) (k m : ℕ) → IsDesign design → first_fault design request ≡ None → k < length design.tree.instances → IsLongestCover design request k m ↔ (owner_of_instance design.tree (listed_of design.tree request).units k ≡ m) }
+{}
+
+/// Where what is listed lies apart, each channel has the machine that its signal belongs to at one of its ends: a port of
+/// a unit or a field of a listed memory belongs to the unit or the memory, whichever end gives its value, and a port of
+/// the top to the hub.
+pub fn owner_at_end()
+    ensures { (design : Ordered) (listed : Listed) → IsDesign design → AreApart design.tree listed → All (IsOwnerAtEnd design.circuit design.tree listed) (wires_of design.circuit design.tree listed) }
 {}
 
 /// Where what is listed lies apart, no two channels carry the same signal, and the ends of each are two of the
