@@ -43,7 +43,7 @@ all-paths paths n e =
     (λ i lt. get_or-map-range_with_len (path_at paths) 0 n i i [] (omega (arith, lt, length-map-range_with_len (path_at paths) 0 n)) (let same : 0 + i ≡ i = omega arith in same))
 
 -- the paths of the listed memories, by their places or by the request
-memory-paths : (tree : InstanceTree) (request : Request) → length tree.memory_paths ≡ length tree.memories → map (path_at tree.memory_paths) (listed_of tree request).memories ≡ filter (is_among request.memories) tree.memory_paths
+pub memory-paths : (tree : InstanceTree) (request : Request) → length tree.memory_paths ≡ length tree.memories → map (path_at tree.memory_paths) (listed_of tree request).memories ≡ filter (is_among request.memories) tree.memory_paths
 memory-paths tree request named =
     kept-map (path_at tree.memory_paths) (is_among request.memories) (range_with_len 0 (length tree.memories))
     ∙ ap (filter (is_among request.memories)) (all-paths tree.memory_paths (length tree.memories) named)

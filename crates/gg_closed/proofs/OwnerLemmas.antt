@@ -1,17 +1,19 @@
 -- The owner of a signal, and of an instance, by the paths that a request without a fault lists.
-use Rattle.std.proofs.Common.{◌≡◌, ℕ, ◌<◌, List, length, subst, None}
-use Rattle.std.specs.Prelude.{◌↔◌}
+use Rattle.std.proofs.Common.{◌≡◌, ℕ, suc, ◌+◌, ◌<◌, List, [], ◌++◌, length, map, ◌∙◌, ap, subst, None, length-append, arith}
+use Rattle.std.specs.Prelude.{◌↔◌, codes, filter}
+use Rattle.std.proofs.lemmas.List.{get_or_append_left}
 use Rattle.gg_flat.specs.Tree.{path_at}
 use Rattle.gg_order.specs.Design.{Ordered, IsDesign}
 use Rattle.gg_partfile.specs.declared.request.Request.{Request}
 use Rattle.gg_cut.specs.Fault.{first_fault}
-use Rattle.gg_cut.specs.Listed.{listed_of, owner_of, owner_of_instance}
+use Rattle.gg_cut.specs.Plan.{machine_names}
+use Rattle.gg_cut.specs.Listed.{is_among, listed_of, owner_of, owner_of_instance}
 use Rattle.gg_closed.specs.Apart.{AreApart}
 use Rattle.gg_closed.specs.Longest.{HoldsPath, Covers, IsOfLongest, listed_paths, IsLongestHolder, IsLongestCover}
 use Rattle.gg_closed.proofs.FaultlessLemmas.{faultless-apart, faultless-known}
 use Rattle.gg_closed.proofs.TreeLemmas.{innermost}
 use Rattle.gg_closed.proofs.LongestLemmas.{ArePaths, longest-one, instance-longest, signal-longest}
-use Rattle.gg_closed.proofs.ListedLemmas.{listed-are}
+use Rattle.gg_closed.proofs.ListedLemmas.{listed-are, memory-paths}
 
 -- the longest is one machine's
 only : (Has : List ℕ → Type 0) (paths : List (List ℕ)) (owner m : ℕ) → IsOfLongest Has paths owner → IsOfLongest Has paths m ↔ (owner ≡ m)
@@ -34,3 +36,20 @@ module _ (design : Ordered) (request : Request) (is : IsDesign design) (none : f
   instance-owner k m lt =
       only (λ path. Covers path (path_at design.tree.paths k)) (listed_paths design.tree request) (owner_of_instance design.tree (listed_of design.tree request).units k) m
       (instance-longest design.circuit design.tree (listed_of design.tree request) is.fitting is.scoped apart (listed_paths design.tree request) are k lt)
+
+-- the machine of a listed path has that path as its name
+pub machine-name : (design : Ordered) (request : Request) (k : ℕ) → IsDesign design → k < length (listed_paths design.tree request) → path_at (machine_names design request (listed_of design.tree request)) (k + 1) ≡ path_at (listed_paths design.tree request) k
+machine-name design request k is lt =
+    ap (path_at (machine_names design request (listed_of design.tree request))) (let next : k + 1 ≡ suc k = omega arith in next)
+    ∙ ap (λ l. path_at (((request.units ++ l) ++ sources) ++ trays) k) (memory-paths design.tree request is.fitting.memory_named)
+    ∙ get_or_append_left ((request.units ++ kept) ++ sources) trays [] k (omega (arith, lt, length-append (request.units ++ kept) sources))
+    ∙ get_or_append_left (request.units ++ kept) sources [] k lt
+  where
+    kept : List (List ℕ)
+    kept = filter (is_among request.memories) design.tree.memory_paths
+
+    sources : List (List ℕ)
+    sources = map (λ s. codes "in:" ++ path_at design.circuit.paths s) design.circuit.ins
+
+    trays : List (List ℕ)
+    trays = map (λ s. codes "out:" ++ path_at design.circuit.paths s) design.circuit.outs

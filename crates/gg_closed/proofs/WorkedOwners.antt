@@ -16,6 +16,7 @@ use Rattle.gg_order.specs.Design.{Ordered}
 use Rattle.gg_partfile.specs.declared.request.Request.{Request}
 use Rattle.gg_cut.specs.Listed.{listed_of, owner_of, owner_of_instance}
 use Rattle.gg_cut.specs.Fault.{rest_behind, fault_in}
+use Rattle.gg_cut.specs.Plan.{machine_names}
 use Rattle.gg_cut.proofs.WorkedPair.{output}
 use Rattle.gg_closed.specs.Longest.{HoldsPath, Covers, listed_paths, IsLongestHolder, IsLongestCover}
 
@@ -95,6 +96,10 @@ paths-of-one = refl
 -- memories stand in the order of the tree
 paths-of-two : listed_paths tree two ≡ codes "c" ∷ codes "c.m" ∷ codes "c.n" ∷ []
 paths-of-two = refl
+
+-- the names of the machines behind the hub
+names-of-two : map (path_at (machine_names design two (listed_of tree two))) (1 ∷ 2 ∷ 3 ∷ []) ≡ listed_paths tree two
+names-of-two = refl
 
 -- by the tree: `top`, `c.x`, `c.m.r.addr`, `c.m.r.data`, `c.n.r.addr`, `c.d.y`, `cc.x`
 by-tree : map (owner_of circuit tree (listed_of tree one)) (0 ∷ 1 ∷ 2 ∷ 4 ∷ 5 ∷ 8 ∷ 9 ∷ []) ≡ 0 ∷ 1 ∷ 2 ∷ 2 ∷ 1 ∷ 1 ∷ 0 ∷ []

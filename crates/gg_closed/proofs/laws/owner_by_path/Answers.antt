@@ -1,4 +1,4 @@
-use Rattle.gg_closed.proofs.OwnerLemmas.{signal-owner, instance-owner}
+use Rattle.gg_closed.proofs.OwnerLemmas.{signal-owner, instance-owner, machine-name}
 use Rattle.gg_closed.proofs.laws.owner_by_path.Goals as goal
 
 pub returns-clause-signals : goal.returns-clause-signals
@@ -6,3 +6,6 @@ returns-clause-signals c = λ design request s m is none lt. signal-owner design
 
 pub returns-clause-instances : goal.returns-clause-instances
 returns-clause-instances c = λ design request k m is none lt. instance-owner design request is none k m lt
+
+pub returns-clause-names : goal.returns-clause-names
+returns-clause-names c = λ design request k is lt. machine-name design request k is lt
