@@ -128,7 +128,7 @@ module _ (circuit : FlatCircuit) (tree : InstanceTree) (fits : IsTree circuit tr
             at (Inner o) = absurd (memory-no-memory m.place j m.known lj o)
 
     -- an instance's path that holds a memory's, is or holds that of the memory's instance
-    memory-covers : (i j : ℕ) → j < length tree.memories → HoldsPath (path_at tree.paths i) (path_at tree.memory_paths j) → Covers (path_at tree.paths i) (path_at tree.paths (memory_at tree j).instance)
+    pub memory-covers : (i j : ℕ) → j < length tree.memories → HoldsPath (path_at tree.paths i) (path_at tree.memory_paths j) → Covers (path_at tree.paths i) (path_at tree.paths (memory_at tree j).instance)
     memory-covers i j lj h = below-covers (path_at tree.paths i) (path_at tree.paths (memory_at tree j).instance) (path_at tree.memory_paths j) (fits.held j lj).path h
 
     -- what holds a signal's path is or holds the path of the innermost instance
@@ -152,3 +152,12 @@ module _ (circuit : FlatCircuit) (tree : InstanceTree) (fits : IsTree circuit tr
     covers-held i k s inner low li (inr h) =
         holds-trans (path_at tree.paths i) (path_at tree.paths k) (path_at circuit.paths s) h
         (within-held (path_at tree.paths k) (path_at circuit.paths s) (holds-some (path_at tree.paths i) (path_at tree.paths k) h) (fits.signals k s inner))
+
+    -- an instance below the top whose path is or holds that of a memory's instance, holds the memory's
+    pub covers-memory : (i j : ℕ) → 0 < i → i < length tree.instances → j < length tree.memories → Covers (path_at tree.paths i) (path_at tree.paths (memory_at tree j).instance) → HoldsPath (path_at tree.paths i) (path_at tree.memory_paths j)
+    covers-memory i j low li lj (inl same) =
+        subst (λ p. HoldsPath p (path_at tree.memory_paths j)) (sym same)
+        (below-held (path_at tree.paths (memory_at tree j).instance) (path_at tree.memory_paths j) (λ none. lower-some i low li (same ∙ none)) (fits.held j lj).path)
+    covers-memory i j low li lj (inr h) =
+        holds-trans (path_at tree.paths i) (path_at tree.paths (memory_at tree j).instance) (path_at tree.memory_paths j) h
+        (below-held (path_at tree.paths (memory_at tree j).instance) (path_at tree.memory_paths j) (holds-some (path_at tree.paths i) (path_at tree.paths (memory_at tree j).instance) h) (fits.held j lj).path)

@@ -1,5 +1,5 @@
--- The machine of an instance and of a signal is that of the longest listed path that covers or holds it.
-use Rattle.std.proofs.Common.{◌≡◌, ◌≢◌, ℕ, zero, suc, ◌+◌, ◌-◌, ◌<◌, ◌≤◌, List, length, get_or, true, true≢false, refl, sym, ◌∙◌, ap, subst, Some, None, inl, inr, ◌⊎◌, eq-eqb, arith}
+-- The machine of an instance, of a signal and of a memory is that of the longest listed path that covers or holds it.
+use Rattle.std.proofs.Common.{◌≡◌, ◌≢◌, ℕ, zero, suc, ◌+◌, ◌-◌, ◌<◌, ◌≤◌, List, length, get_or, true, true≢false, refl, sym, ◌∙◌, ap, subst, Some, None, inl, inr, ◌⊎◌, eq-eqb, true-eqb, arith}
 use Rattle.std.specs.Prelude.{Option, ◌==◌}
 use Rattle.std.proofs.lemmas.Bool.{cases_lt, cases_eq}
 use Rattle.gg_flat.specs.Line.{value_at}
@@ -8,13 +8,14 @@ use Rattle.gg_flat.specs.Tree.{InstanceTree, IsTree, IsInnermost, path_at, memor
 use Rattle.gg_flat.specs.Scoped.{IsScoped, IsFieldOf, memory_fields}
 use Rattle.gg_cut.specs.declared.listed.Listed.{Listed}
 use Rattle.gg_cut.specs.Listed.{lies, first_place, unit_or_hub, owner_of_instance, owner_of, has_signal, has_field, memory_or}
-use Rattle.gg_cut.proofs.PathLemmas.{IsPlace, first_place-Some, first_place-None, any-at}
+use Rattle.gg_cut.proofs.PathLemmas.{IsPlace, first_place-Some, first_place-None, any-at, one-place}
+use Rattle.gg_cut.specs.Plan.{memory_owner}
 use Rattle.gg_closed.specs.Apart.{AreApart}
 use Rattle.gg_closed.specs.Longest.{HoldsPath, Covers, IsLongest, IsOfLongest}
 use Rattle.gg_closed.proofs.NameLemmas.{field-one}
 use Rattle.gg_closed.proofs.MakerLemmas.{IsNoField, owner-signal, any-contains}
 use Rattle.gg_closed.proofs.HoldLemmas.{Fronts, Equal, Outer, Inner, fronts-of, holds-shorter}
-use Rattle.gg_closed.proofs.BelowLemmas.{covers-lies, lies-covers, memory-no-instance, field-held, held-field, held-covers, covers-held}
+use Rattle.gg_closed.proofs.BelowLemmas.{covers-lies, lies-covers, memory-no-instance, memory-no-memory, field-held, held-field, held-covers, covers-held, memory-covers, covers-memory}
 
 -- ---- the longest
 
@@ -236,3 +237,87 @@ module _ (circuit : FlatCircuit) (tree : InstanceTree) (listed : Listed) (fits :
 
             field : IsFieldOf circuit tree (value_at listed.memories j) s
             field = any-contains (memory_fields circuit (memory_at tree (value_at listed.memories j)).memory) s (at.passes 0)
+
+  -- ---- memories
+
+  module _ (j : ℕ) (lj : j < length tree.memories) where
+    -- a listed memory whose path is this one's, or holds it, is this one
+    memory-same : (i : ℕ) → i < length listed.memories → Covers (path_at paths (length listed.units + i)) (path_at tree.memory_paths j) → value_at listed.memories i ≡ j
+    memory-same i li h = by (subst (λ p. Covers p (path_at tree.memory_paths j)) (are.memory i li) h)
+      where
+        by : Covers (path_at tree.memory_paths (value_at listed.memories i)) (path_at tree.memory_paths j) → value_at listed.memories i ≡ j
+        by (inl same) = one-place tree.memory_paths (value_at listed.memories i) j fits.memory_distinct (let known = memory-in i li in omega (arith, known, fits.memory_named)) (omega (arith, lj, fits.memory_named)) same
+        by (inr up) = absurd (memory-no-memory circuit tree fits scoped (value_at listed.memories i) j (memory-in i li) lj up)
+
+    -- a unit's path isn't a memory's
+    unit-memory : (i : ℕ) → i < length listed.units → Covers (path_at paths i) (path_at tree.memory_paths j) → HoldsPath (path_at tree.paths (value_at listed.units i)) (path_at tree.memory_paths j)
+    unit-memory i li h = by (subst (λ p. Covers p (path_at tree.memory_paths j)) (are.unit i li) h)
+      where
+        by : Covers (path_at tree.paths (value_at listed.units i)) (path_at tree.memory_paths j) → HoldsPath (path_at tree.paths (value_at listed.units i)) (path_at tree.memory_paths j)
+        by (inl same) = absurd (scoped.apart (value_at listed.units i) j (unit-at i li) lj same)
+        by (inr up) = up
+
+    -- where it is listed
+    own-longest : (u : ℕ) → u < length listed.memories → value_at listed.memories u ≡ j → IsLongest (λ path. Covers path (path_at tree.memory_paths j)) paths (length listed.units + u)
+    own-longest u lu is =
+        record {
+          known = omega (arith, lu, are.count);
+          has = inl path;
+          longest = λ i lt ne h. longest i ne h (place-of i lt);
+        }
+      where
+        path : path_at paths (length listed.units + u) ≡ path_at tree.memory_paths j
+        path = are.memory u lu ∙ ap (path_at tree.memory_paths) is
+
+        same-place : (i : ℕ) → i < length listed.memories → value_at listed.memories i ≡ j → i ≡ u
+        same-place i li one = by (cases_lt i u) (cases_lt u i)
+          where
+            by : (i < u) ⊎ (u ≤ i) → (u < i) ⊎ (i ≤ u) → i ≡ u
+            by (inl lt) q = let less = apart.ascending i u 0 lt lu in absurd (omega (arith, less, one, is))
+            by (inr le) (inl lt) = let less = apart.ascending u i 0 lt li in absurd (omega (arith, less, one, is))
+            by (inr le) (inr ge) = omega (arith, le, ge)
+
+        longest : (i : ℕ) → i ≢ length listed.units + u → Covers (path_at paths i) (path_at tree.memory_paths j) → Among (length listed.units) (length listed.memories) i → length (path_at paths i) < length (path_at paths (length listed.units + u))
+        longest i ne h (First less) =
+            let shorter = holds-shorter (path_at tree.paths (value_at listed.units i)) (path_at tree.memory_paths j) (unit-memory i less h) in
+            omega (arith, shorter, ap length (are.unit i less), ap length path)
+        longest i ne h (Behind o lo e) =
+            let one = same-place o lo (memory-same o lo (subst (λ n. Covers (path_at paths n) (path_at tree.memory_paths j)) e h)) in
+            absurd (ne (omega (arith, e, one)))
+
+    -- where it isn't
+    held-longest : ((i : ℕ) → i < length listed.memories → value_at listed.memories i ≢ j) → IsOfLongest (λ path. Covers path (path_at tree.memory_paths j)) paths (owner_of_instance tree listed.units (memory_at tree j).instance)
+    held-longest none =
+        longest-same (λ path. Covers path (path_at tree.paths (memory_at tree j).instance)) (λ path. Covers path (path_at tree.memory_paths j)) paths (owner_of_instance tree listed.units (memory_at tree j).instance) to back
+        (instance-longest (memory_at tree j).instance (fits.held j lj).instance)
+      where
+        to : (i : ℕ) → i < length paths → Covers (path_at paths i) (path_at tree.paths (memory_at tree j).instance) → Covers (path_at paths i) (path_at tree.memory_paths j)
+        to i lt h =
+            let at = covering (memory_at tree j).instance i (fits.held j lj).instance lt h in
+            inr (subst (λ p. HoldsPath p (path_at tree.memory_paths j)) (sym (are.unit i at.0))
+            (covers-memory circuit tree fits scoped (value_at listed.units i) j (apart.lower i 0 at.0) (unit-at i at.0) lj (unit-covers i (memory_at tree j).instance at.0 h)))
+
+        back : (i : ℕ) → i < length paths → Covers (path_at paths i) (path_at tree.memory_paths j) → Covers (path_at paths i) (path_at tree.paths (memory_at tree j).instance)
+        back i lt h = by (place-of i lt)
+          where
+            by : Among (length listed.units) (length listed.memories) i → Covers (path_at paths i) (path_at tree.paths (memory_at tree j).instance)
+            by (First less) =
+                subst (λ p. Covers p (path_at tree.paths (memory_at tree j).instance)) (sym (are.unit i less))
+                (memory-covers circuit tree fits scoped (value_at listed.units i) j lj (unit-memory i less h))
+            by (Behind o lo e) = absurd (none o lo (memory-same o lo (subst (λ n. Covers (path_at paths n) (path_at tree.memory_paths j)) e h)))
+
+    pub memory-longest : IsOfLongest (λ path. Covers path (path_at tree.memory_paths j)) paths (memory_owner tree listed j)
+    memory-longest = by (first_place (λ i. i == j) listed.memories) refl
+      where
+        by : (found : Option ℕ) → first_place (λ i. i == j) listed.memories ≡ found → IsOfLongest (λ path. Covers path (path_at tree.memory_paths j)) paths (memory_owner tree listed j)
+        by None e = subst (IsOfLongest (λ path. Covers path (path_at tree.memory_paths j)) paths) (sym (ap (memory_or (length listed.units) (owner_of_instance tree listed.units (memory_at tree j).instance)) e)) (held-longest none)
+          where
+            none : (i : ℕ) → i < length listed.memories → value_at listed.memories i ≢ j
+            none i li same = true≢false (sym (any-at (λ t. t == j) listed.memories i 0 li (eq-eqb (value_at listed.memories i) j same)) ∙ first_place-None (λ t. t == j) listed.memories e)
+        by (Some u) e = subst (IsOfLongest (λ path. Covers path (path_at tree.memory_paths j)) paths) (sym number) (own-longest u at.within (true-eqb (value_at listed.memories u) j (sym (at.passes 0))))
+          where
+            number : memory_owner tree listed j ≡ suc (length listed.units + u)
+            number = ap (memory_or (length listed.units) (owner_of_instance tree listed.units (memory_at tree j).instance)) e ∙ (let same : suc (length listed.units) + u ≡ suc (length listed.units + u) = omega arith in same)
+
+            at : IsPlace (λ i. i == j) listed.memories u
+            at = first_place-Some (λ i. i == j) listed.memories u e

@@ -6,13 +6,13 @@ use Rattle.gg_flat.specs.Tree.{path_at}
 use Rattle.gg_order.specs.Design.{Ordered, IsDesign}
 use Rattle.gg_partfile.specs.declared.request.Request.{Request}
 use Rattle.gg_cut.specs.Fault.{first_fault}
-use Rattle.gg_cut.specs.Plan.{machine_names}
+use Rattle.gg_cut.specs.Plan.{machine_names, memory_owner}
 use Rattle.gg_cut.specs.Listed.{is_among, listed_of, owner_of, owner_of_instance}
 use Rattle.gg_closed.specs.Apart.{AreApart}
 use Rattle.gg_closed.specs.Longest.{HoldsPath, Covers, IsOfLongest, listed_paths, IsLongestHolder, IsLongestCover}
 use Rattle.gg_closed.proofs.FaultlessLemmas.{faultless-apart, faultless-known}
 use Rattle.gg_closed.proofs.TreeLemmas.{innermost}
-use Rattle.gg_closed.proofs.LongestLemmas.{ArePaths, longest-one, instance-longest, signal-longest}
+use Rattle.gg_closed.proofs.LongestLemmas.{ArePaths, longest-one, instance-longest, signal-longest, memory-longest}
 use Rattle.gg_closed.proofs.ListedLemmas.{listed-are, memory-paths}
 
 -- the longest is one machine's
@@ -32,10 +32,15 @@ module _ (design : Ordered) (request : Request) (is : IsDesign design) (none : f
       only (λ path. HoldsPath path (path_at design.circuit.paths s)) (listed_paths design.tree request) (owner_of design.circuit design.tree (listed_of design.tree request) s) m
       (signal-longest design.circuit design.tree (listed_of design.tree request) is.fitting is.scoped apart (listed_paths design.tree request) are at.place s at.is)
 
-  pub instance-owner : (k m : ℕ) → k < length design.tree.instances → IsLongestCover design request k m ↔ (owner_of_instance design.tree (listed_of design.tree request).units k ≡ m)
+  pub instance-owner : (k m : ℕ) → k < length design.tree.instances → IsLongestCover design request (path_at design.tree.paths k) m ↔ (owner_of_instance design.tree (listed_of design.tree request).units k ≡ m)
   instance-owner k m lt =
       only (λ path. Covers path (path_at design.tree.paths k)) (listed_paths design.tree request) (owner_of_instance design.tree (listed_of design.tree request).units k) m
       (instance-longest design.circuit design.tree (listed_of design.tree request) is.fitting is.scoped apart (listed_paths design.tree request) are k lt)
+
+  pub memory-owner : (j m : ℕ) → j < length design.tree.memories → IsLongestCover design request (path_at design.tree.memory_paths j) m ↔ (memory_owner design.tree (listed_of design.tree request) j ≡ m)
+  memory-owner j m lt =
+      only (λ path. Covers path (path_at design.tree.memory_paths j)) (listed_paths design.tree request) (memory_owner design.tree (listed_of design.tree request) j) m
+      (memory-longest design.circuit design.tree (listed_of design.tree request) is.fitting is.scoped apart (listed_paths design.tree request) are j lt)
 
 -- the machine of a listed path has that path as its name
 pub machine-name : (design : Ordered) (request : Request) (k : ℕ) → IsDesign design → k < length (listed_paths design.tree request) → path_at (machine_names design request (listed_of design.tree request)) (k + 1) ≡ path_at (listed_paths design.tree request) k

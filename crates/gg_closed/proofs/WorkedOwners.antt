@@ -16,7 +16,7 @@ use Rattle.gg_order.specs.Design.{Ordered}
 use Rattle.gg_partfile.specs.declared.request.Request.{Request}
 use Rattle.gg_cut.specs.Listed.{listed_of, owner_of, owner_of_instance}
 use Rattle.gg_cut.specs.Fault.{rest_behind, fault_in}
-use Rattle.gg_cut.specs.Plan.{machine_names}
+use Rattle.gg_cut.specs.Plan.{machine_names, memory_owner}
 use Rattle.gg_cut.proofs.WorkedPair.{output}
 use Rattle.gg_closed.specs.Longest.{HoldsPath, Covers, listed_paths, IsLongestHolder, IsLongestCover}
 
@@ -174,7 +174,7 @@ not-covered p q differ none (inl same) = differ same
 not-covered p q differ none (inr holds) = not-held p q none holds
 
 -- the unit's own instance, which its path is
-cover-itself : IsLongestCover design one 1 1
+cover-itself : IsLongestCover design one (codes "c") 1
 cover-itself =
     record {
       known = lit< tt;
@@ -183,7 +183,7 @@ cover-itself =
     }
 
 -- the instance `d` below it, which its path holds
-cover-deeper : IsLongestCover design one 2 1
+cover-deeper : IsLongestCover design one (codes "c.d") 1
 cover-deeper =
     record {
       known = lit< tt;
@@ -191,10 +191,36 @@ cover-deeper =
       longest = both (λ i. i ≢ 0 → Covers (path_at (listed_paths tree one) i) (codes "c.d") → length (path_at (listed_paths tree one) i) < 1) (λ ne h. absurd (ne refl)) (λ ne h. absurd (not-covered (codes "c.m") (codes "c.d") (λ e. apart 109 100 refl (ap (λ (l : List ℕ). value_at l 2) e)) refl h));
     }
 
-cover-beside : IsLongestCover design one 3 0
+cover-beside : IsLongestCover design one (codes "cc") 0
 cover-beside = both (λ i. ¬ Covers (path_at (listed_paths tree one) i) (codes "cc")) (not-covered (codes "c") (codes "cc") (λ e. absurd (cc)) refl) (not-covered (codes "c.m") (codes "cc") (λ e. absurd (cc)) refl)
 
+-- ---- memories
+
+memories-by-tree : map (memory_owner tree (listed_of tree one)) (0 ∷ 1 ∷ []) ≡ 2 ∷ 1 ∷ []
+memories-by-tree = refl
+
+cover-listed : IsLongestCover design one (codes "c.m") 2
+cover-listed =
+    record {
+      known = lit< tt;
+      has = inl refl;
+      longest = both (λ i. i ≢ 1 → Covers (path_at (listed_paths tree one) i) (codes "c.m") → length (path_at (listed_paths tree one) i) < 3) (λ ne h. lit< tt) (λ ne h. absurd (ne refl));
+    }
+
+-- the memory `c.n` isn't listed, so it is the unit's
+cover-unlisted : IsLongestCover design one (codes "c.n") 1
+cover-unlisted =
+    record {
+      known = lit< tt;
+      has = inr (record { rest = codes "n"; is = refl });
+      longest = both (λ i. i ≢ 0 → Covers (path_at (listed_paths tree one) i) (codes "c.n") → length (path_at (listed_paths tree one) i) < 1) (λ ne h. absurd (ne refl)) (λ ne h. absurd (not-covered (codes "c.m") (codes "c.n") (λ e. apart 109 110 refl (ap (λ (l : List ℕ). value_at l 2) e)) refl h));
+    }
+
 -- ---- no owners
+
+-- the unit isn't the owner of the listed memory in it
+no-unit-memory : ¬ IsLongestCover design one (codes "c.m") 1
+no-unit-memory is = let less : 3 < 1 = is.longest 1 (lit< tt) (λ e. absurd (omega (arith, e))) (inl refl) in absurd (omega (arith, less))
 
 -- the unit isn't the owner of a field of the listed memory in it
 no-unit : ¬ IsLongestHolder design one 2 1

@@ -1,4 +1,4 @@
--- The machine of a signal, and of an instance, by paths alone.
+-- The machine of a signal, of an instance and of a memory, by paths alone.
 -- Source: ICCAD 2019 (an instance or a memory that is marked becomes a model of its own, with all that is below it; what is left is
 -- the hub's); FIRRTL Specification, "Instances" and "Memories": what is below an instance or a memory is named by its path, a dot
 -- and a name.
@@ -43,6 +43,6 @@ listed_paths tree request = request.units ++ filter (is_among request.memories) 
 abbrev pub IsLongestHolder : Ordered → Request → ℕ → ℕ → Type 0
 IsLongestHolder design request s m = IsOfLongest (λ path. HoldsPath path (path_at design.circuit.paths s)) (listed_paths design.tree request) m
 
--- Machine m is that of the longest listed path that is, or holds, the path of the instance at place k, and the hub where there is none.
-abbrev pub IsLongestCover : Ordered → Request → ℕ → ℕ → Type 0
-IsLongestCover design request k m = IsOfLongest (λ path. Covers path (path_at design.tree.paths k)) (listed_paths design.tree request) m
+-- Machine m is that of the longest listed path that covers this path, an instance's or a memory's, and the hub where none does.
+abbrev pub IsLongestCover : Ordered → Request → List ℕ → ℕ → Type 0
+IsLongestCover design request inner m = IsOfLongest (λ path. Covers path inner) (listed_paths design.tree request) m

@@ -12,7 +12,7 @@ ghost use Rattle.gg_cut.specs.Listed.{listed_of, owner_of, owner_of_instance};
 ghost use Rattle.gg_cut.specs.Fault.{first_fault};
 ghost use Rattle.gg_cut.specs.Channels.{wires_of, first_source, machine_count};
 ghost use Rattle.gg_part.specs.Choice.{IsChoice};
-ghost use Rattle.gg_cut.specs.Plan.{channels_to, channels_from, signals_of, machine_names, Makes, Takes, HasMemory};
+ghost use Rattle.gg_cut.specs.Plan.{channels_to, channels_from, signals_of, machine_names, memory_owner, Makes, Takes, HasMemory};
 ghost use Rattle.gg_closed.specs.Apart.{AreApart, AreFew, AreEnds, IsOwnerAtEnd};
 ghost use Rattle.gg_closed.specs.Longest.{listed_paths, IsLongestHolder, IsLongestCover};
 
@@ -24,11 +24,13 @@ pub fn listed_apart()
 {}
 
 /// Where a request has no fault, the machine that a signal belongs to is that of the longest listed path that holds the
-/// signal's path, and the machine that an instance belongs to is that of the longest that is its path or holds it. It is
-/// the hub where there is none, and no other machine is meant. The machine of a listed path has that path as its name.
+/// signal's path, and the machine that an instance or a memory belongs to is that of the longest that is its path or
+/// holds it. It is the hub where there is none, and no other machine is meant. The machine of a listed path has that path
+/// as its name.
 pub fn owner_by_path()
     ensures signals { (design : Ordered) (request : Request) (s m : ℕ) → IsDesign design → first_fault design request ≡ None → s < length design.circuit.signals → IsLongestHolder design request s m ↔ (owner_of design.circuit design.tree (listed_of design.tree request) s ≡ m) }
-    ensures instances { (design : Ordered) (request : Request) (k m : ℕ) → IsDesign design → first_fault design request ≡ None → k < length design.tree.instances → IsLongestCover design request k m ↔ (owner_of_instance design.tree (listed_of design.tree request).units k ≡ m) }
+    ensures instances { (design : Ordered) (request : Request) (k m : ℕ) → IsDesign design → first_fault design request ≡ None → k < length design.tree.instances → IsLongestCover design request (path_at design.tree.paths k) m ↔ (owner_of_instance design.tree (listed_of design.tree request).units k ≡ m) }
+    ensures memories { (design : Ordered) (request : Request) (j m : ℕ) → IsDesign design → first_fault design request ≡ None → j < length design.tree.memories → IsLongestCover design request (path_at design.tree.memory_paths j) m ↔ (memory_owner design.tree (listed_of design.tree request) j ≡ m) }
     ensures names { (design : Ordered) (request : Request) (k : ℕ) → IsDesign design → k < length (listed_paths design.tree request) → path_at (machine_names design request (listed_of design.tree request)) (k + 1) ≡ path_at (listed_paths design.tree request) k }
 {}
 

@@ -1,4 +1,4 @@
-use Rattle.gg_closed.proofs.OwnerLemmas.{signal-owner, instance-owner, machine-name}
+use Rattle.gg_closed.proofs.OwnerLemmas.{signal-owner, instance-owner, memory-owner, machine-name}
 use Rattle.gg_closed.proofs.laws.owner_by_path.Goals as goal
 
 pub returns-clause-signals : goal.returns-clause-signals
@@ -9,3 +9,6 @@ returns-clause-instances c = λ design request k m is none lt. instance-owner de
 
 pub returns-clause-names : goal.returns-clause-names
 returns-clause-names c = λ design request k is lt. machine-name design request k is lt
+
+pub returns-clause-memories : goal.returns-clause-memories
+returns-clause-memories c = λ design request j m is none lt. memory-owner design request is none j m lt
