@@ -176,6 +176,15 @@ module _ (design : Ordered) (request : Request) (none : first_fault design reque
       none-second (kind_fault design.tree request) (channel_fault design.circuit request (listed_of design.tree request) (channel_signals design.circuit design.tree (listed_of design.tree request)))
       (none-second (entry_fault design.tree request) (or_else (kind_fault design.tree request) (channel_fault design.circuit request (listed_of design.tree request) (channel_signals design.circuit design.tree (listed_of design.tree request)))) none)
 
+  -- each unit is an instance path
+  pub faultless-known : All (λ path. is_instance_path design.tree path ≡ true) request.units
+  faultless-known =
+      none-found (is_instance_path design.tree) request.units
+      (none-map UnknownUnit (unknown_unit design.tree request.units)
+      (none-first (option_map UnknownUnit (unknown_unit design.tree request.units))
+      (or_else (option_map UnknownUnit (unshared request.units request.share)) (or_else (option_map Doubled (overlapping design.tree request.units)) (or_else (option_map Doubled (repeated (entries request.share))) (option_map Doubled (repeated request.memories)))))
+      entry-none))
+
   pub faultless-apart : IsTree design.circuit design.tree → AreApart design.tree (listed_of design.tree request)
   faultless-apart fits =
       let units = option_map UnknownUnit (unknown_unit tree request.units) in

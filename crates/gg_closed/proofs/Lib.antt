@@ -11,3 +11,10 @@ pub mod CountLemmas
 pub mod ChoiceLemmas
 pub mod FaultlessLemmas
 pub mod EndLemmas
+pub mod HoldLemmas
+pub mod BelowLemmas
+pub mod LongestLemmas
+pub mod ListedLemmas
+pub mod OwnerLemmas
+pub mod OwnerEndLemmas
+pub mod WorkedOwners

@@ -121,7 +121,7 @@ find-number (x ∷ xs) s = by (cases_eq x s) (find-number xs s)
         at (zero, lt, e) = ne e
         at (suc k, lt, e) = none (k, omega (arith, lt), e)
 
-any-contains : (xs : List ℕ) (s : ℕ) → list_any (λ t. t == s) xs ≡ true → Contains xs s
+pub any-contains : (xs : List ℕ) (s : ℕ) → list_any (λ t. t == s) xs ≡ true → Contains xs s
 any-contains [] s e = absurd (cc)
 any-contains (x ∷ xs) s e = by (x == s) refl e (λ f. any-contains xs s f)
   where
@@ -187,7 +187,7 @@ module _ (circuit : FlatCircuit) (tree : InstanceTree) (listed : Listed) (fits :
       by (inl into) = into.field
       by (inr word) = subst (λ s. IsFieldOf circuit tree j s) (ap (λ (v : Wire). v.signal) (sym word.is)) (word-field circuit (memory_at tree j).memory word.reader word.known)
 
-  port-of : (w : Wire) → (p : IsPortWire tree listed w) → IsPort tree (value_at listed.units p.unit) w.signal
+  pub port-of : (w : Wire) → (p : IsPortWire tree listed w) → IsPort tree (value_at listed.units p.unit) w.signal
   port-of w p = record { known = apart.known p.unit 0 p.known; port = p.port; listed = p.among; is = by p.port.is_input refl }
     where
       by : (b : Bool) → p.port.is_input ≡ b → p.port.signal ≡ w.signal

@@ -11,14 +11,14 @@ use Rattle.gg_closed.proofs.TreeLemmas.{innermost-one}
 
 -- ---- paths
 
-dot-in : (q m : List ℕ) → Contains (q ++ 46 ∷ m) 46
+pub dot-in : (q m : List ℕ) → Contains (q ++ 46 ∷ m) 46
 dot-in [] m = (0, omega arith, refl)
 dot-in (b ∷ q) m = there b 46 (q ++ 46 ∷ m) (dot-in q m)
 
-same-head : {a b : ℕ} {xs ys : List ℕ} → a ∷ xs ≡ b ∷ ys → a ≡ b
+pub same-head : {a b : ℕ} {xs ys : List ℕ} → a ∷ xs ≡ b ∷ ys → a ≡ b
 same-head e = cc
 
-same-tail : {a b : ℕ} {xs ys : List ℕ} → a ∷ xs ≡ b ∷ ys → xs ≡ ys
+pub same-tail : {a b : ℕ} {xs ys : List ℕ} → a ∷ xs ≡ b ∷ ys → xs ≡ ys
 same-tail e = cc
 
 -- up to the first dot
@@ -46,7 +46,7 @@ joined-same (b ∷ p) n m e = same-tail (append_cancel_left (b ∷ p) (46 ∷ n)
 
 module _ (circuit : FlatCircuit) (tree : InstanceTree) (fits : IsTree circuit tree) (scoped : IsScoped circuit tree) where
   -- a memory's path isn't the top's
-  named : (j : ℕ) → j < length tree.memories → path_at tree.memory_paths j ≢ []
+  pub named : (j : ℕ) → j < length tree.memories → path_at tree.memory_paths j ≢ []
   named j lt e = scoped.apart 0 j fits.top.there lt (fits.top.path ∙ sym e)
 
   -- a field's path, below the instance that holds the memory

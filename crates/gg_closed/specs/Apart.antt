@@ -1,9 +1,9 @@
 -- What is listed, where a request has no fault.
 -- Source: ICCAD 2019 (instances that are marked lie apart, each a model of its own).
-use Rattle.std.specs.Prelude.{◌≡◌, ◌≢◌, ℕ, ◌<◌, ◌≤◌, ◌+◌, length, false, All, AllPairs}
+use Rattle.std.specs.Prelude.{◌≡◌, ◌≢◌, ◌⊎◌, ℕ, ◌<◌, ◌≤◌, ◌+◌, length, false, All, AllPairs}
 use Rattle.gg_flat.specs.Circuit.{FlatCircuit}
 use Rattle.gg_flat.specs.Tree.{InstanceTree}
-use Rattle.gg_cut.specs.Listed.{lies}
+use Rattle.gg_cut.specs.Listed.{lies, owner_of}
 use Rattle.gg_cut.specs.declared.listed.Listed.{Listed}
 use Rattle.gg_cut.specs.declared.wires.Wire.{Wire}
 use Rattle.gg_cut.specs.Channels.{wires_of}
@@ -27,3 +27,7 @@ pub record AreEnds (count : ℕ) (w : Wire) : Type 0 where
   pub producer : w.producer < count
   pub consumer : w.consumer < count
   pub apart : w.producer ≢ w.consumer
+
+-- the machine that a channel's signal belongs to is at one of the channel's ends
+abbrev pub IsOwnerAtEnd : FlatCircuit → InstanceTree → Listed → Wire → Type 0
+IsOwnerAtEnd circuit tree listed w = (w.producer ≡ owner_of circuit tree listed w.signal) ⊎ (w.consumer ≡ owner_of circuit tree listed w.signal)

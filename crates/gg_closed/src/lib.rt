@@ -4,6 +4,11 @@
 //! `specs/Apart`). The crate has no code: it promises, for a design and what such a request lists,
 //!
 //! - that it lies apart, and that there is no more of it than a plan may have (`listed_apart`);
+//! - that a signal belongs to the machine of the longest listed path that holds the signal's path, and to the hub where
+//!   none does; that an instance or a memory belongs to the machine of the longest that is its path or holds it; and that
+//!   the machine of a listed path has that path as its name (`owner_by_path`; the definitions, by paths alone, are in
+//!   `specs/Longest`);
+//! - that each channel has the machine that its signal belongs to at one of its ends (`owner_at_end`);
 //! - that each signal has at most one channel, between two of the machines (`channels_once`);
 //! - that the hub, a unit or a memory makes or takes all that the driver or the register of a signal that it makes
 //!   names (`machine_closed`);
@@ -17,4 +22,6 @@
 
 mod laws;
 
-pub use laws::{channels_once, listed_apart, machine_closed, machine_makes_part};
+pub use laws::{
+    channels_once, listed_apart, machine_closed, machine_makes_part, owner_at_end, owner_by_path,
+};

@@ -13,7 +13,7 @@ pub(super) const TILES: &str =
     "circuit Top :\nmodule Core :\noutput o : UInt<4>\no <= UInt<4>(10)\nmodule Tile :\noutput o : UInt<4>\ninst core of Core\no <= core.o\nmodule Top :\noutput o : UInt<4>\ninst tile of Tile\no <= tile.o\n";
 
 // Two instances of a module with a memory.
-const BANKS: &str =
+pub(super) const BANKS: &str =
     "circuit Banks :\nmodule Bank :\nmem m :\ndata-type => UInt<1>\ndepth => 1\nread-latency => 0\nwrite-latency => 1\nmodule Banks :\ninst u of Bank\ninst v of Bank\n";
 
 // A circuit, a partition that it accepts, a trace, and the text of the run.
