@@ -8,6 +8,7 @@ use Rattle.gg_flat.specs.Line.{shape_at}
 use Rattle.gg_flat.specs.Reads.{Reads}
 use Rattle.gg_flat.specs.Scoped.{writers_at}
 use Rattle.gg_flat.specs.Tree.{InstanceTree, memory_at, path_at}
+use Rattle.gg_flat.specs.declared.memory.Memory.{Memory}
 use Rattle.gg_flat.specs.declared.memory.Reader.{Reader}
 use Rattle.gg_flat.specs.declared.memory.Writer.{Writer}
 use Rattle.gg_order.specs.Design.{Ordered}
@@ -86,6 +87,12 @@ numbered-same : {A B : Type 0} (f g : ℕ → A → List B) → ((k : ℕ) (x : 
 numbered-same f g h n [] = refl
 numbered-same f g h n (x ∷ xs) = ap (λ l. l ++ numbered f (suc n) xs) (h n x) ∙ ap (λ l. g n x ++ l) (numbered-same f g h (suc n) xs)
 
+pub readers-same : (one other : FlatCircuit) → one.memories ≡ other.memories → (m : ℕ) → readers_at one m ≡ readers_at other m
+readers-same one other e m = ap (λ (ms : List Memory). slice_index_or (map (λ (x : Memory). x.readers) ms) m []) e
+
+pub writers-same : (one other : FlatCircuit) → one.memories ≡ other.memories → (m : ℕ) → writers_at one m ≡ writers_at other m
+writers-same one other e m = ap (λ (ms : List Memory). slice_index_or (map (λ (x : Memory). x.writers) ms) m []) e
+
 module _ (one other : FlatCircuit) (readers : (m : ℕ) → readers_at one m ≡ readers_at other m) (writers : (m : ℕ) → writers_at one m ≡ writers_at other m) where
   fields-carried : (tree : InstanceTree) (units : List ℕ) (number j : ℕ) → field_wires one tree units number j ≡ field_wires other tree units number j
   fields-carried tree units number j =
@@ -162,7 +169,7 @@ module _ (one other : Ordered) (s : AreAlike one other) (request : Request) (def
 text-of-cut-carried : (one other : Ordered) → AreAlike one other → (request : Request) (default : ℕ) (text : List ℕ) → IsTextOfCut one request default text → IsTextOfCut other request default text
 text-of-cut-carried one other s request default text a =
     let listed = listed_of other.tree request in
-    subst (λ (wires : List Wire). IsCutText other request default listed wires text) (wires-same one.circuit other.circuit s.readers s.writers other.tree listed s.ins s.outs)
+    subst (λ (wires : List Wire). IsCutText other request default listed wires text) (wires-same one.circuit other.circuit (readers-same one.circuit other.circuit s.memories) (writers-same one.circuit other.circuit s.memories) other.tree listed s.ins s.outs)
     (cut-text-carried one other s request default listed (wires_of one.circuit other.tree listed) text
     (subst (λ (t : InstanceTree). IsCutText one request default (listed_of t request) (wires_of one.circuit t (listed_of t request)) text) s.tree a))
 

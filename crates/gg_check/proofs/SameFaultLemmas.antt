@@ -15,6 +15,7 @@ use Rattle.gg_cut.specs.declared.fault.CutFault.{CutFault}
 use Rattle.gg_cut.specs.declared.fault.CutFault.TheVariants.{UnknownChannel, TooManyUnits, TooManyChannels}
 use Rattle.gg_cut.specs.declared.listed.Listed.{Listed}
 use Rattle.gg_check.specs.Alike.{AreAlike}
+use Rattle.gg_check.proofs.SameCutLemmas.{readers-same, writers-same}
 
 flattened-same : {A B : Type 0} (f g : A → List B) → ((a : A) → f a ≡ g a) → (xs : List A) → flattened f xs ≡ flattened g xs
 flattened-same f g h [] = refl
@@ -46,4 +47,4 @@ fault-same one other a request =
     ∙ ap (λ (later : Option CutFault). or_else (entry_fault other.tree request) (or_else (kind_fault other.tree request) later))
     (channel-fault-same one.circuit other.circuit request (listed_of other.tree request) (channel_signals one.circuit other.tree (listed_of other.tree request))
     (channel_signals other.circuit other.tree (listed_of other.tree request)) a.paths
-    (signals-same one.circuit other.circuit other.tree (listed_of other.tree request) a.ins a.outs (fields-same one.circuit other.circuit a.readers a.writers)))
+    (signals-same one.circuit other.circuit other.tree (listed_of other.tree request) a.ins a.outs (fields-same one.circuit other.circuit (readers-same one.circuit other.circuit a.memories) (writers-same one.circuit other.circuit a.memories))))

@@ -1,13 +1,12 @@
 -- Designs of which the same is told.
 -- Source: this program's own. What is compared are the parts of a design that a request can name and that the text of a cut tells.
 use Rattle.std.specs.Prelude.{◌≡◌, ◌↔◌, ℕ}
-use Rattle.gg_flat.specs.Circuit.{readers_at, signal_shapes}
+use Rattle.gg_flat.specs.Circuit.{signal_shapes}
 use Rattle.gg_flat.specs.Reads.{Reads}
-use Rattle.gg_flat.specs.Scoped.{writers_at}
 use Rattle.gg_order.specs.Design.{Ordered}
 
 -- Two designs have the same tree of instances, the same signals, by their paths and types, which read the same signals, the same
--- inputs and outputs, and memories with the same ports.
+-- inputs and outputs, and the same memories.
 pub record AreAlike (one other : Ordered) : Type 0 where
   pub tree : one.tree ≡ other.tree
   pub paths : one.circuit.paths ≡ other.circuit.paths
@@ -15,5 +14,4 @@ pub record AreAlike (one other : Ordered) : Type 0 where
   pub ins : one.circuit.ins ≡ other.circuit.ins
   pub outs : one.circuit.outs ≡ other.circuit.outs
   pub reads : (a b : ℕ) → Reads one.circuit a b ↔ Reads other.circuit a b
-  pub readers : (m : ℕ) → readers_at one.circuit m ≡ readers_at other.circuit m
-  pub writers : (m : ℕ) → writers_at one.circuit m ≡ writers_at other.circuit m
+  pub memories : one.circuit.memories ≡ other.circuit.memories

@@ -36,7 +36,7 @@ made-equal k l w v ek ew =
     (subst (λ (y : Kind). (p : 1 ≤ w) (b : w ≤ 128) (q : 1 ≤ w) (c : w ≤ 128) → made k w p b ≡ made y w q c) ek
     (λ p b q c. made-same k w p q b c))
 
-ty-equal : (a b : Ty) → shape a ≡ shape b → a ≡ b
+pub ty-equal : (a b : Ty) → shape a ≡ shape b → a ≡ b
 ty-equal a b e = made-equal a.kind b.kind a.width b.width (ap (λ (s : Shape). s.kind) e) (ap (λ (s : Shape). s.width) e) a.positive a.bounded b.positive b.bounded
 
 -- ---- a port of signals with the same shapes

@@ -1,12 +1,14 @@
--- A circuit has one tree, and the memories of its flat circuits have the same ports.
-use Rattle.std.proofs.Common.{◌≡◌, ℕ, zero, suc, ◌+◌, ◌<◌, List, [], ◌∷◌, Option, None, Some, Bool, length, map, refl, sym, ap, ◌∙◌, subst, arith}
+-- A circuit has one tree, and its flat circuits have the same memories.
+use Rattle.std.proofs.Common.{◌≡◌, ℕ, suc, ◌+◌, ◌<◌, List, [], ◌∷◌, Option, None, Some, Bool, length, refl, sym, ap, ◌∙◌, arith}
 use Rattle.std.specs.Prelude.{flat_map, slice_index_or}
 use Rattle.gg_ast.specs.declared.module.Port.{Port}
 use Rattle.gg_ast.specs.Tree.{CircuitTree}
-use Rattle.gg_flat.specs.Circuit.{FlatCircuit, readers_at}
-use Rattle.gg_flat.specs.Scoped.{writers_at}
+use Rattle.gg_flat.specs.Circuit.{FlatCircuit}
 use Rattle.gg_flat.specs.Tree.{InstanceTree}
+use Rattle.gg_bits.specs.declared.types.Ty.{Ty}
 use Rattle.gg_flat.specs.declared.memory.Memory.{Memory}
+use Rattle.gg_flat.specs.declared.memory.Latency.{Latency}
+use Rattle.gg_front.proofs.PortLemmas.{ty-equal}
 use Rattle.gg_flat.specs.declared.memory.Reader.{Reader}
 use Rattle.gg_flat.specs.declared.memory.Writer.{Writer}
 use Rattle.gg_flat.specs.declared.tree.Instance.{Instance}
@@ -117,39 +119,36 @@ tree-same circuit a b p q =
     ∙ ap (λ (x : List (List ℕ)). tree_made b.paths b.instances x a.memories) names
     ∙ ap (λ (x : List MemoryInstance). tree_made b.paths b.instances b.memory_paths x) memories
 
--- ---- ports of memories
+-- ---- memories
 
--- lists that agree at each place under f are the same under f
-map-same : {A B : Type 0} (f : A → B) (xs ys : List A) → length xs ≡ length ys
-    → ((m : ℕ) (any : A) → m < length xs → f (slice_index_or xs m any) ≡ f (slice_index_or ys m any)) → map f xs ≡ map f ys
-map-same f [] [] e h = refl
-map-same f [] (y ∷ ys) e h = absurd (omega (arith, e))
-map-same f (x ∷ xs) [] e h = absurd (omega (arith, e))
-map-same f (x ∷ xs) (y ∷ ys) e h =
-    let head : f x ≡ f y = h 0 x (omega arith) in
-    let rest : map f xs ≡ map f ys = map-same f xs ys (omega (arith, e)) (λ m any lt. h (suc m) any (omega (arith, lt))) in cc
+-- lists that agree at each place are the same
+places-same : {A : Type 0} (xs ys : List A) → length xs ≡ length ys → ((m : ℕ) (any : A) → m < length xs → slice_index_or xs m any ≡ slice_index_or ys m any) → xs ≡ ys
+places-same [] [] e h = refl
+places-same [] (y ∷ ys) e h = absurd (omega (arith, e))
+places-same (x ∷ xs) [] e h = absurd (omega (arith, e))
+places-same (x ∷ xs) (y ∷ ys) e h =
+    let head : x ≡ y = h 0 x (omega arith) in
+    let rest : xs ≡ ys = places-same xs ys (omega (arith, e)) (λ m any lt. h (suc m) any (omega (arith, lt))) in cc
+
+abbrev bank_made : Ty → ℕ → Latency → List Reader → List Writer → Memory
+bank_made word depth latency readers writers = record { word = word; depth = depth; latency = latency; readers = readers; writers = writers }
+
+-- what a memory of a flat circuit is follows from what the text says of it
+bank-same : (paths : List (List ℕ)) (said : FlatMemory) (a b : Memory) → IsMemoryOf paths said a → IsMemoryOf paths said b → a ≡ b
+bank-same paths said a b p q =
+    ap (λ (x : Ty). bank_made x a.depth a.latency a.readers a.writers) (ty-equal a.word b.word (p.word ∙ sym q.word))
+    ∙ ap (λ (x : ℕ). bank_made b.word x a.latency a.readers a.writers) (p.depth ∙ sym q.depth)
+    ∙ ap (λ (x : Latency). bank_made b.word b.depth x a.readers a.writers) (p.latency ∙ sym q.latency)
+    ∙ ap (λ (x : List Reader). bank_made b.word b.depth b.latency x a.writers) (p.readers ∙ sym q.readers)
+    ∙ ap (λ (x : List Writer). bank_made b.word b.depth b.latency b.readers x) (p.writers ∙ sym q.writers)
 
 -- something that is known for each place and each default is known at each place
 some-default : {A : Type 0} (xs : List A) (m : ℕ) → m < length xs → A
 some-default [] m lt = absurd (omega (arith, lt))
 some-default (x ∷ xs) m lt = x
 
-module _ (circuit : CircuitTree) (one other : FlatCircuit) (p : IsFlat circuit one) (q : IsFlat circuit other) where
-  banks-count : length one.memories ≡ length other.memories
-  banks-count = p.memory_count ∙ sym q.memory_count
-
-  readers-same : map (λ (x : Memory). x.readers) one.memories ≡ map (λ (x : Memory). x.readers) other.memories
-  readers-same = map-same (λ (x : Memory). x.readers) one.memories other.memories banks-count
-      (λ m any lt. let below : m < length (memories_of circuit) = omega (arith, lt, p.memory_count) in let said = some-default (memories_of circuit) m below in
-      (p.memories m said any below).readers ∙ sym (q.memories m said any below).readers)
-
-  writers-same : map (λ (x : Memory). x.writers) one.memories ≡ map (λ (x : Memory). x.writers) other.memories
-  writers-same = map-same (λ (x : Memory). x.writers) one.memories other.memories banks-count
-      (λ m any lt. let below : m < length (memories_of circuit) = omega (arith, lt, p.memory_count) in let said = some-default (memories_of circuit) m below in
-      (p.memories m said any below).writers ∙ sym (q.memories m said any below).writers)
-
-  pub readers-at-same : (m : ℕ) → readers_at one m ≡ readers_at other m
-  readers-at-same m = ap (λ (rs : List (List Reader)). slice_index_or rs m []) readers-same
-
-  pub writers-at-same : (m : ℕ) → writers_at one m ≡ writers_at other m
-  writers-at-same m = ap (λ (ws : List (List Writer)). slice_index_or ws m []) writers-same
+pub banks-same : (circuit : CircuitTree) (one other : FlatCircuit) → IsFlat circuit one → IsFlat circuit other → one.memories ≡ other.memories
+banks-same circuit one other p q =
+    places-same one.memories other.memories (p.memory_count ∙ sym q.memory_count)
+    (λ m any lt. let below : m < length (memories_of circuit) = omega (arith, lt, p.memory_count) in let said = some-default (memories_of circuit) m below in
+    bank-same _ _ _ _ (p.memories m said any below) (q.memories m said any below))

@@ -1,11 +1,10 @@
 //! Laws of what the bytes of a circuit file mean.
 ghost use Rattle.std.specs.Prelude.{◌≡◌, ◌≢◌, ℕ, List};
 ghost use Rattle.gg_ast.specs.Tree.{CircuitTree};
-ghost use Rattle.gg_flat.specs.Circuit.{FlatCircuit, readers_at, signal_shapes};
+ghost use Rattle.gg_flat.specs.Circuit.{FlatCircuit, signal_shapes};
 ghost use Rattle.gg_flat.specs.Ports.{in_ports, out_ports};
 ghost use Rattle.gg_flat.specs.Reads.{Reads};
 ghost use Rattle.gg_flat.specs.Run.{IsRun};
-ghost use Rattle.gg_flat.specs.Scoped.{writers_at};
 ghost use Rattle.gg_order.specs.Design.{Ordered};
 ghost use Rattle.gg_read.specs.Text.{Spells, HasReadFault};
 ghost use Rattle.gg_read.specs.declared.text.ReadFault.{ReadFault};
@@ -41,15 +40,14 @@ pub fn one_run()
 }
 
 /// All designs that some bytes mean have the same tree of instances, and all flat circuits that they mean have the same signals,
-/// by their paths and types, which read the same signals, and memories with the same ports. So a partition asks the same of each
+/// by their paths and types, which read the same signals, and the same memories. So a partition asks the same of each
 /// of them.
 pub fn designs_agree()
     ensures trees { (bytes : List ℕ) (one other : Ordered) → MeansDesign bytes one → MeansDesign bytes other → one.tree ≡ other.tree }
     ensures paths { (bytes : List ℕ) (one other : FlatCircuit) → Means bytes one → Means bytes other → one.paths ≡ other.paths }
     ensures shapes { (bytes : List ℕ) (one other : FlatCircuit) → Means bytes one → Means bytes other → signal_shapes one ≡ signal_shapes other }
     ensures reads { (bytes : List ℕ) (one other : FlatCircuit) (a b : ℕ) → Means bytes one → Means bytes other → Reads one a b → Reads other a b }
-    ensures readers { (bytes : List ℕ) (one other : FlatCircuit) (m : ℕ) → Means bytes one → Means bytes other → readers_at one m ≡ readers_at other m }
-    ensures writers { (bytes : List ℕ) (one other : FlatCircuit) (m : ℕ) → Means bytes one → Means bytes other → writers_at one m ≡ writers_at other m }
+    ensures memories { (bytes : List ℕ) (one other : FlatCircuit) → Means bytes one → Means bytes other → one.memories ≡ other.memories }
 {
     one_circuit();
     gg_elab::one_reads();

@@ -6,9 +6,8 @@ use Rattle.gg_cut.specs.Fault as cut
 use Rattle.gg_cut.specs.declared.fault.CutFault.{CutFault}
 use Rattle.gg_check.specs.Alike.{AreAlike}
 use Rattle.gg_check.proofs.SameFaultLemmas.{fault-same}
-use Rattle.gg_flat.specs.Circuit.{FlatCircuit, readers_at, signal_shapes}
+use Rattle.gg_flat.specs.Circuit.{FlatCircuit, signal_shapes}
 use Rattle.gg_flat.specs.Reads.{Reads}
-use Rattle.gg_flat.specs.Scoped.{writers_at}
 use Rattle.gg_front.specs.Meaning.{Means, MeansDesign}
 use Rattle.gg_io.specs.Told.{Told}
 use Rattle.gg_order.specs.Design.{Ordered}
@@ -46,18 +45,16 @@ pub designs-agree : ((bytes : List ℕ) (one other : Ordered) → MeansDesign by
     → ((bytes : List ℕ) (one other : FlatCircuit) → Means bytes one → Means bytes other → one.ins ≡ other.ins)
     → ((bytes : List ℕ) (one other : FlatCircuit) → Means bytes one → Means bytes other → one.outs ≡ other.outs)
     → ((bytes : List ℕ) (one other : FlatCircuit) (a b : ℕ) → Means bytes one → Means bytes other → Reads one a b → Reads other a b)
-    → ((bytes : List ℕ) (one other : FlatCircuit) (m : ℕ) → Means bytes one → Means bytes other → readers_at one m ≡ readers_at other m)
-    → ((bytes : List ℕ) (one other : FlatCircuit) (m : ℕ) → Means bytes one → Means bytes other → writers_at one m ≡ writers_at other m)
+    → ((bytes : List ℕ) (one other : FlatCircuit) → Means bytes one → Means bytes other → one.memories ≡ other.memories)
     → DesignsAgree
-designs-agree trees paths shapes ins outs reads readers writers = λ bytes one other a b. record {
+designs-agree trees paths shapes ins outs reads memories = λ bytes one other a b. record {
   tree = trees bytes one other a b;
   paths = paths bytes one.circuit other.circuit a.means b.means;
   shapes = shapes bytes one.circuit other.circuit a.means b.means;
   ins = ins bytes one.circuit other.circuit a.means b.means;
   outs = outs bytes one.circuit other.circuit a.means b.means;
   reads = λ x y. (reads bytes one.circuit other.circuit x y a.means b.means, reads bytes other.circuit one.circuit x y b.means a.means);
-  readers = λ m. readers bytes one.circuit other.circuit m a.means b.means;
-  writers = λ m. writers bytes one.circuit other.circuit m a.means b.means;
+  memories = memories bytes one.circuit other.circuit a.means b.means;
 }
 
 cut-once : (design : Ordered) (a b : Request) (one other : CutFault) → a ≡ b → first_fault design a ≡ Some one → first_fault design b ≡ Some other → one ≡ other

@@ -3,7 +3,7 @@ use Rattle.std.proofs.Common.{sym, ◌∙◌, subst}
 use Rattle.gg_ast.specs.Tree.{CircuitTree}
 use Rattle.gg_digest.specs.IsFlat.{IsFlat}
 use Rattle.gg_tree.specs.IsTreeOf.{IsTreeOf}
-use Rattle.gg_front.proofs.TreeLemmas.{tree-same, readers-at-same, writers-at-same}
+use Rattle.gg_front.proofs.TreeLemmas.{tree-same, banks-same}
 use Rattle.gg_front.proofs.laws.designs_agree.Goals as goal
 
 pub returns-clause-trees : goal.returns-clause-trees
@@ -26,12 +26,7 @@ returns-clause-reads c = λ bytes one other a b p q reads.
     let flat = subst (λ (t : CircuitTree). IsFlat t one) (c.one_circuit.ensures bytes p.text.circuit q.text.circuit p.text.spelt q.text.spelt) p.flattened in
     c.one_reads.ensures.reads q.text.circuit one other a b flat q.flattened reads
 
-pub returns-clause-readers : goal.returns-clause-readers
-returns-clause-readers c = λ bytes one other m a b.
+pub returns-clause-memories : goal.returns-clause-memories
+returns-clause-memories c = λ bytes one other a b.
     let flat = subst (λ (t : CircuitTree). IsFlat t one) (c.one_circuit.ensures bytes a.text.circuit b.text.circuit a.text.spelt b.text.spelt) a.flattened in
-    readers-at-same b.text.circuit one other flat b.flattened m
-
-pub returns-clause-writers : goal.returns-clause-writers
-returns-clause-writers c = λ bytes one other m a b.
-    let flat = subst (λ (t : CircuitTree). IsFlat t one) (c.one_circuit.ensures bytes a.text.circuit b.text.circuit a.text.spelt b.text.spelt) a.flattened in
-    writers-at-same b.text.circuit one other flat b.flattened m
+    banks-same b.text.circuit one other flat b.flattened

@@ -40,5 +40,5 @@ returns-clause-ended g c =
     (cut-ends (g.S.Shelf.files c.args.shelf.now)
     (Rose (g.S.Shelf.faults c.args.shelf.now) (g.S.Shelf.faults c.read_partition.new.shelf)) (Rose (g.S.Shelf.cuts c.args.shelf.now) (g.S.Shelf.cuts c.read_partition.new.shelf))
     (Rose (g.K.Sink.faults c.args.out.now) (g.K.Sink.faults c.print_cut.new.out)) (Unit {0}) (g.K.Sink.written c.args.out.now) (g.K.Sink.written c.print_cut.new.out)
-    (designs-agree d.trees d.paths d.shapes c.one_run.ensures.ins c.one_run.ensures.outs d.reads d.readers d.writers) c.one_text.ensures
+    (designs-agree d.trees d.paths d.shapes c.one_run.ensures.ins c.one_run.ensures.outs d.reads d.memories) c.one_text.ensures
     circuit accepted.0 c.args.design.now c.in_ok-request.request c.args.capacity means accepted.2.asks c.print_cut.result c.print_cut.ensures.prints)
