@@ -24,9 +24,13 @@ use Rattle.gg_fame1.specs.Unit as dataflow
 use Rattle.gg_memunit.specs.MemoryUnit as memory
 use Rattle.gg_net.specs.declared.shape.Wire.{Wire}
 
+-- a machine of a plan without a name and without channels
+abbrev pub nameless : planned.Machine
+nameless = record { name = []; host = 0; body = Tray; ins = []; outs = [] }
+
 -- machine m of a plan
 abbrev pub machine_in : Plan → ℕ → planned.Machine
-machine_in plan m = slice_index_or plan.machines m (record { name = []; host = 0; body = Tray; ins = []; outs = [] })
+machine_in plan m = slice_index_or plan.machines m nameless
 
 -- ---- channels
 
