@@ -4,3 +4,6 @@ pub mod ListedLemmas
 pub mod WiredLemmas
 pub mod SideLemmas
 pub mod PortLemmas
+pub mod GivenLemmas
+pub mod FitLemmas
+pub mod PlanLemmas

@@ -1,5 +1,5 @@
 -- The place of a number in a list, and the numbers below n that pass a test.
-use Rattle.std.proofs.Common.{◌≡◌, ◌≢◌, ℕ, ◌+◌, ◌<◌, ◌≤◌, List, [], ◌∷◌, length, get_or, Bool, true, true≢false, refl, sym, ◌∙◌, ap, subst, Some, None, eq-eqb, true-eqb, arith}
+use Rattle.std.proofs.Common.{◌≡◌, ◌≢◌, ℕ, ◌+◌, ◌<◌, List, [], ◌∷◌, length, get_or, Bool, true, true≢false, refl, sym, ◌∙◌, ap, Some, None, eq-eqb, true-eqb, arith}
 use Rattle.std.specs.Prelude.{Option, filter, unwrap_or, ◌==◌, Contains, AllPairs}
 use Rattle.std.specs.List.{range_with_len}
 use Rattle.std.proofs.lemmas.List.Elements.{Contains-get_or}

@@ -1,5 +1,5 @@
 -- A memory that stands alone: what its outs need, and its ports.
-use Rattle.std.proofs.Common.{◌≡◌, ℕ, zero, suc, ◌+◌, ◌-◌, ◌^◌, ◌<◌, ◌≤◌, List, [], ◌∷◌, ◌++◌, length, map, get_or, refl, sym, ◌∙◌, ap, subst, inl, inr, ◌⊎◌, arith}
+use Rattle.std.proofs.Common.{◌≡◌, ℕ, suc, ◌+◌, ◌-◌, ◌^◌, ◌<◌, ◌≤◌, List, [], ◌∷◌, length, map, get_or, refl, sym, ◌∙◌, ap, subst, inl, inr, ◌⊎◌, arith}
 use Rattle.std.specs.Prelude.{Contains, All, slice_index_or}
 use Rattle.std.proofs.lemmas.Bool.{cases_lt}
 use Rattle.std.proofs.lemmas.List.{get_or-map, get_or_past, length-map}
@@ -19,7 +19,7 @@ use Rattle.gg_flat.specs.Served.{Access, ByReader, ByWriter, by_readers, by_writ
 use Rattle.gg_flat.specs.WellFormed.{AreDriven, reader_driver}
 use Rattle.gg_node.specs.Machine.{Port, needs_at}
 use Rattle.gg_node.specs.Step.{fields_of}
-use Rattle.gg_memunit.specs.MemoryUnit.{outs_of, port_of, ports_by, ports_of, needs_by, needs_of, IsMemoryPiece}
+use Rattle.gg_memunit.specs.MemoryUnit.{outs_of, port_of, ports_of, needs_by, needs_of, IsMemoryPiece}
 use Rattle.gg_closed.proofs.ListLemmas.{Contains-cases}
 
 -- ---- needs

@@ -1,5 +1,5 @@
 -- What sources and trays take and give.
-use Rattle.std.proofs.Common.{◌≡◌, ◌≢◌, ℕ, suc, ◌+◌, ◌-◌, ◌<◌, ◌≤◌, List, [], length, get_or, Bool, true, false, sym, ◌∙◌, ap, subst, inl, inr, ◌⊎◌, arith}
+use Rattle.std.proofs.Common.{◌≡◌, ◌≢◌, ℕ, suc, ◌+◌, ◌-◌, ◌<◌, ◌≤◌, List, length, Bool, true, false, sym, ◌∙◌, ap, subst, inl, inr, ◌⊎◌, arith}
 use Rattle.std.specs.Prelude.{◌==◌, if◌then◌else◌, Contains, AllPairs}
 use Rattle.std.proofs.lemmas.Bool.{cases_lt}
 use Rattle.std.proofs.lemmas.List.{get_or_default, length-map}
@@ -10,7 +10,7 @@ use Rattle.gg_flat.specs.Tree.{InstanceTree, instance_at, memory_at, parent_plac
 use Rattle.gg_flat.specs.Scoped.{memory_fields}
 use Rattle.gg_cut.specs.declared.wires.Wire.{Wire as Link}
 use Rattle.gg_cut.specs.declared.listed.Listed.{Listed}
-use Rattle.gg_cut.specs.Channels.{wire, wires_of, port_wire, first_memory, first_source, first_tray, machine_count}
+use Rattle.gg_cut.specs.Channels.{wire, wires_of, first_memory, first_source, first_tray, machine_count}
 use Rattle.gg_cut.specs.Plan.{wire_at as link_at, channels_to, channels_from}
 use Rattle.gg_cut.proofs.WireLemmas.{unit_or_hub-below, source-gives, tray-gives}
 use Rattle.gg_closed.proofs.KindLemmas.{IsInto, IsWordWire, IsTrayWire, Kind, OfSource, OfPort, OfField, OfTray, outside_unit, outside_memory, kind-of, tray-wire}

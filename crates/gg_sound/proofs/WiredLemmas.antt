@@ -7,11 +7,10 @@ use Rattle.gg_cut.specs.declared.wires.Wire.{Wire as Link}
 use Rattle.gg_cut.specs.Plan.{wire_at as link_at, channels_to, channels_from}
 use Rattle.gg_node.specs.Machine.{needs_at}
 use Rattle.gg_node.specs.Step.{fields_of}
-use Rattle.gg_net.specs.Network.{wire_at, IsAtIn, IsAtOut, Kind, kind_at}
+use Rattle.gg_net.specs.Network.{wire_at, Kind, kind_at}
 use Rattle.gg_net.specs.Kept.{IsWired}
-use Rattle.gg_sound.specs.Built.{place_in, wires_of_plan}
-use Rattle.gg_sound.proofs.NumberLemmas.{IsPlaced}
-use Rattle.gg_sound.proofs.LinkLemmas.{AreLinks, IsLinkedAs, linked, length-wires}
+use Rattle.gg_sound.specs.Built.{wires_of_plan}
+use Rattle.gg_sound.proofs.LinkLemmas.{AreLinks, linked, length-wires}
 use Rattle.gg_sound.proofs.ListedLemmas.{taken-placed, given-placed, at-in, at-out}
 
 -- A machine of this kind has an in for each channel that machine m of the plan takes, and an out for each that it gives; what its

@@ -2,7 +2,7 @@
 -- its machines.
 -- Source: MEMOCODE 2009 (a synchronous circuit as a network of its parts, whose streams are the circuit's own); ICCAD 2019 (units
 -- and memories of a target as models of their own, with sources for its inputs and sinks for its outputs).
-use Rattle.std.specs.Prelude.{◌≡◌, ℕ, suc, ◌<◌, ◌≤◌, ◌==◌, ◌++◌, List, [], ◌∷◌, None, false, length, map, slice_index_or, unwrap_or}
+use Rattle.std.specs.Prelude.{◌≡◌, ℕ, suc, ◌^◌, ◌<◌, ◌≤◌, ◌==◌, ◌++◌, List, [], ◌∷◌, None, false, length, map, slice_index_or, unwrap_or}
 use Rattle.gg_flat.specs.Line.{value_at}
 use Rattle.gg_flat.specs.Run.{IsRun, IsColumns}
 use Rattle.gg_order.specs.Design.{Ordered, IsDesign}
@@ -23,6 +23,8 @@ use Rattle.gg_node.specs.Machine.{Machine, machine_at, source_machine, tray_mach
 use Rattle.gg_fame1.specs.Unit as dataflow
 use Rattle.gg_memunit.specs.MemoryUnit as memory
 use Rattle.gg_net.specs.declared.shape.Wire.{Wire}
+use Rattle.gg_net.specs.Network.{IsAtIn, IsAtOut, Kind, Frame, frame_of}
+use Rattle.gg_net.specs.Net.{opening_net}
 
 -- a machine of a plan without a name and without channels
 abbrev pub nameless : planned.Machine
@@ -90,6 +92,21 @@ IsBuilt columns n own Tray machine = machine ≡ tray_machine n 0 [] None
 pub record AreBuilt (plan : Plan) (columns : List (List ℕ)) (n : ℕ) (machines : List Machine) : Type 0 where
   pub count : length machines ≡ length plan.machines
   pub each : (m : ℕ) → m < length plan.machines → IsBuilt columns n (machine_in plan m) (machine_in plan m).body (machine_at machines m)
+
+-- ---- the network
+
+-- what stays of the network of a plan with these machines, which is to do n cycles
+abbrev pub plan_frame : Plan → List Machine → ℕ → Frame
+plan_frame plan machines n = frame_of (opening_net machines (wires_of_plan plan) n)
+
+-- Machine m of the network, of this kind, has an in for each channel that the plan's machine m takes and an out for each that it
+-- gives, in the plan's order; each channel stands there; and they are few enough to be named.
+pub record IsListedAt (plan : Plan) (m : ℕ) (kind : Kind) : Type 0 where
+  pub ins : length (machine_in plan m).ins ≡ kind.ins
+  pub into : (i : ℕ) → i < kind.ins → IsAtIn (wires_of_plan plan) m i (value_at (machine_in plan m).ins i)
+  pub outs : length (machine_in plan m).outs ≡ kind.outs
+  pub from : (o : ℕ) → o < kind.outs → IsAtOut (wires_of_plan plan) m o (value_at (machine_in plan m).outs o)
+  pub few : (kind.ins < 2 ^ 32) × (kind.outs < 2 ^ 32)
 
 -- ---- what the network is to do
 
