@@ -6,4 +6,7 @@ pub mod SideLemmas
 pub mod PortLemmas
 pub mod GivenLemmas
 pub mod FitLemmas
+pub mod RankLemmas
+pub mod NeedLemmas
+pub mod RingLemmas
 pub mod PlanLemmas

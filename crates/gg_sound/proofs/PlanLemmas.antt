@@ -1,4 +1,4 @@
--- The network of a plan: its channels are listed, and it is wired.
+-- The network of a plan: its channels are listed, it is wired, and it has no ring.
 use Rattle.std.proofs.Common.{◌≢◌, ℕ, ◌<◌, List, length, map, sym, ◌∙◌, ap, subst, arith}
 use Rattle.std.specs.Prelude.{AllPairs, ◌==◌}
 use Rattle.gg_flat.specs.Line.{value_at}
@@ -12,15 +12,17 @@ use Rattle.gg_cut.specs.Plan.{wire_at as link_at}
 use Rattle.gg_cut.proofs.RangeLemmas.{filter-few}
 use Rattle.gg_closed.proofs.FaultlessLemmas.{faultless-apart, faultless-few}
 use Rattle.gg_closed.proofs.ChoiceLemmas.{pairs-once}
-use Rattle.gg_node.specs.Machine.{Machine}
+use Rattle.gg_node.specs.Machine.{Machine, machine_at}
 use Rattle.gg_net.specs.Network.{IsAtIn, IsAtOut, kind_of, kind_at}
-use Rattle.gg_net.specs.Kept.{IsWired}
-use Rattle.gg_sound.specs.Built.{wires_of_plan, AreBuilt, IsGiven, IsListedAt, plan_frame}
+use Rattle.gg_net.specs.Kept.{IsWired, HasNoRing}
+use Rattle.gg_sound.specs.Built.{machine_in, nameless, wires_of_plan, AreBuilt, IsGiven, IsListedAt, plan_frame}
 use Rattle.gg_sound.proofs.LinkLemmas.{AreLinks}
 use Rattle.gg_sound.proofs.GivenLemmas.{links-of}
 use Rattle.gg_sound.proofs.ListedLemmas.{at-in, at-out}
 use Rattle.gg_sound.proofs.WiredLemmas.{AreFitting, wired}
-use Rattle.gg_sound.proofs.FitLemmas.{fitting}
+use Rattle.gg_sound.proofs.FitLemmas.{kind-is, fitting}
+use Rattle.gg_sound.proofs.NeedLemmas.{HasNeeds, has-needs}
+use Rattle.gg_sound.proofs.RingLemmas.{no-ring}
 
 module _ (design : Ordered) (request : Request) (default : ℕ) (plan : Plan) (columns : List (List ℕ)) (n : ℕ) (rows : List (List ℕ)) (machines : List Machine) (given : IsGiven design request default plan columns n rows) (built : AreBuilt plan columns n machines) where
   pub links-once : AllPairs (λ (v w : Link). v.signal ≢ w.signal) (wires_of design.circuit design.tree (listed_of design.tree request))
@@ -54,3 +56,13 @@ module _ (design : Ordered) (request : Request) (default : ℕ) (plan : Plan) (c
           omega (arith, own.outs, channels, filter-few (λ c. (link_at all c).producer == m) 0 (length all)),
         );
       }
+
+  needs : (m : ℕ) → m < length plan.machines → HasNeeds design.circuit (wires_of design.circuit design.tree (listed_of design.tree request)) m (kind_at (map kind_of machines) m)
+  needs m lt =
+      let listed = listed_of design.tree request in
+      let all = wires_of design.circuit design.tree listed in
+      subst (HasNeeds design.circuit all m) (sym (kind-is machines m (omega (arith, lt, built.count))))
+      (has-needs design listed all columns n m (machine_in plan m) (machine_in plan m).body (machine_at machines m) (given.planned.machine m nameless lt).body (built.each m lt))
+
+  pub plan-no-ring : HasNoRing (plan_frame plan machines n)
+  plan-no-ring = no-ring plan (wires_of design.circuit design.tree (listed_of design.tree request)) (map kind_of machines) n design.circuit design.order given.design_is.ordered links links-once needs

@@ -6,7 +6,7 @@ ghost use Rattle.gg_cut.specs.declared.plan.Plan.{Plan};
 ghost use Rattle.gg_node.specs.Machine.{Machine};
 ghost use Rattle.gg_node.specs.Step.{fields_of};
 ghost use Rattle.gg_net.specs.Network.{kind_at};
-ghost use Rattle.gg_net.specs.Kept.{IsWired};
+ghost use Rattle.gg_net.specs.Kept.{IsWired, HasNoRing};
 ghost use Rattle.gg_sound.specs.Built.{AreBuilt, IsGiven, IsListedAt, plan_frame};
 
 /// Each machine of the network has an in for each channel that the plan's machine takes, and an out for each that it
@@ -19,6 +19,12 @@ pub fn plan_is_listed()
 /// outs need and ports look at are ins that are there.
 pub fn plan_is_wired()
     ensures { (design : Ordered) (request : Request) (default : ℕ) (plan : Plan) (columns : List (List ℕ)) (n : ℕ) (rows : List (List ℕ)) (machines : List Machine) → IsGiven design request default plan columns n rows → AreBuilt plan columns n machines → IsWired (plan_frame plan machines n) }
+{}
+
+/// There is no ring among the needs of the network's channels: a channel's rank is the place of its signal in the
+/// design's order of evaluation, and it needs channels of lower ranks alone.
+pub fn plan_has_no_ring()
+    ensures { (design : Ordered) (request : Request) (default : ℕ) (plan : Plan) (columns : List (List ℕ)) (n : ℕ) (rows : List (List ℕ)) (machines : List Machine) → IsGiven design request default plan columns n rows → AreBuilt plan columns n machines → HasNoRing (plan_frame plan machines n) }
 {}
 
 /// The ports that a machine serves can be named by 32 bits, with a number to spare, and look at ins that are there.

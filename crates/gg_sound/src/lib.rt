@@ -10,4 +10,4 @@
 
 mod laws;
 
-pub use laws::{plan_is_listed, plan_is_wired, ports_are_named};
+pub use laws::{plan_has_no_ring, plan_is_listed, plan_is_wired, ports_are_named};
