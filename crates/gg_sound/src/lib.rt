@@ -1,11 +1,19 @@
-//! The network of a plan: it is wired, and has no ring.
+//! The network of a plan is wired, and has no ring.
 //!
-//! A plan (`IsPlan` of gg_cut) names machines and channels. Its network (`specs/Built`) has a machine for each of the plan's before its
-//! first cycle, joined by the plan's channels. The crate has no code: it promises, for the plan of a design and of a request without
-//! a fault,
+//! A plan (`IsPlan` of gg_cut) names machines and channels. Its network (`specs/Built`) has a machine for each of them before its first
+//! cycle, joined by the plan's channels. The crate has no code: it promises, for the plan of a design and of a request without a
+//! fault, and for such machines,
 //!
-//! - that each channel stands at the in and at the out that the plan's machines list it at (`plan_is_listed`);
-//! - that each in and each out of a machine is at just one channel (`plan_is_wired`).
+//! - that a machine has an in and an out for each channel that the plan lists at it, and that these channels stand there
+//!   (`plan_is_listed`);
+//! - that the network is wired: each in and each out is at just one channel, and what outs need and ports look at are ins that are there
+//!   (`plan_is_wired`);
+//! - that there is no ring among what channels need (`plan_has_no_ring`);
+//! - that the ports that are served can be named (`ports_are_named`).
+//!
+//! Why there is no ring: an out needs an in where its signal reaches the in's by a path of reads in the machine's piece. The piece is a
+//! part of the circuit, so the path is one of the circuit, and the in's signal stands before the out's in the order of evaluation.
+//! They are two signals, since no channel joins a machine with itself.
 #![tactic(auto)]
 
 mod laws;
