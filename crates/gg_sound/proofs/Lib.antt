@@ -10,3 +10,5 @@ pub mod RankLemmas
 pub mod NeedLemmas
 pub mod RingLemmas
 pub mod PlanLemmas
+pub mod OpeningLemmas
+mod WorkedNetwork

@@ -1,5 +1,5 @@
--- The network of a plan: its channels, its machines before the first cycle, the values that its channels carry, and the rows of
--- its machines.
+-- The network of a plan: its channels, its machines before the first cycle, and the rows of its machines. (The values that its
+-- channels carry are gg_cut's `columns_of`.)
 -- Source: MEMOCODE 2009 (a synchronous circuit as a network of its parts, whose streams are the circuit's own); ICCAD 2019 (units
 -- and memories of a target as models of their own, with sources for its inputs and sinks for its outputs).
 use Rattle.std.specs.Prelude.{◌≡◌, ℕ, suc, ◌^◌, ◌<◌, ◌≤◌, ◌==◌, ◌++◌, List, [], ◌∷◌, None, false, length, map, slice_index_or, unwrap_or}

@@ -7,6 +7,7 @@ ghost use Rattle.gg_node.specs.Machine.{Machine};
 ghost use Rattle.gg_node.specs.Step.{fields_of};
 ghost use Rattle.gg_net.specs.Network.{kind_at};
 ghost use Rattle.gg_net.specs.Kept.{IsWired, HasNoRing};
+ghost use Rattle.gg_net.specs.Net.{IsOpening};
 ghost use Rattle.gg_sound.specs.Built.{AreBuilt, IsGiven, IsListedAt, plan_frame};
 
 /// Each machine of the network has an in for each channel that the plan's machine takes, and an out for each that it
@@ -31,4 +32,9 @@ pub fn plan_has_no_ring()
 pub fn ports_are_named()
     ensures numbers { (design : Ordered) (request : Request) (default : ℕ) (plan : Plan) (columns : List (List ℕ)) (n : ℕ) (rows : List (List ℕ)) (machines : List Machine) → IsGiven design request default plan columns n rows → AreBuilt plan columns n machines → (m : ℕ) → m < length plan.machines → All (λ port. port.number < 2 ^ 32 - 1) (kind_at (plan_frame plan machines n).kinds m).ports }
     ensures fields { (design : Ordered) (request : Request) (default : ℕ) (plan : Plan) (columns : List (List ℕ)) (n : ℕ) (rows : List (List ℕ)) (machines : List Machine) → IsGiven design request default plan columns n rows → AreBuilt plan columns n machines → (m : ℕ) → m < length plan.machines → All (λ port. All (λ i. i < (kind_at (plan_frame plan machines n).kinds m).ins) (fields_of port.access)) (kind_at (plan_frame plan machines n).kinds m).ports }
+{}
+
+/// The machines are before their first cycle.
+pub fn machines_are_opening()
+    ensures { (plan : Plan) (columns : List (List ℕ)) (n : ℕ) (machines : List Machine) → AreBuilt plan columns n machines → All IsOpening machines }
 {}

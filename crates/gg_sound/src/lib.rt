@@ -9,7 +9,8 @@
 //! - that the network is wired: each in and each out is at just one channel, and what outs need and ports look at are ins that are there
 //!   (`plan_is_wired`);
 //! - that there is no ring among what channels need (`plan_has_no_ring`);
-//! - that the ports that are served can be named (`ports_are_named`).
+//! - that the ports that are served can be named (`ports_are_named`), and that the machines are before their first cycle
+//!   (`machines_are_opening`).
 //!
 //! Why there is no ring: an out needs an in where its signal reaches the in's by a path of reads in the machine's piece. The piece is a
 //! part of the circuit, so the path is one of the circuit, and the in's signal stands before the out's in the order of evaluation.
@@ -18,4 +19,6 @@
 
 mod laws;
 
-pub use laws::{plan_has_no_ring, plan_is_listed, plan_is_wired, ports_are_named};
+pub use laws::{
+    machines_are_opening, plan_has_no_ring, plan_is_listed, plan_is_wired, ports_are_named,
+};
