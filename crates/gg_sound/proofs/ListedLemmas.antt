@@ -15,41 +15,41 @@ use Rattle.gg_sound.proofs.LinkLemmas.{AreLinks, linked, length-wires}
 
 module _ (links : List Link) (m : ℕ) where
   -- a link that a machine takes
-  pub record IsTaken (c : ℕ) : Type 0 where
+  pub record IsTakenBy (c : ℕ) : Type 0 where
     pub known : c < length links
     pub consumer : (link_at links c).consumer ≡ m
 
   -- a link that a machine gives
-  pub record IsGiven (c : ℕ) : Type 0 where
+  pub record IsGivenBy (c : ℕ) : Type 0 where
     pub known : c < length links
     pub producer : (link_at links c).producer ≡ m
 
-  pub taken-in : (c : ℕ) → IsTaken c → Contains (channels_to links m) c
+  pub taken-in : (c : ℕ) → IsTakenBy c → Contains (channels_to links m) c
   taken-in c is = number-in (λ k. (link_at links k).consumer == m) (length links) c is.known (eq-eqb (link_at links c).consumer m is.consumer)
 
-  pub given-in : (c : ℕ) → IsGiven c → Contains (channels_from links m) c
+  pub given-in : (c : ℕ) → IsGivenBy c → Contains (channels_from links m) c
   given-in c is = number-in (λ k. (link_at links k).producer == m) (length links) c is.known (eq-eqb (link_at links c).producer m is.producer)
 
-  pub taken-is : (c : ℕ) → Contains (channels_to links m) c → IsTaken c
+  pub taken-is : (c : ℕ) → Contains (channels_to links m) c → IsTakenBy c
   taken-is c has =
       let at = number-cases (λ k. (link_at links k).consumer == m) (length links) c has in
       record { known = at.below; consumer = true-eqb (link_at links c).consumer m (sym at.passes) }
 
-  pub given-is : (c : ℕ) → Contains (channels_from links m) c → IsGiven c
+  pub given-is : (c : ℕ) → Contains (channels_from links m) c → IsGivenBy c
   given-is c has =
       let at = number-cases (λ k. (link_at links k).producer == m) (length links) c has in
       record { known = at.below; producer = true-eqb (link_at links c).producer m (sym at.passes) }
 
-  pub taken-at : (i : ℕ) → i < length (channels_to links m) → IsTaken (value_at (channels_to links m) i)
+  pub taken-at : (i : ℕ) → i < length (channels_to links m) → IsTakenBy (value_at (channels_to links m) i)
   taken-at i lt = taken-is (value_at (channels_to links m) i) (Contains-get_or (channels_to links m) i 0 lt)
 
-  pub given-at : (o : ℕ) → o < length (channels_from links m) → IsGiven (value_at (channels_from links m) o)
+  pub given-at : (o : ℕ) → o < length (channels_from links m) → IsGivenBy (value_at (channels_from links m) o)
   given-at o lt = given-is (value_at (channels_from links m) o) (Contains-get_or (channels_from links m) o 0 lt)
 
-  pub taken-placed : (c : ℕ) → IsTaken c → IsPlaced (channels_to links m) c
+  pub taken-placed : (c : ℕ) → IsTakenBy c → IsPlaced (channels_to links m) c
   taken-placed c is = placed (channels_to links m) c (taken-in c is)
 
-  pub given-placed : (c : ℕ) → IsGiven c → IsPlaced (channels_from links m) c
+  pub given-placed : (c : ℕ) → IsGivenBy c → IsPlaced (channels_from links m) c
   given-placed c is = placed (channels_from links m) c (given-in c is)
 
 -- ---- in the network
