@@ -11,16 +11,22 @@
 //! - that there is no ring among what channels need (`plan_has_no_ring`);
 //! - that the columns of the circuit's own run solve the network, with the rows of each machine in it (`plan_is_solved`);
 //! - that the ports that are served can be named (`ports_are_named`), and that the machines are before their first cycle
-//!   (`machines_are_opening`).
+//!   (`machines_are_opening`);
+//! - that a listed memory's part can be cut once more, and is then one memory that can stand alone (`memory_is_chosen`).
 //!
 //! Why there is no ring: an out needs an in where its signal reaches the in's by a path of reads in the machine's piece. The piece is a
 //! part of the circuit, so the path is one of the circuit, and the in's signal stands before the out's in the order of evaluation.
 //! They are two signals, since no channel joins a machine with itself.
+//!
+//! Why the circuit's run solves it: the rows of a part of a run are a run of the part, on the columns of its own in-signals; a memory
+//! whose ports are all served is in its next state; and a channel's two ends show its signal's value.
 #![tactic(auto)]
 
+mod alone;
 mod laws;
 mod solved;
 
+pub use alone::memory_is_chosen;
 pub use laws::{
     machines_are_opening, plan_has_no_ring, plan_is_listed, plan_is_wired, ports_are_named,
 };
