@@ -9,7 +9,8 @@
 //! - that the network is wired: each in and each out is at just one channel, and what outs need and ports look at are ins that are there
 //!   (`plan_is_wired`);
 //! - that there is no ring among what channels need (`plan_has_no_ring`);
-//! - that the columns of the circuit's own run solve the network, with the rows of each machine in it (`plan_is_solved`);
+//! - that the columns of the circuit's own run solve the network, with the rows of each machine in it (`plan_is_solved`), so that the
+//!   network is sound, as `Net::new` of gg_net wants it (`plan_is_sound`);
 //! - that the ports that are served can be named (`ports_are_named`), and that the machines are before their first cycle
 //!   (`machines_are_opening`);
 //! - that a listed memory's part can be cut once more, and is then one memory that can stand alone (`memory_is_chosen`).
@@ -30,4 +31,4 @@ pub use alone::memory_is_chosen;
 pub use laws::{
     machines_are_opening, plan_has_no_ring, plan_is_listed, plan_is_wired, ports_are_named,
 };
-pub use solved::plan_is_solved;
+pub use solved::{plan_is_solved, plan_is_sound};
