@@ -23,3 +23,4 @@ pub mod MemoryPartLemmas
 pub mod ChosenLemmas
 pub mod AloneLemmas
 pub mod StandLemmas
+pub mod BodyLemmas
