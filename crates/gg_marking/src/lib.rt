@@ -1,0 +1,4 @@
+//! Markings: how far each machine and each channel of a network is, without the values.
+#![tactic(auto)]
+
+mod laws;
