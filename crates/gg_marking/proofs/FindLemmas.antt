@@ -48,3 +48,10 @@ holds-last holds refusal is = ap (λ b. unless b refusal) is
 
 pub fails-last : (holds : Bool) (refusal : Refusal) → holds ≡ false → unless holds refusal ≡ Some refusal
 fails-last holds refusal is = ap (λ b. unless b refusal) is
+
+-- no channel is named, or one is
+pub names-none : (refusal : ℕ → Refusal) (first : Option ℕ) (later : Option Refusal) → first ≡ None → or_next (naming refusal first) later ≡ later
+names-none refusal first later is = ap (λ o. or_next (naming refusal o) later) is
+
+pub names-some : (refusal : ℕ → Refusal) (first : Option ℕ) (later : Option Refusal) (d : ℕ) → first ≡ Some d → or_next (naming refusal first) later ≡ Some (refusal d)
+names-some refusal first later d is = ap (λ o. or_next (naming refusal o) later) is

@@ -1,6 +1,16 @@
 pub mod FindLemmas
 pub mod CountLemmas
 pub mod ChangeLemmas
+pub mod NeedLemmas
+pub mod FirstLemmas
+pub mod DueLemmas
 pub mod LatchLaw
 pub mod LatchStep
+pub mod FireLaw
+pub mod FireStep
+pub mod ServeLaw
+pub mod ServeStep
+pub mod FinishLaw
+pub mod FinishStep
+pub mod GoesLemmas
 pub mod WorkedMarkings
