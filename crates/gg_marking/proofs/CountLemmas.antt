@@ -1,5 +1,5 @@
 -- The marking of a network: its counts and its marks are the network's.
-use Rattle.std.proofs.Common.{◌≡◌, ℕ, suc, ◌<◌, ◌≤◌, List, Option, None, Some, Bool, true, false, length, map, refl, sym, ap, ◌∙◌, ⊎_elim, arith}
+use Rattle.std.proofs.Common.{◌≡◌, ℕ, suc, ◌-◌, ◌<◌, ◌≤◌, List, Option, None, Some, Bool, true, false, length, map, refl, sym, ap, ◌∙◌, ⊎_elim, arith}
 use Rattle.std.specs.Prelude.{is_some, nat_lt}
 use Rattle.std.proofs.lemmas.Bool.{cases_lt, lt-ltb, le-ltb}
 use Rattle.std.proofs.lemmas.List.{length-map}
@@ -10,7 +10,7 @@ use Rattle.gg_node.specs.Machine.{Machine, no_machine, machine_at}
 use Rattle.gg_net.specs.Network.{Network, wire_at, queue_at, given_by, got_by, kind_of, frame_of}
 use Rattle.gg_net.specs.Network as network
 use Rattle.gg_net.specs.Step.{IsBelow, latch_of, flag_of}
-use Rattle.gg_net.specs.Kept.{Kept}
+use Rattle.gg_net.specs.Kept.{Kept, BetweenAt, list_at}
 use Rattle.gg_marking.specs.Marking.{Layout, Marking, link_at, is_set, and_one, puts, takes, held, is_below, is_channel, is_machine}
 use Rattle.gg_marking.specs.Fits.{HasLayout, marking_of}
 
@@ -89,3 +89,10 @@ module _ (net : Network) where
         (λ (lt : (machine_at net.machines m).cycle < net.end). absurd (over lt))
         (λ (le : net.end ≤ (machine_at net.machines m).cycle). le-ltb (value_at marking.cycles m) layout.end (omega (arith, le, cycle-at m, has.end)))
         (cases_lt (machine_at net.machines m).cycle net.end)
+
+-- The newest token of a queue is that of its channel's list.
+pub newest-is : (lists : List (List ℕ)) (runs : List (List (List ℕ))) (net : Network) (c : ℕ) → Kept lists runs net → c < length net.wires → 0 < length (queue_at net.queues c)
+    → value_at (queue_at net.queues c) (length (queue_at net.queues c) - 1) ≡ value_at (list_at lists c) (network.puts net c - 1)
+newest-is lists runs net c kept known some =
+    let between : BetweenAt (list_at lists c) (wire_at net.wires c).capacity (network.takes net c) (network.puts net c) (queue_at net.queues c) = kept.channels c known in
+    between.tokens (length (queue_at net.queues c) - 1) (omega (arith, some)) ∙ ap (value_at (list_at lists c)) (omega (arith, some, between.held))

@@ -13,4 +13,6 @@ pub mod ServeStep
 pub mod FinishLaw
 pub mod FinishStep
 pub mod GoesLemmas
+pub mod OpeningLemmas
+pub mod StepsLemmas
 pub mod WorkedMarkings
