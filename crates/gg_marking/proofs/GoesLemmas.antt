@@ -1,5 +1,6 @@
 -- A network goes by its marking, whatever the event.
-use Rattle.std.proofs.Common.{◌≡◌, ℕ, List, Option, Some, None, ap, sym, subst, ◌∙◌}
+use Rattle.std.proofs.Common.{◌≡◌, ℕ, List, Option, Some, None, ap, sym, subst, ◌∙◌, ⊎_elim}
+use Rattle.std.proofs.lemmas.Option.{same_Some}
 use Rattle.gg_net.specs.declared.event.Event.{Event}
 use Rattle.gg_net.specs.declared.event.Event.TheVariants.{Latch, Fire, Serve, Finish}
 use Rattle.gg_net.specs.declared.event.Refusal.{Refusal}
@@ -16,6 +17,7 @@ use Rattle.gg_marking.proofs.LatchStep.{latch-frame, latch-step}
 use Rattle.gg_marking.proofs.FireStep.{fire-frame, fire-step}
 use Rattle.gg_marking.proofs.ServeStep.{serve-frame, serve-step}
 use Rattle.gg_marking.proofs.FinishStep.{finish-frame, finish-step}
+use Rattle.gg_marking.proofs.DecideLemmas.{ready-or-refused}
 
 module _ (lists : List (List ℕ)) (runs : List (List (List ℕ))) (net : Network) (kept : Kept lists runs net) (layout : Layout) (has : HasLayout (frame_of net) layout) where
   pub ready-free : (event : Event) → Ready net event → refusal layout (marking_of net) event ≡ None
@@ -41,3 +43,20 @@ step-frame old (Latch c) new step = ap frame_of step.after ∙ latch-frame old c
 step-frame old (Fire c) new step = ap frame_of step.after.after ∙ fire-frame old c step.after.token
 step-frame old (Serve m p) new step = ap frame_of step.after ∙ serve-frame old m
 step-frame old (Finish m) new step = ap frame_of step.after.after ∙ finish-frame old m step.after.state
+
+-- ---- and back
+
+module _ (lists : List (List ℕ)) (runs : List (List (List ℕ))) (net : Network) (kept : Kept lists runs net) (layout : Layout) (has : HasLayout (frame_of net) layout) (event : Event) where
+  pub free-ready : refusal layout (marking_of net) event ≡ None → Ready net event
+  free-ready free =
+      ⊎_elim
+      (λ (ready : Ready net event). ready)
+      (λ (refused : (cause : Refusal) × Refused net event cause). let is : ◌≡◌ {A = Option Refusal} (Some refused.0) None = sym (refused-so lists runs net kept layout has event refused.0 refused.1) ∙ free in cc)
+      (ready-or-refused lists runs net kept event)
+
+  pub so-refused : (cause : Refusal) → refusal layout (marking_of net) event ≡ Some cause → Refused net event cause
+  so-refused cause so =
+      ⊎_elim
+      (λ (ready : Ready net event). let is : ◌≡◌ {A = Option Refusal} None (Some cause) = sym (ready-free lists runs net kept layout has event ready) ∙ so in cc)
+      (λ (refused : (told : Refusal) × Refused net event told). subst (Refused net event) (same_Some refused.0 cause (sym (refused-so lists runs net kept layout has event refused.0 refused.1) ∙ so)) refused.1)
+      (ready-or-refused lists runs net kept event)

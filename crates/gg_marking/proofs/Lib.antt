@@ -12,7 +12,9 @@ pub mod ServeLaw
 pub mod ServeStep
 pub mod FinishLaw
 pub mod FinishStep
+pub mod DecideLemmas
 pub mod GoesLemmas
 pub mod OpeningLemmas
 pub mod StepsLemmas
+pub mod PutsLemmas
 pub mod WorkedMarkings

@@ -1,9 +1,10 @@
 //! Laws: facts about the definitions, each on a function with an empty body.
-ghost use Rattle.std.specs.Prelude.{◌≡◌, ℕ, suc, ◌-◌, ◌<◌, ◌≤◌, ◌++◌, List, [], ◌∷◌, Option, Some, None, Ok, Err, All, length};
+ghost use Rattle.std.specs.Prelude.{◌≡◌, ◌≢◌, ℕ, suc, ◌-◌, ◌<◌, ◌≤◌, ◌++◌, List, [], ◌∷◌, Option, Some, None, Ok, Err, All, length};
 ghost use Rattle.gg_flat.specs.Line.{value_at};
 ghost use Rattle.gg_node.specs.Machine.{Machine};
 ghost use Rattle.gg_net.specs.declared.shape.Wire.{Wire};
 ghost use Rattle.gg_net.specs.declared.event.Event.{Event};
+ghost use Rattle.gg_net.specs.declared.event.Event.TheVariants.{Fire};
 ghost use Rattle.gg_net.specs.declared.event.Refusal.{Refusal};
 ghost use Rattle.gg_net.specs.Network.{Network, queue_at, frame_of};
 ghost use Rattle.gg_net.specs.Network as network;
@@ -15,11 +16,13 @@ ghost use Rattle.gg_marking.specs.Goes.{Stopped, replayed_from};
 ghost use Rattle.gg_marking.specs.Fits.{HasLayout, marking_of};
 ghost use Rattle.gg_marking.specs.Steps.{IsStep, Steps, StopsAt};
 
-/// A network goes by its marking: an event that may be done is one of which its marking refuses nothing, and one that is refused
-/// is refused for the marking's cause. A step makes of the marking what its event makes of it, and leaves the layout as it is.
+/// A network goes by its marking: just those events may be done of which its marking refuses nothing, and each other is refused for
+/// the marking's cause. A step makes of the marking what its event makes of it, and leaves the layout as it is.
 pub fn goes_by_marking()
     ensures ready { (lists : List (List ℕ)) (runs : List (List (List ℕ))) (net : Network) (layout : Layout) (event : Event) → Kept lists runs net → HasLayout (frame_of net) layout → Ready net event → refusal layout (marking_of net) event ≡ None }
     ensures refused { (lists : List (List ℕ)) (runs : List (List (List ℕ))) (net : Network) (layout : Layout) (event : Event) (cause : Refusal) → Kept lists runs net → HasLayout (frame_of net) layout → Refused net event cause → refusal layout (marking_of net) event ≡ Some cause }
+    ensures free { (lists : List (List ℕ)) (runs : List (List (List ℕ))) (net : Network) (layout : Layout) (event : Event) → Kept lists runs net → HasLayout (frame_of net) layout → refusal layout (marking_of net) event ≡ None → Ready net event }
+    ensures told { (lists : List (List ℕ)) (runs : List (List (List ℕ))) (net : Network) (layout : Layout) (event : Event) (cause : Refusal) → Kept lists runs net → HasLayout (frame_of net) layout → refusal layout (marking_of net) event ≡ Some cause → Refused net event cause }
     ensures step { (lists : List (List ℕ)) (runs : List (List (List ℕ))) (old new : Network) (layout : Layout) (event : Event) → Kept lists runs old → HasLayout (frame_of old) layout → Step old event new → marking_of new ≡ after layout (marking_of old) event }
     ensures frame { (old new : Network) (event : Event) → Step old event new → frame_of new ≡ frame_of old }
 {}
@@ -36,6 +39,13 @@ pub fn counts_by_marking()
     ensures takes { (net : Network) (layout : Layout) (c : ℕ) → HasLayout (frame_of net) layout → c < length net.wires → network.takes net c ≡ takes layout (marking_of net) c }
     ensures held { (lists : List (List ℕ)) (runs : List (List (List ℕ))) (net : Network) (layout : Layout) (c : ℕ) → Kept lists runs net → HasLayout (frame_of net) layout → c < length net.wires → length (queue_at net.queues c) ≡ held layout (marking_of net) c }
     ensures newest { (lists : List (List ℕ)) (runs : List (List (List ℕ))) (net : Network) (c : ℕ) → Kept lists runs net → c < length net.wires → 0 < length (queue_at net.queues c) → value_at (queue_at net.queues c) (length (queue_at net.queues c) - 1) ≡ value_at (list_at lists c) (network.puts net c - 1) }
+{}
+
+/// A token is put into a channel where it is fired, and at no other step; no more are put than the network has cycles.
+pub fn puts_by_step()
+    ensures fires { (lists : List (List ℕ)) (runs : List (List (List ℕ))) (old new : Network) (c : ℕ) → Kept lists runs old → Step old (Fire c) new → network.puts new c ≡ suc (network.puts old c) }
+    ensures others { (lists : List (List ℕ)) (runs : List (List (List ℕ))) (old new : Network) (event : Event) (c : ℕ) → Kept lists runs old → Step old event new → c < length old.wires → event ≢ Fire c → network.puts new c ≡ network.puts old c }
+    ensures within { (lists : List (List ℕ)) (runs : List (List (List ℕ))) (net : Network) (c : ℕ) → Kept lists runs net → c < length net.wires → network.puts net c ≤ net.end }
 {}
 
 /// Steps one after another keep what a network keeps, and leave its layout as it is.
