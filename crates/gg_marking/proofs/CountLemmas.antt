@@ -1,6 +1,6 @@
 -- The marking of a network: its counts and its marks are the network's.
-use Rattle.std.proofs.Common.{◌≡◌, ℕ, suc, ◌-◌, ◌<◌, ◌≤◌, List, Option, None, Some, Bool, true, false, length, map, refl, sym, ap, ◌∙◌, ⊎_elim, arith}
-use Rattle.std.specs.Prelude.{is_some, nat_lt}
+use Rattle.std.proofs.Common.{◌≡◌, ℕ, ◌-◌, ◌<◌, ◌≤◌, List, Option, None, Some, Bool, true, false, length, refl, sym, ap, ◌∙◌, ⊎_elim, arith}
+use Rattle.std.specs.Prelude.{is_some}
 use Rattle.std.proofs.lemmas.Bool.{cases_lt, lt-ltb, le-ltb}
 use Rattle.std.proofs.lemmas.List.{length-map}
 use Rattle.std.proofs.lemmas.List.FromFn.{get_or-map-range_with_len}
@@ -11,7 +11,7 @@ use Rattle.gg_net.specs.Network.{Network, wire_at, queue_at, given_by, got_by, k
 use Rattle.gg_net.specs.Network as network
 use Rattle.gg_net.specs.Step.{IsBelow, latch_of, flag_of}
 use Rattle.gg_net.specs.Kept.{Kept, BetweenAt, list_at}
-use Rattle.gg_marking.specs.Marking.{Layout, Marking, link_at, is_set, and_one, puts, takes, held, is_below, is_channel, is_machine}
+use Rattle.gg_marking.specs.Marking.{Layout, Marking, is_set, and_one, puts, takes, held, is_below, is_channel, is_machine}
 use Rattle.gg_marking.specs.Fits.{HasLayout, marking_of}
 
 -- ---- over plain variables

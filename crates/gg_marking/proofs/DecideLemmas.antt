@@ -13,7 +13,7 @@ use Rattle.gg_net.specs.declared.event.Event.{Event}
 use Rattle.gg_net.specs.declared.event.Event.TheVariants.{Latch, Fire, Serve, Finish}
 use Rattle.gg_net.specs.declared.event.Refusal.{Refusal}
 use Rattle.gg_net.specs.declared.event.Refusal.TheVariants.{Stranger, Ended, Latched, Fired, NoToken, NeedsInput, Full, Order, Unfired, Unserved}
-use Rattle.gg_net.specs.Network.{Network, Kind, IsAtIn, IsAtOut, wire_at, queue_at, kind_of, kind_at, frame_of}
+use Rattle.gg_net.specs.Network.{Network, Kind, IsAtIn, IsAtOut, wire_at, queue_at, kind_of, kind_at}
 use Rattle.gg_net.specs.Step.{IsBelow, HasPort, CanTake, CanGive, CanLatch, CanFire, CanServe, CanFinish, Ready, IsWanted, IsFirstClear, IsFirstEmpty, IsUnfired, IsUnlatched, LatchRefused, FireRefused, ServeRefused, FinishRefused, Refused, latch_of, flag_of, missing_of, missing_field, numbers, due_or_count}
 use Rattle.gg_net.specs.Kept.{Kept}
 use Rattle.gg_net.proofs.LatchLemmas.{some-is-no-none, true-is-no-false}
@@ -35,6 +35,7 @@ first-clear (true ∷ flags) =
     more : All (λ flag. flag ≡ true) flags → (k : ℕ) (any : Bool) → k < length (true ∷ flags) → slice_index_or (true ∷ flags) k any ≡ true
     more all zero any lt = refl
     more all (suc k) any lt = all k any (omega (arith, lt))
+
     later : (o : ℕ) → ((k : ℕ) → k < o → flag_at flags k ≡ true) → (k : ℕ) → k < suc o → flag_at (true ∷ flags) k ≡ true
     later o before zero lt = refl
     later o before (suc k) lt = before k (omega (arith, lt))
@@ -52,6 +53,7 @@ first-gap (Some value ∷ latches) =
     more : All (λ latch. IsSome latch) latches → (k : ℕ) (any : Option ℕ) → k < length (Some value ∷ latches) → IsSome (slice_index_or (Some value ∷ latches) k any)
     more all zero any lt = refl
     more all (suc k) any lt = all k any (omega (arith, lt))
+
     later : (i : ℕ) → ((k : ℕ) → k < i → IsSome (latch_at latches k)) → (k : ℕ) → k < suc i → IsSome (latch_at (Some value ∷ latches) k)
     later i before zero lt = refl
     later i before (suc k) lt = before k (omega (arith, lt))

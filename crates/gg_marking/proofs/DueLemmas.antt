@@ -1,5 +1,5 @@
 -- The ports of a machine, and the one that is due.
-use Rattle.std.proofs.Common.{◌≡◌, ℕ, ◌<◌, ◌≤◌, List, [], Option, Some, None, Bool, true, false, length, map, refl, sym, ap, subst, ◌∙◌, ⊎_elim, arith}
+use Rattle.std.proofs.Common.{◌≡◌, ℕ, ◌<◌, ◌≤◌, List, [], Option, Some, None, true, false, length, map, sym, ap, subst, ◌∙◌, ⊎_elim, arith}
 use Rattle.std.specs.Prelude.{Contains, slice_index_or, slice_get, ◌==◌}
 use Rattle.std.specs.List.{list_any}
 use Rattle.std.proofs.lemmas.Bool.{cases_lt, eq-eqb, ne_eqb}
@@ -9,15 +9,13 @@ use Rattle.std.proofs.lemmas.Option.{same_Some, slice_get_within, slice_get_past
 use Rattle.std.proofs.Math.ListN as exact
 use Rattle.gg_flat.specs.Line.{value_at}
 use Rattle.gg_node.specs.Machine.{Port, Machine, no_machine, machine_at, port_number, due}
-use Rattle.gg_node.specs.Step.{fields_of}
 use Rattle.gg_net.specs.Network.{Network, Kind, kind_of, frame_of}
 use Rattle.gg_net.specs.Step.{HasPort, due_fields, fields_at}
 use Rattle.gg_net.specs.Step as step
-use Rattle.gg_net.specs.Kept.{Kept}
 use Rattle.gg_net.proofs.MachineLemmas.{due-port}
 use Rattle.gg_net.proofs.PortLemmas.{any_port}
 use Rattle.gg_net.proofs.StepLemmas.{all-served}
-use Rattle.gg_marking.specs.Marking.{Turn, Layout, Marking, turns_at, numbers, has_port, due_turn}
+use Rattle.gg_marking.specs.Marking.{Turn, Layout, turns_at, numbers, has_port, due_turn}
 use Rattle.gg_marking.specs.Fits.{HasLayout, AreTaken, AreTurnsOf, IsTurnOf, places_of, marking_of}
 use Rattle.gg_marking.proofs.CountLemmas.{served-at}
 

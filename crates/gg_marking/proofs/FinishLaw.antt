@@ -1,7 +1,7 @@
 -- `Finish` goes by the marking.
-use Rattle.std.proofs.Common.{◌≡◌, ℕ, ◌<◌, List, Option, None, Some, true, false, length, sym, ap, ◌∙◌}
+use Rattle.std.proofs.Common.{◌≡◌, ℕ, ◌<◌, List, Option, None, Some, length, ap, ◌∙◌}
 use Rattle.gg_node.specs.Machine.{Machine, machine_at, due}
-use Rattle.gg_node.specs.Step.{AllFired, AllLatched}
+use Rattle.gg_node.specs.Step.{AllFired}
 use Rattle.gg_net.specs.declared.event.Refusal.{Refusal}
 use Rattle.gg_net.specs.declared.event.Refusal.TheVariants.{Stranger, Ended, NeedsInput, Unfired, Unserved}
 use Rattle.gg_net.specs.Network.{Network, frame_of}

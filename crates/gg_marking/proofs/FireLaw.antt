@@ -1,5 +1,5 @@
 -- `Fire` goes by the marking.
-use Rattle.std.proofs.Common.{◌≡◌, ℕ, ◌<◌, ◌≤◌, List, Option, None, Some, true, false, length, map, refl, sym, ap, subst, ◌∙◌, arith}
+use Rattle.std.proofs.Common.{◌≡◌, ℕ, ◌<◌, List, Option, None, Some, false, length, refl, sym, ap, ◌∙◌, arith}
 use Rattle.std.specs.Prelude.{not, nat_lt}
 use Rattle.std.proofs.lemmas.Bool.{lt-ltb, le-ltb}
 use Rattle.std.proofs.Math.ListN as exact
@@ -7,11 +7,11 @@ use Rattle.gg_node.specs.Machine.{Machine, no_machine, first_empty, needs_at}
 use Rattle.gg_net.specs.declared.shape.Wire.{Wire}
 use Rattle.gg_net.specs.declared.event.Refusal.{Refusal}
 use Rattle.gg_net.specs.declared.event.Refusal.TheVariants.{Stranger, Ended, Fired, NeedsInput, Full}
-use Rattle.gg_net.specs.Network.{Network, Kind, IsAtIn, wire_at, queue_at, producer_of, kind_of, kind_at, frame_of}
+use Rattle.gg_net.specs.Network.{Network, Kind, wire_at, producer_of, kind_of, frame_of}
 use Rattle.gg_net.specs.Step.{CanGive, CanFire, FireRefused, IsWanted, flag_of, missing_of}
 use Rattle.gg_net.specs.Kept.{Kept}
 use Rattle.gg_marking.specs.Marking.{Layout, Marking, link_at, is_set, held, is_below, is_channel, first_unmarked, or_next, unless, naming, fire_refusal}
-use Rattle.gg_marking.specs.Fits.{HasLayout, AreTaken, places_of, marking_of}
+use Rattle.gg_marking.specs.Fits.{HasLayout, places_of, marking_of}
 use Rattle.gg_marking.proofs.FindLemmas.{passed, failed, holds-last, fails-last, names-none, names-some}
 use Rattle.gg_marking.proofs.CountLemmas.{given-at, held-is, is-channel, no-channel, below-is, below-not}
 use Rattle.gg_marking.proofs.NeedLemmas.{unmarked-none, unmarked-some}

@@ -1,10 +1,10 @@
 -- `Latch` goes by the marking.
-use Rattle.std.proofs.Common.{◌≡◌, ℕ, ◌<◌, ◌≤◌, List, Option, None, Some, true, false, length, refl, sym, ap, ◌∙◌, arith}
+use Rattle.std.proofs.Common.{◌≡◌, ℕ, ◌<◌, List, Option, None, Some, length, sym, ap, ◌∙◌, arith}
 use Rattle.std.specs.Prelude.{is_some, not, nat_lt}
 use Rattle.std.proofs.lemmas.Bool.{lt-ltb, le-ltb}
 use Rattle.gg_net.specs.declared.event.Refusal.{Refusal}
 use Rattle.gg_net.specs.declared.event.Refusal.TheVariants.{Stranger, Ended, Latched, NoToken}
-use Rattle.gg_net.specs.Network.{Network, wire_at, queue_at, frame_of}
+use Rattle.gg_net.specs.Network.{Network, wire_at, frame_of}
 use Rattle.gg_net.specs.Step.{CanTake, CanLatch, LatchRefused, latch_of}
 use Rattle.gg_net.specs.Kept.{Kept}
 use Rattle.gg_marking.specs.Marking.{Layout, Marking, link_at, is_set, held, is_below, is_channel, or_next, unless, latch_refusal}

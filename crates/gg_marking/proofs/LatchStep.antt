@@ -1,5 +1,5 @@
 -- What `Latch` makes of the marking.
-use Rattle.std.proofs.Common.{◌≡◌, ◌≢◌, ℕ, ◌<◌, List, Option, Some, None, true, false, length, map, refl, sym, ap, ◌∙◌, ⊎_elim, arith, get_or-set_same, get_or-set_other}
+use Rattle.std.proofs.Common.{◌≡◌, ◌≢◌, ℕ, ◌<◌, List, Option, Some, None, true, false, length, refl, sym, ap, ◌∙◌, ⊎_elim, arith, get_or-set_same, get_or-set_other}
 use Rattle.std.specs.Prelude.{is_some, slice_set, drop}
 use Rattle.std.proofs.lemmas.Bool.{cases_eq}
 use Rattle.std.proofs.lemmas.List.{length-set}
@@ -7,7 +7,7 @@ use Rattle.gg_node.specs.Machine.{Machine, machine_at, latch_at}
 use Rattle.gg_node.specs.Step.{with_latch}
 use Rattle.gg_net.specs.declared.shape.Wire.{Wire}
 use Rattle.gg_net.specs.declared.event.Event.TheVariants.{Latch}
-use Rattle.gg_net.specs.Network.{Network, wire_at, queue_at, consumer_of, kind_of, frame_of}
+use Rattle.gg_net.specs.Network.{Network, wire_at, queue_at, consumer_of, frame_of}
 use Rattle.gg_net.specs.Step.{CanLatch, front_of, after_latch}
 use Rattle.gg_net.specs.Kept.{Kept}
 use Rattle.gg_net.proofs.MachineLemmas.{place-within}

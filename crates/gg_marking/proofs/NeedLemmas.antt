@@ -1,8 +1,8 @@
 -- The first of some channels that isn't taken is at the first of their ins that is empty.
-use Rattle.std.proofs.Common.{◌≡◌, ℕ, zero, suc, ◌<◌, List, [], ◌∷◌, Option, Some, None, Bool, true, false, cond, length, refl, sym, ap, subst, ◌∙◌, arith}
+use Rattle.std.proofs.Common.{◌≡◌, ℕ, suc, ◌<◌, List, [], ◌∷◌, Option, Some, None, Bool, cond, length, refl, sym, ap, ◌∙◌, arith}
 use Rattle.std.specs.Prelude.{is_some, not}
 use Rattle.std.proofs.lemmas.Option.{same_Some}
-use Rattle.gg_node.specs.Machine.{Machine, machine_at, latch_at, first_empty, empty_or}
+use Rattle.gg_node.specs.Machine.{machine_at, latch_at, first_empty, empty_or}
 use Rattle.gg_net.specs.Network.{Network, IsAtIn, wire_at, frame_of}
 use Rattle.gg_net.specs.Kept.{IsWired}
 use Rattle.gg_net.proofs.LatchLemmas.{some-is-no-none, none-is-no-some}

@@ -1,16 +1,14 @@
 -- The marking before the first cycle.
-use Rattle.std.proofs.Common.{◌≡◌, ℕ, ◌<◌, ◌≤◌, List, Option, None, Bool, false, length, map, refl, sym, ap, ◌∙◌, ⊎_elim, arith}
+use Rattle.std.proofs.Common.{◌≡◌, ℕ, ◌<◌, ◌≤◌, List, None, false, length, map, sym, ap, ◌∙◌, ⊎_elim, arith}
 use Rattle.std.specs.Prelude.{All, is_some, replicate}
 use Rattle.std.proofs.lemmas.Bool.{cases_lt}
 use Rattle.std.proofs.lemmas.List.{length-map, length-replicate, get_or-map, get_or-replicate, get_or_past, ext_get_or}
-use Rattle.gg_flat.specs.Line.{value_at}
 use Rattle.gg_node.specs.Machine.{Machine, no_machine, machine_at, latch_at, flag_at}
 use Rattle.gg_net.specs.declared.shape.Wire.{Wire}
 use Rattle.gg_net.specs.Network.{Network, wire_at, kind_of, frame_of}
 use Rattle.gg_net.specs.Net.{IsOpening, opening_net}
-use Rattle.gg_net.specs.Step.{latch_of, flag_of}
 use Rattle.gg_net.proofs.StepLemmas.{clear-after, empty-after}
-use Rattle.gg_marking.specs.Marking.{Layout, is_set, opening_marking}
+use Rattle.gg_marking.specs.Marking.{Layout, opening_marking}
 use Rattle.gg_marking.specs.Fits.{HasLayout, marking_of}
 use Rattle.gg_marking.proofs.CountLemmas.{taken-at, given-at}
 use Rattle.gg_marking.proofs.ChangeLemmas.{same-parts, taken-count, given-count}

@@ -1,5 +1,5 @@
 -- `Serve` goes by the marking.
-use Rattle.std.proofs.Common.{◌≡◌, ℕ, ◌<◌, List, Option, None, Some, true, false, length, refl, sym, ap, subst, ◌∙◌}
+use Rattle.std.proofs.Common.{◌≡◌, ℕ, ◌<◌, List, Option, None, Some, length, refl, sym, ap, ◌∙◌}
 use Rattle.std.specs.Prelude.{◌==◌}
 use Rattle.std.proofs.lemmas.Bool.{eq-eqb, ne_eqb}
 use Rattle.gg_node.specs.Machine.{Machine, machine_at, first_empty, due}
@@ -9,7 +9,7 @@ use Rattle.gg_net.specs.declared.event.Refusal.TheVariants.{Stranger, Ended, Nee
 use Rattle.gg_net.specs.Network.{Network, frame_of}
 use Rattle.gg_net.specs.Step.{HasPort, IsBelow, IsWanted, CanServe, ServeRefused, bound_of, due_or_count, missing_field}
 use Rattle.gg_net.specs.Kept.{Kept}
-use Rattle.gg_marking.specs.Marking.{Turn, Layout, Marking, turns_at, numbers, has_port, is_below, first_unmarked, channels_out_of, unfired, due_turn, turn_refusal, or_next, unless, naming, serve_refusal}
+use Rattle.gg_marking.specs.Marking.{Turn, Layout, Marking, has_port, is_below, first_unmarked, channels_out_of, unfired, due_turn, turn_refusal, or_next, unless, naming, serve_refusal}
 use Rattle.gg_marking.specs.Fits.{HasLayout, marking_of}
 use Rattle.gg_marking.proofs.FindLemmas.{passed, failed, names-none, names-some}
 use Rattle.gg_marking.proofs.CountLemmas.{below-is, below-not}

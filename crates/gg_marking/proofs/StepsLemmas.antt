@@ -1,14 +1,13 @@
 -- Steps one after another, in the network and in its marking.
 use Rattle.std.proofs.Common.{◌≡◌, ℕ, zero, suc, ◌+◌, ◌++◌, List, [], ◌∷◌, Option, Some, None, refl, sym, ap, subst, ◌∙◌, arith}
-use Rattle.std.specs.Prelude.{Result, Ok, Err, take, slice_get}
+use Rattle.std.specs.Prelude.{Ok, Err, take, slice_get}
 use Rattle.std.proofs.lemmas.Option.{same_Some}
 use Rattle.gg_net.specs.declared.event.Event.{Event}
 use Rattle.gg_net.specs.declared.event.Refusal.{Refusal}
-use Rattle.gg_net.specs.declared.event.Refusal.TheVariants.{Stranger}
 use Rattle.gg_net.specs.Network.{Network, frame_of}
 use Rattle.gg_net.specs.Kept.{Kept}
 use Rattle.gg_net.proofs.StepLemmas.{kept-step}
-use Rattle.gg_marking.specs.Marking.{Layout, Marking}
+use Rattle.gg_marking.specs.Marking.{Layout}
 use Rattle.gg_marking.specs.Goes.{Stopped, step_refusal, after_step, go_on, replayed_from}
 use Rattle.gg_marking.specs.Steps.{IsStep, StepRefused, Steps, StopsAt}
 use Rattle.gg_marking.specs.Fits.{HasLayout, marking_of}

@@ -1,11 +1,11 @@
 -- Markings worked by hand.
 use Rattle.std.proofs.Common.{refl}
-use Rattle.std.specs.Prelude.{◌≡◌, ℕ, List, [], ◌∷◌, Option, Some, None, Result, Ok, Err, true, false}
+use Rattle.std.specs.Prelude.{◌≡◌, List, [], ◌∷◌, Option, Some, None, Result, Ok, Err, true, false}
 use Rattle.gg_net.specs.declared.event.Event.{Event}
 use Rattle.gg_net.specs.declared.event.Event.TheVariants.{Latch, Fire, Serve, Finish}
 use Rattle.gg_net.specs.declared.event.Refusal.{Refusal}
 use Rattle.gg_net.specs.declared.event.Refusal.TheVariants.{Stranger, Ended, Latched, Fired, NoToken, NeedsInput, Full, Order, Unfired, Unserved}
-use Rattle.gg_marking.specs.Marking.{Link, Turn, Layout, Marking, opening_marking, puts, takes, refusal, after}
+use Rattle.gg_marking.specs.Marking.{Link, Layout, Marking, opening_marking, puts, takes, refusal, after}
 use Rattle.gg_marking.specs.Goes.{Stopped, replayed_from}
 
 -- ---- a counter: the hub 0, a source 1, a tray 2; channel 0 goes from the source to the hub, channel 1 from the hub to the tray

@@ -1,10 +1,10 @@
 -- The layout and the marking of a network.
 -- Source: MEMOCODE 2009 (the k-th token of each queue is the signal's value in cycle k, so that a network's state follows from counts).
-use Rattle.std.specs.Prelude.{◌≡◌, ℕ, ◌<◌, List, All, AllPairs, is_some, length, map, slice_index_or}
+use Rattle.std.specs.Prelude.{◌≡◌, ℕ, ◌<◌, List, All, is_some, length, map, slice_index_or}
 use Rattle.std.specs.List.{range_with_len}
 use Rattle.gg_node.specs.Machine.{Port, needs_at}
 use Rattle.gg_node.specs.Step.{fields_of}
-use Rattle.gg_net.specs.Network.{Network, Frame, frame_of, kind_at, wire_at}
+use Rattle.gg_net.specs.Network.{Network, Frame, kind_at, wire_at}
 use Rattle.gg_net.specs.Step.{latch_of, flag_of}
 use Rattle.gg_marking.specs.Marking.{Link, Turn, Layout, Marking, link_at, turns_at}
 

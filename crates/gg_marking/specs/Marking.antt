@@ -3,7 +3,7 @@
 -- Source: Commoner, Holt, Even and Pnueli, "Marked Directed Graphs" (1971), for counts of tokens in place of tokens; MEMOCODE 2009
 -- (when a node may take, give and finish); ICCAD 2019 for memories that are served port by port. The order in which conditions are
 -- judged is this program's.
-use Rattle.std.specs.Prelude.{ℕ, suc, ◌+◌, ◌-◌, ◌==◌, List, [], ◌∷◌, Bool, true, false, not, ◌||◌, if◌then◌else◌, Option, Some, None, length, map, filter, find, replicate, slice_index_or, slice_set, slice_get, nat_lt, nat_le}
+use Rattle.std.specs.Prelude.{ℕ, suc, ◌-◌, ◌==◌, List, [], Bool, true, false, not, if◌then◌else◌, Option, Some, None, length, map, filter, find, replicate, slice_index_or, slice_set, slice_get, nat_lt}
 use Rattle.std.specs.List.{list_any, range_with_len}
 use Rattle.gg_flat.specs.Line.{value_at}
 use Rattle.gg_net.specs.declared.event.Event.{Event}

@@ -18,4 +18,7 @@
 
 mod laws;
 
-pub use laws::{counts_by_marking, goes_by_marking, opens_with_marking, puts_by_step, steps_by_marking, steps_keep};
+pub use laws::{
+    counts_by_marking, goes_by_marking, opens_with_marking, puts_by_step, steps_by_marking,
+    steps_keep,
+};
