@@ -9,31 +9,8 @@ use Rattle.gg_flat.specs.Reads.{Reads, NamesSignal, Reaches}
 use Rattle.gg_flat.specs.Order.{IsOrder}
 use Rattle.gg_flat.proofs.OrderLemmas.{read-before, place-of}
 use Rattle.gg_order.specs.Marks.{is_marked, Marks}
-use Rattle.gg_program.specs.Walk.{MarksReached, IsClosed, IsWalk, ReadsMarked}
-use Rattle.gg_program.proofs.ReachLemmas.{Reaches-itself, Reaches-on, along-reaches}
-
--- no mark
-unmarked : (n s : ℕ) → is_marked (replicate n false) s ≡ false
-unmarked zero s = refl
-unmarked (suc n) zero = refl
-unmarked (suc n) (suc s) = unmarked n s
-
--- at first the signal itself is marked
-pub IsWalk-start : (circuit : FlatCircuit) (order : List ℕ) (out k : ℕ) (marks : List Bool) → marks ≡ replicate (length circuit.signals) false → out < length circuit.signals → length order ≤ k → IsWalk circuit order out k (set marks out true)
-IsWalk-start circuit order out k marks none known all =
-    let count : length marks ≡ length circuit.signals = ap (λ (l : List Bool). length l) none ∙ length-replicate (length circuit.signals) false in
-    record {
-      count = length-set marks out true ∙ count;
-      only = λ s is. by s is (nat_eq s out) refl;
-      itself = get_or-set_same marks out true false (omega (arith, known, count));
-      closed = λ j s le lt. absurd (omega (arith, le, lt, all));
-    }
-  where
-    by : (s : ℕ) → is_marked (set marks out true) s ≡ true → (b : Bool) → nat_eq s out ≡ b → Reaches circuit out s
-    by s is true e = subst (Reaches circuit out) (sym ((Decides-eqb s out).0 e)) (Reaches-itself circuit out)
-    by s is false e =
-        let other : s ≢ out = λ same. true≢false (sym ((Decides-eqb s out).1 same) ∙ e) in
-        absurd (true≢false (sym is ∙ get_or-set_other marks out s true false other ∙ ap (λ (l : List Bool). is_marked l s) none ∙ unmarked (length circuit.signals) s))
+use Rattle.gg_needs.specs.Walk.{MarksReached, IsClosed, IsWalk, ReadsMarked}
+use Rattle.gg_needs.proofs.ReachLemmas.{Reaches-itself, Reaches-on, along-reaches}
 
 -- the signal at place k is looked at
 pub IsWalk-step : (circuit : FlatCircuit) (order : List ℕ) (out k n : ℕ) (before after : List Bool) → IsOrder circuit order → k < length order → n ≡ k + 1 → length after ≡ length circuit.signals → ReadsMarked circuit (value_at order k) before after → IsWalk circuit order out n before → IsWalk circuit order out k after
@@ -72,10 +49,6 @@ MarksReached-walk circuit order out k marks o front walk s =
     closed a b is reads =
         let at = place-of circuit order a o reads.signal in
         walk.closed at.place b (omega (arith, front)) at.within (subst (λ (x : ℕ). is_marked marks x ≡ true) (sym at.is) is) (subst (λ (x : ℕ). Reads circuit x b) (sym at.is) reads)
-
--- marks on just what is reached are closed
-pub IsClosed-reached : (circuit : FlatCircuit) (out : ℕ) (marks : List Bool) → MarksReached circuit out marks → IsClosed circuit marks
-IsClosed-reached circuit out marks exact a b is reads = (exact b).1 (Reaches-on circuit out a b ((exact a).0 is) reads)
 
 -- what a marked signal's driver names is marked
 pub ReadsMarked-driver : (circuit : FlatCircuit) (signal : ℕ) (before after : List Bool) → signal < length circuit.signals → is_marked before signal ≡ true → Marks (NamesSignal (driver_at circuit signal)) before after → ReadsMarked circuit signal before after

@@ -1,4 +1,4 @@
--- Units by hand: what their out-signals reach and need, and what is no cone and no list of needs.
+-- Units by hand: what their out-signals reach and need, and what is no list of needs.
 use Rattle.std.proofs.Common.{◌≡◌, ℕ, zero, suc, ◌<◌, List, [], ◌∷◌, refl, sym, subst, inl, inr, ◌⊎◌, arith, lit<}
 use Rattle.std.specs.Prelude.{slice_index_or, Contains}
 use Rattle.gg_bits.specs.declared.ops.Op2.TheVariants.{Xor}
@@ -11,8 +11,8 @@ use Rattle.gg_flat.specs.Reads.{Reads, Reaches}
 use Rattle.gg_flat.proofs.WorkedCircuits.{eight, node}
 use Rattle.gg_flat.proofs.WorkedForms.{only, both, same}
 use Rattle.gg_flat.proofs.WorkedMemories.{ports, late, copy, signal}
-use Rattle.gg_program.specs.Cone.{IsCone, AreNeeds}
-use Rattle.gg_program.proofs.ReachLemmas.{along-reaches}
+use Rattle.gg_needs.specs.Needs.{AreNeeds}
+use Rattle.gg_needs.proofs.ReachLemmas.{along-reaches}
 
 -- Signals 0 and 1 are the inputs `x` and `k`, 2 and 3 the outputs `p`, which is `x`, and `q`, which is `xor(x, k)`.
 abbrev pub unit : FlatCircuit
@@ -84,16 +84,6 @@ q-alone needs =
 -- needs stand in ascending order
 q-late : ¬ AreNeeds unit 3 (1 ∷ 0 ∷ [])
 q-late needs = absurd (omega (arith, needs.ascending 0 1 0 (lit< tt) (lit< tt)))
-
--- the cone of `q` doesn't begin with `q`, and doesn't leave out `k`
-q-reversed : ¬ IsCone unit 3 (3 ∷ 1 ∷ 0 ∷ [])
-q-reversed cone = let has = cone.after 0 1 (lit< tt) (record { signal = lit< tt; names = (1, lit< tt, refl) }) in absurd (omega (arith, has.1))
-
-q-short : ¬ IsCone unit 3 (0 ∷ 3 ∷ [])
-q-short cone =
-    let short : List ℕ = 0 ∷ 3 ∷ [] in
-    let has = (cone.reached 1).1 q-k in
-    both (λ i. slice_index_or short i 1 ≡ 1 → ⊥) (λ is. absurd (omega (arith, is))) (λ is. absurd (omega (arith, is))) has.0 has.1 has.2
 
 -- ---- memories
 
