@@ -13,7 +13,7 @@ use Rattle.gg_flat.specs.Order.{IsOrder}
 use Rattle.gg_flat.proofs.AgreeLemmas.{driver_value-agree}
 use Rattle.gg_flat.proofs.OrderLemmas.{read-before, place-of}
 use Rattle.gg_program.specs.ConeValue.{AgreeOnNeeds, NeedsAlike, IsConeValue}
-use Rattle.gg_program.proofs.ReachLemmas.{Reaches-itself, Reaches-on}
+use Rattle.gg_needs.proofs.ReachLemmas.{Reaches-itself, Reaches-on}
 
 -- a driver gives the same with other inputs, where it isn't the outside or the signal itself is the same
 other-inputs : (state : State) (inputs others row : List ℕ) (sink : Shape) (driver : Driver) (x y : ℕ) → x ≡ driver_value state inputs row sink driver → y ≡ driver_value state others row sink driver → ((place : ℕ) → driver ≡ Input place → x ≡ y) → x ≡ y
