@@ -46,9 +46,9 @@ IsSearch-step circuit out first place before after lt known finds h =
       fresh = λ s has. elim (Contains-append_cases before.found finds.more s (subst (λ (l : List ℕ). Contains l s) finds.grown has)) [
         | inl old ↦ h.fresh s old
         | inr new ↦ (
-            Reaches-on circuit out (value_at before.found place) s (h.fresh (value_at before.found place) (place, lt, get_or_default before.found place (value_at before.found place) 0 lt)).0 (record { signal = known; names = (finds.fresh s new).0 }),
-            unmarked-before first before.marks s (λ m. (h.marked s).1 (inl m)) (finds.fresh s new).1,
-          )
+          Reaches-on circuit out (value_at before.found place) s (h.fresh (value_at before.found place) (place, lt, get_or_default before.found place (value_at before.found place) 0 lt)).0 (record { signal = known; names = (finds.fresh s new).0 }),
+          unmarked-before first before.marks s (λ m. (h.marked s).1 (inl m)) (finds.fresh s new).1,
+        )
       ];
       itself = (finds.marked out).1 (inl h.itself);
       looked = λ j t less reads. below_more (λ (k : ℕ). Reads circuit (value_at before.found k) t → is_marked after.marks t ≡ true) place

@@ -59,7 +59,7 @@ pub(crate) fn work_rest(
     ensures inputs { inputs_in piece.now values.new ≡ inputs_in piece.now values.old }
     ensures right { AreRight piece.now state.now values.new (λ s. s < length piece.now.signals) }
 {
-    for signal in 0..piece.signals().len() {
+    for signal in 0..piece.signal_count() {
         if !marks[signal] {
             let value = worked(piece, signal as u32, state, values, room);
             values[signal] = value;
@@ -68,13 +68,7 @@ pub(crate) fn work_rest(
 }
 
 // The value of a signal that isn't an in-signal, from those of the signals that it reads.
-fn worked(
-    piece: &Piece,
-    signal: u32,
-    state: &State,
-    values: &[u128],
-    room: &mut [u128],
-) -> u128
+fn worked(piece: &Piece, signal: u32, state: &State, values: &[u128], room: &mut [u128]) -> u128
     requires formed { IsWellFormed piece.now }
     requires inner { IsInner piece.now signal }
     requires state { IsState piece.now state.now }

@@ -6,7 +6,7 @@
 //!
 //! - `Program::needs` is just the in-signals to which a path of reads leads from the out-signal;
 //! - `Program::run_cone` gives the value that the out-signal has in every settled row of the state that has the needed
-//!   inputs, so it depends on no other (`needs_decide`, `one_cone_value`). Then just what was done, and what the out-signal
+//!   inputs, so it depends on no other (`one_cone_value`). Then just what was done, and what the out-signal
 //!   reaches, is done;
 //! - `Program::run_next` goes to the next state by the settled values with the inputs that were put, and nothing is done then.
 //!
@@ -19,6 +19,6 @@ mod program;
 mod search;
 mod slots;
 
-pub use laws::{needs_decide, one_cone_value};
+pub use laws::one_cone_value;
 pub use program::{NoMemory, Program};
 pub use slots::Slots;
