@@ -1,7 +1,7 @@
 -- Values that are right where they are done, signal by signal.
 use Rattle.std.proofs.Common.{◌≡◌, ◌≢◌, ℕ, ◌<◌, List, [], length, set, Bool, true, false, true≢false, nat_eq, refl, sym, ◌∙◌, ap, subst, inl, inr, ◌⊎◌, arith}
 use Rattle.std.proofs.lemmas.Bool.Decides.{Decides-eqb}
-use Rattle.std.proofs.lemmas.List.{get_or-map, get_or-set_same, get_or-set_other, length-map}
+use Rattle.std.proofs.lemmas.List.{get_or-map, get_or-set_same, get_or-set_other, length-set, length-map}
 use Rattle.std.proofs.lemmas.Grind.{same_number_lists}
 use Rattle.gg_bits.specs.Shape.{Shape, shape, Fits}
 use Rattle.gg_flat.specs.declared.piece.Signal.{Signal}
@@ -55,6 +55,41 @@ pub inputs-inner : (circuit : FlatCircuit) (values : List ℕ) (s value : ℕ) �
 inputs-inner circuit values s value formed inner =
     inputs-kept circuit values (set values s value) (λ place within.
     get_or-set_other values s (value_at circuit.ins place) value 0 (λ same. inner.inner place (ap (driver_at circuit) (sym same) ∙ (formed.ins place within).1)))
+
+-- an in-signal has one place
+place-once : (a b : ℕ) → Input a ≡ Input b → a ≡ b
+place-once a b is = cc
+
+pub ins-once : (circuit : FlatCircuit) (i j : ℕ) → IsWellFormed circuit → i < length circuit.ins → j < length circuit.ins → value_at circuit.ins i ≡ value_at circuit.ins j → i ≡ j
+ins-once circuit i j formed first second same = place-once i j (sym (formed.ins i first).1 ∙ ap (driver_at circuit) same ∙ (formed.ins j second).1)
+
+-- an input that is put into its place
+pub inputs-put : (circuit : FlatCircuit) (values : List ℕ) (place value : ℕ) → IsWellFormed circuit → place < length circuit.ins → length values ≡ length circuit.signals → inputs_in circuit (set values (value_at circuit.ins place) value) ≡ set (inputs_in circuit values) place value
+inputs-put circuit values place value formed within total =
+    same_number_lists (inputs_in circuit after) (set (inputs_in circuit values) place value)
+    (length-map circuit.ins (value_at after) ∙ sym (length-set (inputs_in circuit values) place value ∙ count))
+    (λ i lt. by i (omega (arith, lt, length-map circuit.ins (value_at after))) (nat_eq i place) refl)
+  where
+    after : List ℕ
+    after = set values (value_at circuit.ins place) value
+
+    count : length (inputs_in circuit values) ≡ length circuit.ins
+    count = length-map circuit.ins (value_at values)
+
+    by : (i : ℕ) → i < length circuit.ins → (b : Bool) → nat_eq i place ≡ b → value_at (inputs_in circuit after) i ≡ value_at (set (inputs_in circuit values) place value) i
+    by i inside true e =
+        let at : i ≡ place = (Decides-eqb i place).0 e in
+        value_at-inputs circuit after i inside
+        ∙ ap (λ (k : ℕ). value_at after (value_at circuit.ins k)) at
+        ∙ get_or-set_same values (value_at circuit.ins place) value 0 (omega (arith, (formed.ins place within).0, total))
+        ∙ sym (get_or-set_same (inputs_in circuit values) place value 0 (omega (arith, within, count)))
+        ∙ ap (value_at (set (inputs_in circuit values) place value)) (sym at)
+    by i inside false e =
+        let other : i ≢ place = λ same. true≢false (sym ((Decides-eqb i place).1 same) ∙ e) in
+        value_at-inputs circuit after i inside
+        ∙ get_or-set_other values (value_at circuit.ins place) (value_at circuit.ins i) value 0 (λ same. other (ins-once circuit i place formed inside within same))
+        ∙ sym (value_at-inputs circuit values i inside)
+        ∙ sym (get_or-set_other (inputs_in circuit values) place i value 0 other)
 
 pub IsInputs-values : (circuit : FlatCircuit) (values : List ℕ) → IsWellFormed circuit → AreTyped (signal_shapes circuit) values → IsInputs circuit (inputs_in circuit values)
 IsInputs-values circuit values formed typed =

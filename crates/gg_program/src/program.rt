@@ -1,5 +1,5 @@
 //! `Program`: a piece in an order of evaluation, with what each out-signal needs.
-ghost use Rattle.std.specs.Prelude.{◌≡◌, ℕ, ◌<◌, [], length, slice_index_or, IfOk};
+ghost use Rattle.std.specs.Prelude.{◌≡◌, ℕ, ◌<◌, [], length, slice_index_or, slice_set, IfOk};
 ghost use Rattle.gg_bits.specs.Shape.{Fits};
 ghost use Rattle.gg_flat.specs.Line.{shape_at, value_at};
 ghost use Rattle.gg_flat.specs.State.{State, IsState};
@@ -120,6 +120,7 @@ impl<'a> Program<'a> {
         requires slots { AreSlots self.now.circuit slots.old }
         requires free { ¬ HasInput self.now.circuit slots.old place }
         ensures put { slots.new ≡ with_input self.now.circuit slots.old place input }
+        ensures inputs { inputs_in self.now.circuit slots.new.values ≡ slice_set (inputs_in self.now.circuit slots.old.values) place input }
         ensures cycle { (state : State) → InCycle self.now.circuit state slots.old → InCycle self.now.circuit state slots.new }
     {
         let piece = self.piece;
