@@ -1,15 +1,12 @@
 -- Marks on signals with a list of those that were found, signal by signal.
-use Rattle.std.proofs.Common.{◌≡◌, ◌≢◌, ℕ, ◌+◌, ◌<◌, ◌≤◌, List, [], ◌∷◌, ◌++◌, length, take, set, Bool, true, false, true≢false, nat_eq, eqb, refl, sym, ◌∙◌, ap, subst, inl, inr, ◌⊎◌, arith, append_assoc}
-use Rattle.std.specs.Prelude.{Contains, slice_index_or}
-use Rattle.std.specs.List.Sorted.{IsPermutation}
+use Rattle.std.proofs.Common.{◌≡◌, ◌≢◌, ℕ, ◌+◌, ◌<◌, ◌≤◌, List, [], ◌∷◌, ◌++◌, length, take, set, Bool, true, false, true≢false, nat_eq, refl, sym, ◌∙◌, ap, subst, inl, inr, ◌⊎◌, ◌↔◌, arith, append_assoc}
+use Rattle.std.specs.Prelude.{AllPairs, Contains, slice_index_or}
 use Rattle.std.proofs.lemmas.Bool.{cases_lt}
 use Rattle.std.proofs.lemmas.Bool.Decides.{Decides-eqb}
 use Rattle.std.proofs.lemmas.List.{append-nil, get_or_default, get_or_past, get_or-set_same, get_or-set_other, length-append, length-set, take_more}
 use Rattle.std.proofs.lemmas.List.Elements.{Contains-append_left, Contains-append_right, Contains-append_cases}
 use Rattle.std.proofs.lemmas.List.Quantifiers.{all_pairs_push}
-use Rattle.std.proofs.lemmas.List.Sorted.{Contains-permutation, IsPermutation-sym}
-use Rattle.std.proofs.lemmas.Map.Keys.{IsDistinct-IsPermutation}
-use Rattle.std.proofs.lemmas.Map.Made.{AllPairs-from_IsDistinct, IsDistinct-from_AllPairs}
+use Rattle.std.proofs.lemmas.Map.Made.{IsDistinct-from_AllPairs}
 use Rattle.std.proofs.lemmas.Map.Steps.{length-le_from_distinct_below}
 use Rattle.std.proofs.lemmas.Map.Views.{Contains-from_any}
 use Rattle.gg_flat.specs.declared.line.Node.{Node}
@@ -78,21 +75,6 @@ pub IsListed-room : (marks : List Bool) (found : List ℕ) (signal : ℕ) → si
 IsListed-room marks found signal known not h =
     let most = IsListed-most (set marks signal true) (found ++ signal ∷ []) (IsListed-push marks found signal known not h) in
     omega (arith, most, length-append found (signal ∷ []), length-set marks signal true)
-
-pub IsListed-permutation : (marks : List Bool) (found moved : List ℕ) → IsPermutation found moved → IsListed marks found → IsListed marks moved
-IsListed-permutation marks found moved same h =
-    record {
-      marked = λ s has. h.marked s (Contains-permutation moved found s (IsPermutation-sym found moved same) has);
-      once = AllPairs-from_IsDistinct Decides-eqb moved (IsDistinct-IsPermutation eqb flips found moved same (IsDistinct-from_AllPairs Decides-eqb found h.once));
-    }
-  where
-    flips : (x y : ℕ) → eqb x y ≡ eqb y x
-    flips x y = by (eqb x y) (eqb y x) refl refl
-      where
-        by : (a b : Bool) → eqb x y ≡ a → eqb y x ≡ b → eqb x y ≡ eqb y x
-        by true b e f = e ∙ sym ((Decides-eqb y x).1 (sym ((Decides-eqb x y).0 e)))
-        by false true e f = absurd (true≢false (sym ((Decides-eqb x y).1 (sym ((Decides-eqb y x).0 f))) ∙ e))
-        by false false e f = e ∙ sym f
 
 -- ---- one signal is found
 
@@ -198,3 +180,7 @@ Finds-both addr en a b c first second = Finds-then (λ s. addr ≡ s) (λ s. en 
 -- what is listed has a mark
 pub IsListed-within : (marks : List Bool) (found : List ℕ) (place : ℕ) → place < length found → IsListed marks found → value_at found place < length marks
 IsListed-within marks found place lt h = marked-within marks (value_at found place) (h.marked (value_at found place) (place, lt, get_or_default found place (value_at found place) 0 lt))
+
+-- the same signals in another order
+pub IsListed-moved : (marks : List Bool) (found moved : List ℕ) → ((s : ℕ) → Contains moved s ↔ Contains found s) → AllPairs (λ a b. a ≢ b) moved → IsListed marks found → IsListed marks moved
+IsListed-moved marks found moved same once h = record { marked = λ s has. h.marked s ((same s).0 has); once = once }
