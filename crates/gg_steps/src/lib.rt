@@ -15,6 +15,8 @@ mod laws;
 mod naming;
 mod steps;
 mod table;
+#[cfg(test)]
+mod tests;
 mod words;
 
 pub use cause::cause_text;
