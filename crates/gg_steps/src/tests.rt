@@ -1,4 +1,6 @@
 //! What no clause says: that with ample memory each call succeeds.
+ghost use Rattle.std.specs.Prelude.{◌≡◌, IfOk, length};
+
 use super::*;
 use gg_bits::Name;
 use gg_net::{Event, Refusal};
@@ -8,21 +10,23 @@ use std::test::Fail;
 static FILE: &[u8] = b"latch x\r\nfire y\n\nserve m w\nfinish m";
 
 // The names of two ports.
-fn two_ports(alloc: Global) -> Result<Vec<Name>, AllocError> {
+fn two_ports(alloc: Global) -> Result<Vec<Name>, AllocError>
+    ensures { IfOk result (λ ports. length ports.items ≡ 2) }
+{
     let mut ports = Vec::new(alloc);
     ports.push(Name::from_str(alloc, "r")?)?;
     ports.push(Name::from_str(alloc, "w")?)?;
     Ok(ports)
 }
 
-// The names of two channels and of a memory with these ports.
-fn named<'a>(alloc: Global, ports: &'a [Name]) -> Result<StepNames<'a>, AllocError> {
+// The names of two channels and of a memory with these two ports.
+fn named<'a>(alloc: Global, ports: &'a [Name]) -> Result<StepNames<'a>, AllocError>
+    requires { length ports.now ≡ 2 }
+{
     let mut names = StepNames::new(alloc);
-    if ports.len() < 3 {
-        names.add_channel("x")?;
-        names.add_channel("y")?;
-        names.add_machine("m", ports)?;
-    }
+    names.add_channel("x")?;
+    names.add_channel("y")?;
+    names.add_machine("m", ports)?;
     Ok(names)
 }
 
