@@ -1,0 +1,27 @@
+pub mod NumberLemmas
+pub mod LinkLemmas
+pub mod ListedLemmas
+pub mod WiredLemmas
+pub mod SideLemmas
+pub mod PortLemmas
+pub mod GivenLemmas
+pub mod FitLemmas
+pub mod RankLemmas
+pub mod NeedLemmas
+pub mod RingLemmas
+pub mod PlanLemmas
+pub mod OpeningLemmas
+mod WorkedNetwork
+pub mod ShownLemmas
+pub mod ServeLemmas
+pub mod DoLemmas
+pub mod EdgeLemmas
+pub mod SolvedLemmas
+pub mod WordLemmas
+pub mod BackLemmas
+pub mod MemoryPartLemmas
+pub mod ChosenLemmas
+pub mod AloneLemmas
+pub mod StandLemmas
+pub mod BodyLemmas
+mod WorkedAlone

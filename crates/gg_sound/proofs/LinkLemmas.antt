@@ -1,0 +1,61 @@
+-- The channels of a plan and those of its network.
+use Rattle.std.proofs.Common.{◌≡◌, ℕ, zero, suc, ◌+◌, ◌<◌, List, [], ◌∷◌, length, get_or, refl, ◌∙◌, ap, arith}
+use Rattle.gg_cut.specs.declared.plan.Channel.{Channel}
+use Rattle.gg_cut.specs.declared.plan.Plan.{Plan}
+use Rattle.gg_cut.specs.declared.wires.Wire.{Wire as Link}
+use Rattle.gg_cut.specs.Plan.{wire_at as link_at, channels_to, channels_from}
+use Rattle.gg_closed.specs.Apart.{AreEnds}
+use Rattle.gg_net.specs.Network.{wire_at}
+use Rattle.gg_sound.specs.Built.{machine_in, place_in, wire_of, wires_from, wires_of_plan}
+
+-- The channels of a plan are these links, whose ends are machines of the plan, and which its machines list.
+pub record AreLinks (plan : Plan) (links : List Link) : Type 0 where
+  pub count : length plan.channels ≡ length links
+  pub producer : (c : ℕ) (any : Channel) → c < length plan.channels → (get_or plan.channels c any).producer ≡ (link_at links c).producer
+  pub consumer : (c : ℕ) (any : Channel) → c < length plan.channels → (get_or plan.channels c any).consumer ≡ (link_at links c).consumer
+  pub ins : (m : ℕ) → m < length plan.machines → (machine_in plan m).ins ≡ channels_to links m
+  pub outs : (m : ℕ) → m < length plan.machines → (machine_in plan m).outs ≡ channels_from links m
+  pub ends : (c : ℕ) → c < length links → AreEnds (length plan.machines) (link_at links c)
+
+-- ---- the network's channels by number
+
+length-from : (plan : Plan) (a : ℕ) (channels : List Channel) → length (wires_from plan a channels) ≡ length channels
+length-from plan a [] = refl
+length-from plan a (channel ∷ channels) = ap suc (length-from plan (suc a) channels)
+
+wire-from : (plan : Plan) (a : ℕ) (channels : List Channel) (c : ℕ) (any : Channel) → c < length channels → wire_at (wires_from plan a channels) c ≡ wire_of plan (a + c) (get_or channels c any)
+wire-from plan a [] c any lt = absurd (omega (arith, lt))
+wire-from plan a (channel ∷ channels) zero any lt = ap (λ k. wire_of plan k channel) (let same : a ≡ a + 0 = omega arith in same)
+wire-from plan a (channel ∷ channels) (suc c) any lt =
+    wire-from plan (suc a) channels c any (omega (arith, lt)) ∙ ap (λ k. wire_of plan k (get_or channels c any)) (let same : suc a + c ≡ a + suc c = omega arith in same)
+
+pub some-channel : (channels : List Channel) (c : ℕ) → c < length channels → Channel
+some-channel [] c lt = absurd (omega (arith, lt))
+some-channel (channel ∷ channels) c lt = channel
+
+-- A channel of the network leads where its link does, and stands at the places at which the link's machines list it.
+pub record IsLinkedAs (plan : Plan) (links : List Link) (c : ℕ) : Type 0 where
+  pub producer : (wire_at (wires_of_plan plan) c).producer ≡ (link_at links c).producer
+  pub out : (wire_at (wires_of_plan plan) c).out ≡ place_in (channels_from links (link_at links c).producer) c
+  pub consumer : (wire_at (wires_of_plan plan) c).consumer ≡ (link_at links c).consumer
+  pub place : (wire_at (wires_of_plan plan) c).place ≡ place_in (channels_to links (link_at links c).consumer) c
+
+module _ (plan : Plan) (links : List Link) (are : AreLinks plan links) where
+  pub length-wires : length (wires_of_plan plan) ≡ length links
+  length-wires = length-from plan 0 plan.channels ∙ are.count
+
+  pub linked : (c : ℕ) → c < length links → IsLinkedAs plan links c
+  linked c lt =
+      let known : c < length plan.channels = omega (arith, lt, are.count) in
+      let any = some-channel plan.channels c known in
+      let channel = get_or plan.channels c any in
+      let is : wire_at (wires_of_plan plan) c ≡ wire_of plan c channel = wire-from plan 0 plan.channels c any known ∙ ap (λ k. wire_of plan k channel) (let same : 0 + c ≡ c = omega arith in same) in
+      let ends = are.ends c lt in
+      let gives = are.producer c any known in
+      let takes = are.consumer c any known in
+      record {
+        producer = ap (λ w. w.producer) is ∙ gives;
+        out = ap (λ w. w.out) is ∙ ap (λ p. place_in (machine_in plan p).outs c) gives ∙ ap (λ l. place_in l c) (are.outs (link_at links c).producer ends.producer);
+        consumer = ap (λ w. w.consumer) is ∙ takes;
+        place = ap (λ w. w.place) is ∙ ap (λ p. place_in (machine_in plan p).ins c) takes ∙ ap (λ l. place_in l c) (are.ins (link_at links c).consumer ends.consumer);
+      }

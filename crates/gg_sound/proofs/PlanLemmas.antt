@@ -1,0 +1,68 @@
+-- The network of a plan: its channels are listed, it is wired, and it has no ring.
+use Rattle.std.proofs.Common.{◌≢◌, ℕ, ◌<◌, List, length, map, sym, ◌∙◌, ap, subst, arith}
+use Rattle.std.specs.Prelude.{AllPairs, ◌==◌}
+use Rattle.gg_flat.specs.Line.{value_at}
+use Rattle.gg_order.specs.Design.{Ordered}
+use Rattle.gg_partfile.specs.declared.request.Request.{Request}
+use Rattle.gg_cut.specs.declared.plan.Plan.{Plan}
+use Rattle.gg_cut.specs.declared.wires.Wire.{Wire as Link}
+use Rattle.gg_cut.specs.Listed.{listed_of}
+use Rattle.gg_cut.specs.Channels.{wires_of}
+use Rattle.gg_cut.specs.Plan.{wire_at as link_at}
+use Rattle.gg_cut.proofs.RangeLemmas.{filter-few}
+use Rattle.gg_closed.proofs.FaultlessLemmas.{faultless-apart, faultless-few}
+use Rattle.gg_closed.proofs.ChoiceLemmas.{pairs-once}
+use Rattle.gg_node.specs.Machine.{Machine, machine_at}
+use Rattle.gg_net.specs.Network.{IsAtIn, IsAtOut, kind_of, kind_at}
+use Rattle.gg_net.specs.Kept.{IsWired, HasNoRing}
+use Rattle.gg_sound.specs.Built.{machine_in, nameless, wires_of_plan, AreBuilt, IsGiven, IsListedAt, plan_frame}
+use Rattle.gg_sound.proofs.LinkLemmas.{AreLinks}
+use Rattle.gg_sound.proofs.GivenLemmas.{links-of}
+use Rattle.gg_sound.proofs.ListedLemmas.{at-in, at-out}
+use Rattle.gg_sound.proofs.WiredLemmas.{AreFitting, wired}
+use Rattle.gg_sound.proofs.FitLemmas.{kind-is, fitting}
+use Rattle.gg_sound.proofs.NeedLemmas.{HasNeeds, has-needs}
+use Rattle.gg_sound.proofs.RingLemmas.{no-ring}
+
+module _ (design : Ordered) (request : Request) (default : ℕ) (plan : Plan) (columns : List (List ℕ)) (n : ℕ) (rows : List (List ℕ)) (machines : List Machine) (given : IsGiven design request default plan columns n rows) (built : AreBuilt plan columns n machines) where
+  pub links-once : AllPairs (λ (v w : Link). v.signal ≢ w.signal) (wires_of design.circuit design.tree (listed_of design.tree request))
+  links-once =
+      let is = given.design_is in
+      pairs-once design.circuit design.tree (listed_of design.tree request) is.formed is.fitting is.scoped (faultless-apart design request given.faultless is.fitting)
+
+  pub links : AreLinks plan (wires_of design.circuit design.tree (listed_of design.tree request))
+  links = links-of design request default plan given.design_is given.faultless given.planned
+
+  pub fit : AreFitting (wires_of design.circuit design.tree (listed_of design.tree request)) (length plan.machines) (map kind_of machines)
+  fit = fitting design request default plan columns n machines given.planned links-once built
+
+  pub plan-wired : IsWired (plan_frame plan machines n)
+  plan-wired = wired plan (wires_of design.circuit design.tree (listed_of design.tree request)) (map kind_of machines) n links fit
+
+  pub plan-listed : (m : ℕ) → m < length plan.machines → IsListedAt plan m (kind_at (map kind_of machines) m)
+  plan-listed m lt =
+      let all = wires_of design.circuit design.tree (listed_of design.tree request) in
+      let own = fit.each m lt in
+      let ins = links.ins m lt in
+      let outs = links.outs m lt in
+      let channels = (faultless-few design request given.faultless).channels in
+      record {
+        ins = ap length ins ∙ sym own.ins;
+        into = λ i low. subst (λ (l : List ℕ). IsAtIn (wires_of_plan plan) m i (value_at l i)) (sym ins) (at-in plan all links m i (omega (arith, low, own.ins)));
+        outs = ap length outs ∙ sym own.outs;
+        from = λ o low. subst (λ (l : List ℕ). IsAtOut (wires_of_plan plan) m o (value_at l o)) (sym outs) (at-out plan all links m o (omega (arith, low, own.outs)));
+        few = (
+          omega (arith, own.ins, channels, filter-few (λ c. (link_at all c).consumer == m) 0 (length all)),
+          omega (arith, own.outs, channels, filter-few (λ c. (link_at all c).producer == m) 0 (length all)),
+        );
+      }
+
+  needs : (m : ℕ) → m < length plan.machines → HasNeeds design.circuit (wires_of design.circuit design.tree (listed_of design.tree request)) m (kind_at (map kind_of machines) m)
+  needs m lt =
+      let listed = listed_of design.tree request in
+      let all = wires_of design.circuit design.tree listed in
+      subst (HasNeeds design.circuit all m) (sym (kind-is machines m (omega (arith, lt, built.count))))
+      (has-needs design listed all columns n m (machine_in plan m) (machine_in plan m).body (machine_at machines m) (given.planned.machine m nameless lt).body (built.each m lt))
+
+  pub plan-no-ring : HasNoRing (plan_frame plan machines n)
+  plan-no-ring = no-ring plan (wires_of design.circuit design.tree (listed_of design.tree request)) (map kind_of machines) n design.circuit design.order given.design_is.ordered links links-once needs

@@ -1,0 +1,78 @@
+-- The network of a plan has no ring.
+use Rattle.std.proofs.Common.{◌≡◌, ◌≢◌, ℕ, ◌<◌, List, length, map, refl, sym, ◌∙◌, ap, subst, inl, inr, ◌⊎◌, arith}
+use Rattle.std.specs.Prelude.{AllPairs, Contains}
+use Rattle.std.proofs.lemmas.List.{get_or-map}
+use Rattle.gg_flat.specs.Line.{value_at}
+use Rattle.gg_flat.specs.Circuit.{FlatCircuit}
+use Rattle.gg_flat.specs.Reads.{Reaches}
+use Rattle.gg_flat.specs.Order.{IsOrder}
+use Rattle.gg_cut.specs.declared.plan.Plan.{Plan}
+use Rattle.gg_cut.specs.declared.wires.Wire.{Wire as Link}
+use Rattle.gg_cut.specs.Channels.{wire}
+use Rattle.gg_cut.specs.Plan.{wire_at as link_at, channels_to, channels_from, signals_of}
+use Rattle.gg_node.specs.Machine.{needs_at}
+use Rattle.gg_net.specs.Network.{wire_at, Kind, kind_at}
+use Rattle.gg_net.specs.Kept.{NeedsChannel, HasNoRing}
+use Rattle.gg_sound.specs.Built.{place_in, wires_of_plan}
+use Rattle.gg_sound.proofs.LinkLemmas.{AreLinks, linked, length-wires}
+use Rattle.gg_sound.proofs.ListedLemmas.{taken-placed, given-placed}
+use Rattle.gg_sound.proofs.SideLemmas.{link-one}
+use Rattle.gg_sound.proofs.RankLemmas.{reach-lower}
+use Rattle.gg_sound.proofs.NeedLemmas.{HasNeeds}
+
+module _ (plan : Plan) (links : List Link) (kinds : List Kind) (end : ℕ) (circuit : FlatCircuit) (order : List ℕ) (ordered : IsOrder circuit order) (are : AreLinks plan links) (once : AllPairs (λ (v w : Link). v.signal ≢ w.signal) links)
+    (needs : (m : ℕ) → m < length plan.machines → HasNeeds circuit links m (kind_at kinds m)) where
+  -- the place in the order of each link's signal
+  abbrev ranks : List ℕ
+  ranks = map (λ (w : Link). place_in order w.signal) links
+
+  rank-at : (c : ℕ) → c < length links → value_at ranks c ≡ place_in order (link_at links c).signal
+  rank-at c lt = get_or-map (λ (w : Link). place_in order w.signal) links c (wire 0 0 0) 0 lt
+
+  -- a link that another needs carries a signal that the other's signal reaches
+  record IsBehind (c d : ℕ) : Type 0 where
+    giver : c < length links
+    taker : d < length links
+    joined : (link_at links d).consumer ≡ (link_at links c).producer
+    reached : Reaches circuit (link_at links c).signal (link_at links d).signal
+
+  behind : (c d : ℕ) → NeedsChannel (record { kinds = kinds; wires = wires_of_plan plan; end = end }) c d → IsBehind c d
+  behind c d need =
+      let lc : c < length links = omega (arith, need.known, length-wires plan links are) in
+      let ld : d < length links = omega (arith, need.at.known, length-wires plan links are) in
+      let from = linked plan links are c lc in
+      let into = linked plan links are d ld in
+      let p = (link_at links c).producer in
+      let joined : (link_at links d).consumer ≡ p = sym into.consumer ∙ need.at.machine ∙ from.producer in
+      let given = given-placed links p c (record { known = lc; producer = refl }) in
+      let taken = taken-placed links p d (record { known = ld; consumer = joined }) in
+      let place : need.place ≡ place_in (channels_to links p) d = sym need.at.place ∙ into.place ∙ ap (λ m. place_in (channels_to links m) d) joined in
+      let o = place_in (channels_from links p) c in
+      let i = place_in (channels_to links p) d in
+      let needed = subst (λ k. Contains (needs_at (kind_at kinds p).needs o) k) place
+      (subst (λ k. Contains (needs_at (kind_at kinds p).needs k) need.place) from.out
+      (subst (λ m. Contains (needs_at (kind_at kinds m).needs (wire_at (wires_of_plan plan) c).out) need.place) from.producer need.needed)) in
+      let to = (needs p (are.ends c lc).producer).reach o i needed in
+      let out : value_at (signals_of links (channels_from links p)) o ≡ (link_at links c).signal = get_or-map (λ k. (link_at links k).signal) (channels_from links p) o 0 0 given.within ∙ ap (λ k. (link_at links k).signal) given.is in
+      let in_signal : value_at (signals_of links (channels_to links p)) i ≡ (link_at links d).signal = get_or-map (λ k. (link_at links k).signal) (channels_to links p) i 0 0 taken.within ∙ ap (λ k. (link_at links k).signal) taken.is in
+      record {
+        giver = lc;
+        taker = ld;
+        joined = joined;
+        reached = subst (λ (s : ℕ). Reaches circuit s (link_at links d).signal) out (subst (λ (s : ℕ). Reaches circuit (value_at (signals_of links (channels_from links p)) o) s) in_signal to);
+      }
+
+  lower : (c d : ℕ) → NeedsChannel (record { kinds = kinds; wires = wires_of_plan plan; end = end }) c d → value_at ranks d < value_at ranks c
+  lower c d need = by is (reach-lower circuit order ordered (link_at links c).signal (link_at links d).signal is.reached)
+    where
+      is : IsBehind c d
+      is = behind c d need
+
+      by : IsBehind c d → ((link_at links c).signal ≡ (link_at links d).signal) ⊎ (place_in order (link_at links d).signal < place_in order (link_at links c).signal) → value_at ranks d < value_at ranks c
+      by b (inl same) =
+          let one = link-one links c d once b.giver b.taker same in
+          absurd ((are.ends c b.giver).apart (sym b.joined ∙ ap (λ k. (link_at links k).consumer) (sym one)))
+      by b (inr less) = omega (arith, less, rank-at c b.giver, rank-at d b.taker)
+
+  pub no-ring : HasNoRing (record { kinds = kinds; wires = wires_of_plan plan; end = end })
+  no-ring = record { ranks = ranks; lower = lower }

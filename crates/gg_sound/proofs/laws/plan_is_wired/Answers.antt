@@ -1,0 +1,5 @@
+use Rattle.gg_sound.proofs.PlanLemmas.{plan-wired}
+use Rattle.gg_sound.proofs.laws.plan_is_wired.Goals as goal
+
+pub returns : goal.returns
+returns c = λ design request default plan columns n rows machines given built. plan-wired design request default plan columns n rows machines given built

@@ -1,0 +1,131 @@
+-- The network of a plan: its channels, its machines before the first cycle, and the rows of its machines. (The values that its
+-- channels carry are gg_cut's `columns_of`.)
+-- Source: MEMOCODE 2009 (a synchronous circuit as a network of its parts, whose streams are the circuit's own); ICCAD 2019 (units
+-- and memories of a target as models of their own, with sources for its inputs and sinks for its outputs).
+use Rattle.std.specs.Prelude.{◌≡◌, ℕ, suc, ◌^◌, ◌<◌, ◌≤◌, ◌==◌, ◌++◌, List, [], ◌∷◌, None, false, length, map, slice_index_or, unwrap_or}
+use Rattle.gg_flat.specs.Line.{value_at}
+use Rattle.gg_flat.specs.Run.{IsRun, IsColumns}
+use Rattle.gg_order.specs.Design.{Ordered, IsDesign}
+use Rattle.gg_partfile.specs.declared.request.Request.{Request}
+use Rattle.gg_program.specs.Programmed.{AreNeedsOfOuts}
+use Rattle.gg_part.specs.Part.{IsPart}
+use Rattle.gg_part.specs.PartRun.{part_rows}
+use Rattle.gg_part.specs.declared.part.Part.{Part}
+use Rattle.gg_cut.specs.declared.plan.Body.{Body}
+use Rattle.gg_cut.specs.declared.plan.Body.TheVariants.{Cut, Memory, Source, Tray}
+use Rattle.gg_cut.specs.declared.plan.Machine as planned
+use Rattle.gg_cut.specs.declared.plan.Channel.{Channel}
+use Rattle.gg_cut.specs.declared.plan.Plan.{Plan}
+use Rattle.gg_cut.specs.Fault.{first_fault}
+use Rattle.gg_cut.specs.Listed.{first_place}
+use Rattle.gg_cut.specs.Plan.{IsPlan}
+use Rattle.gg_node.specs.Machine.{Machine, machine_at, source_machine, tray_machine, cycle_limit}
+use Rattle.gg_fame1.specs.Unit as dataflow
+use Rattle.gg_memunit.specs.MemoryUnit as memory
+use Rattle.gg_net.specs.declared.shape.Wire.{Wire}
+use Rattle.gg_net.specs.Network.{IsAtIn, IsAtOut, Kind, Frame, frame_of}
+use Rattle.gg_net.specs.Net.{opening_net}
+
+-- a machine of a plan without a name and without channels
+abbrev pub nameless : planned.Machine
+nameless = record { name = []; host = 0; body = Tray; ins = []; outs = [] }
+
+-- machine m of a plan
+abbrev pub machine_in : Plan → ℕ → planned.Machine
+machine_in plan m = slice_index_or plan.machines m nameless
+
+-- ---- channels
+
+-- the place of a channel among those of a machine
+abbrev pub place_in : List ℕ → ℕ → ℕ
+place_in channels c = unwrap_or (first_place (λ d. d == c) channels) 0
+
+-- a channel of the network, which is this channel of the plan, of number c
+abbrev pub wire_of : Plan → ℕ → Channel → Wire
+wire_of plan c channel =
+    record {
+      producer = channel.producer;
+      out = place_in (machine_in plan channel.producer).outs c;
+      consumer = channel.consumer;
+      place = place_in (machine_in plan channel.consumer).ins c;
+      capacity = channel.capacity;
+    }
+
+-- the channels of the network, from number c on
+abbrev pub wires_from : Plan → ℕ → List Channel → List Wire
+wires_from plan c [] = []
+wires_from plan c (channel ∷ channels) = wire_of plan c channel ∷ wires_from plan (suc c) channels
+
+-- the channels of the network of a plan
+abbrev pub wires_of_plan : Plan → List Wire
+wires_of_plan plan = wires_from plan 0 plan.channels
+
+-- ---- machines before the first cycle
+
+-- A unit that runs a part of the circuit: each of its outs needs the ins that it depends on.
+pub record IsUnitOf (part : Part) (machine : Machine) : Type 0 where
+  pub needs : List (List ℕ)
+  pub exact : AreNeedsOfOuts part.piece needs
+  pub is : machine ≡ dataflow.opening_unit (record { circuit = part.piece; needs = needs })
+
+-- A memory that stands alone: a part of the listed memory's part, which has its in-signals and then its out-signals, and its
+-- memory; as the piece of a memory unit it has the in-signals first.
+pub record IsMemoryOf (part : Part) (machine : Machine) : Type 0 where
+  pub alone : Part
+  pub is_part : IsPart part.piece alone.piece alone.globals alone.held alone.memories
+  pub globals : alone.globals ≡ part.piece.ins ++ part.piece.outs
+  pub ins : map (value_at alone.globals) alone.piece.ins ≡ part.piece.ins
+  pub outs : map (value_at alone.globals) alone.piece.outs ≡ part.piece.outs
+  pub memories : alone.memories ≡ 0 ∷ []
+  pub is_memory : memory.IsMemoryPiece alone.piece
+  pub is : machine ≡ memory.opening_unit alone.piece
+
+-- A machine of the network, which is this machine of the plan. `columns` are those of the top's inputs, by number of channel: the
+-- channels of the top's inputs come first.
+abbrev pub IsBuilt : List (List ℕ) → ℕ → planned.Machine → Body → Machine → Type 0
+IsBuilt columns n own (Cut part) machine = IsUnitOf part machine
+IsBuilt columns n own (Memory part) machine = IsMemoryOf part machine
+IsBuilt columns n own Source machine = machine ≡ source_machine (slice_index_or columns (value_at own.outs 0) []) 0 false
+IsBuilt columns n own Tray machine = machine ≡ tray_machine n 0 [] None
+
+-- the machines of the network of a plan, by number
+pub record AreBuilt (plan : Plan) (columns : List (List ℕ)) (n : ℕ) (machines : List Machine) : Type 0 where
+  pub count : length machines ≡ length plan.machines
+  pub each : (m : ℕ) → m < length plan.machines → IsBuilt columns n (machine_in plan m) (machine_in plan m).body (machine_at machines m)
+
+-- ---- the network
+
+-- what stays of the network of a plan with these machines, which is to do n cycles
+abbrev pub plan_frame : Plan → List Machine → ℕ → Frame
+plan_frame plan machines n = frame_of (opening_net machines (wires_of_plan plan) n)
+
+-- Machine m of the network, of this kind, has an in for each channel that the plan's machine m takes and an out for each that it
+-- gives, in the plan's order; each channel stands there; and they are few enough to be named.
+pub record IsListedAt (plan : Plan) (m : ℕ) (kind : Kind) : Type 0 where
+  pub ins : length (machine_in plan m).ins ≡ kind.ins
+  pub into : (i : ℕ) → i < kind.ins → IsAtIn (wires_of_plan plan) m i (value_at (machine_in plan m).ins i)
+  pub outs : length (machine_in plan m).outs ≡ kind.outs
+  pub from : (o : ℕ) → o < kind.outs → IsAtOut (wires_of_plan plan) m o (value_at (machine_in plan m).outs o)
+  pub few : (kind.ins < 2 ^ 32) × (kind.outs < 2 ^ 32)
+
+-- ---- what the network is to do
+
+-- the rows of a machine, from those of the circuit
+abbrev pub body_rows : Body → List (List ℕ) → List (List ℕ)
+body_rows (Cut part) rows = part_rows part.globals rows
+body_rows (Memory part) rows = part_rows (map (value_at part.globals) (part.piece.ins ++ part.piece.outs)) rows
+body_rows Source rows = []
+body_rows Tray rows = []
+
+-- the rows of the machines of a plan
+abbrev pub rows_of : Plan → List (List ℕ) → List (List (List ℕ))
+rows_of plan rows = map (λ machine. body_rows machine.body rows) plan.machines
+
+-- A design, a request that has no fault for it, their plan, and the circuit's run of n cycles on the columns of its inputs.
+pub record IsGiven (design : Ordered) (request : Request) (default : ℕ) (plan : Plan) (columns : List (List ℕ)) (n : ℕ) (rows : List (List ℕ)) : Type 0 where
+  pub design_is : IsDesign design
+  pub faultless : first_fault design request ≡ None
+  pub planned : IsPlan design request default plan
+  pub most : n ≤ cycle_limit
+  pub given : IsColumns design.circuit n columns
+  pub run : IsRun design.circuit columns n rows
