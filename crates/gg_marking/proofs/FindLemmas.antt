@@ -1,0 +1,57 @@
+-- Searches: the first of some numbers that passes a test, and the first condition that fails.
+use Rattle.std.proofs.Common.{◌≡◌, ℕ, zero, suc, ◌+◌, ◌<◌, ◌≤◌, List, ◌∷◌, Option, None, Some, Bool, true, false, cond, refl, ap, ◌∙◌, ⊎_elim, arith}
+use Rattle.std.specs.Prelude.{filter, find}
+use Rattle.std.specs.List.{range_with_len}
+use Rattle.std.proofs.lemmas.Bool.{cases_eq}
+use Rattle.gg_net.specs.declared.event.Refusal.{Refusal}
+use Rattle.gg_marking.specs.Marking.{or_next, unless, naming}
+
+-- ---- the first of the numbers in a range that are chosen
+
+-- one that isn't chosen, or doesn't pass, is no answer
+skips : (chosen : Bool) (p : ℕ → Bool) (a : ℕ) (rest : List ℕ) (answer : Option ℕ) → (chosen ≡ true → p a ≡ false) → find p rest ≡ answer → find p (cond chosen (a ∷ rest) rest) ≡ answer
+skips false p a rest answer fails is = is
+skips true p a rest answer fails is = ap (λ b. cond b (Some a) (find p rest)) (fails refl) ∙ is
+
+pub find-none : (p q : ℕ → Bool) (a n : ℕ) → ((c : ℕ) → a ≤ c → c < a + n → q c ≡ true → p c ≡ false) → find p (filter q (range_with_len a n)) ≡ None
+find-none p q a zero fails = refl
+find-none p q a (suc n) fails =
+    skips (q a) p a (filter q (range_with_len (a + 1) n)) None (fails a (omega arith) (omega arith))
+    (find-none p q (a + 1) n (λ c le lt. fails c (omega (arith, le)) (omega (arith, lt))))
+
+pub find-some : (p q : ℕ → Bool) (a n d : ℕ) → a ≤ d → d < a + n → q d ≡ true → p d ≡ true → ((c : ℕ) → a ≤ c → c < d → q c ≡ true → p c ≡ false) → find p (filter q (range_with_len a n)) ≡ Some d
+find-some p q a zero d le lt chosen passes fails = absurd (omega (arith, le, lt))
+find-some p q a (suc n) d le lt chosen passes fails =
+    ⊎_elim
+    (λ (same : a ≡ d).
+    let rest : List ℕ = filter q (range_with_len (a + 1) n) in
+    ap (λ b. find p (cond b (a ∷ rest) rest)) (ap q same ∙ chosen) ∙ ap (λ b. cond b (Some a) (find p rest)) (ap p same ∙ passes) ∙ ap Some same)
+    (λ other.
+    let above : a + 1 ≤ d = omega (arith, le, other) in
+    skips (q a) p a (filter q (range_with_len (a + 1) n)) (Some d) (fails a (omega arith) (omega (arith, above)))
+    (find-some p q (a + 1) n d above (omega (arith, lt)) chosen passes (λ c under before. fails c (omega (arith, under)) before)))
+    (cases_eq a d)
+
+-- ---- conditions
+
+-- a condition that holds is passed
+pub passed : (holds : Bool) (refusal : Refusal) (later : Option Refusal) → holds ≡ true → or_next (unless holds refusal) later ≡ later
+passed holds refusal later is = ap (λ b. or_next (unless b refusal) later) is
+
+-- one that fails is told
+pub failed : (holds : Bool) (refusal : Refusal) (later : Option Refusal) → holds ≡ false → or_next (unless holds refusal) later ≡ Some refusal
+failed holds refusal later is = ap (λ b. or_next (unless b refusal) later) is
+
+-- the last condition holds, or fails
+pub holds-last : (holds : Bool) (refusal : Refusal) → holds ≡ true → unless holds refusal ≡ None
+holds-last holds refusal is = ap (λ b. unless b refusal) is
+
+pub fails-last : (holds : Bool) (refusal : Refusal) → holds ≡ false → unless holds refusal ≡ Some refusal
+fails-last holds refusal is = ap (λ b. unless b refusal) is
+
+-- no channel is named, or one is
+pub names-none : (refusal : ℕ → Refusal) (first : Option ℕ) (later : Option Refusal) → first ≡ None → or_next (naming refusal first) later ≡ later
+names-none refusal first later is = ap (λ o. or_next (naming refusal o) later) is
+
+pub names-some : (refusal : ℕ → Refusal) (first : Option ℕ) (later : Option Refusal) (d : ℕ) → first ≡ Some d → or_next (naming refusal first) later ≡ Some (refusal d)
+names-some refusal first later d is = ap (λ o. or_next (naming refusal o) later) is

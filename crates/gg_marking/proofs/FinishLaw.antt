@@ -1,0 +1,68 @@
+-- `Finish` goes by the marking.
+use Rattle.std.proofs.Common.{◌≡◌, ℕ, ◌<◌, List, Option, None, Some, length, ap, ◌∙◌}
+use Rattle.gg_node.specs.Machine.{Machine, machine_at, due}
+use Rattle.gg_node.specs.Step.{AllFired}
+use Rattle.gg_net.specs.declared.event.Refusal.{Refusal}
+use Rattle.gg_net.specs.declared.event.Refusal.TheVariants.{Stranger, Ended, NeedsInput, Unfired, Unserved}
+use Rattle.gg_net.specs.Network.{Network, frame_of}
+use Rattle.gg_net.specs.Step.{IsBelow, CanFinish, FinishRefused}
+use Rattle.gg_net.specs.Kept.{Kept}
+use Rattle.gg_marking.specs.Marking.{Layout, Marking, is_machine, is_below, first_unmarked, channels_into, channels_out_of, unfired, unserved, due_turn, or_next, unless, naming, finish_refusal}
+use Rattle.gg_marking.specs.Fits.{HasLayout, marking_of}
+use Rattle.gg_marking.proofs.FindLemmas.{passed, failed, names-none, names-some}
+use Rattle.gg_marking.proofs.CountLemmas.{is-machine, no-machine, below-is, below-not}
+use Rattle.gg_marking.proofs.FirstLemmas.{none-unfired, first-unfired, none-unlatched, first-unlatched}
+use Rattle.gg_marking.proofs.DueLemmas.{IsDue, is-due, none-due}
+
+module _ (lists : List (List ℕ)) (runs : List (List (List ℕ))) (net : Network) (kept : Kept lists runs net) (layout : Layout) (has : HasLayout (frame_of net) layout) (m : ℕ) where
+  abbrev marking : Marking
+  marking = marking_of net
+
+  abbrev x : Machine
+  x = machine_at net.machines m
+
+  -- ---- the conditions, from the last on
+
+  abbrev at_latches : Option Refusal
+  at_latches = naming NeedsInput (first_unmarked marking.taken (channels_into layout m))
+
+  abbrev at_ports : Option Refusal
+  at_ports = or_next (unserved (due_turn layout marking m)) at_latches
+
+  abbrev at_flags : Option Refusal
+  at_flags = or_next (unfired layout marking m) at_ports
+
+  abbrev at_end : Option Refusal
+  at_end = or_next (unless (is_below layout marking m) Ended) at_flags
+
+  past-machine : m < length net.machines → finish_refusal layout marking m ≡ at_end
+  past-machine there = passed (is_machine layout m) Stranger at_end (is-machine net layout has m there)
+
+  past-end : m < length net.machines → IsBelow net m → finish_refusal layout marking m ≡ at_flags
+  past-end there below = past-machine there ∙ passed (is_below layout marking m) Ended at_flags (below-is net layout has m below)
+
+  past-flags : m < length net.machines → IsBelow net m → AllFired x → finish_refusal layout marking m ≡ at_ports
+  past-flags there below fired = past-end there below ∙ names-none Unfired (first_unmarked marking.given (channels_out_of layout m)) at_ports (none-unfired lists runs net kept layout has m there fired)
+
+  past-ports : m < length net.machines → IsBelow net m → AllFired x → due x ≡ None → finish_refusal layout marking m ≡ at_latches
+  past-ports there below fired none =
+      past-flags there below fired
+      ∙ ap (λ turn. or_next (unserved turn) at_latches) (none-due net layout has m there (kept.machines m there).served none)
+
+  port-due : (p : ℕ) → m < length net.machines → due x ≡ Some p → at_ports ≡ Some (Unserved p)
+  port-due p there is =
+      let this : IsDue net layout m p = is-due net layout has m there p is in
+      ap (λ turn. or_next (unserved turn) at_latches) this.found ∙ ap (λ n. Some (Unserved n)) this.number
+
+  -- ---- the event
+
+  pub finish-ready : CanFinish net m → finish_refusal layout marking m ≡ None
+  finish-ready can = past-ports can.there can.below can.fired can.served ∙ ap (naming NeedsInput) (none-unlatched lists runs net kept layout has m can.there can.latched)
+
+  pub finish-refused : (cause : Refusal) → FinishRefused net m cause → finish_refusal layout marking m ≡ Some cause
+  finish-refused Stranger is = failed (is_machine layout m) Stranger at_end (no-machine net layout has m is)
+  finish-refused Ended is = past-machine is.0 ∙ failed (is_below layout marking m) Ended at_flags (below-not net layout has m is.1)
+  finish-refused (Unfired d) is = past-end is.0 is.1 ∙ names-some Unfired (first_unmarked marking.given (channels_out_of layout m)) at_ports d (first-unfired lists runs net kept layout has m is.0 d is.2)
+  finish-refused (Unserved p) is = past-flags is.0 is.1 is.2 ∙ port-due p is.0 is.3
+  finish-refused (NeedsInput d) is = past-ports is.0 is.1 is.2 is.3 ∙ ap (naming NeedsInput) (first-unlatched lists runs net kept layout has m is.0 d is.4)
+  finish-refused refusal is = absurd is

@@ -1,0 +1,62 @@
+-- A network goes by its marking, whatever the event.
+use Rattle.std.proofs.Common.{◌≡◌, ℕ, List, Option, Some, None, ap, sym, subst, ◌∙◌, ⊎_elim}
+use Rattle.std.proofs.lemmas.Option.{same_Some}
+use Rattle.gg_net.specs.declared.event.Event.{Event}
+use Rattle.gg_net.specs.declared.event.Event.TheVariants.{Latch, Fire, Serve, Finish}
+use Rattle.gg_net.specs.declared.event.Refusal.{Refusal}
+use Rattle.gg_net.specs.Network.{Network, frame_of}
+use Rattle.gg_net.specs.Kept.{Kept}
+use Rattle.gg_net.specs.Step.{Ready, Refused, Step}
+use Rattle.gg_marking.specs.Marking.{Layout, refusal, after}
+use Rattle.gg_marking.specs.Fits.{HasLayout, marking_of}
+use Rattle.gg_marking.proofs.LatchLaw.{latch-ready, latch-refused}
+use Rattle.gg_marking.proofs.FireLaw.{fire-ready, fire-refused}
+use Rattle.gg_marking.proofs.ServeLaw.{serve-ready, serve-refused}
+use Rattle.gg_marking.proofs.FinishLaw.{finish-ready, finish-refused}
+use Rattle.gg_marking.proofs.LatchStep.{latch-frame, latch-step}
+use Rattle.gg_marking.proofs.FireStep.{fire-frame, fire-step}
+use Rattle.gg_marking.proofs.ServeStep.{serve-frame, serve-step}
+use Rattle.gg_marking.proofs.FinishStep.{finish-frame, finish-step}
+use Rattle.gg_marking.proofs.DecideLemmas.{ready-or-refused}
+
+module _ (lists : List (List ℕ)) (runs : List (List (List ℕ))) (net : Network) (kept : Kept lists runs net) (layout : Layout) (has : HasLayout (frame_of net) layout) where
+  pub ready-free : (event : Event) → Ready net event → refusal layout (marking_of net) event ≡ None
+  ready-free (Latch c) can = latch-ready lists runs net kept layout has c can
+  ready-free (Fire c) can = fire-ready lists runs net kept layout has c can
+  ready-free (Serve m p) can = serve-ready lists runs net kept layout has m p can
+  ready-free (Finish m) can = finish-ready lists runs net kept layout has m can
+
+  pub refused-so : (event : Event) (cause : Refusal) → Refused net event cause → refusal layout (marking_of net) event ≡ Some cause
+  refused-so (Latch c) cause is = latch-refused lists runs net kept layout has c cause is
+  refused-so (Fire c) cause is = fire-refused lists runs net kept layout has c cause is
+  refused-so (Serve m p) cause is = serve-refused lists runs net kept layout has m p cause is
+  refused-so (Finish m) cause is = finish-refused lists runs net kept layout has m cause is
+
+  pub step-marks : (event : Event) (new : Network) → Step net event new → marking_of new ≡ after layout (marking_of net) event
+  step-marks (Latch c) new step = ap marking_of step.after ∙ latch-step lists runs net kept layout c step.ready
+  step-marks (Fire c) new step = ap marking_of step.after.after ∙ fire-step lists runs net kept layout c step.after.token step.ready
+  step-marks (Serve m p) new step = ap marking_of step.after ∙ serve-step net layout m p step.ready.there.0
+  step-marks (Finish m) new step = ap marking_of step.after.after ∙ finish-step net layout m step.after.state has step.ready.there
+
+pub step-frame : (old : Network) (event : Event) (new : Network) → Step old event new → frame_of new ≡ frame_of old
+step-frame old (Latch c) new step = ap frame_of step.after ∙ latch-frame old c
+step-frame old (Fire c) new step = ap frame_of step.after.after ∙ fire-frame old c step.after.token
+step-frame old (Serve m p) new step = ap frame_of step.after ∙ serve-frame old m
+step-frame old (Finish m) new step = ap frame_of step.after.after ∙ finish-frame old m step.after.state
+
+-- ---- and back
+
+module _ (lists : List (List ℕ)) (runs : List (List (List ℕ))) (net : Network) (kept : Kept lists runs net) (layout : Layout) (has : HasLayout (frame_of net) layout) (event : Event) where
+  pub free-ready : refusal layout (marking_of net) event ≡ None → Ready net event
+  free-ready free =
+      ⊎_elim
+      (λ (ready : Ready net event). ready)
+      (λ (refused : (cause : Refusal) × Refused net event cause). let is : ◌≡◌ {A = Option Refusal} (Some refused.0) None = sym (refused-so lists runs net kept layout has event refused.0 refused.1) ∙ free in cc)
+      (ready-or-refused lists runs net kept event)
+
+  pub so-refused : (cause : Refusal) → refusal layout (marking_of net) event ≡ Some cause → Refused net event cause
+  so-refused cause so =
+      ⊎_elim
+      (λ (ready : Ready net event). let is : ◌≡◌ {A = Option Refusal} None (Some cause) = sym (ready-free lists runs net kept layout has event ready) ∙ so in cc)
+      (λ (refused : (told : Refusal) × Refused net event told). subst (Refused net event) (same_Some refused.0 cause (sym (refused-so lists runs net kept layout has event refused.0 refused.1) ∙ so)) refused.1)
+      (ready-or-refused lists runs net kept event)

@@ -1,0 +1,92 @@
+-- A token is put into a channel where it is fired, and at no other step.
+use Rattle.std.proofs.Common.{◌≡◌, ℕ, suc, ◌<◌, ◌≤◌, List, Bool, true, false, length, refl, sym, ap, ◌∙◌, ⊎_elim, arith, get_or-set_same, get_or-set_other}
+use Rattle.std.specs.Prelude.{slice_set}
+use Rattle.std.proofs.lemmas.Bool.{cases_eq}
+use Rattle.std.proofs.lemmas.List.{length-map}
+use Rattle.gg_flat.specs.State.{State}
+use Rattle.gg_node.specs.Machine.{Machine, no_machine, machine_at, flag_at}
+use Rattle.gg_node.specs.Step.{with_latch, with_flag, with_served, finished}
+use Rattle.gg_net.specs.declared.event.Event.{Event}
+use Rattle.gg_net.specs.declared.event.Event.TheVariants.{Latch, Fire, Serve, Finish}
+use Rattle.gg_net.specs.declared.shape.Wire.{Wire}
+use Rattle.gg_net.specs.Network.{Network, wire_at, consumer_of, producer_of, given_by, puts, kind_of, frame_of}
+use Rattle.gg_net.specs.Step.{CanLatch, CanFire, CanServe, CanFinish, Step, front_of, after_latch, after_fire, after_serve, after_finish}
+use Rattle.gg_net.specs.Kept.{MachineAt, Kept}
+use Rattle.gg_net.proofs.MachineLemmas.{out-within}
+use Rattle.gg_net.proofs.MayLemmas.{consumer-there, producer-there}
+use Rattle.gg_net.proofs.StepLemmas.{clear-after}
+
+-- ---- over plain variables
+
+-- what is told of the machines is as it was, since it tells the new one from the old by nothing
+told-same : (told : Machine → ℕ) (machines : List Machine) (m : ℕ) (y : Machine) → m < length machines → (k : ℕ) → (k ≡ m → told y ≡ told (machine_at machines m)) → told (machine_at (slice_set machines m y) k) ≡ told (machine_at machines k)
+told-same told machines m y there k same =
+    ⊎_elim
+    (λ (is : k ≡ m). ap (λ j. told (machine_at (slice_set machines m y) j)) is ∙ ap told (get_or-set_same machines m y no_machine there) ∙ same is ∙ ap (λ j. told (machine_at machines j)) (sym is))
+    (λ other. ap told (get_or-set_other machines m k y no_machine other))
+    (cases_eq k m)
+
+-- an out has given at most one token more than cycles were done
+given-within : (cycle end : ℕ) (flag : Bool) → cycle ≤ end → (flag ≡ true → cycle < end) → given_by cycle flag ≤ end
+given-within cycle end false within lt = within
+given-within cycle end true within lt = omega (arith, lt refl)
+
+module _ (lists : List (List ℕ)) (runs : List (List (List ℕ))) (net : Network) (kept : Kept lists runs net) where
+  -- no more tokens are put than there are cycles
+  pub puts-within : (c : ℕ) → c < length net.wires → puts net c ≤ net.end
+  puts-within c known =
+      let x : Machine = producer_of net c in
+      let at : MachineAt lists runs (frame_of net) (wire_at net.wires c).producer x = kept.machines (wire_at net.wires c).producer (producer-there lists runs net kept c known) in
+      given-within x.cycle net.end (flag_at x.flags (wire_at net.wires c).out) at.within (λ set. (at.fired (wire_at net.wires c).out set).0)
+
+  module _ (d : ℕ) where
+    -- how many tokens the channel's out gave, of any machine
+    abbrev gave : Machine → ℕ
+    gave z = given_by z.cycle (flag_at z.flags (wire_at net.wires d).out)
+
+    latch-puts : (c : ℕ) → CanLatch net c → puts (after_latch net c) d ≡ puts net d
+    latch-puts c can =
+        let w : Wire = wire_at net.wires c in
+        told-same gave net.machines w.consumer (with_latch (consumer_of net c) w.place (front_of net c)) (consumer-there lists runs net kept c can.can.0) (wire_at net.wires d).producer (λ same. refl)
+
+    serve-puts : (m p : ℕ) → CanServe net m p → puts (after_serve net m) d ≡ puts net d
+    serve-puts m p can = told-same gave net.machines m (with_served (machine_at net.machines m)) can.there.0 (wire_at net.wires d).producer (λ same. refl)
+
+    finish-puts : (m : ℕ) (next : State) → CanFinish net m → d < length net.wires → puts (after_finish net m next) d ≡ puts net d
+    finish-puts m next can known =
+        let x : Machine = machine_at net.machines m in
+        let o : ℕ = (wire_at net.wires d).out in
+        told-same gave net.machines m (finished x next) can.there (wire_at net.wires d).producer (λ same.
+        let below : m < length (frame_of net).kinds = omega (arith, can.there, length-map net.machines kind_of) in
+        let within : o < length x.flags = out-within lists runs (frame_of net) kept.sound m below x (kept.machines m can.there) d known same in
+        ap (given_by (suc x.cycle)) (clear-after (length x.flags) o) ∙ sym (ap (given_by x.cycle) (can.fired o false within)))
+
+    fire-other : (c token : ℕ) → CanFire net c → d < length net.wires → (d ≡ c → ⊥) → puts (after_fire net c token) d ≡ puts net d
+    fire-other c token can known other =
+        let w : Wire = wire_at net.wires c in
+        let x : Machine = producer_of net c in
+        told-same gave net.machines w.producer (with_flag x w.out) (producer-there lists runs net kept c can.can.0) (wire_at net.wires d).producer (λ same.
+        ap (given_by x.cycle) (get_or-set_other x.flags w.out (wire_at net.wires d).out true false (λ out. other (kept.sound.wired.one_out d c known can.can.0 same out))))
+
+  -- the channel that is fired
+  pub fire-puts : (c token : ℕ) → CanFire net c → puts (after_fire net c token) c ≡ suc (puts net c)
+  fire-puts c token can =
+      let w : Wire = wire_at net.wires c in
+      let x : Machine = producer_of net c in
+      let there : w.producer < length net.machines = producer-there lists runs net kept c can.can.0 in
+      let below : w.producer < length (frame_of net).kinds = omega (arith, there, length-map net.machines kind_of) in
+      let within : w.out < length x.flags = out-within lists runs (frame_of net) kept.sound w.producer below x (kept.machines w.producer there) c can.can.0 refl in
+      ap (λ (z : Machine). given_by z.cycle (flag_at z.flags w.out)) (get_or-set_same net.machines w.producer (with_flag x w.out) no_machine there)
+      ∙ ap (given_by x.cycle) (get_or-set_same x.flags w.out true false within)
+      ∙ ap suc (sym (ap (given_by x.cycle) can.clear))
+
+  -- ---- each event
+
+  pub step-fires : (c : ℕ) (new : Network) → Step net (Fire c) new → puts new c ≡ suc (puts net c)
+  step-fires c new step = ap (λ (n : Network). puts n c) step.after.after ∙ fire-puts c step.after.token step.ready
+
+  pub step-others : (event : Event) (new : Network) (d : ℕ) → Step net event new → d < length net.wires → (event ≡ Fire d → ⊥) → puts new d ≡ puts net d
+  step-others (Latch c) new d step known other = ap (λ (n : Network). puts n d) step.after ∙ latch-puts d c step.ready
+  step-others (Fire c) new d step known other = ap (λ (n : Network). puts n d) step.after.after ∙ fire-other d c step.after.token step.ready known (λ same. other (ap Fire (sym same)))
+  step-others (Serve m p) new d step known other = ap (λ (n : Network). puts n d) step.after ∙ serve-puts d m p step.ready
+  step-others (Finish m) new d step known other = ap (λ (n : Network). puts n d) step.after.after ∙ finish-puts d m step.after.state step.ready known

@@ -1,0 +1,93 @@
+-- `Serve` goes by the marking.
+use Rattle.std.proofs.Common.{◌≡◌, ℕ, ◌<◌, List, Option, None, Some, length, refl, sym, ap, ◌∙◌}
+use Rattle.std.specs.Prelude.{◌==◌}
+use Rattle.std.proofs.lemmas.Bool.{eq-eqb, ne_eqb}
+use Rattle.gg_node.specs.Machine.{Machine, machine_at, first_empty, due}
+use Rattle.gg_node.specs.Step.{AllFired}
+use Rattle.gg_net.specs.declared.event.Refusal.{Refusal}
+use Rattle.gg_net.specs.declared.event.Refusal.TheVariants.{Stranger, Ended, NeedsInput, Order, Unfired}
+use Rattle.gg_net.specs.Network.{Network, frame_of}
+use Rattle.gg_net.specs.Step.{HasPort, IsBelow, IsWanted, CanServe, ServeRefused, bound_of, due_or_count, missing_field}
+use Rattle.gg_net.specs.Kept.{Kept}
+use Rattle.gg_marking.specs.Marking.{Turn, Layout, Marking, has_port, is_below, first_unmarked, channels_out_of, unfired, due_turn, turn_refusal, or_next, unless, naming, serve_refusal}
+use Rattle.gg_marking.specs.Fits.{HasLayout, marking_of}
+use Rattle.gg_marking.proofs.FindLemmas.{passed, failed, names-none, names-some}
+use Rattle.gg_marking.proofs.CountLemmas.{below-is, below-not}
+use Rattle.gg_marking.proofs.NeedLemmas.{unmarked-none, unmarked-some}
+use Rattle.gg_marking.proofs.FirstLemmas.{none-unfired, first-unfired}
+use Rattle.gg_marking.proofs.DueLemmas.{IsDue, is-due, none-due, numbers-are, has-port, no-port}
+
+module _ (lists : List (List ℕ)) (runs : List (List (List ℕ))) (net : Network) (kept : Kept lists runs net) (layout : Layout) (has : HasLayout (frame_of net) layout) (m p : ℕ) where
+  abbrev marking : Marking
+  marking = marking_of net
+
+  abbrev x : Machine
+  x = machine_at net.machines m
+
+  -- ---- the conditions, from the last on
+
+  abbrev at_turn : Option Refusal
+  at_turn = turn_refusal layout marking m p (due_turn layout marking m)
+
+  abbrev at_flags : Option Refusal
+  at_flags = or_next (unfired layout marking m) at_turn
+
+  abbrev at_end : Option Refusal
+  at_end = or_next (unless (is_below layout marking m) Ended) at_flags
+
+  past-port : HasPort net m p → serve_refusal layout marking m p ≡ at_end
+  past-port there = passed (has_port layout m p) Stranger at_end (has-port net layout has m p there)
+
+  past-end : HasPort net m p → IsBelow net m → serve_refusal layout marking m p ≡ at_flags
+  past-end there below = past-port there ∙ passed (is_below layout marking m) Ended at_flags (below-is net layout has m below)
+
+  past-flags : HasPort net m p → IsBelow net m → AllFired x → serve_refusal layout marking m p ≡ at_turn
+  past-flags there below fired = past-end there below ∙ names-none Unfired (first_unmarked marking.given (channels_out_of layout m)) at_turn (none-unfired lists runs net kept layout has m there.0 fired)
+
+  -- ---- the port that is due
+
+  turn-is : (turn : Turn) → due_turn layout marking m ≡ Some turn → at_turn ≡ turn_refusal layout marking m p (Some turn)
+  turn-is turn found = ap (turn_refusal layout marking m p) found
+
+  -- it is this one
+  right-turn : (there : m < length net.machines) (is : due x ≡ Some p) → at_turn ≡ naming NeedsInput (first_unmarked marking.taken (is-due net layout has m there p is).turn.fields)
+  right-turn there is =
+      let this : IsDue net layout m p = is-due net layout has m there p is in
+      turn-is this.turn this.found ∙ passed (this.turn.number == p) (Order this.turn.number) (naming NeedsInput (first_unmarked marking.taken this.turn.fields)) (eq-eqb this.turn.number p this.number)
+
+  -- it is another, or none
+  wrong-turn : (o : Option ℕ) → m < length net.machines → due x ≡ o → (o ≡ Some p → ⊥) → at_turn ≡ Some (Order (due_or_count x.ports o))
+  wrong-turn None there is other =
+      ap (turn_refusal layout marking m p) (none-due net layout has m there (kept.machines m there).served is)
+      ∙ ap (λ (ns : List ℕ). Some (Order (bound_of ns))) (numbers-are net layout has m there)
+  wrong-turn (Some q) there is other =
+      let this : IsDue net layout m q = is-due net layout has m there q is in
+      turn-is this.turn this.found
+      ∙ failed (this.turn.number == p) (Order this.turn.number) (naming NeedsInput (first_unmarked marking.taken this.turn.fields)) (ne_eqb this.turn.number p (λ same. other (ap Some (sym this.number ∙ same))))
+      ∙ ap (λ n. Some (Order n)) this.number
+
+  -- its fields are there
+  fields-there : (there : m < length net.machines) → due x ≡ Some p → missing_field net m ≡ None → at_turn ≡ None
+  fields-there there is none =
+      let this : IsDue net layout m p = is-due net layout has m there p is in
+      right-turn there is ∙ ap (naming NeedsInput) (unmarked-none net m this.turn.fields this.taken (ap (first_empty x.latches) this.fields ∙ none))
+
+  -- or one isn't
+  field-wanted : (first : Option ℕ) (d : ℕ) → missing_field net m ≡ first → m < length net.machines → due x ≡ Some p → IsWanted net m first d → at_turn ≡ Some (NeedsInput d)
+  field-wanted None d first_is there is wanted = absurd wanted
+  field-wanted (Some i) d first_is there is wanted =
+      let this : IsDue net layout m p = is-due net layout has m there p is in
+      right-turn there is ∙ ap (naming NeedsInput) (unmarked-some net m kept.sound.wired this.turn.fields i d this.taken (ap (first_empty x.latches) this.fields ∙ first_is) wanted)
+
+  -- ---- the event
+
+  pub serve-ready : CanServe net m p → serve_refusal layout marking m p ≡ None
+  serve-ready can = past-flags can.there can.below can.fired ∙ fields-there can.there.0 can.due can.fields
+
+  pub serve-refused : (cause : Refusal) → ServeRefused net m p cause → serve_refusal layout marking m p ≡ Some cause
+  serve-refused Stranger is = failed (has_port layout m p) Stranger at_end (no-port net layout has m p is)
+  serve-refused Ended is = past-port is.0 ∙ failed (is_below layout marking m) Ended at_flags (below-not net layout has m is.1)
+  serve-refused (Unfired d) is = past-end is.0 is.1 ∙ names-some Unfired (first_unmarked marking.given (channels_out_of layout m)) at_turn d (first-unfired lists runs net kept layout has m is.0.0 d is.2)
+  serve-refused (Order q) is = past-flags is.0 is.1 is.2 ∙ wrong-turn (due x) is.0.0 refl is.3 ∙ ap (λ n. Some (Order n)) (sym is.4)
+  serve-refused (NeedsInput d) is = past-flags is.0 is.1 is.2 ∙ field-wanted (missing_field net m) d refl is.0.0 is.3 is.4
+  serve-refused refusal is = absurd is

@@ -1,0 +1,11 @@
+use Rattle.gg_marking.proofs.PutsLemmas.{puts-within, step-fires, step-others}
+use Rattle.gg_marking.proofs.laws.puts_by_step.Goals as goal
+
+pub returns-clause-fires : goal.returns-clause-fires
+returns-clause-fires c = λ lists runs old new d kept step. step-fires lists runs old kept d new step
+
+pub returns-clause-others : goal.returns-clause-others
+returns-clause-others c = λ lists runs old new event d kept step known other. step-others lists runs old kept event new d step known other
+
+pub returns-clause-within : goal.returns-clause-within
+returns-clause-within c = λ lists runs net d kept known. puts-within lists runs net kept d known

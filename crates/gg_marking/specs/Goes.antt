@@ -1,0 +1,31 @@
+-- Steps one after another on markings: where they lead, or which of them is refused first.
+use Rattle.std.specs.Prelude.{ℕ, suc, List, [], ◌∷◌, Option, Some, None, Result, Ok, Err}
+use Rattle.gg_net.specs.declared.event.Event.{Event}
+use Rattle.gg_net.specs.declared.event.Refusal.{Refusal}
+use Rattle.gg_net.specs.declared.event.Refusal.TheVariants.{Stranger}
+use Rattle.gg_marking.specs.Marking.{Layout, Marking, refusal, after}
+
+-- A step that was refused: its number, from 1 on, and why.
+pub record Stopped : Type 0 where
+  pub step : ℕ
+  pub cause : Refusal
+
+-- why a step is refused: one that is no event is a stranger
+abbrev pub step_refusal : Layout → Marking → Option Event → Option Refusal
+step_refusal layout marking None = Some Stranger
+step_refusal layout marking (Some event) = refusal layout marking event
+
+abbrev pub after_step : Layout → Marking → Option Event → Marking
+after_step layout marking None = marking
+after_step layout marking (Some event) = after layout marking event
+
+-- go on with the next, or stop
+abbrev pub go_on : ℕ → Option Refusal → Result Marking Stopped → Result Marking Stopped
+go_on k None rest = rest
+go_on k (Some cause) rest = Err (record { step = k; cause = cause })
+
+-- steps k, k + 1, .. from a marking on
+abbrev pub replayed_from : Layout → ℕ → Marking → List (Option Event) → Result Marking Stopped
+replayed_from layout k marking [] = Ok marking
+replayed_from layout k marking (event ∷ events) =
+    go_on k (step_refusal layout marking event) (replayed_from layout (suc k) (after_step layout marking event) events)

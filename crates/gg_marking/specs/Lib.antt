@@ -1,0 +1,4 @@
+pub mod Marking
+pub mod Goes
+pub mod Fits
+pub mod Steps

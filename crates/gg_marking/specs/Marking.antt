@@ -1,0 +1,203 @@
+-- Markings: how far each machine and each channel of a network is, without the values. Whether a step may be done, and why
+-- not, depends on the marking alone.
+-- Source: Commoner, Holt, Even and Pnueli, "Marked Directed Graphs" (1971), for counts of tokens in place of tokens; MEMOCODE 2009
+-- (when a node may take, give and finish); ICCAD 2019 for memories that are served port by port. The order in which conditions are
+-- judged is this program's.
+use Rattle.std.specs.Prelude.{ℕ, suc, ◌-◌, ◌==◌, List, [], Bool, true, false, not, if◌then◌else◌, Option, Some, None, length, map, filter, find, replicate, slice_index_or, slice_set, slice_get, nat_lt}
+use Rattle.std.specs.List.{list_any, range_with_len}
+use Rattle.gg_flat.specs.Line.{value_at}
+use Rattle.gg_net.specs.declared.event.Event.{Event}
+use Rattle.gg_net.specs.declared.event.Event.TheVariants.{Latch, Fire, Serve, Finish}
+use Rattle.gg_net.specs.declared.event.Refusal.{Refusal}
+use Rattle.gg_net.specs.declared.event.Refusal.TheVariants.{Stranger, Ended, Latched, Fired, NoToken, NeedsInput, Full, Order, Unfired, Unserved}
+use Rattle.gg_net.specs.Step.{bound_of}
+
+-- ---- what stays
+
+-- A channel: the machines at its ends, how many tokens its queue holds at most, and the channels that it needs in a cycle.
+pub record Link : Type 0 where
+  pub producer : ℕ
+  pub consumer : ℕ
+  pub capacity : ℕ
+  pub needs : List ℕ
+
+-- A port that is served: its number, and the channels of its fields.
+pub record Turn : Type 0 where
+  pub number : ℕ
+  pub fields : List ℕ
+
+-- The channels by number, for each machine the ports that are served in a cycle, in their order, and how many cycles there are.
+pub record Layout : Type 0 where
+  pub links : List Link
+  pub turns : List (List Turn)
+  pub end : ℕ
+
+abbrev pub link_at : Layout → ℕ → Link
+link_at layout c = slice_index_or layout.links c (record { producer = 0; consumer = 0; capacity = 0; needs = [] })
+
+abbrev pub turns_at : Layout → ℕ → List Turn
+turns_at layout m = slice_index_or layout.turns m []
+
+-- the channels that a machine takes, and those that it gives, by number
+abbrev pub channels_into : Layout → ℕ → List ℕ
+channels_into layout m = filter (λ c. (link_at layout c).consumer == m) (range_with_len 0 (length layout.links))
+
+abbrev pub channels_out_of : Layout → ℕ → List ℕ
+channels_out_of layout m = filter (λ c. (link_at layout c).producer == m) (range_with_len 0 (length layout.links))
+
+-- ---- what changes
+
+-- The cycle of each machine, and how many of its ports were served in it; for each channel whether its consumer has taken, and its
+-- producer has given, the token of its own cycle.
+pub record Marking : Type 0 where
+  pub cycles : List ℕ
+  pub served : List ℕ
+  pub taken : List Bool
+  pub given : List Bool
+
+abbrev pub is_set : List Bool → ℕ → Bool
+is_set marks c = slice_index_or marks c false
+
+-- before the first cycle
+abbrev pub opening_marking : Layout → Marking
+opening_marking layout =
+    record {
+      cycles = replicate (length layout.turns) 0;
+      served = replicate (length layout.turns) 0;
+      taken = replicate (length layout.links) false;
+      given = replicate (length layout.links) false;
+    }
+
+-- one more, where it is so
+abbrev pub and_one : ℕ → Bool → ℕ
+and_one n false = n
+and_one n true = suc n
+
+-- how many tokens were put into a channel, were taken from it, and are held
+abbrev pub puts : Layout → Marking → ℕ → ℕ
+puts layout marking c = and_one (value_at marking.cycles (link_at layout c).producer) (is_set marking.given c)
+
+abbrev pub takes : Layout → Marking → ℕ → ℕ
+takes layout marking c = and_one (value_at marking.cycles (link_at layout c).consumer) (is_set marking.taken c)
+
+abbrev pub held : Layout → Marking → ℕ → ℕ
+held layout marking c = puts layout marking c - takes layout marking c
+
+-- ---- when a step is refused
+
+-- the first refusal of two
+abbrev pub or_next : Option Refusal → Option Refusal → Option Refusal
+or_next None later = later
+or_next (Some refusal) later = Some refusal
+
+-- a refusal, where a condition fails
+abbrev pub unless : Bool → Refusal → Option Refusal
+unless true refusal = None
+unless false refusal = Some refusal
+
+-- a refusal that names the first of these
+abbrev pub naming : (ℕ → Refusal) → Option ℕ → Option Refusal
+naming refusal None = None
+naming refusal (Some c) = Some (refusal c)
+
+-- the first of these channels that isn't marked
+abbrev pub first_unmarked : List Bool → List ℕ → Option ℕ
+first_unmarked marks channels = find (λ c. not (is_set marks c)) channels
+
+abbrev pub is_below : Layout → Marking → ℕ → Bool
+is_below layout marking m = nat_lt (value_at marking.cycles m) layout.end
+
+abbrev pub is_channel : Layout → ℕ → Bool
+is_channel layout c = nat_lt c (length layout.links)
+
+abbrev pub is_machine : Layout → ℕ → Bool
+is_machine layout m = nat_lt m (length layout.turns)
+
+abbrev pub numbers : List Turn → List ℕ
+numbers turns = map (λ turn. turn.number) turns
+
+abbrev pub has_port : Layout → ℕ → ℕ → Bool
+has_port layout m p = list_any (λ number. number == p) (numbers (turns_at layout m))
+
+-- the port that is due
+abbrev pub due_turn : Layout → Marking → ℕ → Option Turn
+due_turn layout marking m = slice_get (turns_at layout m) (value_at marking.served m)
+
+-- the first channel that a machine gives and hasn't given in its cycle
+abbrev pub unfired : Layout → Marking → ℕ → Option Refusal
+unfired layout marking m = naming Unfired (first_unmarked marking.given (channels_out_of layout m))
+
+-- `Latch`: the channel is there; its consumer has cycles left; it hasn't taken the token of this cycle; the queue holds one
+abbrev pub latch_refusal : Layout → Marking → ℕ → Option Refusal
+latch_refusal layout marking c =
+    or_next (unless (is_channel layout c) Stranger)
+    (or_next (unless (is_below layout marking (link_at layout c).consumer) Ended)
+    (or_next (unless (not (is_set marking.taken c)) Latched)
+    (unless (nat_lt 0 (held layout marking c)) (NoToken c))))
+
+-- `Fire`: the channel is there; its producer has cycles left; it hasn't given the token of this cycle; it has taken those of the
+-- channels that this one needs; the queue has room
+abbrev pub fire_refusal : Layout → Marking → ℕ → Option Refusal
+fire_refusal layout marking c =
+    or_next (unless (is_channel layout c) Stranger)
+    (or_next (unless (is_below layout marking (link_at layout c).producer) Ended)
+    (or_next (unless (not (is_set marking.given c)) Fired)
+    (or_next (naming NeedsInput (first_unmarked marking.taken (link_at layout c).needs))
+    (unless (nat_lt (held layout marking c) (link_at layout c).capacity) (Full c (held layout marking c))))))
+
+-- the port is the one that is due, and its fields are there
+abbrev pub turn_refusal : Layout → Marking → ℕ → ℕ → Option Turn → Option Refusal
+turn_refusal layout marking m p None = Some (Order (bound_of (numbers (turns_at layout m))))
+turn_refusal layout marking m p (Some turn) =
+    or_next (unless (turn.number == p) (Order turn.number)) (naming NeedsInput (first_unmarked marking.taken turn.fields))
+
+-- `Serve`: the machine is there and has the port; it has cycles left; it has given all its tokens; the port is due; its fields are there
+abbrev pub serve_refusal : Layout → Marking → ℕ → ℕ → Option Refusal
+serve_refusal layout marking m p =
+    or_next (unless (has_port layout m p) Stranger)
+    (or_next (unless (is_below layout marking m) Ended)
+    (or_next (unfired layout marking m)
+    (turn_refusal layout marking m p (due_turn layout marking m))))
+
+-- a port that is due isn't served
+abbrev pub unserved : Option Turn → Option Refusal
+unserved None = None
+unserved (Some turn) = Some (Unserved turn.number)
+
+-- `Finish`: the machine is there and has cycles left; it has given all its tokens; all its ports are served; it has taken all its tokens
+abbrev pub finish_refusal : Layout → Marking → ℕ → Option Refusal
+finish_refusal layout marking m =
+    or_next (unless (is_machine layout m) Stranger)
+    (or_next (unless (is_below layout marking m) Ended)
+    (or_next (unfired layout marking m)
+    (or_next (unserved (due_turn layout marking m))
+    (naming NeedsInput (first_unmarked marking.taken (channels_into layout m))))))
+
+-- why an event is refused: the first of its conditions that fails
+abbrev pub refusal : Layout → Marking → Event → Option Refusal
+refusal layout marking (Latch c) = latch_refusal layout marking c
+refusal layout marking (Fire c) = fire_refusal layout marking c
+refusal layout marking (Serve m p) = serve_refusal layout marking m p
+refusal layout marking (Finish m) = finish_refusal layout marking m
+
+-- ---- what a step makes
+
+-- the marks of channels, with those of machine m at this end cleared
+abbrev pub cleared : (Link → ℕ) → Layout → ℕ → List Bool → List Bool
+cleared machine_of layout m marks = map (λ c. if machine_of (link_at layout c) == m then false else is_set marks c) (range_with_len 0 (length layout.links))
+
+-- one more at a place
+abbrev pub one_more : List ℕ → ℕ → List ℕ
+one_more counts m = slice_set counts m (suc (value_at counts m))
+
+abbrev pub after : Layout → Marking → Event → Marking
+after layout marking (Latch c) = record marking { taken = slice_set marking.taken c true }
+after layout marking (Fire c) = record marking { given = slice_set marking.given c true }
+after layout marking (Serve m p) = record marking { served = one_more marking.served m }
+after layout marking (Finish m) =
+    record {
+      cycles = one_more marking.cycles m;
+      served = slice_set marking.served m 0;
+      taken = cleared (λ link. link.consumer) layout m marking.taken;
+      given = cleared (λ link. link.producer) layout m marking.given;
+    }

@@ -1,0 +1,63 @@
+//! Laws: facts about the definitions, each on a function with an empty body.
+ghost use Rattle.std.specs.Prelude.{◌≡◌, ◌≢◌, ℕ, suc, ◌-◌, ◌<◌, ◌≤◌, ◌++◌, List, [], ◌∷◌, Option, Some, None, Ok, Err, All, length};
+ghost use Rattle.gg_flat.specs.Line.{value_at};
+ghost use Rattle.gg_node.specs.Machine.{Machine};
+ghost use Rattle.gg_net.specs.declared.shape.Wire.{Wire};
+ghost use Rattle.gg_net.specs.declared.event.Event.{Event};
+ghost use Rattle.gg_net.specs.declared.event.Event.TheVariants.{Fire};
+ghost use Rattle.gg_net.specs.declared.event.Refusal.{Refusal};
+ghost use Rattle.gg_net.specs.Network.{Network, queue_at, frame_of};
+ghost use Rattle.gg_net.specs.Network as network;
+ghost use Rattle.gg_net.specs.Kept.{Kept, list_at};
+ghost use Rattle.gg_net.specs.Net.{IsOpening, opening_net};
+ghost use Rattle.gg_net.specs.Step.{Ready, Refused, Step};
+ghost use Rattle.gg_marking.specs.Marking.{Layout, opening_marking, puts, takes, held, refusal, after};
+ghost use Rattle.gg_marking.specs.Goes.{Stopped, replayed_from};
+ghost use Rattle.gg_marking.specs.Fits.{HasLayout, marking_of};
+ghost use Rattle.gg_marking.specs.Steps.{IsStep, Steps, StopsAt};
+
+/// A network goes by its marking: just those events may be done of which its marking refuses nothing, and each other is refused for
+/// the marking's cause. A step makes of the marking what its event makes of it, and leaves the layout as it is.
+pub fn goes_by_marking()
+    ensures ready { (lists : List (List ℕ)) (runs : List (List (List ℕ))) (net : Network) (layout : Layout) (event : Event) → Kept lists runs net → HasLayout (frame_of net) layout → Ready net event → refusal layout (marking_of net) event ≡ None }
+    ensures refused { (lists : List (List ℕ)) (runs : List (List (List ℕ))) (net : Network) (layout : Layout) (event : Event) (cause : Refusal) → Kept lists runs net → HasLayout (frame_of net) layout → Refused net event cause → refusal layout (marking_of net) event ≡ Some cause }
+    ensures free { (lists : List (List ℕ)) (runs : List (List (List ℕ))) (net : Network) (layout : Layout) (event : Event) → Kept lists runs net → HasLayout (frame_of net) layout → refusal layout (marking_of net) event ≡ None → Ready net event }
+    ensures told { (lists : List (List ℕ)) (runs : List (List (List ℕ))) (net : Network) (layout : Layout) (event : Event) (cause : Refusal) → Kept lists runs net → HasLayout (frame_of net) layout → refusal layout (marking_of net) event ≡ Some cause → Refused net event cause }
+    ensures step { (lists : List (List ℕ)) (runs : List (List (List ℕ))) (old new : Network) (layout : Layout) (event : Event) → Kept lists runs old → HasLayout (frame_of old) layout → Step old event new → marking_of new ≡ after layout (marking_of old) event }
+    ensures frame { (old new : Network) (event : Event) → Step old event new → frame_of new ≡ frame_of old }
+{}
+
+/// Before the first cycle the marking of a network is the opening one.
+pub fn opens_with_marking()
+    ensures { (machines : List Machine) (wires : List Wire) (end : ℕ) (layout : Layout) → All IsOpening machines → HasLayout (frame_of (opening_net machines wires end)) layout → marking_of (opening_net machines wires end) ≡ opening_marking layout }
+{}
+
+/// The counts of a network are those of its marking, and so is the length of each queue. The newest token of a queue is the value of
+/// its channel's list that the count of puts names.
+pub fn counts_by_marking()
+    ensures puts { (net : Network) (layout : Layout) (c : ℕ) → HasLayout (frame_of net) layout → c < length net.wires → network.puts net c ≡ puts layout (marking_of net) c }
+    ensures takes { (net : Network) (layout : Layout) (c : ℕ) → HasLayout (frame_of net) layout → c < length net.wires → network.takes net c ≡ takes layout (marking_of net) c }
+    ensures held { (lists : List (List ℕ)) (runs : List (List (List ℕ))) (net : Network) (layout : Layout) (c : ℕ) → Kept lists runs net → HasLayout (frame_of net) layout → c < length net.wires → length (queue_at net.queues c) ≡ held layout (marking_of net) c }
+    ensures newest { (lists : List (List ℕ)) (runs : List (List (List ℕ))) (net : Network) (c : ℕ) → Kept lists runs net → c < length net.wires → 0 < length (queue_at net.queues c) → value_at (queue_at net.queues c) (length (queue_at net.queues c) - 1) ≡ value_at (list_at lists c) (network.puts net c - 1) }
+{}
+
+/// A token is put into a channel where it is fired, and at no other step; no more are put than the network has cycles.
+pub fn puts_by_step()
+    ensures fires { (lists : List (List ℕ)) (runs : List (List (List ℕ))) (old new : Network) (c : ℕ) → Kept lists runs old → Step old (Fire c) new → network.puts new c ≡ suc (network.puts old c) }
+    ensures others { (lists : List (List ℕ)) (runs : List (List (List ℕ))) (old new : Network) (event : Event) (c : ℕ) → Kept lists runs old → Step old event new → c < length old.wires → event ≢ Fire c → network.puts new c ≡ network.puts old c }
+    ensures within { (lists : List (List ℕ)) (runs : List (List (List ℕ))) (net : Network) (c : ℕ) → Kept lists runs net → c < length net.wires → network.puts net c ≤ net.end }
+{}
+
+/// Steps one after another keep what a network keeps, and leave its layout as it is.
+pub fn steps_keep()
+    ensures kept { (lists : List (List ℕ)) (runs : List (List (List ℕ))) (old new : Network) (events : List (Option Event)) → Kept lists runs old → Steps old events new → Kept lists runs new }
+    ensures frame { (old new : Network) (events : List (Option Event)) → Steps old events new → frame_of new ≡ frame_of old }
+    ensures more { (old next new : Network) (events : List (Option Event)) (event : Option Event) → Steps old events next → IsStep next event new → Steps old (events ++ event ∷ []) new }
+{}
+
+/// Where steps lead, and which is refused and why, is what they do to the marking.
+pub fn steps_by_marking()
+    ensures done { (lists : List (List ℕ)) (runs : List (List (List ℕ))) (old new : Network) (layout : Layout) (k : ℕ) (events : List (Option Event)) → Kept lists runs old → HasLayout (frame_of old) layout → Steps old events new → replayed_from layout k (marking_of old) events ≡ Ok (marking_of new) }
+    ensures stopped { (lists : List (List ℕ)) (runs : List (List (List ℕ))) (old new : Network) (layout : Layout) (k : ℕ) (events : List (Option Event)) (stopped : Stopped) → Kept lists runs old → HasLayout (frame_of old) layout → StopsAt k old events new stopped → replayed_from layout k (marking_of old) events ≡ Err stopped }
+    ensures goes_on { (lists : List (List ℕ)) (runs : List (List (List ℕ))) (old new : Network) (layout : Layout) (k : ℕ) (event : Option Event) (events : List (Option Event)) → Kept lists runs old → HasLayout (frame_of old) layout → IsStep old event new → replayed_from layout k (marking_of old) (event ∷ events) ≡ replayed_from layout (suc k) (marking_of new) events }
+{}
