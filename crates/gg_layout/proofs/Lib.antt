@@ -1,2 +1,7 @@
 pub mod AscendingLemmas
 pub mod BeforeLemmas
+pub mod WireLemmas
+pub mod TurnLemmas
+pub mod ReachLemmas
+pub mod ChannelLemmas
+pub mod MemoryLemmas
