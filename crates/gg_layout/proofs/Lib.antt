@@ -5,3 +5,5 @@ pub mod TurnLemmas
 pub mod ReachLemmas
 pub mod ChannelLemmas
 pub mod MemoryLemmas
+pub mod NeedLemmas
+pub mod OneLemmas
