@@ -7,3 +7,4 @@ pub mod ChannelLemmas
 pub mod MemoryLemmas
 pub mod NeedLemmas
 pub mod OneLemmas
+pub mod LayoutLemmas
