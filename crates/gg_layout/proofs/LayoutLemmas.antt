@@ -1,19 +1,17 @@
 -- The network of a plan has the layout of its cut.
-use Rattle.std.proofs.Common.{◌≡◌, ◌≢◌, ℕ, ◌+◌, ◌<◌, ◌≤◌, List, [], length, map, get_or, Bool, true, false, refl, sym, ◌∙◌, ap, subst, inl, inr, ◌⊎◌, arith}
-use Rattle.std.specs.Prelude.{AllPairs, Contains, ◌&&◌, if◌then◌else◌, nat_le, nat_lt}
+use Rattle.std.proofs.Common.{◌≡◌, ℕ, ◌+◌, ◌<◌, ◌≤◌, List, [], length, map, get_or, Bool, true, false, refl, sym, ◌∙◌, ap, subst, inl, inr, ◌⊎◌, arith}
+use Rattle.std.specs.Prelude.{Contains, ◌&&◌, if◌then◌else◌, nat_le, nat_lt}
 use Rattle.std.specs.List.{range_with_len}
 use Rattle.std.proofs.lemmas.Bool.{lt-leb, le-ltb, le-leb, lt-ltb}
 use Rattle.std.proofs.lemmas.List.{length-map, get_or-map}
 use Rattle.std.proofs.lemmas.List.Elements.{Contains-get_or}
 use Rattle.std.proofs.lemmas.List.FromFn.{length-range_with_len, get_or-range_with_len}
-use Rattle.gg_flat.specs.Line.{value_at}
 use Rattle.gg_order.specs.Design.{Ordered}
 use Rattle.gg_partfile.specs.declared.request.Request.{Request}
 use Rattle.gg_cut.specs.declared.listed.Listed.{Listed}
 use Rattle.gg_cut.specs.declared.plan.Body.{Body}
 use Rattle.gg_cut.specs.declared.plan.Body.TheVariants.{Cut, Memory, Source, Tray}
 use Rattle.gg_cut.specs.declared.plan.Channel.{Channel}
-use Rattle.gg_cut.specs.declared.plan.Machine as planned
 use Rattle.gg_cut.specs.declared.plan.Plan.{Plan}
 use Rattle.gg_cut.specs.declared.wires.Wire.{Wire}
 use Rattle.gg_cut.specs.Listed.{listed_of}
@@ -29,14 +27,14 @@ use Rattle.gg_memunit.proofs.UnitLemmas.{sole}
 use Rattle.gg_net.specs.Network.{Frame, kind_of, kind_at, wire_at as joint_at}
 use Rattle.gg_marking.specs.Marking.{Link, Turn, Layout, link_at, turns_at}
 use Rattle.gg_marking.specs.Fits.{AreTaken, AreTurnsOf, HasLayout, IsLinkOf, places_of}
-use Rattle.gg_sound.specs.Built.{machine_in, nameless, place_in, wires_of_plan, AreBuilt, IsBuilt, IsGiven, IsMemoryOf, plan_frame}
+use Rattle.gg_sound.specs.Built.{machine_in, nameless, place_in, wires_of_plan, AreBuilt, IsBuilt, IsGiven, plan_frame}
 use Rattle.gg_sound.proofs.LinkLemmas.{AreLinks, length-wires, linked, some-channel}
 use Rattle.gg_sound.proofs.PlanLemmas.{links}
 use Rattle.gg_sound.proofs.FitLemmas.{kind-is}
 use Rattle.gg_sound.proofs.MemoryPartLemmas.{memory-part}
 use Rattle.gg_layout.specs.CutLayout.{IsChannelLink, IsLayoutBy, IsLayoutOf, machine_turns, memory_turns, memory_of}
 use Rattle.gg_layout.proofs.AscendingLemmas.{AreMadeOf, made-same}
-use Rattle.gg_layout.proofs.WireLemmas.{places-up, joint-capacity, place-at, out-at, joints-in-order, outs-in-order}
+use Rattle.gg_layout.proofs.WireLemmas.{places-up, joint-capacity, place-at, joints-in-order, outs-in-order}
 use Rattle.gg_layout.proofs.MemoryLemmas.{memory-turns}
 use Rattle.gg_layout.proofs.NeedLemmas.{IsNeedy, needy}
 

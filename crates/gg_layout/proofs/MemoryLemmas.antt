@@ -1,5 +1,5 @@
 -- A listed memory as a machine of the network: the channels of its fields, its turns, and what its outs need.
-use Rattle.std.proofs.Common.{◌≡◌, ◌≢◌, ℕ, suc, ◌+◌, ◌-◌, ◌<◌, ◌≤◌, List, [], ◌∷◌, ◌++◌, length, map, get_or, refl, sym, ◌∙◌, ap, ap₂, subst, arith}
+use Rattle.std.proofs.Common.{◌≡◌, ◌≢◌, ℕ, ◌+◌, ◌-◌, ◌<◌, ◌≤◌, List, [], ◌∷◌, ◌++◌, length, map, get_or, refl, sym, ◌∙◌, ap, ap₂, subst, arith}
 use Rattle.std.specs.Prelude.{All, AllPairs, ◌==◌}
 use Rattle.std.proofs.lemmas.List.{length-map, get_or-map}
 use Rattle.std.proofs.lemmas.Simd.{map-map}
@@ -10,9 +10,9 @@ use Rattle.gg_flat.specs.declared.memory.Writer.{Writer}
 use Rattle.gg_flat.specs.declared.memory.Memory.{Memory}
 use Rattle.gg_flat.specs.declared.piece.Driver.TheVariants.{MemoryWord}
 use Rattle.gg_flat.specs.Line.{value_at}
-use Rattle.gg_flat.specs.Circuit.{FlatCircuit, driver_at, latency_at, readers_at, reader_at}
+use Rattle.gg_flat.specs.Circuit.{FlatCircuit, driver_at, latency_at, readers_at}
 use Rattle.gg_flat.specs.Memory.{LooksAmong}
-use Rattle.gg_flat.specs.Tree.{InstanceTree, memory_at}
+use Rattle.gg_flat.specs.Tree.{InstanceTree}
 use Rattle.gg_flat.specs.Scoped.{writers_at}
 use Rattle.gg_flat.specs.WellFormed.{AreDriven, reader_driver}
 use Rattle.gg_order.specs.Design.{Ordered, IsDesign}
@@ -25,7 +25,7 @@ use Rattle.gg_cut.specs.declared.plan.Plan.{Plan}
 use Rattle.gg_cut.specs.declared.wires.Wire.{Wire}
 use Rattle.gg_cut.specs.Channels.{wire, flattened, numbered, field_wires, first_memory, first_source, first_tray, port_wires, reader_wires, source_wires, tray_wires, wires_of, writer_wires}
 use Rattle.gg_cut.specs.Plan.{wire_at, channels_to, IsCutPart}
-use Rattle.gg_closed.specs.Apart.{AreApart, AreFew}
+use Rattle.gg_closed.specs.Apart.{AreApart}
 use Rattle.gg_closed.proofs.KindLemmas.{outside_memory}
 use Rattle.gg_closed.proofs.ChoiceLemmas.{pairs-once}
 use Rattle.gg_memunit.specs.MemoryUnit.{needs_by, needs_of, ports_by, ports_of}

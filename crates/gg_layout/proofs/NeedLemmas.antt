@@ -1,5 +1,5 @@
 -- What an out of a machine needs are the ins of the channels that its channel needs.
-use Rattle.std.proofs.Common.{◌≡◌, ◌≢◌, ℕ, zero, suc, ◌<◌, ◌≤◌, List, [], ◌∷◌, length, map, refl, sym, ◌∙◌, ap, subst, arith}
+use Rattle.std.proofs.Common.{◌≡◌, ℕ, zero, suc, ◌<◌, ◌≤◌, List, [], ◌∷◌, length, refl, sym, ◌∙◌, ap, subst, arith}
 use Rattle.std.specs.Prelude.{Contains, AllPairs, ◌==◌}
 use Rattle.std.proofs.lemmas.List.{get_or-map}
 use Rattle.gg_flat.specs.Line.{value_at}
