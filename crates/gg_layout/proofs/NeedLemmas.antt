@@ -4,7 +4,6 @@ use Rattle.std.specs.Prelude.{Contains, AllPairs, ◌==◌}
 use Rattle.std.proofs.lemmas.List.{get_or-map}
 use Rattle.gg_flat.specs.Line.{value_at}
 use Rattle.gg_order.specs.Design.{Ordered, IsDesign}
-use Rattle.gg_program.specs.Cone.{AreNeeds}
 use Rattle.gg_part.specs.declared.part.Part.{Part}
 use Rattle.gg_cut.specs.declared.listed.Listed.{Listed}
 use Rattle.gg_cut.specs.declared.plan.Body.{Body}
@@ -25,6 +24,7 @@ use Rattle.gg_sound.proofs.ListedLemmas.{IsGivenBy, given-placed}
 use Rattle.gg_sound.proofs.FitLemmas.{ins-count, outs-count}
 use Rattle.gg_sound.proofs.MemoryPartLemmas.{memory-part}
 use Rattle.gg_layout.proofs.AscendingLemmas.{AreMadeOf}
+use Rattle.gg_layout.proofs.ReachLemmas.{AreReached}
 use Rattle.gg_layout.proofs.MemoryLemmas.{memory-needs}
 
 -- At the out of channel c a machine of this kind needs, in ascending order, the ins at which it takes the channels `needs`.
@@ -50,7 +50,7 @@ module _ (design : Ordered) (listed : Listed) (wires : List Wire) (m : ℕ) (par
       ∙ ap (λ k. (wire_at wires k).signal) at.is
 
   pub part-made : (channels needs own : List ℕ) → channels ≡ channels_to wires m → ((out : ℕ) → out < length part.globals → value_at part.globals out ≡ (wire_at wires c).signal → AreNeedsOf part channels out needs)
-      → AreNeeds part.piece (value_at part.piece.outs out_of) own → AreMadeOf (place_in (channels_to wires m)) needs own
+      → AreReached part.piece (value_at part.piece.outs out_of) own → AreMadeOf (place_in (channels_to wires m)) needs own
   part-made channels needs own same are exact =
       let here = are (value_at part.piece.outs out_of) (cut.is.outs out_of out-low) out-signal in
       let count = ins-count design listed wires m part cut in
@@ -97,7 +97,7 @@ module _ (design : Ordered) (listed : Listed) (is : IsDesign design) (apart : Ar
   unit-needy part cut machine unit channels needs same are =
       let exact = unit.exact.each o (out-low design listed wires m part cut c given) in
       subst (λ (t : Machine). IsNeedy wires m c needs (kind_of t)) (sym unit.is)
-      (record { up = exact.ascending; made = part-made design listed wires m part cut c given channels needs (needs_at unit.needs o) same are exact })
+      (record { up = exact.ascending; made = part-made design listed wires m part cut c given channels needs (needs_at unit.needs o) same are (record { ascending = exact.ascending; exact = exact.exact }) })
 
   memory-needy : (part : Part) (cut : IsCutPart design listed wires m part) (low : first_memory listed ≤ m) (high : m < first_source listed) (machine : Machine) → IsMemoryOf part machine → (channels needs : List ℕ) → channels ≡ channels_to wires m
       → ((out : ℕ) → out < length part.globals → value_at part.globals out ≡ (wire_at wires c).signal → AreNeedsOf part channels out needs) → IsNeedy wires m c needs (kind_of machine)

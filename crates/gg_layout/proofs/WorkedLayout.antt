@@ -4,11 +4,10 @@
 -- The top has the input `a`, the output `o` and a memory `m` whose only reader `r` has the address `a` and is always enabled; `o` is its
 -- data. Signals 0 and 1 are `a` and `o`; 2, 3 and 4 are the reader's address, enable and data. The hub is machine 0, `m` is 1, the source
 -- of `a` is 2 and the tray of `o` is 3; the channels are, from 0 on: `a`, `m.r.addr`, `m.r.en`, `m.r.data`, `o`.
-use Rattle.std.proofs.Common.{◌≡◌, ◌≢◌, ℕ, zero, suc, ◌<◌, List, [], ◌∷◌, None, set, refl, ap, subst, inl, inr, ◌⊎◌, arith, lit<}
+use Rattle.std.proofs.Common.{◌≡◌, ℕ, zero, suc, ◌<◌, List, [], ◌∷◌, None, set, refl, ap, subst, inl, inr, ◌⊎◌, arith, lit<}
 use Rattle.std.specs.Prelude.{codes, length, slice_index_or, Contains, AllPairs}
 use Rattle.std.proofs.lemmas.List.Kept.{AllPairs-cons}
 use Rattle.std.proofs.lemmas.List.Elements.{All-nil}
-use Rattle.gg_flat.specs.declared.line.Node.{Node}
 use Rattle.gg_flat.specs.declared.memory.UnderWrite.TheVariants.{Old, New}
 use Rattle.gg_flat.specs.declared.memory.Latency.{Latency}
 use Rattle.gg_flat.specs.declared.memory.Latency.TheVariants.{Zero, One}
@@ -25,7 +24,7 @@ use Rattle.gg_partfile.specs.declared.request.Request.{Request}
 use Rattle.gg_cut.specs.declared.listed.Listed.{Listed}
 use Rattle.gg_cut.specs.declared.wires.Wire.{Wire}
 use Rattle.gg_cut.specs.Listed.{listed_of}
-use Rattle.gg_cut.specs.Channels.{wire, wires_of}
+use Rattle.gg_cut.specs.Channels.{wires_of}
 use Rattle.gg_cut.proofs.WorkedPair.{input, output}
 use Rattle.gg_check.specs.CheckText.{AreChannelNeeds, IsPathInside, NeedsChannel}
 use Rattle.gg_marking.specs.Marking.{Link, Turn, Layout, link_at}
