@@ -18,3 +18,4 @@ pub mod OpeningLemmas
 pub mod StepsLemmas
 pub mod PutsLemmas
 pub mod WorkedMarkings
+pub mod WorkedFits
