@@ -12,3 +12,8 @@ pub mod RingLemmas
 pub mod PlanLemmas
 pub mod OpeningLemmas
 mod WorkedNetwork
+pub mod ShownLemmas
+pub mod ServeLemmas
+pub mod DoLemmas
+pub mod EdgeLemmas
+pub mod SolvedLemmas

@@ -29,7 +29,7 @@ wire-from plan a (channel ∷ channels) zero any lt = ap (λ k. wire_of plan k c
 wire-from plan a (channel ∷ channels) (suc c) any lt =
     wire-from plan (suc a) channels c any (omega (arith, lt)) ∙ ap (λ k. wire_of plan k (get_or channels c any)) (let same : suc a + c ≡ a + suc c = omega arith in same)
 
-some-channel : (channels : List Channel) (c : ℕ) → c < length channels → Channel
+pub some-channel : (channels : List Channel) (c : ℕ) → c < length channels → Channel
 some-channel [] c lt = absurd (omega (arith, lt))
 some-channel (channel ∷ channels) c lt = channel
 

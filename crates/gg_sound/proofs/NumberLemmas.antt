@@ -2,6 +2,7 @@
 use Rattle.std.proofs.Common.{◌≡◌, ◌≢◌, ℕ, ◌+◌, ◌<◌, List, [], ◌∷◌, length, get_or, Bool, true, true≢false, refl, sym, ◌∙◌, ap, Some, None, eq-eqb, true-eqb, arith}
 use Rattle.std.specs.Prelude.{Option, filter, unwrap_or, ◌==◌, Contains, AllPairs}
 use Rattle.std.specs.List.{range_with_len}
+use Rattle.std.proofs.lemmas.List.{get_or_default}
 use Rattle.std.proofs.lemmas.List.Elements.{Contains-get_or}
 use Rattle.std.proofs.lemmas.List.FromFn.{length-range_with_len, get_or-range_with_len}
 use Rattle.std.proofs.lemmas.List.Kept.{AllPairs-filter}
@@ -74,3 +75,9 @@ one-in [] c once has same = absurd (omega (arith, has.1))
 one-in (a ∷ []) c once has same = refl
 one-in (a ∷ b ∷ numbers) c once has same =
     absurd (once 0 1 0 (omega arith) (omega arith) (same a (0, omega arith, refl) ∙ sym (same b (1, omega arith, refl))))
+
+-- where there is one, it is at place 0
+pub one-is : (numbers : List ℕ) (c : ℕ) → length numbers ≡ 1 → Contains numbers c → value_at numbers 0 ≡ c
+one-is numbers c one has =
+    let first : has.0 ≡ 0 = omega (arith, one, has.1) in
+    sym (ap (value_at numbers) first) ∙ get_or_default numbers has.0 0 c has.1 ∙ has.2

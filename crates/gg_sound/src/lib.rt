@@ -1,4 +1,4 @@
-//! The network of a plan is wired, and has no ring.
+//! The network of a plan is wired, has no ring, and is solved by the circuit's own run.
 //!
 //! A plan (`IsPlan` of gg_cut) names machines and channels. Its network (`specs/Built`) has a machine for each of them before its first
 //! cycle, joined by the plan's channels. The crate has no code: it promises, for the plan of a design and of a request without a
@@ -9,6 +9,7 @@
 //! - that the network is wired: each in and each out is at just one channel, and what outs need and ports look at are ins that are there
 //!   (`plan_is_wired`);
 //! - that there is no ring among what channels need (`plan_has_no_ring`);
+//! - that the columns of the circuit's own run solve the network, with the rows of each machine in it (`plan_is_solved`);
 //! - that the ports that are served can be named (`ports_are_named`), and that the machines are before their first cycle
 //!   (`machines_are_opening`).
 //!
@@ -18,7 +19,9 @@
 #![tactic(auto)]
 
 mod laws;
+mod solved;
 
 pub use laws::{
     machines_are_opening, plan_has_no_ring, plan_is_listed, plan_is_wired, ports_are_named,
 };
+pub use solved::plan_is_solved;

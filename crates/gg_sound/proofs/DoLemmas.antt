@@ -1,0 +1,123 @@
+-- What each machine of the network does, on the values that the circuit's rows give the signals of its channels.
+use Rattle.std.proofs.Common.{◌≡◌, ℕ, ◌<◌, ◌≤◌, List, ◌++◌, None, false, length, map, refl, sym, ◌∙◌, ap, subst, arith}
+use Rattle.std.specs.Prelude.{Option}
+use Rattle.std.proofs.lemmas.List.{length-map, length-replicate, get_or-map}
+use Rattle.gg_flat.specs.Line.{value_at}
+use Rattle.gg_flat.specs.Circuit.{FlatCircuit}
+use Rattle.gg_flat.specs.Run.{IsRun, row_at}
+use Rattle.gg_flat.specs.WellFormed.{IsWellFormed}
+use Rattle.gg_part.specs.Part.{IsPart}
+use Rattle.gg_part.specs.PartRun.{part_rows}
+use Rattle.gg_part.specs.declared.part.Part.{Part}
+use Rattle.gg_part.proofs.FormedLemmas.{IsWellFormed-part}
+use Rattle.gg_node.specs.Machine.{RunsPiece, Machine, cycle_limit}
+use Rattle.gg_net.specs.Network.{Kind, kind_of}
+use Rattle.gg_net.specs.Kept.{in_columns, RunsRows, Runs, Answers, Asks}
+use Rattle.gg_memunit.specs.MemoryUnit as memory_unit
+use Rattle.gg_sound.specs.Built.{IsUnitOf, IsMemoryOf}
+use Rattle.gg_sound.proofs.ShownLemmas.{AreShown, part-shown, rows-twice, own-run}
+use Rattle.gg_sound.proofs.ServeLemmas.{memory-serves}
+
+-- A machine of this kind, with these rows of its own, does n cycles: its outs give, and its ins are given, what these signals have in
+-- the circuit's rows.
+pub record DoesCycles (rows : List (List ℕ)) (n : ℕ) (ins outs : List ℕ) (kind : Kind) (own : List (List ℕ)) : Type 0 where
+  pub able : n ≤ kind.limit
+  pub does : Runs kind.behaviour kind own n
+  pub answers : (o t : ℕ) → o < length outs → t < n → Answers kind.behaviour own o t (value_at (row_at rows t) (value_at outs o))
+  pub asks : (i t : ℕ) → i < length ins → t < n → Asks kind.behaviour own i t (value_at (row_at rows t) (value_at ins i))
+
+-- ---- pieces
+
+-- A piece has these in-signals and out-signals, in the numbers that `globals` has.
+pub record IsNamedAs (globals : List ℕ) (piece : FlatCircuit) (ins outs : List ℕ) : Type 0 where
+  pub in_count : length piece.ins ≡ length ins
+  pub out_count : length piece.outs ≡ length outs
+  pub in_low : (i : ℕ) → i < length ins → value_at piece.ins i < length globals
+  pub in_at : (i : ℕ) → i < length ins → value_at globals (value_at piece.ins i) ≡ value_at ins i
+  pub out_low : (o : ℕ) → o < length outs → value_at piece.outs o < length globals
+  pub out_at : (o : ℕ) → o < length outs → value_at globals (value_at piece.outs o) ≡ value_at outs o
+
+pub part-named : (whole part : FlatCircuit) (globals held memories ins outs : List ℕ) → IsPart whole part globals held memories → map (value_at globals) part.ins ≡ ins → map (value_at globals) part.outs ≡ outs → IsNamedAs globals part ins outs
+part-named whole part globals held memories ins outs is has_ins has_outs =
+    let in_count : length part.ins ≡ length ins = sym (length-map part.ins (value_at globals)) ∙ ap length has_ins in
+    let out_count : length part.outs ≡ length outs = sym (length-map part.outs (value_at globals)) ∙ ap length has_outs in
+    record {
+      in_count = in_count;
+      out_count = out_count;
+      in_low = λ i lt. (is.ins i (omega (arith, lt, in_count))).0;
+      in_at = λ i lt. sym (get_or-map (value_at globals) part.ins i 0 0 (omega (arith, lt, in_count))) ∙ ap (λ (l : List ℕ). value_at l i) has_ins;
+      out_low = λ o lt. is.outs o (omega (arith, lt, out_count));
+      out_at = λ o lt. sym (get_or-map (value_at globals) part.outs o 0 0 (omega (arith, lt, out_count))) ∙ ap (λ (l : List ℕ). value_at l o) has_outs;
+    }
+
+-- the names of a part of a part, in the whole
+named-twice : (globals own : List ℕ) (part piece : FlatCircuit) (ins outs : List ℕ) → IsNamedAs globals part ins outs → IsNamedAs own piece part.ins part.outs → IsNamedAs (map (value_at globals) own) piece ins outs
+named-twice globals own part piece ins outs outer inner =
+    let count = length-map own (value_at globals) in
+    record {
+      in_count = inner.in_count ∙ outer.in_count;
+      out_count = inner.out_count ∙ outer.out_count;
+      in_low = λ i lt. let low = inner.in_low i (omega (arith, lt, outer.in_count)) in omega (arith, low, count);
+      in_at = λ i lt.
+          let low : i < length part.ins = omega (arith, lt, outer.in_count) in
+          get_or-map (value_at globals) own (value_at piece.ins i) 0 0 (inner.in_low i low) ∙ ap (value_at globals) (inner.in_at i low) ∙ outer.in_at i lt;
+      out_low = λ o lt. let low = inner.out_low o (omega (arith, lt, outer.out_count)) in omega (arith, low, count);
+      out_at = λ o lt.
+          let low : o < length part.outs = omega (arith, lt, outer.out_count) in
+          get_or-map (value_at globals) own (value_at piece.outs o) 0 0 (inner.out_low o low) ∙ ap (value_at globals) (inner.out_at o low) ∙ outer.out_at o lt;
+    }
+
+piece-does : (globals : List ℕ) (piece : FlatCircuit) (rows : List (List ℕ)) (n : ℕ) (ins outs : List ℕ) (kind : Kind) (own : List (List ℕ)) → kind.behaviour ≡ RunsPiece piece → n ≤ kind.limit → AreShown globals n rows own → IsNamedAs globals piece ins outs → RunsRows piece kind own n → DoesCycles rows n ins outs kind own
+piece-does globals piece rows n ins outs kind own is able shown named runs =
+    record {
+      able = able;
+      does = subst (λ b. Runs b kind own n) (sym is) runs;
+      answers = λ o t low lt. subst (λ b. Answers b own o t (value_at (row_at rows t) (value_at outs o))) (sym is) (shown.at t (value_at piece.outs o) lt (named.out_low o low) ∙ ap (value_at (row_at rows t)) (named.out_at o low));
+      asks = λ i t low lt. subst (λ b. Asks b own i t (value_at (row_at rows t) (value_at ins i))) (sym is) (shown.at t (value_at piece.ins i) lt (named.in_low i low) ∙ ap (value_at (row_at rows t)) (named.in_at i low));
+    }
+
+module _ (whole : FlatCircuit) (part : Part) (columns : List (List ℕ)) (n : ℕ) (rows : List (List ℕ)) (ins outs : List ℕ) (formed : IsWellFormed whole) (is : IsPart whole part.piece part.globals part.held part.memories) (named : IsNamedAs part.globals part.piece ins outs) (run : IsRun whole columns n rows) (most : n ≤ cycle_limit) where
+  shown : (globals : List ℕ) → AreShown globals n rows (part_rows globals rows)
+  shown globals = subst (λ k. AreShown globals k rows (part_rows globals rows)) run.count (part-shown globals rows)
+
+  part-formed : IsWellFormed part.piece
+  part-formed = IsWellFormed-part whole part.piece part.globals part.held part.memories formed is
+
+  part-run : IsRun part.piece (in_columns part.piece (part_rows part.globals rows)) n (part_rows part.globals rows)
+  part-run = own-run whole part.piece part.globals part.held part.memories is columns n rows run
+
+  pub unit-does : (machine : Machine) → IsUnitOf part machine → DoesCycles rows n ins outs (kind_of machine) (part_rows part.globals rows)
+  unit-does machine unit =
+      let own = part_rows part.globals rows in
+      let nothing : Option ℕ = None in
+      subst (λ (t : Machine). DoesCycles rows n ins outs (kind_of t) own) (sym unit.is)
+      (piece-does part.globals part.piece rows n ins outs _ own refl most (shown part.globals) named
+      (record {
+        formed = part-formed;
+        ins = length-replicate (length part.piece.ins) nothing;
+        outs = length-replicate (length part.piece.outs) false;
+        is = part-run;
+        serves = tt;
+      }))
+
+  pub memory-does : (machine : Machine) → IsMemoryOf part machine → DoesCycles rows n ins outs (kind_of machine) (part_rows (map (value_at part.globals) (part.piece.ins ++ part.piece.outs)) rows)
+  memory-does machine memory =
+      let alone = memory.alone in
+      let piece = alone.piece in
+      let globals = map (value_at part.globals) alone.globals in
+      let own = part_rows globals rows in
+      let nothing : Option ℕ = None in
+      let below : (s : ℕ) → s < length alone.globals → value_at alone.globals s < length part.globals = λ s lt. let low = memory.is_part.within s lt in omega (arith, low, is.count) in
+      let inner = part-named part.piece piece alone.globals alone.held alone.memories part.piece.ins part.piece.outs memory.is_part memory.ins memory.outs in
+      let alone_run = own-run part.piece piece alone.globals alone.held alone.memories memory.is_part (in_columns part.piece (part_rows part.globals rows)) n (part_rows part.globals rows) part-run in
+      let own_run = subst (λ (l : List (List ℕ)). IsRun piece (in_columns piece l) n l) (sym (rows-twice part.globals alone.globals rows below)) alone_run in
+      subst (λ (t : Machine). DoesCycles rows n ins outs (kind_of t) (part_rows (map (value_at part.globals) (part.piece.ins ++ part.piece.outs)) rows)) (sym memory.is)
+      (subst (λ (l : List ℕ). DoesCycles rows n ins outs (kind_of (memory_unit.opening_unit piece)) (part_rows (map (value_at part.globals) l) rows)) memory.globals
+      (piece-does globals piece rows n ins outs _ own refl most (shown globals) (named-twice part.globals alone.globals part.piece piece ins outs named inner)
+      (record {
+        formed = memory.is_memory.formed;
+        ins = length-replicate (length piece.ins) nothing;
+        outs = length-replicate (length piece.outs) false;
+        is = own_run;
+        serves = memory-serves piece own n memory.is_memory own_run;
+      })))

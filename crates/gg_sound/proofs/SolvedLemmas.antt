@@ -1,0 +1,138 @@
+-- The circuit's own run solves the network of a plan.
+use Rattle.std.proofs.Common.{◌≡◌, ℕ, ◌<◌, List, [], length, map, get_or, false, refl, sym, ◌∙◌, ap, subst, arith}
+use Rattle.std.proofs.lemmas.List.{length-map, get_or-map}
+use Rattle.gg_flat.specs.Line.{value_at}
+use Rattle.gg_flat.specs.Run.{row_at, column}
+use Rattle.gg_order.specs.Design.{Ordered}
+use Rattle.gg_partfile.specs.declared.request.Request.{Request}
+use Rattle.gg_cut.specs.declared.plan.Body.{Body}
+use Rattle.gg_cut.specs.declared.plan.Body.TheVariants.{Cut, Memory, Source, Tray}
+use Rattle.gg_cut.specs.declared.plan.Machine as planned
+use Rattle.gg_cut.specs.declared.plan.Channel.{Channel}
+use Rattle.gg_cut.specs.declared.plan.Plan.{Plan}
+use Rattle.gg_cut.specs.declared.listed.Listed.{Listed}
+use Rattle.gg_cut.specs.declared.wires.Wire.{Wire as Link}
+use Rattle.gg_cut.specs.Listed.{listed_of}
+use Rattle.gg_cut.specs.Channels.{wires_of, machine_count}
+use Rattle.gg_cut.specs.Plan.{wire_at as link_at, channels_to, channels_from, signals_of, IsBody}
+use Rattle.gg_cut.specs.Solves.{columns_of}
+use Rattle.gg_node.specs.Machine.{Machine, machine_at, source_machine}
+use Rattle.gg_net.specs.Network.{wire_at, Kind, kind_of, kind_at}
+use Rattle.gg_net.specs.Kept.{list_at, rows_at, Answers, Asks, Solves}
+use Rattle.gg_net.proofs.StateLemmas.{column-at}
+use Rattle.gg_sound.specs.Built.{machine_in, nameless, wires_of_plan, IsBuilt, AreBuilt, body_rows, rows_of, IsGiven, plan_frame}
+use Rattle.gg_sound.proofs.LinkLemmas.{AreLinks, some-channel, length-wires, linked}
+use Rattle.gg_sound.proofs.ListedLemmas.{taken-placed, given-placed}
+use Rattle.gg_sound.proofs.SideLemmas.{source-takes, tray-takes, tray-gives-none}
+use Rattle.gg_sound.proofs.FitLemmas.{kind-is}
+use Rattle.gg_sound.proofs.DoLemmas.{DoesCycles, part-named, unit-does, memory-does}
+use Rattle.gg_sound.proofs.EdgeLemmas.{source-does, tray-does}
+use Rattle.gg_sound.proofs.PlanLemmas as plans
+
+module _ (design : Ordered) (request : Request) (default : ℕ) (plan : Plan) (columns : List (List ℕ)) (n : ℕ) (rows : List (List ℕ)) (machines : List Machine) (given : IsGiven design request default plan columns n rows) (built : AreBuilt plan columns n machines) where
+  abbrev listed : Listed
+  listed = listed_of design.tree request
+
+  abbrev all : List Link
+  all = wires_of design.circuit design.tree (listed_of design.tree request)
+
+  are : AreLinks plan all
+  are = plans.links design request default plan columns n rows machines given built
+
+  -- ---- machines
+
+  abbrev ins_of_machine : ℕ → List ℕ
+  ins_of_machine m = signals_of all (channels_to all m)
+
+  abbrev outs_of_machine : ℕ → List ℕ
+  outs_of_machine m = signals_of all (channels_from all m)
+
+  in-count : (m : ℕ) → length (ins_of_machine m) ≡ length (channels_to all m)
+  in-count m = length-map (channels_to all m) (λ c. (link_at all c).signal)
+
+  out-count : (m : ℕ) → length (outs_of_machine m) ≡ length (channels_from all m)
+  out-count m = length-map (channels_from all m) (λ c. (link_at all c).signal)
+
+  body-does : (m : ℕ) (own : planned.Machine) (body : Body) (machine : Machine) → m < machine_count design.circuit listed → own.outs ≡ channels_from all m → IsBody design listed all m body → IsBuilt columns n own body machine → DoesCycles rows n (ins_of_machine m) (outs_of_machine m) (kind_of machine) (body_rows body rows)
+  body-does m own (Cut part) machine lt outs body is =
+      let cut = body.1 in
+      unit-does design.circuit part columns n rows (ins_of_machine m) (outs_of_machine m) given.design_is.formed cut.is (part-named design.circuit part.piece part.globals part.held part.memories (ins_of_machine m) (outs_of_machine m) cut.is cut.ins cut.outs) given.run given.most machine is
+  body-does m own (Memory part) machine lt outs body is =
+      let cut = body.2 in
+      memory-does design.circuit part columns n rows (ins_of_machine m) (outs_of_machine m) given.design_is.formed cut.is (part-named design.circuit part.piece part.globals part.held part.memories (ins_of_machine m) (outs_of_machine m) cut.is cut.ins cut.outs) given.run given.most machine is
+  body-does m own Source machine lt outs body is =
+      source-does design.circuit design.tree listed m body.0 body.1 columns n rows (ins_of_machine m) machine given.design_is.formed given.given given.run (in-count m ∙ source-takes design.circuit design.tree listed m body.0 body.1)
+      (is ∙ ap (λ (l : List ℕ). source_machine (get_or columns (value_at l 0) []) 0 false) outs)
+  body-does m own Tray machine lt outs body is =
+      tray-does rows n (ins_of_machine m) (outs_of_machine m) machine
+      (in-count m ∙ tray-takes design.circuit design.tree listed (plans.links-once design request default plan columns n rows machines given built) m body lt)
+      (out-count m ∙ tray-gives-none design.circuit design.tree listed m body) is
+
+  machine-does : (m : ℕ) → m < length plan.machines → DoesCycles rows n (ins_of_machine m) (outs_of_machine m) (kind_at (map kind_of machines) m) (rows_at (rows_of plan rows) m)
+  machine-does m lt =
+      let own = machine_in plan m in
+      let at = given.planned.machine m nameless lt in
+      subst (λ (kind : Kind). DoesCycles rows n (ins_of_machine m) (outs_of_machine m) kind (rows_at (rows_of plan rows) m)) (sym (kind-is machines m (omega (arith, lt, built.count))))
+      (subst (DoesCycles rows n (ins_of_machine m) (outs_of_machine m) (kind_of (machine_at machines m))) (sym (get_or-map (λ (machine : planned.Machine). body_rows machine.body rows) plan.machines m nameless [] lt))
+      (body-does m own own.body (machine_at machines m) (omega (arith, lt, given.planned.machine_total)) at.outs at.body (built.each m lt)))
+
+  -- ---- channels
+
+  list-is : (c : ℕ) → c < length all → list_at (columns_of plan rows) c ≡ column rows (link_at all c).signal
+  list-is c lt =
+      let known : c < length plan.channels = omega (arith, lt, are.count) in
+      let any = some-channel plan.channels c known in
+      get_or-map (λ (channel : Channel). column rows channel.signal) plan.channels c any [] known ∙ ap (column rows) (given.planned.channel c any known).signal
+
+  value-is : (c t : ℕ) → c < length all → value_at (list_at (columns_of plan rows) c) t ≡ value_at (row_at rows t) (link_at all c).signal
+  value-is c t lt = ap (λ (l : List ℕ). value_at l t) (list-is c lt) ∙ column-at rows (link_at all c).signal t
+
+  link-there : (c : ℕ) → c < length (wires_of_plan plan) → c < length all
+  link-there c lt = omega (arith, lt, length-wires plan all are)
+
+  gives : (c t : ℕ) → c < length (wires_of_plan plan) → t < n
+      → let p : ℕ = (wire_at (wires_of_plan plan) c).producer in Answers (kind_at (map kind_of machines) p).behaviour (rows_at (rows_of plan rows) p) (wire_at (wires_of_plan plan) c).out t (value_at (list_at (columns_of plan rows) c) t)
+  gives c t lt below =
+      let known = link-there c lt in
+      let link = linked plan all are c known in
+      let p = (link_at all c).producer in
+      let at = given-placed all p c (record { known = known; producer = refl }) in
+      let o = (wire_at (wires_of_plan plan) c).out in
+      let low : o < length (outs_of_machine p) = omega (arith, link.out, at.within, out-count p) in
+      let signal : value_at (outs_of_machine p) o ≡ (link_at all c).signal =
+      get_or-map (λ k. (link_at all k).signal) (channels_from all p) o 0 0 (omega (arith, link.out, at.within)) ∙ ap (λ k. (link_at all k).signal) (ap (value_at (channels_from all p)) link.out ∙ at.is) in
+      subst (λ m. Answers (kind_at (map kind_of machines) m).behaviour (rows_at (rows_of plan rows) m) o t (value_at (list_at (columns_of plan rows) c) t)) (sym link.producer)
+      (subst (Answers (kind_at (map kind_of machines) p).behaviour (rows_at (rows_of plan rows) p) o t) (ap (value_at (row_at rows t)) signal ∙ sym (value-is c t known))
+      ((machine-does p (are.ends c known).producer).answers o t low below))
+
+  takes : (c t : ℕ) → c < length (wires_of_plan plan) → t < n
+      → let q : ℕ = (wire_at (wires_of_plan plan) c).consumer in Asks (kind_at (map kind_of machines) q).behaviour (rows_at (rows_of plan rows) q) (wire_at (wires_of_plan plan) c).place t (value_at (list_at (columns_of plan rows) c) t)
+  takes c t lt below =
+      let known = link-there c lt in
+      let link = linked plan all are c known in
+      let q = (link_at all c).consumer in
+      let at = taken-placed all q c (record { known = known; consumer = refl }) in
+      let i = (wire_at (wires_of_plan plan) c).place in
+      let low : i < length (ins_of_machine q) = omega (arith, link.place, at.within, in-count q) in
+      let signal : value_at (ins_of_machine q) i ≡ (link_at all c).signal =
+      get_or-map (λ k. (link_at all k).signal) (channels_to all q) i 0 0 (omega (arith, link.place, at.within)) ∙ ap (λ k. (link_at all k).signal) (ap (value_at (channels_to all q)) link.place ∙ at.is) in
+      subst (λ m. Asks (kind_at (map kind_of machines) m).behaviour (rows_at (rows_of plan rows) m) i t (value_at (list_at (columns_of plan rows) c) t)) (sym link.consumer)
+      (subst (Asks (kind_at (map kind_of machines) q).behaviour (rows_at (rows_of plan rows) q) i t) (ap (value_at (row_at rows t)) signal ∙ sym (value-is c t known))
+      ((machine-does q (are.ends c known).consumer).asks i t low below))
+
+  -- ---- the network
+
+  there : (m : ℕ) → m < length (map kind_of machines) → m < length plan.machines
+  there m lt = omega (arith, lt, length-map machines kind_of, built.count)
+
+  pub plan-solved : Solves (columns_of plan rows) (rows_of plan rows) (plan_frame plan machines n)
+  plan-solved =
+      record {
+        able = λ m lt. (machine-does m (there m lt)).able;
+        does = λ m lt. (machine-does m (there m lt)).does;
+        long = λ c lt.
+            let known = link-there c lt in
+            ap length (list-is c known) ∙ length-map rows (λ (row : List ℕ). value_at row (link_at all c).signal) ∙ given.run.count;
+        given = λ c lt t below. gives c t lt below;
+        taken = λ c lt t below. takes c t lt below;
+      }
