@@ -2,5 +2,6 @@
 #![tactic(auto)]
 
 mod node;
+mod ports;
 
 pub use node::Node;
