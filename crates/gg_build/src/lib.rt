@@ -3,5 +3,6 @@
 
 mod node;
 mod ports;
+mod wires;
 
 pub use node::Node;

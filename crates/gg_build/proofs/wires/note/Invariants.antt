@@ -1,0 +1,7 @@
+use Rattle.std.proofs.Common.{take}
+use Rattle.gg_build.specs.Wires.{IsNoted}
+use Rattle.gg_build.proofs.PlaceLemmas.{AreNoted}
+use Rattle.gg_build.proofs.wires.note.Given as goal
+
+abbrev pub invariant-loop-place : goal.invariant-loop-place
+invariant-loop-place l = AreNoted l.channels l.place l.fn.places.items l.places.items
