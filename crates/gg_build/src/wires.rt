@@ -2,6 +2,8 @@
 ghost use Rattle.std.specs.Prelude.{◌≡◌, ◌^◌, ◌<◌, ◌≤◌, ℕ, length, map, All, IfOk, slice_index_or};
 ghost use Rattle.gg_flat.specs.Line.{value_at};
 ghost use Rattle.gg_cut.specs.declared.plan.Channel.{Channel};
+ghost use Rattle.gg_sound.specs.Built.{wires_of_plan};
+ghost use Rattle.gg_build.specs.Build.{IsFaultless};
 ghost use Rattle.gg_build.specs.Wires.{IsNoted, AreListed, ArePlaces, AreWires};
 
 use gg_cut::{Channel, Machine, Plan};
@@ -9,6 +11,7 @@ use gg_net::Wire;
 use std::alloc::{AllocError, Global};
 
 // For each channel its place among those that its producer gives, and its place among those that its consumer takes.
+#[derive(Drop)]
 struct Places {
     outs: Vec<u32>,
     ins: Vec<u32>,
@@ -63,5 +66,20 @@ fn wires_at(
             capacity: channel.capacity,
         })?;
     }
+    Ok(wires)
+}
+
+/// The channels of the network of a plan.
+///
+/// # Errors
+///
+/// Where memory is refused.
+pub(crate) fn wires_of(alloc: Global, plan: &Plan) -> Result<Vec<Wire>, AllocError>
+    requires { IsFaultless plan.now }
+    ensures { IfOk result (λ wires. wires.items ≡ wires_of_plan plan.now) }
+{
+    let channels = plan.channels.as_slice();
+    let places = places_of(alloc, plan.machines.as_slice(), channels.len())?;
+    let wires = wires_at(alloc, channels, &places.outs, &places.ins)?;
     Ok(wires)
 }
