@@ -274,7 +274,7 @@ module _ (circuit : FlatCircuit) (tree : InstanceTree) (listed : Listed) where
       (numbered-in (port_wires tree listed.units) 1 listed.units i 0 w lt
       (subst (λ k. Contains (port_wires tree listed.units k (value_at listed.units i)) w) (sym (one-plus i)) (Contains-map (port_wire (outside_unit tree listed i) (suc i)) (instance_at tree (value_at listed.units i)).ports port among))))
 
-  in-fields : (i : ℕ) (w : Wire) → i < length listed.memories → Contains (field_wires circuit tree listed.units (first_memory listed + i) (value_at listed.memories i)) w → Contains wires w
+  pub in-fields : (i : ℕ) (w : Wire) → i < length listed.memories → Contains (field_wires circuit tree listed.units (first_memory listed + i) (value_at listed.memories i)) w → Contains wires w
   in-fields i w lt h =
       Contains-append_right sources (ports ++ (fields ++ trays)) w
       (Contains-append_right ports (fields ++ trays) w

@@ -227,7 +227,8 @@ fn add_all(
 
 /// The part of a circuit that has these signals and memories, gets the values of `ins` from outside, and gives those
 /// of `outs`. All numbers are the whole's. The part's signals stand in the order of `globals`, its in-signals in that
-/// of `ins`, its out-signals in that of `outs`, its memories in that of `memories`.
+/// of `ins`, its out-signals in that of `outs`, its memories in that of `memories`. It has just the registers that its
+/// signals hold.
 ///
 /// # Errors
 ///
@@ -247,6 +248,7 @@ pub fn part_of(
     ensures ins { IfOk result (λ part. map (value_at part.globals) part.piece.ins ≡ ins.now) }
     ensures outs { IfOk result (λ part. map (value_at part.globals) part.piece.outs ≡ outs.now) }
     ensures memories { IfOk result (λ part. part.memories ≡ memories.now) }
+    ensures held { IfOk result (λ part. AreHeld whole.now globals.now ins.now part.held) }
 {
     let frame = frame_of(alloc, whole, globals, ins, memories)?;
     let mut piece = Piece::new(alloc);
