@@ -1,0 +1,17 @@
+-- The part of a listed memory, cut once more, so that the memory stands alone.
+-- Source: ICCAD 2019 (memories of a target as models of their own); FIRRTL Specification, "Memories".
+use Rattle.std.specs.Prelude.{◌≡◌, List, [], ◌∷◌, ◌++◌, map}
+use Rattle.gg_flat.specs.Line.{value_at}
+use Rattle.gg_part.specs.Part.{IsPart}
+use Rattle.gg_part.specs.Building.{AreHeld}
+use Rattle.gg_part.specs.declared.part.Part.{Part}
+
+-- A part of this part: its in-signals and then its out-signals, which are those of the new part too, just the registers that these
+-- hold, and its first memory.
+pub record IsCutAgain (part alone : Part) : Type 0 where
+  pub is_part : IsPart part.piece alone.piece alone.globals alone.held alone.memories
+  pub globals : alone.globals ≡ part.piece.ins ++ part.piece.outs
+  pub ins : map (value_at alone.globals) alone.piece.ins ≡ part.piece.ins
+  pub outs : map (value_at alone.globals) alone.piece.outs ≡ part.piece.outs
+  pub memories : alone.memories ≡ 0 ∷ []
+  pub held : AreHeld part.piece (part.piece.ins ++ part.piece.outs) part.piece.ins alone.held
