@@ -17,3 +17,10 @@ pub mod ServeLemmas
 pub mod DoLemmas
 pub mod EdgeLemmas
 pub mod SolvedLemmas
+pub mod WordLemmas
+pub mod BackLemmas
+pub mod MemoryPartLemmas
+pub mod ChosenLemmas
+pub mod AloneLemmas
+pub mod StandLemmas
+pub mod BodyLemmas

@@ -1,6 +1,6 @@
 -- The part of a listed memory, cut once more, so that the memory stands alone.
 -- Source: ICCAD 2019 (memories of a target as models of their own); FIRRTL Specification, "Memories".
-use Rattle.std.specs.Prelude.{◌≡◌, List, [], ◌∷◌, ◌++◌, map}
+use Rattle.std.specs.Prelude.{◌≡◌, [], ◌∷◌, ◌++◌, map}
 use Rattle.gg_flat.specs.Line.{value_at}
 use Rattle.gg_part.specs.Part.{IsPart}
 use Rattle.gg_part.specs.Building.{AreHeld}

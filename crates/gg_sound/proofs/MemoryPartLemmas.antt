@@ -1,0 +1,281 @@
+-- The part of a listed memory: its memory, whose fields are just its in-signals and its out-signals.
+use Rattle.std.proofs.Common.{◌≡◌, ◌≢◌, ℕ, suc, ◌+◌, ◌-◌, ◌^◌, ◌<◌, ◌≤◌, List, [], ◌∷◌, ◌++◌, length, map, get_or, Some, None, refl, sym, ◌∙◌, ap, subst, inl, inr, ◌⊎◌, arith}
+use Rattle.std.specs.Prelude.{Option, Bool, All, AllPairs, Contains, ◌==◌}
+use Rattle.std.proofs.lemmas.List.{length-map, get_or-map}
+use Rattle.std.proofs.lemmas.List.Elements.{Contains-append_left, Contains-append_right, Contains-get_or}
+use Rattle.gg_flat.specs.declared.memory.Reader.{Reader}
+use Rattle.gg_flat.specs.declared.memory.Writer.{Writer}
+use Rattle.gg_flat.specs.declared.memory.Memory.{Memory}
+use Rattle.gg_flat.specs.Line.{value_at}
+use Rattle.gg_flat.specs.Circuit.{FlatCircuit, readers_at}
+use Rattle.gg_flat.specs.Tree.{InstanceTree, memory_at}
+use Rattle.gg_flat.specs.Scoped.{writers_at}
+use Rattle.gg_order.specs.Design.{Ordered, IsDesign}
+use Rattle.gg_part.specs.Part.{IsMemoryFrom, MemoryBelow, renamed_memory, renamed_reader, renamed_writer}
+use Rattle.gg_part.specs.declared.part.Part.{Part}
+use Rattle.gg_cut.specs.declared.listed.Listed.{Listed}
+use Rattle.gg_cut.specs.declared.wires.Wire.{Wire as Link}
+use Rattle.gg_cut.specs.Listed.{first_place, unit_or_hub, memory_or, has_signal, owner_of, owner_of_instance}
+use Rattle.gg_cut.specs.Channels.{wire, flattened, first_memory, first_source, reader_wires, writer_wires, wires_of}
+use Rattle.gg_cut.specs.Plan.{wire_at as link_at, channels_to, channels_from, signals_of, IsInner, Makes, Takes, HasMemory, IsCutPart}
+use Rattle.gg_cut.proofs.PathLemmas.{first_place-Some}
+use Rattle.gg_cut.proofs.WireLemmas.{unit_or_hub-below}
+use Rattle.gg_closed.specs.Apart.{AreApart, AreFew}
+use Rattle.gg_closed.proofs.ListLemmas.{Somewhere, Contains-map, map-cases, flattened-in, AllPairs-append, AllPairs-map}
+use Rattle.gg_closed.proofs.KindLemmas.{outside_memory, in-fields}
+use Rattle.gg_closed.proofs.MakerLemmas.{find-unit, no-field-place, takes}
+use Rattle.gg_closed.proofs.WrittenLemmas.{inner-plain}
+use Rattle.gg_closed.proofs.ClosedLemmas.{owner-listed, owner-unlisted}
+use Rattle.gg_closed.proofs.ChoiceLemmas.{pairs-once}
+use Rattle.gg_closed.proofs.EndLemmas.{ends}
+use Rattle.gg_memunit.proofs.UnitLemmas.{sole}
+use Rattle.gg_sound.proofs.NumberLemmas.{numbers-once, one-in, one-is}
+use Rattle.gg_sound.proofs.ListedLemmas.{taken-is, given-is}
+use Rattle.gg_sound.proofs.SideLemmas.{link-one}
+use Rattle.gg_sound.proofs.WordLemmas.{memory-gives, memory-few}
+use Rattle.gg_sound.proofs.BackLemmas.{distinct-back, contains-back, words-back}
+
+-- The fields of a reader that go to the memory, and those of a writer, are among these.
+abbrev pub ReaderAmong : List ℕ → Reader → Type 0
+ReaderAmong ins reader = Contains ins reader.addr × Contains ins reader.en
+
+abbrev pub WriterAmong : List ℕ → Writer → Type 0
+WriterAmong ins writer = Contains ins writer.addr × Contains ins writer.en × Contains ins writer.word × Contains ins writer.mask
+
+-- A part with this memory alone: what goes to the memory is just the in-signals, and what it gives, in order, the out-signals. There
+-- are no other signals, and each is there once.
+pub record IsMemoryPart (part : Part) (memory : Memory) : Type 0 where
+  pub count : length part.memories ≡ 1
+  pub only : part.piece.memories ≡ memory ∷ []
+  pub below : MemoryBelow (length part.globals) memory
+  pub looks : All (ReaderAmong part.piece.ins) memory.readers
+  pub writes : All (WriterAmong part.piece.ins) memory.writers
+  pub words : part.piece.outs ≡ map (λ (reader : Reader). reader.word) memory.readers
+  pub few : length memory.readers + length memory.writers < 2 ^ 32
+  pub sides : (s : ℕ) → s < length part.globals → Contains (part.piece.ins ++ part.piece.outs) s
+  pub ins_once : AllPairs (λ a b. a ≢ b) part.piece.ins
+  pub once : AllPairs (λ a b. a ≢ b) (part.piece.ins ++ part.piece.outs)
+
+hub-below : {A : Type 0} (test : A → Bool) (xs : List A) → unit_or_hub (first_place test xs) < suc (length xs)
+hub-below test xs = by (first_place test xs) refl
+  where
+    by : (found : Option ℕ) → first_place test xs ≡ found → unit_or_hub found < suc (length xs)
+    by None e = omega arith
+    by (Some u) e = let lt = (first_place-Some test xs u e).within in omega (arith, lt)
+
+module _ (design : Ordered) (listed : Listed) (m : ℕ) (part : Part) (is : IsDesign design) (apart : AreApart design.tree listed) (low : first_memory listed ≤ m) (high : m < first_source listed) (cut : IsCutPart design listed (wires_of design.circuit design.tree listed) m part) where
+  abbrev circuit : FlatCircuit
+  circuit = design.circuit
+
+  abbrev tree : InstanceTree
+  tree = design.tree
+
+  abbrev links : List Link
+  links = wires_of design.circuit design.tree listed
+
+  abbrev i : ℕ
+  i = m - first_memory listed
+
+  abbrev own : ℕ
+  own = (memory_at design.tree (value_at listed.memories (m - first_memory listed))).memory
+
+  there : i < length listed.memories
+  there = omega (arith, low, high)
+
+  number : first_memory listed + i ≡ m
+  number = omega (arith, low)
+
+  -- ---- the memory
+
+  has : HasMemory tree listed m own
+  has = record { place = value_at listed.memories i; known = apart.memories i 0 there; is = refl; owner = owner-listed circuit tree listed is.formed is.fitting is.scoped apart i there ∙ number }
+
+  own-only : (k : ℕ) → HasMemory tree listed m k → k ≡ own
+  own-only k h = by (find-unit listed.memories h.place)
+    where
+      by : Somewhere (λ j. h.place ≡ j) listed.memories ⊎ All (λ j. h.place ≢ j) listed.memories → k ≡ own
+      by (inl at) =
+          let to : first_memory listed + at.place ≡ m = sym (owner-listed circuit tree listed is.formed is.fitting is.scoped apart at.place at.within) ∙ ap (λ j. memory_or (length listed.units) (owner_of_instance tree listed.units (memory_at tree j).instance) (first_place (λ d. d == j) listed.memories)) (sym (at.holds 0)) ∙ h.owner in
+          let same : at.place ≡ i = omega (arith, to, number) in
+          sym h.is ∙ ap (λ j. (memory_at tree j).memory) (at.holds 0 ∙ ap (value_at listed.memories) same)
+      by (inr none) =
+          let to = sym (owner-unlisted circuit tree listed is.formed is.fitting is.scoped apart h.place (λ j d lt same. none j d lt (sym same))) ∙ h.owner in
+          let below = unit_or_hub-below tree listed.units (memory_at tree h.place).instance in
+          absurd (omega (arith, to, below, low))
+
+  count : length part.memories ≡ 1
+  count = one-in part.memories own cut.is.memories_once ((cut.memories own).1 has) (λ k h. own-only k ((cut.memories k).0 h))
+
+  first : value_at part.memories 0 ≡ own
+  first = one-is part.memories own count ((cut.memories own).1 has)
+
+  -- ---- the signals
+
+  in-low : (k : ℕ) → k < length part.piece.ins → value_at part.piece.ins k < length part.globals
+  in-low k lt = (cut.is.ins k lt).0
+
+  in-part : (s : ℕ) → s < length part.globals → Takes links m (value_at part.globals s) → Contains part.piece.ins s
+  in-part s lt h = contains-back part.globals cut.is.once part.piece.ins (signals_of links (channels_to links m)) s in-low cut.ins lt h
+
+  -- no signal without a channel belongs to the memory
+  inner-low : (s : ℕ) → IsInner links s → owner_of circuit tree listed s < first_memory listed
+  inner-low s inner =
+      let other = unit_or_hub (first_place (has_signal tree s) listed.units) in
+      let none = ap (memory_or (length listed.units) other) (no-field-place circuit tree listed s (inner-plain circuit tree listed is.fitting is.scoped apart s inner)) in
+      let below = hub-below (has_signal tree s) listed.units in
+      omega (arith, none, below)
+
+  sides : (s : ℕ) → s < length part.globals → Contains (part.piece.ins ++ part.piece.outs) s
+  sides s lt = by ((cut.signals (value_at part.globals s)).0 (Contains-get_or part.globals s 0 lt))
+    where
+      by : Makes circuit tree listed links m (value_at part.globals s) ⊎ Takes links m (value_at part.globals s) → Contains (part.piece.ins ++ part.piece.outs) s
+      by (inl (inl inner)) = let below = inner-low (value_at part.globals s) inner.2 in absurd (omega (arith, below, inner.1, low))
+      by (inl (inr gives)) = Contains-append_right part.piece.ins part.piece.outs s (contains-back part.globals cut.is.once part.piece.outs (signals_of links (channels_from links m)) s cut.is.outs cut.outs lt gives)
+      by (inr taken) = Contains-append_left part.piece.ins part.piece.outs s (in-part s lt taken)
+
+  -- each stands once
+  links-once : AllPairs (λ (v w : Link). v.signal ≢ w.signal) links
+  links-once = pairs-once circuit tree listed is.formed is.fitting is.scoped apart
+
+  ins-once : AllPairs (λ a b. a ≢ b) part.piece.ins
+  ins-once =
+      let channels = channels_to links m in
+      distinct-back (value_at part.globals) part.piece.ins (signals_of links channels) cut.ins
+      (AllPairs-map (λ a b. a ≢ b) (λ c. (link_at links c).signal) channels (λ j k d less lt same.
+      let a = (taken-is links m (get_or channels j d) (Contains-get_or channels j d (omega (arith, less, lt)))).known in
+      let b = (taken-is links m (get_or channels k d) (Contains-get_or channels k d lt)).known in
+      numbers-once (λ c. (link_at links c).consumer == m) (length links) j k d less lt (link-one links (get_or channels j d) (get_or channels k d) links-once a b same)))
+
+  outs-once : AllPairs (λ a b. a ≢ b) part.piece.outs
+  outs-once =
+      let channels = channels_from links m in
+      distinct-back (value_at part.globals) part.piece.outs (signals_of links channels) cut.outs
+      (AllPairs-map (λ a b. a ≢ b) (λ c. (link_at links c).signal) channels (λ j k d less lt same.
+      let a = (given-is links m (get_or channels j d) (Contains-get_or channels j d (omega (arith, less, lt)))).known in
+      let b = (given-is links m (get_or channels k d) (Contains-get_or channels k d lt)).known in
+      numbers-once (λ c. (link_at links c).producer == m) (length links) j k d less lt (link-one links (get_or channels j d) (get_or channels k d) links-once a b same)))
+
+  -- no channel leads from the machine to itself
+  cross : (x y : ℕ) → Contains part.piece.ins x → Contains part.piece.outs y → x ≢ y
+  cross x y p q same =
+      let to = channels_to links m in
+      let from = channels_from links m in
+      let c = map-cases (λ k. (link_at links k).signal) to (value_at part.globals x) (subst (λ (l : List ℕ). Contains l (value_at part.globals x)) cut.ins (Contains-map (value_at part.globals) part.piece.ins x p)) in
+      let d = map-cases (λ k. (link_at links k).signal) from (value_at part.globals y) (subst (λ (l : List ℕ). Contains l (value_at part.globals y)) cut.outs (Contains-map (value_at part.globals) part.piece.outs y q)) in
+      let taken = taken-is links m (get_or to c.place 0) (Contains-get_or to c.place 0 c.within) in
+      let given = given-is links m (get_or from d.place 0) (Contains-get_or from d.place 0 d.within) in
+      let one = link-one links (get_or to c.place 0) (get_or from d.place 0) links-once taken.known given.known (c.holds 0 ∙ ap (value_at part.globals) same ∙ sym (d.holds 0)) in
+      let end = ends circuit tree listed is.fitting apart (get_or from d.place 0) (wire 0 0 0) given.known in
+      end.apart (given.producer ∙ sym (ap (λ k. (link_at links k).consumer) (sym one) ∙ taken.consumer))
+
+  once : AllPairs (λ a b. a ≢ b) (part.piece.ins ++ part.piece.outs)
+  once = AllPairs-append (λ a b. a ≢ b) part.piece.ins part.piece.outs ins-once outs-once cross
+
+  -- ---- the memory's fields
+
+  module _ (memory : Memory) (only : part.piece.memories ≡ memory ∷ []) where
+    from : IsMemoryFrom circuit part.piece part.globals part.memories 0
+    from = cut.is.memory_from 0 (omega (arith, count))
+
+    known : own < length circuit.memories
+    known = subst (λ k. k < length circuit.memories) first from.within
+
+    whole : get_or circuit.memories own memory ≡ renamed_memory part.globals memory
+    whole =
+        ap (λ k. get_or circuit.memories k memory) (sym first)
+        ∙ from.is memory memory
+        ∙ ap (λ (l : List Memory). renamed_memory part.globals (get_or l 0 memory)) only
+
+    readers : readers_at circuit own ≡ map (renamed_reader part.globals) memory.readers
+    readers = get_or-map (λ (x : Memory). x.readers) circuit.memories own memory [] known ∙ ap (λ (x : Memory). x.readers) whole
+
+    writers : writers_at circuit own ≡ map (renamed_writer part.globals) memory.writers
+    writers = get_or-map (λ (x : Memory). x.writers) circuit.memories own memory [] known ∙ ap (λ (x : Memory). x.writers) whole
+
+    below : MemoryBelow (length part.globals) memory
+    below = subst (λ (l : List Memory). MemoryBelow (length part.globals) (get_or l 0 memory)) only (from.below memory)
+
+    abbrev outside : ℕ
+    outside = outside_memory tree listed i
+
+    abbrev from_readers : List Link
+    from_readers = flattened (reader_wires outside (first_memory listed + i)) (readers_at circuit own)
+
+    abbrev from_writers : List Link
+    from_writers = flattened (writer_wires outside (first_memory listed + i)) (writers_at circuit own)
+
+    reader-link : (r : ℕ) (any : Reader) (w : Link) → r < length memory.readers → Contains (reader_wires outside (first_memory listed + i) (renamed_reader part.globals (get_or memory.readers r any))) w → Contains links w
+    reader-link r any w lt h =
+        let rename = renamed_reader part.globals in
+        let inside : r < length (readers_at circuit own) = omega (arith, lt, ap length readers, length-map memory.readers rename) in
+        let at : get_or (readers_at circuit own) r (rename any) ≡ rename (get_or memory.readers r any) = ap (λ (l : List Reader). get_or l r (rename any)) readers ∙ get_or-map rename memory.readers r any (rename any) lt in
+        in-fields circuit tree listed i w there
+        (Contains-append_left from_readers from_writers w
+        (flattened-in (reader_wires outside (first_memory listed + i)) (readers_at circuit own) r (rename any) w inside
+        (subst (λ (x : Reader). Contains (reader_wires outside (first_memory listed + i) x) w) (sym at) h)))
+
+    writer-link : (r : ℕ) (any : Writer) (w : Link) → r < length memory.writers → Contains (writer_wires outside (first_memory listed + i) (renamed_writer part.globals (get_or memory.writers r any))) w → Contains links w
+    writer-link r any w lt h =
+        let rename = renamed_writer part.globals in
+        let inside : r < length (writers_at circuit own) = omega (arith, lt, ap length writers, length-map memory.writers rename) in
+        let at : get_or (writers_at circuit own) r (rename any) ≡ rename (get_or memory.writers r any) = ap (λ (l : List Writer). get_or l r (rename any)) writers ∙ get_or-map rename memory.writers r any (rename any) lt in
+        in-fields circuit tree listed i w there
+        (Contains-append_right from_readers from_writers w
+        (flattened-in (writer_wires outside (first_memory listed + i)) (writers_at circuit own) r (rename any) w inside
+        (subst (λ (x : Writer). Contains (writer_wires outside (first_memory listed + i) x) w) (sym at) h)))
+
+    -- a field that goes to the memory is an in-signal
+    to-part : (s : ℕ) → s < length part.globals → Contains links (wire (value_at part.globals s) outside (first_memory listed + i)) → Contains part.piece.ins s
+    to-part s lt h =
+        in-part s lt (subst (λ k. Takes links k (value_at part.globals s)) number (takes circuit tree listed is.fitting is.scoped apart (value_at part.globals s) outside (first_memory listed + i) h))
+
+    looks : All (ReaderAmong part.piece.ins) memory.readers
+    looks r any lt =
+        let reader = get_or memory.readers r any in
+        let at = below.readers r any lt in (
+          to-part reader.addr at.0 (reader-link r any (wire (value_at part.globals reader.addr) outside (first_memory listed + i)) lt (0, omega arith, refl)),
+          to-part reader.en at.1 (reader-link r any (wire (value_at part.globals reader.en) outside (first_memory listed + i)) lt (1, omega arith, refl)),
+        )
+
+    writes : All (WriterAmong part.piece.ins) memory.writers
+    writes r any lt =
+        let writer = get_or memory.writers r any in
+        let at = below.writers r any lt in (
+          to-part writer.addr at.0 (writer-link r any (wire (value_at part.globals writer.addr) outside (first_memory listed + i)) lt (0, omega arith, refl)),
+          to-part writer.en at.1 (writer-link r any (wire (value_at part.globals writer.en) outside (first_memory listed + i)) lt (1, omega arith, refl)),
+          to-part writer.word at.2 (writer-link r any (wire (value_at part.globals writer.word) outside (first_memory listed + i)) lt (2, omega arith, refl)),
+          to-part writer.mask at.3 (writer-link r any (wire (value_at part.globals writer.mask) outside (first_memory listed + i)) lt (3, omega arith, refl)),
+        )
+
+    words : part.piece.outs ≡ map (λ (reader : Reader). reader.word) memory.readers
+    words =
+        words-back part.globals cut.is.once part.piece.outs memory.readers cut.is.outs below.readers
+        (cut.outs ∙ memory-gives circuit tree listed m i there number ∙ ap (map (λ (reader : Reader). reader.word)) readers)
+
+    few : AreFew circuit tree listed → length memory.readers + length memory.writers < 2 ^ 32
+    few are =
+        let channels = are.channels in
+        let ports = memory-few circuit tree listed m i there number in
+        let reads : length (readers_at circuit own) ≡ length memory.readers = ap length readers ∙ length-map memory.readers (renamed_reader part.globals) in
+        let writes : length (writers_at circuit own) ≡ length memory.writers = ap length writers ∙ length-map memory.writers (renamed_writer part.globals) in
+        omega (arith, channels, ports, reads, writes)
+
+  pub memory-part : AreFew circuit tree listed → (memory : Memory) × IsMemoryPart part memory
+  memory-part are =
+      let found = sole part.piece.memories (cut.is.memory_count ∙ count) in
+      let memory = found.0 in
+      let only = found.1 in (
+        memory,
+        record {
+          count = count;
+          only = only;
+          below = below memory only;
+          looks = looks memory only;
+          writes = writes memory only;
+          words = words memory only;
+          few = few memory only are;
+          sides = sides;
+          ins_once = ins-once;
+          once = once;
+        },
+      )

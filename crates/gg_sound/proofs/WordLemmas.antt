@@ -1,0 +1,186 @@
+-- A listed memory gives the data of its readers, in their order; and its ports are no more than the channels.
+use Rattle.std.proofs.Common.{◌≡◌, ℕ, zero, suc, ◌+◌, ◌<◌, ◌≤◌, List, [], ◌∷◌, ◌++◌, length, map, Bool, true, false, true≢false, eq-eqb, refl, sym, ◌∙◌, ap, ap₂, arith}
+use Rattle.std.specs.Prelude.{filter, cond, ◌==◌, if◌then◌else◌}
+use Rattle.std.proofs.lemmas.Bool.{ne_eqb}
+use Rattle.std.proofs.lemmas.List.{append-nil, length-append}
+use Rattle.std.proofs.lemmas.List.Elements.{filter-append}
+use Rattle.std.proofs.lemmas.Simd.{map-map}
+use Rattle.gg_flat.specs.declared.tree.InstancePort.{InstancePort}
+use Rattle.gg_flat.specs.declared.memory.Reader.{Reader}
+use Rattle.gg_flat.specs.declared.memory.Writer.{Writer}
+use Rattle.gg_flat.specs.Line.{value_at}
+use Rattle.gg_flat.specs.Circuit.{FlatCircuit, readers_at}
+use Rattle.gg_flat.specs.Tree.{InstanceTree, instance_at, memory_at, parent_place}
+use Rattle.gg_flat.specs.Scoped.{writers_at}
+use Rattle.gg_cut.specs.declared.listed.Listed.{Listed}
+use Rattle.gg_cut.specs.declared.wires.Wire.{Wire as Link}
+use Rattle.gg_cut.specs.Listed.{owner_of_instance}
+use Rattle.gg_cut.specs.Channels.{wire, numbered, flattened, first_memory, first_source, first_tray, port_wire, port_wires, reader_wires, writer_wires, field_wires, source_wires, tray_wires, wires_of}
+use Rattle.gg_cut.specs.Plan.{channels_from, signals_of}
+use Rattle.gg_cut.proofs.WireLemmas.{Each, Each-append, Each-numbered, filter-none, signals-from, unit_or_hub-below}
+
+-- ---- lists of links by number
+
+-- of lists by number, where a test passes in one alone
+filter-one : (test : Link → Bool) (f : ℕ → ℕ → List Link) (n : ℕ) (xs : List ℕ) (i : ℕ) → i < length xs → ((k x : ℕ) → (k ≡ n + i → ⊥) → Each (λ w. test w ≡ false) (f k x)) → filter test (numbered f n xs) ≡ filter test (f (n + i) (value_at xs i))
+filter-one test f n [] i lt others = absurd (omega (arith, lt))
+filter-one test f n (x ∷ xs) zero lt others =
+    filter-append test (f n x) (numbered f (suc n) xs)
+    ∙ ap (λ (l : List Link). filter test (f n x) ++ l) (filter-none test (numbered f (suc n) xs) (Each-numbered (λ w. test w ≡ false) f (suc n) xs (λ k y le low. others k y (λ same. omega (arith, same, le)))))
+    ∙ append-nil (filter test (f n x))
+    ∙ ap (λ k. filter test (f k x)) (let same : n ≡ n + 0 = omega arith in same)
+filter-one test f n (x ∷ xs) (suc i) lt others =
+    filter-append test (f n x) (numbered f (suc n) xs)
+    ∙ ap (λ (l : List Link). l ++ filter test (numbered f (suc n) xs)) (filter-none test (f n x) (others n x (λ same. omega (arith, same))))
+    ∙ filter-one test f (suc n) xs i (omega (arith, lt)) (λ k y other. others k y (λ same. other (omega (arith, same))))
+    ∙ ap (λ k. filter test (f k (value_at xs i))) (let same : suc n + i ≡ n + suc i = omega arith in same)
+
+-- one of the lists is no longer than all
+numbered-long : (f : ℕ → ℕ → List Link) (n : ℕ) (xs : List ℕ) (i : ℕ) → i < length xs → length (f (n + i) (value_at xs i)) ≤ length (numbered f n xs)
+numbered-long f n [] i lt = absurd (omega (arith, lt))
+numbered-long f n (x ∷ xs) zero lt =
+    let same : length (f (n + 0) x) ≡ length (f n x) = ap (λ k. length (f k x)) (let zero_more : n + 0 ≡ n = omega arith in zero_more) in
+    omega (arith, same, length-append (f n x) (numbered f (suc n) xs))
+numbered-long f n (x ∷ xs) (suc i) lt =
+    let same : length (f (n + suc i) (value_at xs i)) ≡ length (f (suc n + i) (value_at xs i)) = ap (λ k. length (f k (value_at xs i))) (let one_more : n + suc i ≡ suc n + i = omega arith in one_more) in
+    let rest = numbered-long f (suc n) xs i (omega (arith, lt)) in
+    omega (arith, same, rest, length-append (f n x) (numbered f (suc n) xs))
+
+-- ---- what machine m gives of a memory's channels
+
+module _ (m outside : ℕ) (other : outside ≡ m → ⊥) where
+  -- of three links the machine gives the last alone
+  keep : (b s : Bool) → b ≡ false → s ≡ true → (u v w : Link) (rest : List Link)
+      → cond b (u ∷ cond b (v ∷ cond s (w ∷ rest) rest) (cond s (w ∷ rest) rest)) (cond b (v ∷ cond s (w ∷ rest) rest) (cond s (w ∷ rest) rest)) ≡ w ∷ rest
+  keep true s not is u v w rest = absurd (true≢false not)
+  keep false true not is u v w rest = refl
+  keep false false not is u v w rest = absurd (true≢false (sym is))
+
+  readers-give : (readers : List Reader) → filter (λ w. w.producer == m) (flattened (reader_wires outside m) readers) ≡ map (λ reader. wire reader.word m outside) readers
+  readers-give [] = refl
+  readers-give (reader ∷ readers) =
+      keep (outside == m) (m == m) (ne_eqb outside m other) (eq-eqb m m refl) (wire reader.addr outside m) (wire reader.en outside m) (wire reader.word m outside) (filter (λ w. w.producer == m) (flattened (reader_wires outside m) readers))
+      ∙ ap (λ (l : List Link). wire reader.word m outside ∷ l) (readers-give readers)
+
+  writers-give : (k : ℕ) (writers : List Writer) → Each (λ w. (w.producer == m) ≡ false) (flattened (writer_wires outside k) writers)
+  writers-give k [] = tt
+  writers-give k (writer ∷ writers) =
+      let not = ne_eqb outside m other in
+      Each-append (λ w. (w.producer == m) ≡ false) (writer_wires outside k writer) (flattened (writer_wires outside k) writers) (not, (not, (not, (not, tt)))) (writers-give k writers)
+
+  -- nothing of another memory
+  readers-other : (k : ℕ) → (k ≡ m → ⊥) → (readers : List Reader) → Each (λ w. (w.producer == m) ≡ false) (flattened (reader_wires outside k) readers)
+  readers-other k distinct [] = tt
+  readers-other k distinct (reader ∷ readers) =
+      let not = ne_eqb outside m other in
+      Each-append (λ w. (w.producer == m) ≡ false) (reader_wires outside k reader) (flattened (reader_wires outside k) readers) (not, (not, (ne_eqb k m distinct, tt))) (readers-other k distinct readers)
+
+  -- nothing of a unit
+  port-other : (k : ℕ) → (k ≡ m → ⊥) → (ports : List InstancePort) → Each (λ w. (w.producer == m) ≡ false) (map (port_wire outside k) ports)
+  port-other k distinct [] = tt
+  port-other k distinct (port ∷ ports) = (by port.is_input, port-other k distinct ports)
+    where
+      by : (b : Bool) → ((if b then wire port.signal outside k else wire port.signal k outside).producer == m) ≡ false
+      by true = ne_eqb outside m other
+      by false = ne_eqb k m distinct
+
+-- ---- a listed memory
+
+readers-long : (outside m : ℕ) (readers : List Reader) → length readers ≤ length (flattened (reader_wires outside m) readers)
+readers-long outside m [] = omega arith
+readers-long outside m (reader ∷ readers) = let rest = readers-long outside m readers in omega (arith, rest)
+
+writers-long : (outside m : ℕ) (writers : List Writer) → length writers ≤ length (flattened (writer_wires outside m) writers)
+writers-long outside m [] = omega arith
+writers-long outside m (writer ∷ writers) = let rest = writers-long outside m writers in omega (arith, rest)
+
+module _ (circuit : FlatCircuit) (tree : InstanceTree) (listed : Listed) (m i : ℕ) (lt : i < length listed.memories) (is : first_memory listed + i ≡ m) where
+  abbrev own : ℕ
+  own = (memory_at tree (value_at listed.memories i)).memory
+
+  below : (k : ℕ) → owner_of_instance tree listed.units k ≡ m → ⊥
+  below k same = let low = unit_or_hub-below tree listed.units k in omega (arith, low, same, is)
+
+  abbrev sources : List Link
+  sources = numbered source_wires (first_source listed) circuit.ins
+
+  abbrev ports : List Link
+  ports = numbered (port_wires tree listed.units) 1 listed.units
+
+  abbrev fields : List Link
+  fields = numbered (field_wires circuit tree listed.units) (first_memory listed) listed.memories
+
+  abbrev trays : List Link
+  trays = numbered tray_wires (first_tray circuit listed) circuit.outs
+
+  abbrev gives : Link → Bool
+  gives w = w.producer == m
+
+  no-source : filter gives sources ≡ []
+  no-source = filter-none gives sources (Each-numbered (λ w. gives w ≡ false) source_wires (first_source listed) circuit.ins (λ k s le high. (ne_eqb k m (λ same. omega (arith, same, le, is, lt)), tt)))
+
+  no-port : filter gives ports ≡ []
+  no-port =
+      filter-none gives ports (Each-numbered (λ w. gives w ≡ false) (port_wires tree listed.units) 1 listed.units (λ k unit le high.
+      port-other m (owner_of_instance tree listed.units (parent_place (instance_at tree unit).parent)) (below (parent_place (instance_at tree unit).parent)) k (λ same. omega (arith, same, high, is)) (instance_at tree unit).ports))
+
+  no-tray : filter gives trays ≡ []
+  no-tray = filter-none gives trays (Each-numbered (λ w. gives w ≡ false) tray_wires (first_tray circuit listed) circuit.outs (λ k s le high. (ne_eqb 0 m (λ same. omega (arith, same, is)), tt)))
+
+  other-memory : (k j : ℕ) → (k ≡ first_memory listed + i → ⊥) → Each (λ w. gives w ≡ false) (field_wires circuit tree listed.units k j)
+  other-memory k j distinct =
+      let outside = owner_of_instance tree listed.units (memory_at tree j).instance in
+      let another : k ≡ m → ⊥ = λ same. distinct (omega (arith, same, is)) in
+      Each-append (λ w. gives w ≡ false) (flattened (reader_wires outside k) (readers_at circuit (memory_at tree j).memory)) (flattened (writer_wires outside k) (writers_at circuit (memory_at tree j).memory))
+      (readers-other m outside (below (memory_at tree j).instance) k another (readers_at circuit (memory_at tree j).memory))
+      (writers-give m outside (below (memory_at tree j).instance) k (writers_at circuit (memory_at tree j).memory))
+
+  abbrev outer : ℕ
+  outer = owner_of_instance tree listed.units (memory_at tree (value_at listed.memories i)).instance
+
+  own-words : filter gives (field_wires circuit tree listed.units m (value_at listed.memories i)) ≡ map (λ reader. wire reader.word m outer) (readers_at circuit own)
+  own-words =
+      let apart = below (memory_at tree (value_at listed.memories i)).instance in
+      let from_readers = flattened (reader_wires outer m) (readers_at circuit own) in
+      let from_writers = flattened (writer_wires outer m) (writers_at circuit own) in
+      filter-append gives from_readers from_writers
+      ∙ ap (λ (l : List Link). filter gives from_readers ++ l) (filter-none gives from_writers (writers-give m outer apart m (writers_at circuit own)))
+      ∙ append-nil (filter gives from_readers)
+      ∙ readers-give m outer apart (readers_at circuit own)
+
+  -- the signals of the channels that the memory gives
+  pub memory-gives : signals_of (wires_of circuit tree listed) (channels_from (wires_of circuit tree listed) m) ≡ map (λ (reader : Reader). reader.word) (readers_at circuit own)
+  memory-gives =
+      let words = map (λ (reader : Reader). wire reader.word m outer) (readers_at circuit own) in
+      signals-from (wires_of circuit tree listed) m
+      ∙ ap (map (λ (w : Link). w.signal))
+      (filter-append gives sources (ports ++ (fields ++ trays))
+      ∙ ap₂ (λ (xs ys : List Link). xs ++ ys) no-source
+      (filter-append gives ports (fields ++ trays)
+      ∙ ap₂ (λ (xs ys : List Link). xs ++ ys) no-port
+      (filter-append gives fields trays
+      ∙ ap₂ (λ (xs ys : List Link). xs ++ ys)
+      (filter-one gives (field_wires circuit tree listed.units) (first_memory listed) listed.memories i lt other-memory
+      ∙ ap (λ k. filter gives (field_wires circuit tree listed.units k (value_at listed.memories i))) is
+      ∙ own-words)
+      no-tray
+      ∙ append-nil words)))
+      ∙ map-map (λ (w : Link). w.signal) (λ (reader : Reader). wire reader.word m outer) (readers_at circuit own)
+
+  -- its ports are no more than all channels
+  pub memory-few : length (readers_at circuit own) + length (writers_at circuit own) ≤ length (wires_of circuit tree listed)
+  memory-few =
+      let number = first_memory listed + i in
+      let from_readers = flattened (reader_wires outer number) (readers_at circuit own) in
+      let from_writers = flattened (writer_wires outer number) (writers_at circuit own) in
+      let one = numbered-long (field_wires circuit tree listed.units) (first_memory listed) listed.memories i lt in
+      omega (
+        arith,
+        one,
+        readers-long outer number (readers_at circuit own),
+        writers-long outer number (writers_at circuit own),
+        length-append from_readers from_writers,
+        length-append fields trays,
+        length-append ports (fields ++ trays),
+        length-append sources (ports ++ (fields ++ trays)),
+      )

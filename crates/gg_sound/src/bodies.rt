@@ -1,0 +1,23 @@
+//! Laws: what a plan's units and sources are, so that they can be built.
+ghost use Rattle.std.specs.Prelude.{◌≡◌, ℕ, ◌<◌, List, length};
+ghost use Rattle.gg_flat.specs.Line.{value_at};
+ghost use Rattle.gg_flat.specs.WellFormed.{IsWellFormed};
+ghost use Rattle.gg_order.specs.Design.{Ordered};
+ghost use Rattle.gg_partfile.specs.declared.request.Request.{Request};
+ghost use Rattle.gg_part.specs.InOrder.{IsInOrder};
+ghost use Rattle.gg_part.specs.declared.part.Part.{Part};
+ghost use Rattle.gg_cut.specs.declared.plan.Body.TheVariants.{Cut, Source};
+ghost use Rattle.gg_cut.specs.declared.plan.Plan.{Plan};
+ghost use Rattle.gg_sound.specs.Built.{IsGiven, machine_in};
+
+/// The part of a unit is well formed, and its signals are in an order of evaluation.
+pub fn unit_is_ordered()
+    ensures formed { (design : Ordered) (request : Request) (default : ℕ) (plan : Plan) (columns : List (List ℕ)) (n : ℕ) (rows : List (List ℕ)) → IsGiven design request default plan columns n rows → (m : ℕ) (part : Part) → m < length plan.machines → (machine_in plan m).body ≡ Cut part → IsWellFormed part.piece }
+    ensures ordered { (design : Ordered) (request : Request) (default : ℕ) (plan : Plan) (columns : List (List ℕ)) (n : ℕ) (rows : List (List ℕ)) → IsGiven design request default plan columns n rows → (m : ℕ) (part : Part) → m < length plan.machines → (machine_in plan m).body ≡ Cut part → IsInOrder part.piece }
+{}
+
+/// A source gives one channel, whose number is that of one of the columns.
+pub fn source_has_column()
+    ensures one { (design : Ordered) (request : Request) (default : ℕ) (plan : Plan) (columns : List (List ℕ)) (n : ℕ) (rows : List (List ℕ)) → IsGiven design request default plan columns n rows → (m : ℕ) → m < length plan.machines → (machine_in plan m).body ≡ Source → length (machine_in plan m).outs ≡ 1 }
+    ensures known { (design : Ordered) (request : Request) (default : ℕ) (plan : Plan) (columns : List (List ℕ)) (n : ℕ) (rows : List (List ℕ)) → IsGiven design request default plan columns n rows → (m : ℕ) → m < length plan.machines → (machine_in plan m).body ≡ Source → value_at (machine_in plan m).outs 0 < length columns }
+{}
