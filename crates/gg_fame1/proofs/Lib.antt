@@ -1,4 +1,3 @@
 pub mod UnitLemmas
 pub mod WorkedPair
 pub mod WorkedMemories
-pub mod FixtureLemmas

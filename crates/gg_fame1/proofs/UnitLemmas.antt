@@ -1,17 +1,22 @@
 -- The tokens of a unit, and what it becomes in a cycle.
-use Rattle.std.proofs.Common.{◌≡◌, ℕ, zero, suc, ◌<◌, List, [], ◌∷◌, Option, None, Some, Bool, length, refl, sym, ap, subst, ◌∙◌, arith}
+use Rattle.std.proofs.Common.{◌≡◌, ◌↔◌, ◌⊎◌, ℕ, zero, suc, ◌<◌, List, [], ◌∷◌, Option, None, Some, Bool, true, false, true≢false, nat_eq, length, replicate, refl, sym, ap, subst, ◌∙◌, inl, inr, arith}
 use Rattle.std.specs.Prelude.{All, Contains, IsSome, slice_index_or, slice_set}
-use Rattle.std.proofs.lemmas.List.{length-map, length-set}
+use Rattle.std.proofs.lemmas.Bool.Decides.{Decides-eqb}
+use Rattle.std.proofs.lemmas.List.{get_or-set_same, get_or-set_other, length-map, length-replicate, length-set}
 use Rattle.gg_flat.specs.Line.{shape_at, value_at}
 use Rattle.gg_flat.specs.Circuit.{FlatCircuit, signal_shapes}
 use Rattle.gg_flat.specs.WellFormed.{IsWellFormed}
-use Rattle.gg_flat.specs.State.{State, next_state}
+use Rattle.gg_flat.specs.State.{State, IsState, next_state}
 use Rattle.gg_flat.specs.Settled.{Settled, driver_value}
 use Rattle.gg_node.specs.Machine.{RunsPiece, latch_at, latched_value, latched_values, first_empty, empty_or, needs_at}
 use Rattle.gg_node.specs.Token.{IsTokenOf, IsNextOf}
 use Rattle.gg_program.specs.ConeValue.{IsConeValue}
-use Rattle.gg_program.specs.Programmed.{Programmed, AreNeedsOfOuts}
-use Rattle.gg_program.specs.Slots.{inputs_in, AreSlots}
+use Rattle.gg_needs.specs.Needs.{AreNeedsOfOuts}
+use Rattle.gg_program.specs.Programmed.{Programmed}
+use Rattle.gg_program.specs.Slots.{Slotted, NoneDone, HasInput, HasInputs, HasNeeded, with_input, DoneWith, inputs_in}
+use Rattle.gg_program.specs.Right.{InCycle}
+use Rattle.gg_program.proofs.SearchLemmas.{mark-more, mark-cases}
+use Rattle.gg_program.proofs.RightLemmas.{ins-once}
 use Rattle.gg_fame1.specs.Unit.{unit_machine, HaveTokens, IsOfPiece}
 
 -- ---- latches
@@ -83,27 +88,105 @@ next-is program cycle state next latches flags held row once same all have is si
 
 -- ---- what a unit holds
 
+-- an empty latch holds nothing
+none-some : (latch : Option ℕ) → latch ≡ None → ¬ IsSome latch
+none-some latch is some = true≢false (sym (subst (λ (l : Option ℕ). IsSome l) is some))
+
+-- a new token in one latch
+latched-at : (latches : List (Option ℕ)) (place token i : ℕ) → place < length latches → IsSome (latch_at (slice_set latches place (Some token)) i) ↔ (IsSome (latch_at latches i) ⊎ (place ≡ i))
+latched-at latches place token i below = (to, from)
+  where
+    to : IsSome (latch_at (slice_set latches place (Some token)) i) → IsSome (latch_at latches i) ⊎ (place ≡ i)
+    to some = by (nat_eq i place) refl
+      where
+        by : (b : Bool) → nat_eq i place ≡ b → IsSome (latch_at latches i) ⊎ (place ≡ i)
+        by true e = inr (sym ((Decides-eqb i place).0 e))
+        by false e = inl (subst (λ (l : Option ℕ). IsSome l) (get_or-set_other latches place i (Some token) None (λ same. true≢false (sym ((Decides-eqb i place).1 same) ∙ e))) some)
+
+    itself : (i : ℕ) → place ≡ i → IsSome (latch_at (slice_set latches place (Some token)) i)
+    itself i same = subst (λ (x : ℕ). IsSome (latch_at (slice_set latches place (Some token)) x)) same (subst (λ (l : Option ℕ). IsSome l) (sym (get_or-set_same latches place (Some token) None below)) refl)
+
+    from : IsSome (latch_at latches i) ⊎ (place ≡ i) → IsSome (latch_at (slice_set latches place (Some token)) i)
+    from (inr same) = itself i same
+    from (inl some) = by (nat_eq i place) refl
+      where
+        by : (b : Bool) → nat_eq i place ≡ b → IsSome (latch_at (slice_set latches place (Some token)) i)
+        by true e = itself i (sym ((Decides-eqb i place).0 e))
+        by false e = subst (λ (l : Option ℕ). IsSome l) (sym (get_or-set_other latches place i (Some token) None (λ same. true≢false (sym ((Decides-eqb i place).1 same) ∙ e)))) some
+
 -- after a token was put into the latch of an in
-pub kept-latched : (piece : FlatCircuit) (state : State) (slots given after : List ℕ) (latches : List (Option ℕ)) (flags : List Bool) (place token : ℕ) → IsOfPiece piece state slots latches flags → given ≡ slots → place < length latches
-    → AreSlots piece after → inputs_in piece after ≡ slice_set (inputs_in piece given) place token → IsOfPiece piece state after (slice_set latches place (Some token)) flags
-kept-latched piece state slots given after latches flags place token kept same below are put =
+pub kept-latched : (piece : FlatCircuit) (state : State) (slots after : Slotted) (latches : List (Option ℕ)) (flags : List Bool) (place token : ℕ) → IsWellFormed piece → IsOfPiece piece state slots latches flags → place < length latches
+    → after ≡ with_input piece slots place token → InCycle piece state after → inputs_in piece after.values ≡ slice_set (inputs_in piece slots.values) place token → IsOfPiece piece state after (slice_set latches place (Some token)) flags
+kept-latched piece state slots after latches flags place token formed kept below put cycle inputs =
     record {
       typed = kept.typed;
-      held = are;
+      cycle = cycle;
       ins = length-set latches place (Some token) ∙ kept.ins;
       outs = kept.outs;
+      put = λ i within. (to i within, from i within);
       tokens =
-          subst (HaveTokens (slice_set latches place (Some token))) (sym (put ∙ ap (λ given. slice_set (inputs_in piece given) place token) same))
-          (tokens-latched latches (inputs_in piece slots) place token (kept.ins ∙ sym (length-map piece.ins (λ s. value_at slots s))) below kept.tokens);
+          subst (HaveTokens (slice_set latches place (Some token))) (sym inputs)
+          (tokens-latched latches (inputs_in piece slots.values) place token (kept.ins ∙ sym (length-map piece.ins (λ s. value_at slots.values s))) below kept.tokens);
     }
+  where
+    there : place < length piece.ins
+    there = omega (arith, below, kept.ins)
 
--- after the inputs were only read
-pub kept-read : (piece : FlatCircuit) (state : State) (slots given after : List ℕ) (latches : List (Option ℕ)) (flags : List Bool) → IsOfPiece piece state slots latches flags → given ≡ slots → AreSlots piece after → inputs_in piece after ≡ inputs_in piece given → IsOfPiece piece state after latches flags
-kept-read piece state slots given after latches flags kept same are read =
+    marked : value_at piece.ins place < length slots.done
+    marked = omega (arith, (formed.ins place there).0, kept.cycle.held.count)
+
+    to : (i : ℕ) → i < length piece.ins → HasInput piece after i → IsSome (latch_at (slice_set latches place (Some token)) i)
+    to i within has = elim (mark-cases slots.done (value_at piece.ins place) (value_at piece.ins i) (subst (λ (s : Slotted). HasInput piece s i) put has)) [
+      | inl old ↦ (latched-at latches place token i below).1 (inl ((kept.put i within).0 old))
+      | inr same ↦ (latched-at latches place token i below).1 (inr (ins-once piece place i formed there within same))
+    ]
+
+    from : (i : ℕ) → i < length piece.ins → IsSome (latch_at (slice_set latches place (Some token)) i) → HasInput piece after i
+    from i within some = subst (λ (s : Slotted). HasInput piece s i) (sym put) (elim ((latched-at latches place token i below).0 some) [
+      | inl old ↦ mark-more slots.done (value_at piece.ins place) (value_at piece.ins i) marked ((kept.put i within).1 old)
+      | inr same ↦ subst (λ (x : ℕ). HasInput piece (with_input piece slots place token) x) same (get_or-set_same slots.done (value_at piece.ins place) true false marked)
+    ])
+
+-- the needed inputs were put
+pub needed-put : (program : Programmed) (state : State) (slots : Slotted) (latches : List (Option ℕ)) (flags : List Bool) (out : ℕ) → AreNeedsOfOuts program.circuit program.needs → out < length program.circuit.outs → IsOfPiece program.circuit state slots latches flags
+    → first_empty latches (needs_at program.needs out) ≡ None → HasNeeded program.circuit slots (value_at program.circuit.outs out)
+needed-put program state slots latches flags out needs below kept none place within reaches =
+    let has : Contains (needs_at program.needs out) place = ((needs.each out below).exact place).1 (within, reaches) in
+    let token : latch_at latches place ≡ Some (latched_value (latch_at latches place)) = subst (λ i. latch_at latches i ≡ Some (latched_value (latch_at latches i))) has.2 (has-token latches (needs_at program.needs out) none has.0 place has.1) in
+    (kept.put place within).1 (subst (λ (l : Option ℕ). IsSome l) (sym token) refl)
+
+-- after what an out-signal reaches was worked out
+pub kept-read : (piece : FlatCircuit) (state : State) (slots after : Slotted) (latches : List (Option ℕ)) (flags : List Bool) (out : ℕ) → IsOfPiece piece state slots latches flags → HasNeeded piece slots out → DoneWith piece out slots after → InCycle piece state after → inputs_in piece after.values ≡ inputs_in piece slots.values → IsOfPiece piece state after latches flags
+kept-read piece state slots after latches flags out kept needed done cycle same =
     record {
       typed = kept.typed;
-      held = are;
+      cycle = cycle;
       ins = kept.ins;
       outs = kept.outs;
-      tokens = subst (HaveTokens latches) (sym (read ∙ ap (inputs_in piece) same)) kept.tokens;
+      put = λ i within. (
+        λ has. elim ((done (value_at piece.ins i)).0 has) [ inl old ↦ (kept.put i within).0 old | inr reaches ↦ (kept.put i within).0 (needed i within reaches) ],
+        λ some. (done (value_at piece.ins i)).1 (inl ((kept.put i within).1 some)),
+      );
+      tokens = subst (HaveTokens latches) (sym same) kept.tokens;
     }
+
+-- all inputs were put
+pub all-put : (piece : FlatCircuit) (state : State) (slots : Slotted) (latches : List (Option ℕ)) (flags : List Bool) → IsOfPiece piece state slots latches flags → All (λ latch. IsSome latch) latches → HasInputs piece slots
+all-put piece state slots latches flags kept all place within = (kept.put place within).1 (all place None (omega (arith, within, kept.ins)))
+
+-- where nothing is done and all latches are empty
+pub kept-empty : (piece : FlatCircuit) (state : State) (slots : Slotted) (n : ℕ) (flags : List Bool) → IsState piece state → InCycle piece state slots → NoneDone slots → n ≡ length piece.ins → length flags ≡ length piece.outs → IsOfPiece piece state slots (replicate n None) flags
+kept-empty piece state slots n flags typed cycle none count outs =
+    record {
+      typed = typed;
+      cycle = cycle;
+      ins = length-replicate n None ∙ count;
+      outs = outs;
+      put = λ i within. (λ has. absurd (none (value_at piece.ins i) has), λ some. absurd (none-some (latch_at (replicate n None) i) (empty-at n i) some));
+      tokens = λ i value is. absurd (none-is-no-some value (sym is ∙ empty-at n i));
+    }
+  where
+    empty-at : (n i : ℕ) → latch_at (replicate n None) i ≡ None
+    empty-at zero i = refl
+    empty-at (suc n) zero = refl
+    empty-at (suc n) (suc i) = empty-at n i

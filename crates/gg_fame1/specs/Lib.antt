@@ -1,2 +1,1 @@
 pub mod Unit
-pub mod Fixture

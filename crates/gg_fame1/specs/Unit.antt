@@ -1,13 +1,14 @@
 -- A dataflow unit: a piece of a cut circuit as a machine of its own.
 -- Source: MEMOCODE 2009 (a node with a latch for each input and a flag for each output); ICCAD 2019 (units of a target that
 -- advance when their tokens allow it).
-use Rattle.std.specs.Prelude.{◌≡◌, ℕ, List, [], Option, Some, None, Bool, false, length, replicate}
+use Rattle.std.specs.Prelude.{◌≡◌, ◌↔◌, ℕ, ◌<◌, List, [], Option, Some, None, Bool, false, IsSome, length, replicate}
 use Rattle.gg_flat.specs.Line.{value_at}
 use Rattle.gg_flat.specs.Circuit.{FlatCircuit}
 use Rattle.gg_flat.specs.State.{State, IsState, opening}
 use Rattle.gg_node.specs.Machine.{RunsPiece, Machine, latch_at, cycle_limit}
 use Rattle.gg_program.specs.Programmed.{Programmed}
-use Rattle.gg_program.specs.Slots.{inputs_in, AreSlots}
+use Rattle.gg_program.specs.Slots.{Slotted, HasInput, inputs_in}
+use Rattle.gg_program.specs.Right.{InCycle}
 
 -- The machine of a program: it runs the piece, each out needs what the program says, and no port is served, since the
 -- piece's memories are inside.
@@ -35,11 +36,16 @@ opening_unit program =
 abbrev pub HaveTokens : List (Option ℕ) → List ℕ → Type 0
 HaveTokens latches inputs = (i value : ℕ) → latch_at latches i ≡ Some value → value_at inputs i ≡ value
 
--- What a unit holds is of its piece: its state, its slots, a latch for each in-signal and a flag for each out-signal; and
--- the tokens in the latches stand in the slots of their in-signals.
-pub record IsOfPiece (piece : FlatCircuit) (state : State) (slots : List ℕ) (latches : List (Option ℕ)) (flags : List Bool) : Type 0 where
+-- just the inputs whose latches hold a token were put
+abbrev pub ArePut : FlatCircuit → Slotted → List (Option ℕ) → Type 0
+ArePut piece slots latches = (i : ℕ) → i < length piece.ins → HasInput piece slots i ↔ IsSome (latch_at latches i)
+
+-- What a unit holds is of its piece: its state, slots in a cycle that begins in this state, a latch for each in-signal and a
+-- flag for each out-signal; and the inputs that were put are the tokens in the latches.
+pub record IsOfPiece (piece : FlatCircuit) (state : State) (slots : Slotted) (latches : List (Option ℕ)) (flags : List Bool) : Type 0 where
   pub typed : IsState piece state
-  pub held : AreSlots piece slots
+  pub cycle : InCycle piece state slots
   pub ins : length latches ≡ length piece.ins
   pub outs : length flags ≡ length piece.outs
-  pub tokens : HaveTokens latches (inputs_in piece slots)
+  pub put : ArePut piece slots latches
+  pub tokens : HaveTokens latches (inputs_in piece slots.values)

@@ -1,5 +1,5 @@
 //! `Unit`: a piece of a cut circuit as a machine of its own.
-ghost use Rattle.std.specs.Prelude.{◌≡◌, ℕ, ◌<◌, List, [], ◌∷◌, All, length, is_some, slice_set, IfOk};
+ghost use Rattle.std.specs.Prelude.{◌≡◌, ℕ, ◌<◌, List, [], ◌∷◌, All, None, false, length, replicate, is_some, slice_set, IfOk};
 ghost use Rattle.gg_node.specs.Machine.{Machine, machine_at, latch_at, flag_at, first_empty, missing, due};
 ghost use Rattle.gg_node.specs.Token.{IsToken, IsNextState};
 ghost use Rattle.gg_node.specs.Step.{MayLatch, MayFire, MayServe, MayFinish, with_latch, with_flag, with_served, finished};
@@ -7,8 +7,8 @@ ghost use Rattle.gg_fame1.specs.Unit.{opening_unit};
 
 use gg_flat::{State, settled_once};
 use gg_node::Host;
-use gg_program::{NoMemory, Program};
-use std::alloc::Global;
+use gg_program::{NoMemory, Program, Slots};
+use std::alloc::{AllocError, Global};
 use std::marker::Model;
 
 /// A piece of a cut circuit as a machine of its own. It is a host of one thread. Its ins are the piece's in-signals, its
@@ -17,8 +17,8 @@ use std::marker::Model;
 pub struct Unit<'a> {
     program: Program<'a>,
     state: State,
-    // The token of an in stands in the slot of its signal, too.
-    slots: Vec<u128>,
+    // The token of an in stands in the place of its in-signal, too.
+    slots: Slots,
     latches: Vec<Option<u128>>,
     flags: Vec<bool>,
     cycle: u64,
@@ -32,7 +32,21 @@ impl<'a> Model for Unit<'a> {
 
     ghost view = { λ unit. unit_machine unit.program unit.cycle unit.state unit.latches.items unit.flags.items };
 
-    ghost invariant = { λ unit. IsOfPiece unit.program.circuit unit.state unit.slots.items unit.latches.items unit.flags.items };
+    ghost invariant = { λ unit. IsOfPiece unit.program.circuit unit.state unit.slots unit.latches.items unit.flags.items };
+}
+
+// So many empty latches.
+fn empty_latches(alloc: Global, count: usize) -> Result<Vec<Option<u128>>, AllocError>
+    ensures { IfOk result (λ latches. latches.items ≡ replicate count None) }
+{
+    vec![in alloc; None; count]
+}
+
+// So many clear flags.
+fn clear_flags(alloc: Global, count: usize) -> Result<Vec<bool>, AllocError>
+    ensures { IfOk result (λ flags. flags.items ≡ replicate count false) }
+{
+    vec![in alloc; false; count]
 }
 
 // The first of these ins that has no token yet.
@@ -60,8 +74,8 @@ impl<'a> Unit<'a> {
         let piece = program.piece();
         let state = State::new(alloc, piece)?;
         let slots = program.slots(alloc)?;
-        let latches = vec![in alloc; None; piece.ins().len()]?;
-        let flags = vec![in alloc; false; piece.outs().len()]?;
+        let latches = empty_latches(alloc, piece.ins().len())?;
+        let flags = clear_flags(alloc, piece.outs().len())?;
         Ok(Unit {
             program,
             state,
@@ -96,6 +110,8 @@ impl<'a> Unit<'a> {
         requires { MayLatch self.old place token }
         ensures { self.new ≡ with_latch self.old place token }
     {
+        // for what the program says of its circuit
+        let _ = self.program.piece();
         self.program.put(&mut self.slots, place, token);
         self.latches[place as usize] = Some(token);
     }
@@ -106,7 +122,7 @@ impl<'a> Unit<'a> {
         ensures next { IsNextState self.old self.new.state }
         ensures step { self.new ≡ finished self.old self.new.state }
     {
-        // for what the program says of its order
+        // for what the program says of its circuit
         let _ = self.program.piece();
         settled_once();
         self.program.run_next(&mut self.state, &mut self.slots);

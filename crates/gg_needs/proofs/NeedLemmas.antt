@@ -4,9 +4,9 @@ use Rattle.std.proofs.lemmas.List.{get_or_append_left, length-append}
 use Rattle.std.proofs.Math.Seq.{get_or-append_seam}
 use Rattle.gg_flat.specs.Line.{value_at}
 use Rattle.gg_flat.specs.Circuit.{FlatCircuit}
-use Rattle.gg_program.specs.Cone.{AreNeeds}
-use Rattle.gg_program.specs.Programmed.{AreNeedsOfOuts}
-use Rattle.gg_needs.specs.Needs.{AreNeedsSoFar}
+use Rattle.gg_needs.specs.Needs.{AreNeeds}
+use Rattle.gg_needs.specs.Needs.{AreNeedsOfOuts}
+use Rattle.gg_needs.specs.Groups.{AreNeedsSoFar}
 
 pub AreNeedsSoFar-none : (circuit : FlatCircuit) → AreNeedsSoFar circuit []
 AreNeedsSoFar-none circuit = record { within = omega arith; each = λ out lt. absurd (omega arith) }

@@ -11,9 +11,9 @@ use Rattle.gg_flat.specs.Reads.{NamesSignal, Reaches}
 use Rattle.gg_part.specs.InOrder.{IsInOrder}
 use Rattle.gg_part.proofs.AlongLemmas.{IsOrder-numbers}
 use Rattle.gg_order.specs.Marks.{is_marked}
-use Rattle.gg_program.specs.Walk.{IsWalk, ReadsMarked}
-use Rattle.gg_program.proofs.ReachLemmas.{Reaches-itself}
-use Rattle.gg_program.proofs.WalkLemmas.{IsWalk-step, MarksReached-walk, ReadsMarked-driver, ReadsMarked-none}
+use Rattle.gg_needs.specs.Walk.{IsWalk, ReadsMarked}
+use Rattle.gg_needs.proofs.ReachLemmas.{Reaches-itself}
+use Rattle.gg_needs.proofs.ReachedLemmas.{IsWalk-step, MarksReached-walk, ReadsMarked-driver, ReadsMarked-none}
 use Rattle.gg_needs.specs.Marks.{marks_of, Adds}
 use Rattle.gg_needs.specs.Walk.{AreOwn, AreReached, HandsOn}
 use Rattle.gg_needs.proofs.AddLemmas.{bit-marked, bit-unmarked, bit-cases}

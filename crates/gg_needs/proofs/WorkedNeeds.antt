@@ -7,12 +7,12 @@ use Rattle.gg_flat.specs.Line.{value_at}
 use Rattle.gg_flat.specs.Reads.{Reaches}
 use Rattle.gg_flat.proofs.WorkedForms.{both, same}
 use Rattle.gg_order.specs.Marks.{is_marked}
-use Rattle.gg_program.specs.Cone.{AreNeeds}
-use Rattle.gg_program.specs.Programmed.{AreNeedsOfOuts}
-use Rattle.gg_program.specs.Walk.{IsClosed, MarksReached}
-use Rattle.gg_program.proofs.PickLemmas.{AreNeeds-marked, AreMarkedIns-none, AreMarkedIns-skip, AreMarkedIns-push}
-use Rattle.gg_program.proofs.ReachLemmas.{along-reaches}
-use Rattle.gg_program.proofs.WorkedUnits.{unit}
+use Rattle.gg_needs.specs.Needs.{AreNeeds}
+use Rattle.gg_needs.specs.Needs.{AreNeedsOfOuts}
+use Rattle.gg_needs.specs.Walk.{IsClosed, MarksReached}
+use Rattle.gg_needs.proofs.MarkedInLemmas.{AreNeeds-marked, AreMarkedIns-none, AreMarkedIns-skip, AreMarkedIns-push}
+use Rattle.gg_needs.proofs.ReachLemmas.{along-reaches}
+use Rattle.gg_needs.proofs.WorkedUnits.{unit}
 use Rattle.gg_needs.specs.Marks.{marks_of}
 use Rattle.gg_needs.specs.Walk.{AreReached}
 

@@ -1,3 +1,4 @@
+pub mod Needs
+pub mod Groups
 pub mod Marks
 pub mod Walk
-pub mod Needs

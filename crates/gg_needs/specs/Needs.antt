@@ -1,18 +1,17 @@
--- Needs of the out-signals, group by group.
--- Source: MEMOCODE 2009 (an output is ready when the inputs that it depends on are there).
-use Rattle.std.specs.Prelude.{◌≡◌, ℕ, ◌+◌, ◌<◌, ◌≤◌, List, [], length, slice_index_or}
+-- The inputs that an out-signal needs: those that its value depends on in a cycle.
+-- Source: FIRRTL Specification, "Combinational Loops" (dependency without a register), and "Memories" for reads of latency
+-- 0; MEMOCODE 2009 for an output that needs just the inputs that it depends on.
+use Rattle.std.specs.Prelude.{◌≡◌, ℕ, ◌<◌, ◌↔◌, List, [], length, slice_index_or, Contains, AllPairs}
 use Rattle.gg_flat.specs.Line.{value_at}
 use Rattle.gg_flat.specs.Circuit.{FlatCircuit}
-use Rattle.gg_program.specs.Cone.{AreNeeds}
+use Rattle.gg_flat.specs.Reads.{Reaches}
 
--- some out-signals from a place on, 128 at most
-pub record IsGroup (outs : List ℕ) (first : ℕ) (group : List ℕ) : Type 0 where
-  pub some : 0 < length group
-  pub most : length group ≤ 128
-  pub within : first + length group ≤ length outs
-  pub each : (place : ℕ) → place < length group → value_at group place ≡ value_at outs (first + place)
+-- What a signal needs: the places, ascending, of just the in-signals that it reaches.
+pub record AreNeeds (circuit : FlatCircuit) (out : ℕ) (needs : List ℕ) : Type 0 where
+  pub ascending : AllPairs (λ a b. a < b) needs
+  pub exact : (place : ℕ) → Contains needs place ↔ ((place < length circuit.ins) × Reaches circuit out (value_at circuit.ins place))
 
--- the lists are what the first out-signals need
-pub record AreNeedsSoFar (circuit : FlatCircuit) (needs : List (List ℕ)) : Type 0 where
-  pub within : length needs ≤ length circuit.outs
-  pub each : (out : ℕ) → out < length needs → AreNeeds circuit (value_at circuit.outs out) (slice_index_or needs out [])
+-- the lists are what the out-signals need, in port order
+pub record AreNeedsOfOuts (circuit : FlatCircuit) (needs : List (List ℕ)) : Type 0 where
+  pub count : length needs ≡ length circuit.outs
+  pub each : (out : ℕ) → out < length circuit.outs → AreNeeds circuit (value_at circuit.outs out) (slice_index_or needs out [])

@@ -1,6 +1,6 @@
 //! Groups of out-signals.
 ghost use Rattle.std.specs.Prelude.{◌≡◌, ◌<◌, length};
-ghost use Rattle.gg_needs.specs.Needs.{IsGroup};
+ghost use Rattle.gg_needs.specs.Groups.{IsGroup};
 
 use crate::marks::MOST;
 

@@ -1,7 +1,7 @@
 //! Needs: the in-signals that each out-signal of a piece depends on in a cycle.
 //!
-//! An out-signal needs an in-signal where a path of reads leads from the one to the other (`AreNeeds` of gg_program's
-//! `specs/Cone`). The crate promises:
+//! An out-signal needs an in-signal where a path of reads leads from the one to the other (`AreNeeds`, in specs/Needs). The crate
+//! promises:
 //!
 //! - `needs_of` gives for each out-signal, in port order, the places of just the in-signals that it needs, ascending.
 //!

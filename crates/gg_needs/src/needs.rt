@@ -4,10 +4,10 @@ ghost use Rattle.gg_flat.specs.declared.piece.Driver.TheVariants.{Input};
 ghost use Rattle.gg_flat.specs.Circuit.{driver_at};
 ghost use Rattle.gg_flat.specs.WellFormed.{IsWellFormed};
 ghost use Rattle.gg_part.specs.InOrder.{IsInOrder};
-ghost use Rattle.gg_program.specs.Programmed.{AreNeedsOfOuts};
-ghost use Rattle.gg_program.specs.Walk.{AreMarkedIns};
+ghost use Rattle.gg_needs.specs.Needs.{AreNeedsOfOuts};
+ghost use Rattle.gg_needs.specs.Walk.{AreMarkedIns};
 ghost use Rattle.gg_needs.specs.Marks.{marks_of};
-ghost use Rattle.gg_needs.specs.Needs.{AreNeedsSoFar};
+ghost use Rattle.gg_needs.specs.Groups.{AreNeedsSoFar};
 
 use crate::groups::group_from;
 use crate::marks::has_mark;

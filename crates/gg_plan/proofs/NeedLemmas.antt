@@ -8,8 +8,8 @@ use Rattle.std.proofs.lemmas.List.FromFn.{length-range_with_len, get_or-range_wi
 use Rattle.std.proofs.lemmas.List.Kept.{AllPairs-filter}
 use Rattle.gg_flat.specs.Line.{value_at}
 use Rattle.gg_closed.proofs.ListLemmas.{Contains-filter, filter-cases, one-place}
-use Rattle.gg_program.specs.Cone.{AreNeeds}
-use Rattle.gg_program.specs.Programmed.{AreNeedsOfOuts}
+use Rattle.gg_needs.specs.Needs.{AreNeeds}
+use Rattle.gg_needs.specs.Needs.{AreNeedsOfOuts}
 use Rattle.gg_part.specs.declared.part.Part.{Part}
 use Rattle.gg_cut.specs.declared.plan.Body.{Body}
 use Rattle.gg_cut.specs.declared.plan.Body.TheVariants.{Cut, Memory}

@@ -15,7 +15,7 @@ use Rattle.gg_flat.specs.Line.{value_at, shape_at}
 use Rattle.gg_flat.specs.Circuit.{FlatCircuit, driver_at, signal_shapes}
 use Rattle.gg_flat.specs.Tree.{InstanceTree, path_at}
 use Rattle.gg_flat.specs.Reads.{Names, NamesSignal, Reads, Reaches}
-use Rattle.gg_program.proofs.ReachLemmas.{Reaches-on, along-reaches}
+use Rattle.gg_needs.proofs.ReachLemmas.{Reaches-on, along-reaches}
 use Rattle.gg_order.specs.Marks.{is_marked}
 use Rattle.gg_order.specs.Design.{Ordered}
 use Rattle.gg_part.specs.Part.{NamesBelow, IsPart, IsFrom, IsRegisterFrom, IsMemoryFrom}

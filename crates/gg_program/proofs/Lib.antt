@@ -1,8 +1,7 @@
-pub mod ReachLemmas
-pub mod WalkLemmas
-pub mod PickLemmas
-pub mod StepLemmas
-pub mod SlotLemmas
+pub mod SearchLemmas
+pub mod GatherLemmas
+pub mod RightLemmas
+pub mod EvaluateLemmas
+pub mod CycleLemmas
+pub mod ConeLemmas
 pub mod LawLemmas
-pub mod SeenLemmas
-pub mod WorkedUnits

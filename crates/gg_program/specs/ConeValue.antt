@@ -7,12 +7,6 @@ use Rattle.gg_flat.specs.State.{State}
 use Rattle.gg_flat.specs.Settled.{Settled}
 use Rattle.gg_flat.specs.Reads.{Reaches}
 
--- two rows agree on the in-signals that a signal reaches
-abbrev pub AgreeOnNeeds : FlatCircuit → ℕ → List ℕ → List ℕ → Type 0
-AgreeOnNeeds circuit out v w =
-    (place : ℕ) → place < length circuit.ins → Reaches circuit out (value_at circuit.ins place)
-    → value_at v (value_at circuit.ins place) ≡ value_at w (value_at circuit.ins place)
-
 -- two lists of inputs, in port order, have alike those that a signal needs
 abbrev pub NeedsAlike : FlatCircuit → ℕ → List ℕ → List ℕ → Type 0
 NeedsAlike circuit out inputs others =

@@ -1,6 +1,5 @@
-pub mod Cone
-pub mod Slots
-pub mod ConeValue
-pub mod Steps
-pub mod Walk
 pub mod Programmed
+pub mod ConeValue
+pub mod Slots
+pub mod Right
+pub mod Search

@@ -1,19 +1,56 @@
--- Slots: a place for the value of each signal, in which the inputs stand in the in-signals' places, and behind them room
--- for the nodes of the longest line.
-use Rattle.std.specs.Prelude.{ℕ, ◌-◌, List, length, map, take}
+-- Slots: the values of the signals in a cycle, and which of them stand already.
+-- Source: MEMOCODE 2009 (a node gets its inputs one by one, and gives each output as soon as it can).
+use Rattle.std.specs.Prelude.{◌≡◌, ◌⊎◌, ◌↔◌, ℕ, ◌<◌, List, length, map, Bool, true, false, slice_index_or, slice_set}
 use Rattle.gg_flat.specs.Line.{value_at, AreTyped}
 use Rattle.gg_flat.specs.Circuit.{FlatCircuit, signal_shapes}
+use Rattle.gg_flat.specs.Reads.{Reaches}
 use Rattle.gg_flat.specs.Room.{HasRoom}
 
--- the values of the signals
-abbrev pub signals_in : FlatCircuit → List ℕ → List ℕ
-signals_in circuit slots = take (length circuit.signals) slots
+-- A place for the value of each signal, a mark for each signal whose value stands there, and room for this many nodes.
+pub record Slotted : Type 0 where
+  pub values : List ℕ
+  pub done : List Bool
+  pub room : ℕ
 
--- the inputs, in port order
+-- a signal is done: its value of this cycle stands in its place
+abbrev pub IsDone : Slotted → ℕ → Type 0
+IsDone slots s = slice_index_or slots.done s false ≡ true
+
+-- no signal is done
+abbrev pub NoneDone : Slotted → Type 0
+NoneDone slots = (s : ℕ) → ¬ IsDone slots s
+
+-- the inputs, in port order: what stands in the places of the in-signals
 abbrev pub inputs_in : FlatCircuit → List ℕ → List ℕ
-inputs_in circuit slots = map (λ s. value_at slots s) circuit.ins
+inputs_in circuit values = map (λ s. value_at values s) circuit.ins
 
--- slots of a circuit: the values are of their signals' types, and there is room for each of its lines
-pub record AreSlots (circuit : FlatCircuit) (slots : List ℕ) : Type 0 where
-  pub typed : AreTyped (signal_shapes circuit) (signals_in circuit slots)
-  pub room : HasRoom circuit (length slots - length circuit.signals)
+-- slots of a circuit: the values are of their signals' types, each signal has a mark, and there is room for each line
+pub record AreSlots (circuit : FlatCircuit) (slots : Slotted) : Type 0 where
+  pub typed : AreTyped (signal_shapes circuit) slots.values
+  pub count : length slots.done ≡ length circuit.signals
+  pub room : HasRoom circuit slots.room
+
+-- the input at this place in port order was put
+abbrev pub HasInput : FlatCircuit → Slotted → ℕ → Type 0
+HasInput circuit slots place = IsDone slots (value_at circuit.ins place)
+
+-- all inputs were put
+abbrev pub HasInputs : FlatCircuit → Slotted → Type 0
+HasInputs circuit slots = (place : ℕ) → place < length circuit.ins → HasInput circuit slots place
+
+-- the inputs that a signal needs were put
+abbrev pub HasNeeded : FlatCircuit → Slotted → ℕ → Type 0
+HasNeeded circuit slots out = (place : ℕ) → place < length circuit.ins → Reaches circuit out (value_at circuit.ins place) → HasInput circuit slots place
+
+-- the slots with an input put into its place
+abbrev pub with_input : FlatCircuit → Slotted → ℕ → ℕ → Slotted
+with_input circuit slots place input =
+    record {
+      values = slice_set slots.values (value_at circuit.ins place) input;
+      done = slice_set slots.done (value_at circuit.ins place) true;
+      room = slots.room;
+    }
+
+-- what was done is done, and what a signal reaches; nothing else is
+abbrev pub DoneWith : FlatCircuit → ℕ → Slotted → Slotted → Type 0
+DoneWith circuit out before after = (s : ℕ) → IsDone after s ↔ (IsDone before s ⊎ Reaches circuit out s)

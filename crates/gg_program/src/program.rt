@@ -1,20 +1,20 @@
-//! `Program`: a circuit with the cone of each out-signal.
-ghost use Rattle.std.specs.Prelude.{◌≡◌, ℕ, ◌<◌, List, [], length, slice_index_or, slice_set, IfOk};
+//! `Program`: a piece in an order of evaluation, with what each out-signal needs.
+ghost use Rattle.std.specs.Prelude.{◌≡◌, ℕ, ◌<◌, [], length, slice_index_or, slice_set, IfOk};
 ghost use Rattle.gg_bits.specs.Shape.{Fits};
 ghost use Rattle.gg_flat.specs.Line.{shape_at, value_at};
-ghost use Rattle.gg_flat.specs.State.{IsState, next_state};
-ghost use Rattle.gg_flat.specs.Settled.{Settled, in_shapes};
-ghost use Rattle.gg_flat.specs.Order.{IsOrder};
+ghost use Rattle.gg_flat.specs.State.{State, IsState};
+ghost use Rattle.gg_flat.specs.Settled.{in_shapes};
 ghost use Rattle.gg_flat.specs.WellFormed.{IsWellFormed};
-ghost use Rattle.gg_program.specs.Cone.{AreNeeds};
+ghost use Rattle.gg_part.specs.InOrder.{IsInOrder};
+ghost use Rattle.gg_needs.specs.Needs.{AreNeeds, AreNeedsOfOuts};
 ghost use Rattle.gg_program.specs.ConeValue.{IsConeValue};
-ghost use Rattle.gg_program.specs.Programmed.{AreNeedsOfOuts};
-ghost use Rattle.gg_program.specs.Slots.{signals_in, inputs_in, AreSlots};
+ghost use Rattle.gg_program.specs.Slots.{NoneDone, HasInput, HasInputs, HasNeeded, AreSlots, inputs_in, with_input, DoneWith};
+ghost use Rattle.gg_program.specs.Right.{InCycle, IsCycle};
 
-use crate::cone::{Cone, cones_of};
-use crate::steps::{advance, follow, zeros};
+use crate::slots::Slots;
+use gg_bits::Ids;
 use gg_flat::{Piece, State};
-use gg_order::Design;
+use gg_needs::needs_of;
 use std::alloc::{AllocError, Global};
 use std::error::Error;
 use std::fmt;
@@ -45,56 +45,47 @@ impl fmt::Display for NoMemory {
 
 impl Error for NoMemory {}
 
-/// A design with the cone of each of its out-signals. A contract sees the circuit, and what each out-signal needs.
+/// A piece in an order of evaluation, with what each of its out-signals needs. A contract sees the circuit and the needs.
 #[derive(Drop)]
 pub struct Program<'a> {
-    design: &'a Design,
-    cones: Vec<Cone>,
+    piece: &'a Piece,
+    needs: Vec<Ids>,
 }
 
 impl<'a> Model for Program<'a> {
-    ghost use Rattle.std.specs.Prelude.{length, map};
-    ghost use Rattle.gg_program.specs.Cone.{AreConesOf};
-    ghost use Rattle.gg_program.specs.Programmed.{Programmed};
+    ghost use Rattle.gg_program.specs.Programmed.{Programmed, IsProgram};
 
     ghost Value = { Programmed };
 
-    ghost view = { λ program. record { circuit = program.design.now.circuit; needs = map (λ cone. cone.needs.items) program.cones.items } };
+    ghost view = { λ program. record { circuit = program.piece.now; needs = program.needs.items } };
 
-    ghost invariant = { λ program. AreConesOf program.design.now.circuit (length program.design.now.circuit.outs) program.cones.items };
+    ghost invariant = { λ program. IsProgram program.piece.now program.needs.items };
 }
 
 impl<'a> Program<'a> {
-    /// The program of a design: a pass over the design's order for each out-signal.
+    /// The program of a piece. The piece is well formed, and each of its signals reads only such as stand before it.
     ///
     /// # Errors
     ///
     /// `NoMemory`, where memory is refused.
-    pub fn of(alloc: Global, design: &'a Design) -> Result<Program<'a>, NoMemory>
-        ensures circuit { IfOk result (λ program. program.circuit ≡ design.now.circuit) }
+    pub fn of(alloc: Global, piece: &'a Piece) -> Result<Program<'a>, NoMemory>
+        requires formed { IsWellFormed piece.now }
+        requires ordered { IsInOrder piece.now }
+        ensures circuit { IfOk result (λ program. program.circuit ≡ piece.now) }
         ensures needs { IfOk result (λ program. AreNeedsOfOuts program.circuit program.needs) }
     {
-        let cones = cones_of(alloc, design.piece(), design.order())?;
-        Ok(Program { design, cones })
+        let needs = needs_of(alloc, piece)?;
+        Ok(Program { piece, needs })
     }
 
-    /// The design.
-    pub fn design(&self) -> &Design
-        ensures { result.now.circuit ≡ self.now.circuit }
-    {
-        self.design
-    }
-
-    /// The circuit, which is well formed and has an order of evaluation; its needs are those of its out-signals.
+    /// The circuit, which is well formed and in an order of evaluation; its needs are those of its out-signals.
     pub fn piece(&self) -> &Piece
         ensures circuit { result.now ≡ self.now.circuit }
         ensures formed { IsWellFormed self.now.circuit }
-        ensures ordered { (order : List ℕ) × IsOrder self.now.circuit order }
+        ensures ordered { IsInOrder self.now.circuit }
         ensures needs { AreNeedsOfOuts self.now.circuit self.now.needs }
     {
-        // for what the design says of its order
-        let _ = self.design.order();
-        self.design.piece()
+        self.piece
     }
 
     /// What the out-signal at this place needs: the places, ascending, of just the in-signals to which a path of reads
@@ -104,73 +95,71 @@ impl<'a> Program<'a> {
         ensures exact { AreNeeds self.now.circuit (value_at self.now.circuit.outs out) result.now }
         ensures seen { result.now ≡ slice_index_or self.now.needs out [] }
     {
-        self.cones[out as usize].needs.as_slice()
+        self.needs[out as usize].as_slice()
     }
 
-    /// Slots for the program, with zeros: one for the value of each signal, by the signals' numbers, and behind them room
-    /// for the nodes of the longest line.
+    /// Slots for the program, in which nothing is done.
     ///
     /// # Errors
     ///
     /// `NoMemory`, where memory is refused.
-    pub fn slots(&self, alloc: Global) -> Result<Vec<u128>, NoMemory>
-        ensures slots { IfOk result (λ slots. AreSlots self.now.circuit slots.items) }
-        ensures zeros { IfOk result (λ slots. (s : ℕ) → value_at slots.items s ≡ 0) }
+    pub fn slots(&self, alloc: Global) -> Result<Slots, NoMemory>
+        ensures none { IfOk result (λ slots. NoneDone slots) }
+        ensures cycle { IfOk result (λ slots. (state : State) → InCycle self.now.circuit state slots) }
     {
-        let piece = self.design.piece();
-        let Some(count) = piece.signals().len().checked_add(piece.room()) else {
-            return Err(NoMemory);
-        };
-        let slots = zeros(alloc, count)?;
+        let slots = Slots::new(alloc, self.piece.signals().len(), self.piece.room())?;
         Ok(slots)
     }
 
-    /// Puts an input, by its place in port order, into its slot.
+    /// Puts the input at this place in port order into the place of its in-signal, which is done then. Nothing else changes.
     ///
-    /// It is of the in-signal's type, and the slots are of the program's circuit.
-    pub fn put(&self, slots: &mut [u128], place: u32, input: u128)
+    /// It is of the in-signal's type, and the in-signal isn't done. The slots are of the program's circuit.
+    pub fn put(&self, slots: &mut Slots, place: u32, input: u128)
         requires place { place < length self.now.circuit.ins }
         requires typed { Fits (shape_at (in_shapes self.now.circuit) place) input }
         requires slots { AreSlots self.now.circuit slots.old }
-        ensures inputs { inputs_in self.now.circuit slots.new ≡ slice_set (inputs_in self.now.circuit slots.old) place input }
-        ensures slots { AreSlots self.now.circuit slots.new }
+        requires free { ¬ HasInput self.now.circuit slots.old place }
+        ensures put { slots.new ≡ with_input self.now.circuit slots.old place input }
+        ensures inputs { inputs_in self.now.circuit slots.new.values ≡ slice_set (inputs_in self.now.circuit slots.old.values) place input }
+        ensures cycle { (state : State) → InCycle self.now.circuit state slots.old → InCycle self.now.circuit state slots.new }
     {
-        let piece = self.design.piece();
-        slots[piece.ins()[place as usize] as usize] = input;
+        let piece = self.piece;
+        slots.put(piece.ins()[place as usize], input);
     }
 
-    /// The value of the out-signal at this place, in this state and with the inputs that it needs in their slots. It
-    /// depends on no other slot, keeps all inputs, and takes no memory.
+    /// The value of the out-signal at this place, in this state and with the inputs that it needs, which were put. What it
+    /// reaches is done then, and each signal that was done keeps its value. It depends on no other input, and takes no memory.
     ///
-    /// State and slots are of the program's circuit (`slots` makes some, `put` puts an input into its slot).
-    pub fn run_cone(&self, state: &State, slots: &mut [u128], out: u32) -> u128
+    /// State and slots are of the program's circuit, in a cycle from this state.
+    pub fn run_cone(&self, state: &State, slots: &mut Slots, out: u32) -> u128
         requires out { out < length self.now.circuit.outs }
         requires state { IsState self.now.circuit state.now }
-        requires slots { AreSlots self.now.circuit slots.old }
-        ensures value { IsConeValue self.now.circuit state.now (inputs_in self.now.circuit slots.old) (value_at self.now.circuit.outs out) result }
-        ensures inputs { inputs_in self.now.circuit slots.new ≡ inputs_in self.now.circuit slots.old }
-        ensures slots { AreSlots self.now.circuit slots.new }
+        requires cycle { InCycle self.now.circuit state.now slots.old }
+        requires needed { HasNeeded self.now.circuit slots.old (value_at self.now.circuit.outs out) }
+        ensures value { IsConeValue self.now.circuit state.now (inputs_in self.now.circuit slots.old.values) (value_at self.now.circuit.outs out) result }
+        ensures done { DoneWith self.now.circuit (value_at self.now.circuit.outs out) slots.old slots.new }
+        ensures inputs { inputs_in self.now.circuit slots.new.values ≡ inputs_in self.now.circuit slots.old.values }
+        ensures cycle { InCycle self.now.circuit state.now slots.new }
     {
-        let piece = self.design.piece();
-        let _ = self.design.order();
-        follow(piece, &self.cones[out as usize].signals, state, slots);
-        slots[piece.outs()[out as usize] as usize]
+        let piece = self.piece;
+        let signal = piece.outs()[out as usize];
+        slots.reach(piece, state, signal);
+        slots.value(signal)
     }
 
-    /// One cycle, with all inputs in their slots: the slots of all signals are settled, and the state becomes the next one
-    /// by them. It takes no memory.
+    /// One cycle, where all inputs were put: the state becomes the next one by the settled values with these inputs, and
+    /// nothing is done any more. It works out just what isn't done, and takes no memory.
     ///
-    /// State and slots are of the program's circuit.
-    pub fn run_next(&self, state: &mut State, slots: &mut [u128])
+    /// State and slots are of the program's circuit, in a cycle from this state.
+    pub fn run_next(&self, state: &mut State, slots: &mut Slots)
         requires state { IsState self.now.circuit state.old }
-        requires slots { AreSlots self.now.circuit slots.old }
-        ensures settled { Settled self.now.circuit state.old (inputs_in self.now.circuit slots.old) (signals_in self.now.circuit slots.new) }
-        ensures next { state.new ≡ next_state self.now.circuit state.old (signals_in self.now.circuit slots.new) }
+        requires cycle { InCycle self.now.circuit state.old slots.old }
+        requires inputs { HasInputs self.now.circuit slots.old }
+        ensures next { IsCycle self.now.circuit state.old (inputs_in self.now.circuit slots.old.values) state.new }
         ensures state { IsState self.now.circuit state.new }
-        ensures slots { AreSlots self.now.circuit slots.new }
+        ensures cycle { InCycle self.now.circuit state.new slots.new }
+        ensures none { NoneDone slots.new }
     {
-        let piece = self.design.piece();
-        follow(piece, self.design.order(), state, slots);
-        advance(piece, state, slots);
+        slots.next(self.piece, state);
     }
 }

@@ -1,11 +1,11 @@
 use Rattle.std.proofs.Common.{◌≡◌, ℕ, ◌+◌, ◌<◌, List, [], ◌∷◌, ◌++◌, length, subst, sym, ap, ◌∙◌, arith}
 use Rattle.std.proofs.lemmas.List.{length-append}
 use Rattle.gg_flat.specs.Line.{value_at}
-use Rattle.gg_program.specs.Cone.{AreNeeds}
-use Rattle.gg_program.specs.Walk.{AreMarkedIns}
-use Rattle.gg_program.proofs.PickLemmas.{AreNeeds-marked}
+use Rattle.gg_needs.specs.Needs.{AreNeeds}
+use Rattle.gg_needs.specs.Walk.{AreMarkedIns}
+use Rattle.gg_needs.proofs.MarkedInLemmas.{AreNeeds-marked}
 use Rattle.gg_needs.specs.Marks.{marks_of}
-use Rattle.gg_needs.specs.Needs.{AreNeedsSoFar}
+use Rattle.gg_needs.specs.Groups.{AreNeedsSoFar}
 use Rattle.gg_needs.proofs.NeedLemmas.{AreNeedsSoFar-push}
 use Rattle.gg_needs.proofs.needs.add_group.Goals as goal
 

@@ -1,5 +1,5 @@
 use Rattle.std.proofs.Common.{◌≡◌, ◌+◌, length}
-use Rattle.gg_needs.specs.Needs.{AreNeedsSoFar}
+use Rattle.gg_needs.specs.Groups.{AreNeedsSoFar}
 use Rattle.gg_needs.proofs.needs.add_group.Given as goal
 
 abbrev pub invariant-loop-place : goal.invariant-loop-place

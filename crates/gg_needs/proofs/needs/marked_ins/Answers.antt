@@ -3,8 +3,8 @@ use Rattle.gg_flat.specs.declared.piece.Driver.TheVariants.{Input}
 use Rattle.gg_flat.specs.Circuit.{driver_at}
 use Rattle.gg_flat.specs.Line.{value_at}
 use Rattle.gg_order.specs.Marks.{is_marked}
-use Rattle.gg_program.specs.Walk.{AreMarkedIns}
-use Rattle.gg_program.proofs.PickLemmas.{AreMarkedIns-skip, AreMarkedIns-push}
+use Rattle.gg_needs.specs.Walk.{AreMarkedIns}
+use Rattle.gg_needs.proofs.MarkedInLemmas.{AreMarkedIns-skip, AreMarkedIns-push}
 use Rattle.gg_needs.specs.Marks.{marks_of}
 use Rattle.gg_needs.proofs.AddLemmas.{bit-cases, bit-marked, bit-unmarked}
 use Rattle.gg_needs.proofs.needs.marked_ins.Goals as goal

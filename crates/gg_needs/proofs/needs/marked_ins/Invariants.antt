@@ -1,4 +1,4 @@
-use Rattle.gg_program.specs.Walk.{AreMarkedIns}
+use Rattle.gg_needs.specs.Walk.{AreMarkedIns}
 use Rattle.gg_needs.specs.Marks.{marks_of}
 use Rattle.gg_needs.proofs.needs.marked_ins.Given as goal
 

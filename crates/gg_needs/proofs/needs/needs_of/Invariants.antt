@@ -1,5 +1,5 @@
 use Rattle.std.proofs.Common.{◌-◌, length}
-use Rattle.gg_needs.specs.Needs.{AreNeedsSoFar}
+use Rattle.gg_needs.specs.Groups.{AreNeedsSoFar}
 use Rattle.gg_needs.proofs.needs.needs_of.Given as goal
 
 abbrev pub invariant-loop-alloc : goal.invariant-loop-alloc

@@ -1,18 +1,18 @@
-use Rattle.std.proofs.Common.{◌≡◌, ℕ, ◌+◌, List, length, subst, ap, ◌∙◌}
-use Rattle.gg_flat.specs.declared.piece.Signal.{Signal}
-use Rattle.gg_flat.specs.Circuit.{FlatCircuit}
-use Rattle.gg_flat.specs.Line.{value_at}
+use Rattle.std.proofs.Common.{◌≡◌, List, length, subst, sym, ap}
 use Rattle.gg_flat.specs.Room.{HasRoom}
-use Rattle.gg_program.proofs.SlotLemmas.{AreSlots-zeros, zeros-at}
-use Rattle.gg_program.proofs.SeenLemmas.{circuit-of}
+use Rattle.gg_flat.specs.declared.piece.Signal.{Signal}
+use Rattle.gg_program.specs.Programmed.{Programmed}
+use Rattle.gg_program.specs.Right.{InCycle}
+use Rattle.gg_program.proofs.CycleLemmas.{InCycle-none, AreSlots-zeros, NoneDone-replicate}
 use Rattle.gg_program.proofs.program.Program.slots.Goals as goal
 
-pub returns-clause-slots : goal.returns-clause-slots
-returns-clause-slots c =
-    rw (← ap circuit-of c.self.view_is) (
-    let circuit = c.self.inside.design.now.circuit in
-    let count : c.in-Some.count ≡ length circuit.signals + c.room.result = c.in-Some.ensures.1 ∙ ap (λ (l : List Signal). length l + c.room.result) (c.signals.ensures ∙ ap (λ (k : FlatCircuit). k.signals) c.piece-piece.ensures.circuit) in
-    AreSlots-zeros circuit c.in_ok-slots.slots.items c.in-Some.count c.room.result c.in_ok-slots.ensures count (subst (λ (k : FlatCircuit). HasRoom k c.room.result) c.piece-piece.ensures.circuit c.room.ensures.enough))
-
-pub returns-clause-zeros : goal.returns-clause-zeros
-returns-clause-zeros c = λ s. ap (λ (l : List ℕ). value_at l s) c.in_ok-slots.ensures ∙ zeros-at c.in-Some.count s
+pub returns-clause-cycle : goal.returns-clause-cycle
+returns-clause-cycle c =
+    λ state.
+    let circuit = c.self.inside.piece.now in
+    let slots = c.in_ok-slots.slots in
+    let n = length c.signals.result.now in
+    let count : n ≡ length circuit.signals = ap (λ (l : List Signal). length l) c.signals.ensures in
+    let room : HasRoom circuit slots.room = subst (HasRoom circuit) (sym c.in_ok-slots.ensures.room) c.room.ensures.enough in
+    subst (λ (p : Programmed). InCycle p.circuit state slots) c.self.view_is
+    (InCycle-none circuit state slots (AreSlots-zeros circuit slots n count c.in_ok-slots.ensures.values c.in_ok-slots.ensures.done room) (NoneDone-replicate slots n c.in_ok-slots.ensures.done))

@@ -1,0 +1,77 @@
+-- The marked in-signals are what a signal needs, where just what it reaches is marked.
+use Rattle.std.proofs.Common.{◌≡◌, ℕ, ◌+◌, ◌<◌, List, [], ◌∷◌, ◌++◌, length, get_or, Bool, true, false, true≢false, refl, sym, ◌∙◌, ap, subst, inl, inr, ◌⊎◌, arith}
+use Rattle.std.specs.Prelude.{Contains}
+use Rattle.std.proofs.lemmas.List.{get_or_default}
+use Rattle.std.proofs.lemmas.List.Elements.{Contains-append_left, Contains-append_right, Contains-append_cases}
+use Rattle.std.proofs.lemmas.List.Quantifiers.{all_pairs_push}
+use Rattle.std.proofs.lemmas.Bool.{cases_lt}
+use Rattle.gg_flat.specs.Line.{value_at}
+use Rattle.gg_flat.specs.Circuit.{FlatCircuit}
+use Rattle.gg_flat.proofs.NameLemmas.{Contains-one}
+use Rattle.gg_order.specs.Marks.{is_marked}
+use Rattle.gg_needs.specs.Needs.{AreNeeds}
+use Rattle.gg_needs.specs.Walk.{MarksReached, AreMarkedIns}
+
+-- ---- a list that grows by an element
+
+contains_old : (xs : List ℕ) (y s : ℕ) → Contains xs s → Contains (xs ++ y ∷ []) s
+contains_old xs y s h = Contains-append_left xs (y ∷ []) s h
+
+contains_new : (xs : List ℕ) (y : ℕ) → Contains (xs ++ y ∷ []) y
+contains_new xs y = Contains-append_right xs (y ∷ []) y (0, omega arith, refl)
+
+contains_cases : (xs : List ℕ) (y s : ℕ) → Contains (xs ++ y ∷ []) s → Contains xs s ⊎ (y ≡ s)
+contains_cases xs y s h = elim (Contains-append_cases xs (y ∷ []) s h) [ inl old ↦ inl old | inr new ↦ inr (Contains-one y s new) ]
+
+-- ---- the marked in-signals, place by place
+
+pub AreMarkedIns-none : (circuit : FlatCircuit) (marks : List Bool) → AreMarkedIns circuit marks 0 []
+AreMarkedIns-none circuit marks =
+    record {
+      ascending = λ i j d lt within. absurd (omega arith);
+      exact = λ place. (λ h. absurd (omega (arith, h.1)), λ h. absurd (omega (arith, h.0)));
+    }
+
+pub AreMarkedIns-skip : (circuit : FlatCircuit) (marks : List Bool) (k : ℕ) (needs : List ℕ) → is_marked marks (value_at circuit.ins k) ≡ false → AreMarkedIns circuit marks k needs → AreMarkedIns circuit marks (k + 1) needs
+AreMarkedIns-skip circuit marks k needs not h =
+    record {
+      ascending = h.ascending;
+      exact = λ place. (
+        λ has. let old = (h.exact place).0 has in (omega (arith, old.0), old.1),
+        λ both. elim (cases_lt place k) [
+          | inl less ↦ (h.exact place).1 (less, both.1)
+          | inr ge ↦
+              let same : place ≡ k = omega (arith, both.0, ge) in
+              absurd (true≢false (sym both.1 ∙ ap (λ (x : ℕ). is_marked marks (value_at circuit.ins x)) same ∙ not))
+        ],
+      );
+    }
+
+pub AreMarkedIns-push : (circuit : FlatCircuit) (marks : List Bool) (k : ℕ) (needs : List ℕ) → is_marked marks (value_at circuit.ins k) ≡ true → AreMarkedIns circuit marks k needs → AreMarkedIns circuit marks (k + 1) (needs ++ k ∷ [])
+AreMarkedIns-push circuit marks k needs is h =
+    record {
+      ascending = all_pairs_push (λ (a b : ℕ). a < b) needs k h.ascending (λ i d lt.
+          ((h.exact (get_or needs i d)).0 (i, lt, get_or_default needs i (get_or needs i d) d lt)).0);
+      exact = λ place. (
+        λ has. elim (contains_cases needs k place has) [
+          | inl old ↦ let both = (h.exact place).0 old in (omega (arith, both.0), both.1)
+          | inr same ↦ (omega (arith, same), subst (λ (x : ℕ). is_marked marks (value_at circuit.ins x) ≡ true) same is)
+        ],
+        λ both. elim (cases_lt place k) [
+          | inl less ↦ contains_old needs k place ((h.exact place).1 (less, both.1))
+          | inr ge ↦
+              let same : k ≡ place = omega (arith, both.0, ge) in
+              subst (Contains (needs ++ k ∷ [])) same (contains_new needs k)
+        ],
+      );
+    }
+
+pub AreNeeds-marked : (circuit : FlatCircuit) (out : ℕ) (marks : List Bool) (needs : List ℕ) → MarksReached circuit out marks → AreMarkedIns circuit marks (length circuit.ins) needs → AreNeeds circuit out needs
+AreNeeds-marked circuit out marks needs exact h =
+    record {
+      ascending = h.ascending;
+      exact = λ place. (
+        λ has. let both = (h.exact place).0 has in (both.0, (exact (value_at circuit.ins place)).0 both.1),
+        λ both. (h.exact place).1 (both.0, (exact (value_at circuit.ins place)).1 both.1),
+      );
+    }

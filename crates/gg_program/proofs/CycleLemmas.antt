@@ -1,0 +1,139 @@
+-- A cycle under way: what a signal reaches is worked out, and then all.
+use Rattle.std.proofs.Common.{◌≡◌, ℕ, zero, suc, ◌<◌, List, length, take, replicate, Bool, true, false, true≢false, refl, sym, ◌∙◌, ap, subst, inl, inr, ◌⊎◌, arith}
+use Rattle.std.specs.Prelude.{All, Contains}
+use Rattle.std.specs.List.Sorted.{IsNonDecreasingBy}
+use Rattle.std.proofs.lemmas.Bool.{cases_lt}
+use Rattle.std.proofs.lemmas.List.{get_or_default, get_or-take, length-take, length-set, length-map, length-replicate}
+use Rattle.gg_bits.specs.Shape.{shape, Fits}
+use Rattle.gg_flat.specs.declared.piece.Signal.{Signal}
+use Rattle.gg_flat.specs.declared.piece.Driver.TheVariants.{Input}
+use Rattle.gg_flat.specs.Line.{shape_at, value_at, AreTyped}
+use Rattle.gg_flat.specs.Circuit.{FlatCircuit, signal_shapes, driver_at}
+use Rattle.gg_flat.specs.Reads.{Reaches}
+use Rattle.gg_flat.specs.Room.{HasRoom}
+use Rattle.gg_flat.specs.WellFormed.{IsWellFormed, MayDrive}
+use Rattle.gg_flat.specs.State.{State, next_state}
+use Rattle.gg_flat.specs.Settled.{in_shapes, driver_value}
+use Rattle.gg_flat.proofs.TypedLemmas.{shape_at-in_shapes, AreTyped-zeros, AreTyped-set}
+use Rattle.gg_part.specs.InOrder.{IsInOrder}
+use Rattle.gg_order.specs.Marks.{is_marked}
+use Rattle.gg_needs.proofs.ReachLemmas.{Reaches-on, Reaches-within}
+use Rattle.gg_program.specs.Slots.{Slotted, IsDone, NoneDone, AreSlots, HasInput, HasNeeded, with_input, inputs_in}
+use Rattle.gg_program.specs.Right.{AreRight, InCycle, IsCycle, IsInner}
+use Rattle.gg_program.specs.Search.{Searched, IsGathered, StandBehind}
+use Rattle.gg_program.proofs.SearchLemmas.{mark-more, mark-cases}
+use Rattle.gg_program.proofs.RightLemmas.{AreRight-same, AreRight-none, AreRight-put}
+
+-- ---- what was found
+
+-- found signals in ascending order stand behind what they read
+pub StandBehind-sorted : (circuit : FlatCircuit) (out : ℕ) (first : List Bool) (search : Searched) → IsInOrder circuit → IsNonDecreasingBy (λ s. s) search.found → IsGathered circuit out first search → StandBehind circuit first search.found
+StandBehind-sorted circuit out first search ordered sorted g i s within reads = by (is_marked first s) refl
+  where
+    a : ℕ
+    a = value_at search.found i
+
+    by : (m : Bool) → is_marked first s ≡ m → (is_marked first s ≡ true) ⊎ Contains (take i search.found) s
+    by true e = inl e
+    by false e =
+        let reached = ((g.found a).0 (i, within, get_or_default search.found i a 0 within)).0 in
+        let has = (g.found s).1 (Reaches-on circuit out a s reached reads, e) in
+        let at : value_at search.found has.0 ≡ s = get_or_default search.found has.0 0 s has.1 ∙ has.2 in
+        let low : s < a = ordered a s reads in
+        inr (elim (cases_lt has.0 i) [
+          | inl less ↦ (has.0, omega (arith, less, has.1, length-take i search.found), get_or-take i search.found has.0 s less ∙ has.2)
+          | inr ge ↦ let rises = sorted i has.0 0 ge has.1 in absurd (omega (arith, rises, at, low))
+        ])
+
+-- they are no in-signals, where the inputs that are needed were put
+pub found-inner : (circuit : FlatCircuit) (out : ℕ) (slots : Slotted) (search : Searched) → IsWellFormed circuit → out < length circuit.signals → HasNeeded circuit slots out → IsGathered circuit out slots.done search → All (IsInner circuit) search.found
+found-inner circuit out slots search formed known needed g i d within =
+    let s = value_at search.found i in
+    let of = (g.found s).0 (i, within, get_or_default search.found i s 0 within) in
+    let there = Reaches-within circuit out s formed known of.0 in
+    subst (IsInner circuit) (get_or_default search.found i 0 d within)
+    (record {
+      known = there;
+      inner = λ place is.
+          let may : MayDrive circuit s (Input place) = subst (MayDrive circuit s) is (formed.drivers s there) in
+          let put : IsDone slots (value_at circuit.ins place) = needed place may.0 (subst (Reaches circuit out) (sym may.1) of.0) in
+          true≢false (sym (subst (IsDone slots) may.1 put) ∙ of.1);
+    })
+
+-- what is marked is done
+pub right-reached : (circuit : FlatCircuit) (state : State) (out : ℕ) (first : List Bool) (search : Searched) (values : List ℕ) → IsGathered circuit out first search → AreRight circuit state values (λ s. (is_marked first s ≡ true) ⊎ Contains search.found s) → AreRight circuit state values (λ s. is_marked search.marks s ≡ true)
+right-reached circuit state out first search values g right =
+    AreRight-same circuit state values (λ s. (is_marked first s ≡ true) ⊎ Contains search.found s) (λ s. is_marked search.marks s ≡ true) to from right
+  where
+    to : (s : ℕ) → (is_marked first s ≡ true) ⊎ Contains search.found s → is_marked search.marks s ≡ true
+    to s (inl m) = (g.marked s).1 (inl m)
+    to s (inr has) = (g.marked s).1 (inr ((g.found s).0 has).0)
+
+    from : (s : ℕ) → is_marked search.marks s ≡ true → (is_marked first s ≡ true) ⊎ Contains search.found s
+    from s is = elim ((g.marked s).0 is) [ inl m ↦ inl m | inr reaches ↦ by (is_marked first s) refl reaches ]
+      where
+        by : (m : Bool) → is_marked first s ≡ m → Reaches circuit out s → (is_marked first s ≡ true) ⊎ Contains search.found s
+        by true e reaches = inl e
+        by false e reaches = inr ((g.found s).1 (reaches, e))
+
+-- slots in which what a signal reaches was worked out
+pub InCycle-reached : (circuit : FlatCircuit) (state : State) (out : ℕ) (before : Slotted) (search : Searched) (values : List ℕ) (room : ℕ) → AreSlots circuit before → room ≡ before.room → AreTyped (signal_shapes circuit) values → IsGathered circuit out before.done search → AreRight circuit state values (λ s. (is_marked before.done s ≡ true) ⊎ Contains search.found s) → InCycle circuit state (record { values = values; done = search.marks; room = room })
+InCycle-reached circuit state out before search values room held same typed g right =
+    record {
+      held = record { typed = typed; count = g.count; room = subst (HasRoom circuit) (sym same) held.room };
+      right = right-reached circuit state out before.done search values g right;
+    }
+
+-- ---- the start of a cycle
+
+pub unmarked : (n s : ℕ) → is_marked (replicate n false) s ≡ true → ⊥
+unmarked zero s is = true≢false (sym is)
+unmarked (suc n) zero is = true≢false (sym is)
+unmarked (suc n) (suc s) is = unmarked n s is
+
+-- slots in which nothing is done
+pub InCycle-none : (circuit : FlatCircuit) (state : State) (slots : Slotted) → AreSlots circuit slots → NoneDone slots → InCycle circuit state slots
+InCycle-none circuit state slots held none = record { held = held; right = AreRight-none circuit state slots.values (IsDone slots) none }
+
+pub AreSlots-zeros : (circuit : FlatCircuit) (slots : Slotted) (n : ℕ) → n ≡ length circuit.signals → slots.values ≡ replicate n 0 → slots.done ≡ replicate n false → HasRoom circuit slots.room → AreSlots circuit slots
+AreSlots-zeros circuit slots n all values done room =
+    record {
+      typed = subst (AreTyped (signal_shapes circuit)) (sym values) (AreTyped-zeros (signal_shapes circuit) n (all ∙ sym (length-map circuit.signals (λ (signal : Signal). shape signal.ty))));
+      count = ap (λ (l : List Bool). length l) done ∙ length-replicate n false ∙ all;
+      room = room;
+    }
+
+pub NoneDone-replicate : (slots : Slotted) (n : ℕ) → slots.done ≡ replicate n false → NoneDone slots
+NoneDone-replicate slots n done s is = unmarked n s (subst (λ (l : List Bool). is_marked l s ≡ true) done is)
+
+-- ---- an input is put
+
+pub InCycle-put : (circuit : FlatCircuit) (state : State) (slots : Slotted) (place input : ℕ) → IsWellFormed circuit → place < length circuit.ins → Fits (shape_at (in_shapes circuit) place) input → ¬ HasInput circuit slots place → InCycle circuit state slots → InCycle circuit state (with_input circuit slots place input)
+InCycle-put circuit state slots place input formed within fits free h =
+    let s = value_at circuit.ins place in
+    let known = (formed.ins place within).0 in
+    let marked : s < length slots.done = omega (arith, known, h.held.count) in
+    record {
+      held = record {
+        typed = AreTyped-set (signal_shapes circuit) slots.values s input h.held.typed
+            (omega (arith, known, length-map circuit.signals (λ (signal : Signal). shape signal.ty)))
+            (subst (λ sh. Fits sh input) (shape_at-in_shapes circuit place within) fits);
+        count = length-set slots.done s true ∙ h.held.count;
+        room = h.held.room;
+      };
+      right = AreRight-put circuit state slots.values place input (IsDone slots) (IsDone (with_input circuit slots place input)) formed within free
+          (λ t is. mark-cases slots.done s t is) (λ t is. mark-more slots.done s t marked is) h.right;
+    }
+
+-- ---- the whole cycle
+
+pub IsCycle-all : (circuit : FlatCircuit) (before after : State) (inputs values : List ℕ) → AreTyped (signal_shapes circuit) values → inputs_in circuit values ≡ inputs → AreRight circuit before values (λ s. s < length circuit.signals) → after ≡ next_state circuit before values → IsCycle circuit before inputs after
+IsCycle-all circuit before after inputs values typed same right next =
+    record {
+      signals = values;
+      settled = record {
+        typed = typed;
+        driven = λ s known. right.driven s known known ∙ ap (λ (l : List ℕ). driver_value before l values (shape_at (signal_shapes circuit) s) (driver_at circuit s)) same;
+      };
+      next = next;
+    }

@@ -1,0 +1,91 @@
+//! Signals worked out one after another, each in its place.
+ghost use Rattle.std.specs.Prelude.{◌≡◌, ◌⊎◌, ℕ, ◌<◌, ◌≤◌, List, [], length, Bool, true, All, Contains};
+ghost use Rattle.gg_bits.specs.Shape.{shape, Fits};
+ghost use Rattle.gg_flat.specs.Line.{shape_at, value_at, AreTyped};
+ghost use Rattle.gg_flat.specs.Circuit.{signal_shapes, driver_at};
+ghost use Rattle.gg_flat.specs.WellFormed.{IsWellFormed};
+ghost use Rattle.gg_flat.specs.State.{IsState};
+ghost use Rattle.gg_flat.specs.Settled.{HasSource, driver_value};
+ghost use Rattle.gg_flat.specs.Room.{HasRoom, line_length};
+ghost use Rattle.gg_part.specs.InOrder.{IsInOrder};
+ghost use Rattle.gg_order.specs.Marks.{is_marked};
+ghost use Rattle.gg_program.specs.Slots.{inputs_in};
+ghost use Rattle.gg_program.specs.Right.{IsInner, AreRight};
+ghost use Rattle.gg_program.specs.Search.{StandBehind};
+
+use gg_flat::{Piece, Signal, State};
+
+/// Works out these signals, each behind all that it reads.
+pub(crate) fn work_out(
+    piece: &Piece,
+    signals: &[u32],
+    state: &State,
+    values: &mut [u128],
+    room: &mut [u128],
+)
+    requires formed { IsWellFormed piece.now }
+    requires ordered { IsInOrder piece.now }
+    requires inner { All (IsInner piece.now) signals.now }
+    requires state { IsState piece.now state.now }
+    requires typed { AreTyped (signal_shapes piece.now) values.old }
+    requires room { HasRoom piece.now (length room.old) }
+    ensures typed { AreTyped (signal_shapes piece.now) values.new }
+    ensures inputs { inputs_in piece.now values.new ≡ inputs_in piece.now values.old }
+    ensures right { (marks : List Bool) → StandBehind piece.now marks signals.now → AreRight piece.now state.now values.old (λ s. is_marked marks s ≡ true) → AreRight piece.now state.now values.new (λ s. (is_marked marks s ≡ true) ⊎ Contains signals.now s) }
+{
+    for signal in signals {
+        let value = worked(piece, *signal, state, values, room);
+        values[*signal as usize] = value;
+    }
+}
+
+/// Works out all signals that aren't marked, from the first to the last. The in-signals are marked.
+pub(crate) fn work_rest(
+    piece: &Piece,
+    marks: &[bool],
+    state: &State,
+    values: &mut [u128],
+    room: &mut [u128],
+)
+    requires formed { IsWellFormed piece.now }
+    requires ordered { IsInOrder piece.now }
+    requires count { length marks.now ≡ length piece.now.signals }
+    requires inputs { (place : ℕ) → place < length piece.now.ins → is_marked marks.now (value_at piece.now.ins place) ≡ true }
+    requires state { IsState piece.now state.now }
+    requires typed { AreTyped (signal_shapes piece.now) values.old }
+    requires room { HasRoom piece.now (length room.old) }
+    requires right { AreRight piece.now state.now values.old (λ s. is_marked marks.now s ≡ true) }
+    ensures typed { AreTyped (signal_shapes piece.now) values.new }
+    ensures inputs { inputs_in piece.now values.new ≡ inputs_in piece.now values.old }
+    ensures right { AreRight piece.now state.now values.new (λ s. s < length piece.now.signals) }
+{
+    for signal in 0..piece.signal_count() {
+        if !marks[signal] {
+            let value = worked(piece, signal as u32, state, values, room);
+            values[signal] = value;
+        }
+    }
+}
+
+// The value of a signal that isn't an in-signal, from those of the signals that it reads.
+fn worked(piece: &Piece, signal: u32, state: &State, values: &[u128], room: &mut [u128]) -> u128
+    requires formed { IsWellFormed piece.now }
+    requires inner { IsInner piece.now signal }
+    requires state { IsState piece.now state.now }
+    requires typed { AreTyped (signal_shapes piece.now) values.now }
+    requires room { HasRoom piece.now (length room.old) }
+    ensures value { result ≡ driver_value state.now [] values.now (shape_at (signal_shapes piece.now) signal) (driver_at piece.now signal) }
+    ensures fits { Fits (shape_at (signal_shapes piece.now) signal) result }
+{
+    driven(&piece.signals()[signal as usize], state, values, room)
+}
+
+// What a signal's driver gives.
+fn driven(signal: &Signal, state: &State, values: &[u128], room: &mut [u128]) -> u128
+    requires source { HasSource state.now [] values.now (shape signal.now.ty) signal.now.driver }
+    requires room { line_length signal.now.driver ≤ length room.old }
+    ensures value { result ≡ driver_value state.now [] values.now (shape signal.now.ty) signal.now.driver }
+    ensures fits { Fits (shape signal.now.ty) result }
+{
+    signal.driver.value(signal.ty, state, &[], values, room)
+}

@@ -1,0 +1,123 @@
+//! `Slots`: the values of a cycle, and which of them stand already.
+ghost use Rattle.std.specs.Prelude.{◌≡◌, ◌⊎◌, ℕ, ◌<◌, length, replicate, true, false, slice_set, IfOk};
+ghost use Rattle.gg_flat.specs.Line.{value_at};
+ghost use Rattle.gg_flat.specs.WellFormed.{IsWellFormed};
+ghost use Rattle.gg_flat.specs.State.{State, IsState};
+ghost use Rattle.gg_part.specs.InOrder.{IsInOrder};
+ghost use Rattle.gg_program.specs.Slots.{inputs_in, HasInputs, HasNeeded, NoneDone, DoneWith};
+ghost use Rattle.gg_program.specs.Right.{InCycle, IsCycle};
+
+use crate::evaluate::{work_out, work_rest};
+use crate::search::Search;
+use gg_flat::{Piece, State};
+use std::alloc::{AllocError, Global};
+use std::marker::Model;
+
+/// The values of a cycle. A contract sees the value of each signal, which of them are done, and the room for the nodes of a line.
+#[derive(Drop)]
+pub struct Slots {
+    values: Vec<u128>,
+    room: Vec<u128>,
+    search: Search,
+}
+
+impl Model for Slots {
+    ghost use Rattle.std.specs.Prelude.{◌≡◌, [], length};
+    ghost use Rattle.gg_program.specs.Slots.{Slotted};
+
+    ghost Value = { Slotted };
+
+    ghost view = { λ slots. record { values = slots.values.items; done = slots.search.marks; room = length slots.room.items } };
+
+    ghost invariant = { λ slots. slots.search.found ≡ [] };
+}
+
+// This many zeros.
+fn zeros(alloc: Global, count: usize) -> Result<Vec<u128>, AllocError>
+    ensures { IfOk result (λ values. values.items ≡ replicate count 0) }
+{
+    vec![in alloc; 0; count]
+}
+
+impl Slots {
+    // Slots for this many signals, none of them done, with room for this many nodes.
+    pub(crate) fn new(alloc: Global, count: usize, room: usize) -> Result<Slots, AllocError>
+        ensures values { IfOk result (λ slots. slots.values ≡ replicate count 0) }
+        ensures done { IfOk result (λ slots. slots.done ≡ replicate count false) }
+        ensures room { IfOk result (λ slots. slots.room ≡ room) }
+    {
+        let values = zeros(alloc, count)?;
+        let room = zeros(alloc, room)?;
+        let search = Search::new(alloc, count)?;
+        Ok(Slots {
+            values,
+            room,
+            search,
+        })
+    }
+
+    // Puts the value of a signal into its place, which is done then.
+    pub(crate) fn put(&mut self, signal: u32, value: u128)
+        requires value { signal < length self.old.values }
+        requires done { signal < length self.old.done }
+        ensures { self.new ≡ record { values = slice_set self.old.values signal value; done = slice_set self.old.done signal true; room = self.old.room } }
+    {
+        self.values[signal as usize] = value;
+        self.search.mark(signal);
+    }
+
+    // The value in the place of a signal.
+    pub(crate) fn value(&self, signal: u32) -> u128
+        requires { signal < length self.now.values }
+        ensures { result ≡ value_at self.now.values signal }
+    {
+        self.values[signal as usize]
+    }
+
+    // Works out what a signal reaches and isn't done. All inputs that it needs are.
+    pub(crate) fn reach(&mut self, piece: &Piece, state: &State, signal: u32)
+        requires formed { IsWellFormed piece.now }
+        requires ordered { IsInOrder piece.now }
+        requires known { signal < length piece.now.signals }
+        requires state { IsState piece.now state.now }
+        requires cycle { InCycle piece.now state.now self.old }
+        requires needed { HasNeeded piece.now self.old signal }
+        ensures cycle { InCycle piece.now state.now self.new }
+        ensures done { DoneWith piece.now signal self.old self.new }
+        ensures inputs { inputs_in piece.now self.new.values ≡ inputs_in piece.now self.old.values }
+    {
+        self.search.gather(piece, signal);
+        self.search.sort();
+        work_out(
+            piece,
+            self.search.found(),
+            state,
+            self.values.as_mut_slice(),
+            self.room.as_mut_slice(),
+        );
+        self.search.forget();
+    }
+
+    // Works out what isn't done, and goes to the next state. All inputs are done, and then nothing is.
+    pub(crate) fn next(&mut self, piece: &Piece, state: &mut State)
+        requires formed { IsWellFormed piece.now }
+        requires ordered { IsInOrder piece.now }
+        requires state { IsState piece.now state.old }
+        requires cycle { InCycle piece.now state.old self.old }
+        requires inputs { HasInputs piece.now self.old }
+        ensures next { IsCycle piece.now state.old (inputs_in piece.now self.old.values) state.new }
+        ensures state { IsState piece.now state.new }
+        ensures cycle { InCycle piece.now state.new self.new }
+        ensures none { NoneDone self.new }
+    {
+        work_rest(
+            piece,
+            self.search.marks(),
+            state,
+            self.values.as_mut_slice(),
+            self.room.as_mut_slice(),
+        );
+        state.advance(piece, self.values.as_slice(), self.room.as_mut_slice());
+        self.search.clear();
+    }
+}
