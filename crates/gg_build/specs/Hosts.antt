@@ -45,6 +45,10 @@ CanBuild columns outs (Memory part) = IsMemoryPart part
 CanBuild columns outs Source = IsSourceOf columns outs
 CanBuild columns outs Tray = ⊤
 
+-- each machine of the plan can be built
+abbrev pub AllCanBuild : Plan → List (List ℕ) → Type 0
+AllCanBuild plan columns = (m : ℕ) → m < length plan.machines → CanBuild columns (machine_in plan m).outs (machine_in plan m).body
+
 -- ---- what is made
 
 -- A node is the host of one machine, for which a fact holds, and these are the ports that it serves.
@@ -61,6 +65,14 @@ pub record IsSeat (columns : List (List ℕ)) (n m : ℕ) (own : planned.Machine
   pub thread : station.thread ≡ 0
   pub ins : station.ins ≡ own.ins
   pub outs : station.outs ≡ own.outs
+
+-- The host and the station of machine m were put behind the others.
+pub record IsSeated (columns : List (List ℕ)) (n m : ℕ) (own : planned.Machine) (old_nodes nodes : List Node) (old_stations stations : List Station) : Type 0 where
+  pub node : Node
+  pub station : Station
+  pub seat : IsSeat columns n m own node station
+  pub hosts : nodes ≡ old_nodes ++ node ∷ []
+  pub places : stations ≡ old_stations ++ station ∷ []
 
 -- the hosts and the stations of the first `count` machines of a plan
 pub record AreSeats (plan : Plan) (columns : List (List ℕ)) (n count : ℕ) (nodes : List Node) (stations : List Station) : Type 0 where

@@ -1,11 +1,7 @@
 //! The hosts of a plan's machines.
 ghost use Rattle.std.specs.Prelude.{◌≡◌, ◌++◌, ◌∷◌, [], None, false, IfOk, length, slice_index_or};
 ghost use Rattle.gg_flat.specs.Line.{value_at};
-ghost use Rattle.gg_flat.specs.WellFormed.{IsWellFormed};
-ghost use Rattle.gg_part.specs.InOrder.{IsInOrder};
-ghost use Rattle.gg_memunit.specs.MemoryUnit.{IsMemoryPiece};
 ghost use Rattle.gg_node.specs.Machine.{source_machine, tray_machine};
-ghost use Rattle.gg_program.specs.Programmed.{AreNeedsOfOuts};
 ghost use Rattle.gg_sound.specs.Alone.{IsCutAgain};
 ghost use Rattle.gg_sound.specs.Built.{IsUnitOf, IsMemoryOf, IsBuilt};
 ghost use Rattle.gg_build.specs.Hosts.{IsUnitPart, IsMemoryPart, IsSourceOf, CanBuild, IsHost};
@@ -30,24 +26,12 @@ pub(crate) struct Hosted<'a> {
     pub ports: Vec<ServedPort>,
 }
 
-// The program of a piece.
-fn program_of<'a>(alloc: Global, piece: &'a Piece) -> Result<Program<'a>, NoMemory>
-    requires formed { IsWellFormed piece.now }
-    requires ordered { IsInOrder piece.now }
-    ensures circuit { IfOk result (λ program. program.circuit ≡ piece.now) }
-    ensures needs { IfOk result (λ program. AreNeedsOfOuts program.circuit program.needs) }
-{
-    let _ = alloc;
-    let _ = piece;
-    Err(NoMemory)
-}
-
 // The unit of a part.
 fn unit_of<'a>(alloc: Global, part: &'a Part) -> Result<Unit<'a>, NoMemory>
     requires { IsUnitPart part.now }
     ensures { IfOk result (λ unit. IsUnitOf part.now unit) }
 {
-    let program = program_of(alloc, &part.piece)?;
+    let program = Program::of(alloc, &part.piece)?;
     let unit = Unit::new(alloc, program)?;
     Ok(unit)
 }

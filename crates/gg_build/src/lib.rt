@@ -3,7 +3,10 @@
 
 mod hosts;
 mod node;
+mod opening;
 mod ports;
+mod seats;
 mod wires;
 
 pub use node::Node;
+pub use opening::build;
