@@ -1,7 +1,7 @@
 -- A memory that was cut from its part is a piece of its own, with the in-signals first.
-use Rattle.std.proofs.Common.{◌≡◌, ℕ, ◌+◌, ◌^◌, ◌<◌, List, [], ◌∷◌, ◌++◌, length, map, get_or, refl, sym, ◌∙◌, ap, subst, inl, inr, ◌⊎◌, arith}
+use Rattle.std.proofs.Common.{◌≡◌, ℕ, ◌+◌, ◌^◌, ◌<◌, List, [], ◌∷◌, ◌++◌, length, map, get_or, sym, ◌∙◌, ap, subst, inl, inr, ◌⊎◌, arith}
 use Rattle.std.specs.Prelude.{All, Contains}
-use Rattle.std.proofs.lemmas.List.{length-map, length-append, get_or-map, get_or_default, get_or_append_left}
+use Rattle.std.proofs.lemmas.List.{nil_from_length, length-map, length-append, get_or-map, get_or_default, get_or_append_left}
 use Rattle.std.proofs.lemmas.List.Elements.{Contains-append_cases}
 use Rattle.gg_flat.specs.declared.memory.Latency.{Latency}
 use Rattle.gg_flat.specs.declared.memory.Latency.TheVariants.{Zero, One}
@@ -16,23 +16,15 @@ use Rattle.gg_part.specs.Part.{MemoryBelow, renamed_memory, renamed_reader, rena
 use Rattle.gg_part.specs.Building.{IsHeldIn}
 use Rattle.gg_part.specs.declared.part.Part.{Part}
 use Rattle.gg_part.proofs.FormedLemmas.{IsWellFormed-part}
-use Rattle.gg_closed.proofs.ListLemmas.{map-cases, one-place, here}
+use Rattle.gg_closed.proofs.ListLemmas.{map-cases, one-place}
 use Rattle.gg_memunit.specs.MemoryUnit.{outs_of, IsMemoryPiece}
 use Rattle.gg_memunit.proofs.UnitLemmas.{sole, of-only}
 use Rattle.gg_sound.specs.Alone.{IsCutAgain}
+use Rattle.gg_sound.proofs.NumberLemmas.{none-in}
 use Rattle.gg_sound.proofs.BackLemmas.{All-unmap, words-back}
 use Rattle.gg_sound.proofs.MemoryPartLemmas.{ReaderAmong, WriterAmong, IsMemoryPart}
 
 -- ---- registers
-
--- a list that contains nothing
-nothing-in : (xs : List ℕ) → ((x : ℕ) → Contains xs x → ⊥) → length xs ≡ 0
-nothing-in [] none = refl
-nothing-in (x ∷ xs) none = absurd (none x (here x xs))
-
-no-items : {A : Type 0} (xs : List A) → length xs ≡ 0 → xs ≡ []
-no-items [] none = refl
-no-items (x ∷ xs) none = absurd (omega (arith, none))
 
 -- the data of a reader holds no register
 no-register : (latency : Latency) (r k : ℕ) (reader : Reader) → reader_driver latency 0 r reader ≡ Held k → ⊥
@@ -65,7 +57,7 @@ module _ (part alone : Part) (memory : Memory) (formed : IsWellFormed part.piece
       by held = side held.signal held.holds.inside held.holds.holds (Contains-append_cases part.piece.ins part.piece.outs held.signal held.chosen)
 
   no-registers : alone.piece.registers ≡ []
-  no-registers = no-items alone.piece.registers (is.is_part.register_count ∙ nothing-in alone.held holds-nothing)
+  no-registers = nil_from_length alone.piece.registers (is.is_part.register_count ∙ none-in alone.held holds-nothing)
 
   -- ---- in-signals
 

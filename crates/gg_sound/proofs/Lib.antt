@@ -24,3 +24,4 @@ pub mod ChosenLemmas
 pub mod AloneLemmas
 pub mod StandLemmas
 pub mod BodyLemmas
+mod WorkedAlone
