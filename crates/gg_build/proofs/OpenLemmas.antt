@@ -1,6 +1,5 @@
 -- The hosts and stations of a plan's machines open its network.
 use Rattle.std.proofs.Common.{◌≡◌, ℕ, ◌<◌, List, [], ◌∷◌, length, map, get_or, sym, ap, subst, ◌∙◌, arith}
-use Rattle.std.specs.Prelude.{All}
 use Rattle.std.proofs.lemmas.List.{get_or-map, length-map}
 use Rattle.gg_flat.specs.Line.{value_at}
 use Rattle.gg_order.specs.Design.{Ordered}
@@ -10,10 +9,10 @@ use Rattle.gg_cut.specs.Solves.{columns_of}
 use Rattle.gg_node.specs.Machine.{Machine, machine_at, no_machine}
 use Rattle.gg_net.specs.declared.shape.Wire.{Wire}
 use Rattle.gg_net.specs.declared.shape.Station.{Station}
-use Rattle.gg_net.specs.Network.{Network, Kind, kind_of, kind_at, frame_of, IsAtIn, IsAtOut}
+use Rattle.gg_net.specs.Network.{Network, Kind, kind_of, kind_at, IsAtIn, IsAtOut}
 use Rattle.gg_net.specs.Seats.{hosted, seated, machines_by, IsSeated, AreSeated}
 use Rattle.gg_net.specs.Kept.{IsSound}
-use Rattle.gg_net.specs.Net.{entry_of, IsListed, AreListed, opening_net, Opens}
+use Rattle.gg_net.specs.Net.{entry_of, IsListed, opening_net, Opens}
 use Rattle.gg_sound.specs.Built.{machine_in, wires_of_plan, IsBuilt, AreBuilt, IsGiven, plan_frame, rows_of}
 use Rattle.gg_sound.proofs.PlanLemmas.{fit, plan-listed, plan-wired, plan-no-ring}
 use Rattle.gg_sound.proofs.FitLemmas.{kind-is}

@@ -1,14 +1,11 @@
 -- The places of channels, written list by list.
-use Rattle.std.proofs.Common.{◌≡◌, ℕ, ◌+◌, ◌^◌, ◌<◌, ◌≤◌, List, [], ◌∷◌, ◌++◌, length, get_or, map, refl, sym, ap, subst, ◌∙◌, inl, inr, arith}
-use Rattle.std.specs.Prelude.{◌⊎◌, All, Contains, slice_set, replicate}
+use Rattle.std.proofs.Common.{◌≡◌, ℕ, ◌+◌, ◌<◌, ◌≤◌, List, [], length, get_or, map, refl, sym, ap, subst, ◌∙◌, inl, inr, arith}
+use Rattle.std.specs.Prelude.{◌⊎◌, Contains, slice_set}
 use Rattle.std.proofs.lemmas.Bool.{cases_lt, cases_eq}
-use Rattle.std.proofs.lemmas.List.{get_or-map, length-map, get_or-set_same, get_or-set_other, length-set, get_or_push, get_or_append_left, get_or_default, length-append, length-replicate}
+use Rattle.std.proofs.lemmas.List.{get_or-map, get_or-set_same, get_or-set_other, length-set, get_or_default}
 use Rattle.gg_flat.specs.Line.{value_at}
 use Rattle.gg_closed.proofs.MakerLemmas.{find-number}
-use Rattle.gg_cut.specs.declared.plan.Channel.{Channel}
-use Rattle.gg_net.specs.declared.shape.Wire.{Wire}
-use Rattle.gg_net.specs.Network.{wire_at}
-use Rattle.gg_build.specs.Wires.{IsPlaceAt, IsNoted, channels_at, IsPlace, AreListed, ArePlaces, AreWires}
+use Rattle.gg_build.specs.Wires.{IsPlaceAt, IsNoted, channels_at, IsPlace, AreListed, ArePlaces}
 
 -- ---- one list
 

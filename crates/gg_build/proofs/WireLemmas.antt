@@ -14,8 +14,8 @@ use Rattle.gg_cut.proofs.RangeLemmas.{filter-few}
 use Rattle.gg_closed.proofs.FaultlessLemmas.{faultless-few}
 use Rattle.gg_net.specs.declared.shape.Wire.{Wire}
 use Rattle.gg_net.specs.Network.{wire_at}
-use Rattle.gg_sound.specs.Built.{nameless, machine_in, wire_of, wires_of_plan}
-use Rattle.gg_sound.proofs.LinkLemmas.{AreLinks, length-wires, length-from, wire-from, some-channel}
+use Rattle.gg_sound.specs.Built.{nameless, wire_of, wires_of_plan}
+use Rattle.gg_sound.proofs.LinkLemmas.{AreLinks, length-from, wire-from, some-channel}
 use Rattle.gg_sound.proofs.ListedLemmas.{given-at, given-in, taken-at, taken-in, at-in, at-out}
 use Rattle.gg_sound.proofs.GivenLemmas.{links-of}
 use Rattle.gg_build.specs.Build.{IsFaultless}

@@ -1,4 +1,4 @@
-use Rattle.std.proofs.Common.{◌≡◌, ◌+◌, ◌∷◌, ◌++◌, [], length, get_or, take, suc, refl, ◌∙◌, ap, arith}
+use Rattle.std.proofs.Common.{◌≡◌, ◌+◌, ◌∷◌, ◌++◌, [], get_or, take, suc, refl, ◌∙◌, ap, arith}
 use Rattle.gg_flat.specs.Served.{ByWriter, by_writers}
 use Rattle.gg_build.proofs.PortLemmas.{writers-more, entries-more}
 use Rattle.gg_build.proofs.ports.add_writers.Goals as goal

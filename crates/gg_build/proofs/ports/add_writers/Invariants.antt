@@ -1,4 +1,4 @@
-use Rattle.std.proofs.Common.{◌≡◌, ◌++◌, length, map, take}
+use Rattle.std.proofs.Common.{◌≡◌, ◌++◌, map, take}
 use Rattle.gg_flat.specs.Served.{by_writers}
 use Rattle.gg_memunit.specs.MemoryUnit.{port_of}
 use Rattle.gg_net.specs.Net.{entry_of}

@@ -1,5 +1,3 @@
-use Rattle.std.proofs.Common.{take}
-use Rattle.gg_build.specs.Wires.{IsNoted}
 use Rattle.gg_build.proofs.PlaceLemmas.{AreNoted}
 use Rattle.gg_build.proofs.wires.note.Given as goal
 
