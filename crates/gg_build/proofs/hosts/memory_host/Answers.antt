@@ -17,8 +17,6 @@ returns c =
     let cut = c.in_ok-alone.ensures in
     let unit = c.in_ok-unit.unit in
     record {
-      machine = unit;
-      host = refl;
       is = record {
         alone = alone;
         is_part = cut.is_part;
