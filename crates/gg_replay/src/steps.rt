@@ -3,7 +3,7 @@ ghost use Rattle.std.specs.Prelude.{◌≡◌, Some, IfErr, OnOk, MatchResult};
 ghost use Rattle.gg_net.specs.declared.event.Event.TheVariants.{Fire};
 ghost use Rattle.gg_marking.specs.Steps.{IsStep, StepRefused, Steps};
 ghost use Rattle.gg_replay.specs.Log.{AreFronts, IsBehind};
-ghost use Rattle.gg_replay.specs.Stopping.{IsStop};
+ghost use Rattle.gg_replay.specs.Stopping.{IsStop, KeepsLog};
 
 use crate::log::Log;
 use crate::stop::Stop;
@@ -80,6 +80,7 @@ pub fn replay<H: Host, Z: Streams>(
     requires logged { AreFronts Z.lists net.old log.old }
     ensures done { OnOk result (Steps net.old steps.now net.new × AreFronts Z.lists net.new log.new) }
     ensures refused { IfErr result (λ stop. IsStop net.old steps.now net.new stop) }
+    ensures stands { IfErr result (λ stop. KeepsLog Z.lists net.new log.new stop) }
 {
     for (i, step) in steps.iter().enumerate() {
         net.kept();
