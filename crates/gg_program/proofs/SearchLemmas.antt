@@ -108,17 +108,6 @@ Finds-new marks found signal known not =
 
 -- ---- one after another
 
-pub Finds-none : (P : ℕ → Type 0) (search : Searched) → ((s : ℕ) → P s → ⊥) → Finds P search search
-Finds-none P search none =
-    record {
-      count = refl;
-      more = [];
-      grown = sym (append-nil search.found);
-      fresh = λ s h. absurd (omega (arith, h.1));
-      marked = λ s. (λ m. inl m, λ e. elim e [ inl m ↦ m | inr h ↦ absurd (omega (arith, h.1)) ]);
-      named = λ s p. absurd (none s p);
-    }
-
 pub Finds-then : (P Q R : ℕ → Type 0) (a b c : Searched) → ((s : ℕ) → P s → R s) → ((s : ℕ) → Q s → R s) → ((s : ℕ) → R s → P s ⊎ Q s) → Finds P a b → Finds Q b c → Finds R a c
 Finds-then P Q R a b c from_p from_q cases first second =
     record {
