@@ -10,3 +10,6 @@ mod wires;
 
 pub use node::Node;
 pub use opening::build;
+
+#[cfg(test)]
+mod tests;
