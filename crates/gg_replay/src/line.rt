@@ -1,5 +1,5 @@
 //! The line of a channel.
-ghost use Rattle.std.specs.Prelude.{◌≡◌, ◌/◌, ◌%◌, ◌^◌, ◌<◌, ◌++◌, ◌∷◌, IfOk, OnOk, codes, decimal, string_bytes};
+ghost use Rattle.std.specs.Prelude.{◌≡◌, ◌*◌, ◌/◌, ◌%◌, ◌^◌, ◌<◌, ◌++◌, ◌∷◌, IfOk, OnOk, codes, decimal, string_bytes};
 ghost use Rattle.std.specs.Char.{digit_char};
 ghost use Rattle.gg_trace.specs.Printing.{hex_digits, digit_count};
 ghost use Rattle.gg_replay.specs.ReplayText.{channel_line};
@@ -9,7 +9,7 @@ use std::alloc::{AllocError, Global};
 
 // The hexadecimal digit of a value at a place, counted from the last.
 fn digit_at(value: u128, place: u32) -> u32
-    ensures { result ≡ value / 16 ^ place % 16 }
+    ensures { result ≡ value / 2 ^ (4 * place) % 16 }
 {
     if place < 32 {
         ((value >> (4 * place)) % 16) as u32
