@@ -19,10 +19,8 @@ use std::marker::{Model, PhantomData};
 #[derive(Drop)]
 pub struct Net<H: Host, Z: Streams> {
     pub(crate) hosts: Vec<H>,
-    pub(crate) stations: Vec<Station>,
-    pub(crate) wires: Vec<Wire>,
+    pub(crate) shape: Shape,
     pub(crate) queues: Vec<Queue>,
-    pub(crate) end: u64,
     of: PhantomData<Z>,
 }
 
@@ -33,9 +31,9 @@ impl<H: Host, Z: Streams> Model for Net<H, Z> {
 
     ghost Value = { Network };
 
-    ghost view = { λ net. net_of (map H.machines net.hosts.items) net.stations.items net.wires.items net.queues.items net.end };
+    ghost view = { λ net. net_of (map H.machines net.hosts.items) net.shape.stations.items net.shape.wires.items net.queues.items net.shape.end };
 
-    ghost invariant = { λ net. IsNet Z.lists Z.runs (map H.machines net.hosts.items) net.stations.items net.wires.items net.queues.items net.end };
+    ghost invariant = { λ net. IsNet Z.lists Z.runs (map H.machines net.hosts.items) net.shape.stations.items net.shape.wires.items net.queues.items net.shape.end };
 }
 
 // The queues of these channels.
@@ -62,10 +60,8 @@ impl<H: Host, Z: Streams> Net<H, Z> {
         let queues = open_queues(alloc, &shape.wires)?;
         Ok(Net {
             hosts,
-            stations: shape.stations,
-            wires: shape.wires,
+            shape,
             queues,
-            end: shape.end,
             of: PhantomData,
         })
     }
@@ -74,28 +70,28 @@ impl<H: Host, Z: Streams> Net<H, Z> {
     pub fn kept(&self)
         ensures { Kept Z.lists Z.runs self.now }
     {
-        let _ = &self.wires;
+        let _ = &self.shape;
     }
 
     /// How many cycles it is to do.
     pub fn end(&self) -> u64
         ensures { result ≡ self.now.end }
     {
-        self.end
+        self.shape.end
     }
 
     /// How many machines it has.
     pub fn machines(&self) -> usize
         ensures { result ≡ length self.now.machines }
     {
-        self.stations.len()
+        self.shape.stations.len()
     }
 
     /// How many channels it has.
     pub fn channels(&self) -> usize
         ensures { result ≡ length self.now.wires }
     {
-        self.wires.len()
+        self.shape.wires.len()
     }
 
     /// The cycle that a machine is in.
@@ -103,7 +99,7 @@ impl<H: Host, Z: Streams> Net<H, Z> {
         requires { machine < length self.now.machines }
         ensures { result ≡ (machine_at self.now.machines machine).cycle }
     {
-        seats::cycle(&self.hosts, &self.stations[machine as usize])
+        seats::cycle(&self.hosts, &self.shape.stations[machine as usize])
     }
 
     /// How many ports of a machine were served in this cycle.
@@ -111,7 +107,7 @@ impl<H: Host, Z: Streams> Net<H, Z> {
         requires { machine < length self.now.machines }
         ensures { result ≡ (machine_at self.now.machines machine).served }
     {
-        seats::served(&self.hosts, &self.stations[machine as usize])
+        seats::served(&self.hosts, &self.shape.stations[machine as usize])
     }
 
     /// How many ports of a machine are served in a cycle.
@@ -119,7 +115,7 @@ impl<H: Host, Z: Streams> Net<H, Z> {
         requires { machine < length self.now.machines }
         ensures { result ≡ length (machine_at self.now.machines machine).ports }
     {
-        seats::dues(&self.hosts, &self.stations[machine as usize])
+        seats::dues(&self.hosts, &self.shape.stations[machine as usize])
     }
 
     /// How many tokens were put into a channel.
