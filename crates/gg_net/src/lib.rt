@@ -19,6 +19,7 @@
 mod event;
 mod judge;
 mod net;
+mod parts;
 mod ports;
 mod queue;
 mod seats;
@@ -29,5 +30,7 @@ mod tells;
 
 pub use event::{Event, Refusal};
 pub use net::Net;
+pub use parts::Parts;
+pub use queue::Queue;
 pub use shape::{ServedPort, Shape, Station, Wire};
 pub use streams::Streams;

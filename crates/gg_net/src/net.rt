@@ -1,15 +1,15 @@
 //! `Net`: a network of machines.
-ghost use Rattle.std.specs.Prelude.{◌≡◌, ◌-◌, ◌<◌, [], length, map, IfOk, MatchOption};
+ghost use Rattle.std.specs.Prelude.{◌≡◌, ◌-◌, ◌<◌, ◌≤◌, [], length, map, IfOk, MatchOption};
 ghost use Rattle.gg_flat.specs.Line.{value_at};
-ghost use Rattle.gg_node.specs.Machine.{machine_at};
-ghost use Rattle.gg_net.specs.Network.{queue_at, puts, takes};
+ghost use Rattle.gg_node.specs.Machine.{machine_at, cycle_limit};
+ghost use Rattle.gg_net.specs.Network.{queue_at, puts, takes, serves, frame_of};
 ghost use Rattle.gg_net.specs.Kept.{Kept};
 ghost use Rattle.gg_net.specs.Seats.{machines_by};
-ghost use Rattle.gg_net.specs.Net.{AreOpen, Opens, opening_net};
+ghost use Rattle.gg_net.specs.Net.{AreListed, AreOpen, IsWithinLimits, Opens, opening_net};
 
 use crate::queue::Queue;
 use crate::seats;
-use crate::shape::{Shape, Station, Wire};
+use crate::shape::{Shape, Wire};
 use crate::streams::Streams;
 use gg_node::Host;
 use std::alloc::{AllocError, Global};
@@ -21,7 +21,7 @@ pub struct Net<H: Host, Z: Streams> {
     pub(crate) hosts: Vec<H>,
     pub(crate) shape: Shape,
     pub(crate) queues: Vec<Queue>,
-    of: PhantomData<Z>,
+    pub(crate) streams: PhantomData<Z>,
 }
 
 impl<H: Host, Z: Streams> Model for Net<H, Z> {
@@ -62,7 +62,7 @@ impl<H: Host, Z: Streams> Net<H, Z> {
             hosts,
             shape,
             queues,
-            of: PhantomData,
+            streams: PhantomData,
         })
     }
 
@@ -71,6 +71,23 @@ impl<H: Host, Z: Streams> Net<H, Z> {
         ensures { Kept Z.lists Z.runs self.now }
     {
         let _ = &self.shape;
+    }
+
+    /// Every network is within the limits.
+    pub fn within_limits(&self)
+        ensures { IsWithinLimits (frame_of self.now) }
+    {
+        let _ = &self.shape;
+    }
+
+    /// How its machines are joined.
+    pub fn shape(&self) -> &Shape
+        ensures count { length result.now.stations.items ≡ length self.now.machines }
+        ensures listed { AreListed (frame_of self.now) result.now.stations.items }
+        ensures wires { result.now.wires.items ≡ self.now.wires }
+        ensures end { result.now.end ≡ self.now.end }
+    {
+        &self.shape
     }
 
     /// How many cycles it is to do.
@@ -116,6 +133,26 @@ impl<H: Host, Z: Streams> Net<H, Z> {
         ensures { result ≡ length (machine_at self.now.machines machine).ports }
     {
         seats::dues(&self.hosts, &self.shape.stations[machine as usize])
+    }
+
+    // The cycle that a machine is in: within the limit.
+    fn counted_cycle(&self, machine: u32) -> u64
+        requires { machine < length self.now.machines }
+        ensures is { result ≡ (machine_at self.now.machines machine).cycle }
+        ensures within { result ≤ cycle_limit }
+    {
+        self.kept();
+        self.within_limits();
+        self.cycle(machine)
+    }
+
+    /// How many ports of a machine were served since the first cycle.
+    pub fn serves(&self, machine: u32) -> u64
+        requires { machine < length self.now.machines }
+        ensures { result ≡ serves self.now machine }
+    {
+        let dues = u64::from(self.dues(machine));
+        dues * self.counted_cycle(machine) + u64::from(self.served(machine))
     }
 
     /// How many tokens were put into a channel.

@@ -44,7 +44,11 @@ impl<H: Host, Z: Streams> Net<H, Z> {
         requires { CanServe self.old machine port }
         ensures { self.new ≡ after_serve self.old machine }
     {
-        seats::serve(&mut self.hosts, &self.shape.stations[machine as usize], port);
+        seats::serve(
+            &mut self.hosts,
+            &self.shape.stations[machine as usize],
+            port,
+        );
     }
 
     // Finishes the cycle of a machine.
