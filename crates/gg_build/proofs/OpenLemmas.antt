@@ -5,16 +5,21 @@ use Rattle.gg_flat.specs.Line.{value_at}
 use Rattle.gg_order.specs.Design.{Ordered}
 use Rattle.gg_partfile.specs.declared.request.Request.{Request}
 use Rattle.gg_cut.specs.declared.plan.Plan.{Plan}
+use Rattle.gg_cut.specs.Listed.{listed_of}
 use Rattle.gg_cut.specs.Solves.{columns_of}
+use Rattle.gg_closed.proofs.FaultlessLemmas.{faultless-few}
+use Rattle.gg_closed.proofs.EndLemmas.{few-machines}
 use Rattle.gg_node.specs.Machine.{Machine, machine_at, no_machine}
 use Rattle.gg_net.specs.declared.shape.Wire.{Wire}
 use Rattle.gg_net.specs.declared.shape.Station.{Station}
 use Rattle.gg_net.specs.Network.{Network, Kind, kind_of, kind_at, IsAtIn, IsAtOut}
 use Rattle.gg_net.specs.Seats.{hosted, seated, machines_by, IsSeated, AreSeated}
 use Rattle.gg_net.specs.Kept.{IsSound}
-use Rattle.gg_net.specs.Net.{entry_of, IsListed, opening_net, Opens}
+use Rattle.gg_net.specs.Net.{entry_of, IsListed, IsWithinLimits, opening_net, Opens}
 use Rattle.gg_sound.specs.Built.{machine_in, wires_of_plan, IsBuilt, AreBuilt, IsGiven, plan_frame, rows_of}
 use Rattle.gg_sound.proofs.PlanLemmas.{fit, plan-listed, plan-wired, plan-no-ring}
+use Rattle.gg_sound.proofs.LinkLemmas.{length-from}
+use Rattle.gg_sound.proofs.GivenLemmas.{links-of}
 use Rattle.gg_sound.proofs.FitLemmas.{kind-is}
 use Rattle.gg_sound.proofs.SolvedLemmas.{plan-solved}
 use Rattle.gg_sound.proofs.OpeningLemmas.{built-opening}
@@ -105,12 +110,23 @@ module _ (plan : Plan) (columns : List (List ℕ)) (n : ℕ) (hosts : List Node)
           solves = plan-solved design request default plan columns n rows machines given are-built;
         }
 
+    is-within : IsWithinLimits (plan_frame plan (machines_by lists_of stations) n)
+    is-within =
+        let few = faultless-few design request given.faultless in
+        let links = links-of design request default plan given.design_is given.faultless given.planned in
+        record {
+          cycles = given.most;
+          machines = omega (arith, few-machines design.circuit design.tree (listed_of design.tree request) few, given.planned.machine_total, length-map (machines_by lists_of stations) kind_of, length-map stations (seated lists_of), are.places);
+          channels = omega (arith, few.channels, links.count, length-from plan 0 plan.channels);
+        }
+
     opens-plan : Opens (columns_of plan rows) (rows_of plan rows) lists_of stations (wires_of_plan plan) n
     opens-plan =
         record {
           seated = are-seated;
           opening = built-opening plan columns n (machines_by lists_of stations) are-built;
           listed = λ m s lt. is-listed m s (omega (arith, lt, are.places));
+          limits = is-within;
           sound = is-sound;
         }
 
