@@ -1,17 +1,17 @@
 -- A source and a tray open a network for two cycles.
-use Rattle.std.proofs.Common.{◌≡◌, ℕ, zero, suc, ◌<◌, List, [], ◌∷◌, length, map, refl, sym, subst, ◌∙◌, arith, lit<}
+use Rattle.std.proofs.Common.{◌≡◌, ℕ, zero, suc, ◌<◌, List, [], ◌∷◌, refl, sym, subst, ◌∙◌, arith, lit<}
 use Rattle.std.specs.Prelude.{All, slice_index_or}
 use Rattle.gg_flat.specs.Line.{value_at}
 use Rattle.gg_flat.proofs.WorkedForms.{only, both}
 use Rattle.gg_node.specs.Machine.{Machine}
 use Rattle.gg_net.specs.declared.shape.Wire.{Wire}
 use Rattle.gg_net.specs.declared.shape.Station.{Station}
-use Rattle.gg_net.specs.Network.{IsAtIn, IsAtOut, kind_of, kind_at, frame_of}
+use Rattle.gg_net.specs.Network.{IsAtIn, IsAtOut, kind_at, frame_of}
 use Rattle.gg_net.specs.Kept.{NeedsChannel}
 use Rattle.gg_net.specs.Seats.{IsSeated, AreSeated, machines_by}
 use Rattle.gg_net.specs.Net.{IsListed, AreListed, IsOpening, Opens}
 use Rattle.gg_net.specs.Fixture.{fed_hosts, fed_stations, fed_wires, fed_lists, fed_runs, IsFed}
-use Rattle.gg_net.proofs.WorkedNets.{fed, fed-wired, fed-solved, no-needs}
+use Rattle.gg_net.proofs.WorkedNets.{fed, fed-wired, fed-solved, no-needs, within-limits}
 
 host-is : (m : ℕ) (s : Station) → m < 2 → (slice_index_or fed_stations m s).host ≡ m
 host-is m s lt = both (λ k. (slice_index_or fed_stations k s).host ≡ k) refl refl m lt
@@ -63,7 +63,7 @@ fed-opens =
       seated = fed-seated;
       opening = fed-opening;
       listed = fed-listed;
-      limits = record { cycles = omega arith; machines = omega arith; channels = omega arith };
+      limits = within-limits;
       sound = record { wired = fed-wired; no_ring = record { ranks = 0 ∷ []; lower = lower }; solves = fed-solved };
     }
 

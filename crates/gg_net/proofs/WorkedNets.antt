@@ -17,7 +17,7 @@ use Rattle.gg_net.specs.declared.event.Refusal.TheVariants.{Stranger, Ended, Fir
 use Rattle.gg_net.specs.Network.{Network, IsAtIn, puts, takes, serves, frame_of, wire_at, IsAtOut, kind_at}
 use Rattle.gg_net.specs.Step.{CanFire, CanServe, after_latch, after_fire, after_serve, after_finish, due_or_count, LatchRefused, FireRefused, ServeRefused, FinishRefused}
 use Rattle.gg_net.specs.Kept.{list_at, rows_at, Runs, Answers, Asks, Solves, IsWired, NeedsChannel, HasNoRing, BetweenAt}
-use Rattle.gg_net.specs.Net.{opening_net}
+use Rattle.gg_net.specs.Net.{IsWithinLimits, opening_net}
 use Rattle.gg_net.specs.Fixture.{fed_wires, fed_lists, fed_runs}
 
 -- ---- two units: the out of `a` is its register, which takes its in; the out of `b` is its in
@@ -302,6 +302,13 @@ fed-solved =
     taken zero known t = tt
     taken (suc c) known t = absurd (omega (arith, known))
 
--- another list does not
+-- it is within the limits, and would not be with one cycle more than may be done
+pub within-limits : IsWithinLimits (frame_of fed)
+within-limits = record { cycles = omega arith; machines = omega arith; channels = omega arith }
+
+too-long : IsWithinLimits (frame_of (record fed { end = 1000001 })) → ⊥
+too-long within = omega (arith, within.cycles)
+
+-- another list does not solve it
 not-solved : Solves ((4 ∷ 7 ∷ []) ∷ []) ([] ∷ [] ∷ []) (frame_of fed) → ⊥
 not-solved solves = let is : value_at (4 ∷ 6 ∷ []) 1 ≡ value_at (4 ∷ 7 ∷ []) 1 = solves.given 0 (lit< tt) 1 (lit< tt) in omega (arith, is)
