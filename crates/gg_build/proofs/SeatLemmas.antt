@@ -1,5 +1,5 @@
 -- The hosts and stations of a plan's machines, one after another.
-use Rattle.std.proofs.Common.{◌≡◌, ℕ, ◌+◌, ◌<◌, List, [], ◌∷◌, length, get_or, refl, sym, ap, subst, ◌∙◌, below_more, arith}
+use Rattle.std.proofs.Common.{◌≡◌, ℕ, ◌+◌, ◌<◌, List, [], ◌∷◌, length, get_or, sym, ap, subst, ◌∙◌, below_more, arith}
 use Rattle.std.proofs.lemmas.List.{get_or_push, get_or_append_left, length-append}
 use Rattle.gg_cut.specs.declared.plan.Machine as planned
 use Rattle.gg_cut.specs.declared.plan.Plan.{Plan}
@@ -7,9 +7,6 @@ use Rattle.gg_net.specs.declared.shape.Station.{Station}
 use Rattle.gg_sound.specs.Built.{machine_in}
 use Rattle.gg_build.specs.declared.node.Node.{Node}
 use Rattle.gg_build.specs.Hosts.{IsSeat, IsSeated, AreSeats}
-
-pub seats-none : (plan : Plan) (columns : List (List ℕ)) (n : ℕ) → AreSeats plan columns n 0 [] []
-seats-none plan columns n = record { hosts = refl; places = refl; each = λ m any other lt. absurd (omega arith) }
 
 pub seats-more : (plan : Plan) (columns : List (List ℕ)) (n m : ℕ) (own : planned.Machine) (old_nodes nodes : List Node) (old_stations stations : List Station) → machine_in plan m ≡ own → AreSeats plan columns n m old_nodes old_stations → IsSeated columns n m own old_nodes nodes old_stations stations → AreSeats plan columns n (m + 1) nodes stations
 seats-more plan columns n m own old_nodes nodes old_stations stations is was one =
