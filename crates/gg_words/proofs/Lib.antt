@@ -3,3 +3,4 @@ pub mod NumberLaws
 pub mod FileLaws
 pub mod TakenLaws
 pub mod WorkedRows
+pub mod ReplayRows
