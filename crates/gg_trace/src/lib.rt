@@ -22,7 +22,7 @@ mod trace_table;
 pub use faults::TraceFault;
 pub use field_cuts::fields_part_their_line;
 pub use laws::one_first_fault;
-pub use line_cuts::lines_part_their_text;
+pub use line_cuts::{lines_part_their_text, Lines};
 pub use printing::{header_text, printed_values_are_read, row_text};
 pub use reading::read_trace;
 pub use trace_table::Trace;

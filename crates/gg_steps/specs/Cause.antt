@@ -1,0 +1,34 @@
+-- The words in which it is told why a step isn't done.
+-- Source: this program's own form: the cause's name, and behind a blank each what it speaks of, by the names of a steps file.
+use Rattle.std.specs.Prelude.{ℕ, List, [], ◌∷◌, ◌++◌, Option, Some, None, codes, decimal, slice_get}
+use Rattle.gg_net.specs.declared.event.Event.{Event}
+use Rattle.gg_net.specs.declared.event.Event.TheVariants.{Latch, Fire, Serve, Finish}
+use Rattle.gg_net.specs.declared.event.Refusal.{Refusal}
+use Rattle.gg_net.specs.declared.event.Refusal.TheVariants.{Stranger, Ended, Latched, Fired, NoToken, NeedsInput, Full, Order, Unfired, Unserved}
+use Rattle.gg_steps.specs.Naming.{Naming, name_at, ports_at}
+
+-- the names of the ports of the machine that a step names; none where it names no machine
+abbrev pub step_ports : Naming → Option Event → List (List ℕ)
+step_ports naming None = []
+step_ports naming (Some (Latch channel)) = []
+step_ports naming (Some (Fire channel)) = []
+step_ports naming (Some (Serve machine port)) = ports_at naming machine
+step_ports naming (Some (Finish machine)) = ports_at naming machine
+
+-- the name of the port that is due; `-` where none is
+abbrev pub due_name : Option (List ℕ) → List ℕ
+due_name None = codes "-"
+due_name (Some name) = name
+
+-- The text of a cause. A port is one of the machine that the step names.
+abbrev pub cause_text : Naming → Option Event → Refusal → List ℕ
+cause_text naming step Stranger = codes "Stranger"
+cause_text naming step Ended = codes "Ended"
+cause_text naming step Latched = codes "Latched"
+cause_text naming step Fired = codes "Fired"
+cause_text naming step (NoToken channel) = codes "NoToken " ++ name_at naming.channels channel
+cause_text naming step (NeedsInput channel) = codes "NeedsInput " ++ name_at naming.channels channel
+cause_text naming step (Full channel len) = codes "Full " ++ name_at naming.channels channel ++ 32 ∷ decimal len
+cause_text naming step (Order due) = codes "Order " ++ due_name (slice_get (step_ports naming step) due)
+cause_text naming step (Unfired channel) = codes "Unfired " ++ name_at naming.channels channel
+cause_text naming step (Unserved port) = codes "Unserved " ++ name_at (step_ports naming step) port

@@ -1,0 +1,5 @@
+pub mod Naming
+pub mod Table
+pub mod Words
+pub mod Steps
+pub mod Cause

@@ -1,0 +1,71 @@
+//! The words of one line, from left to right.
+
+ghost use Rattle.std.specs.Prelude.{◌≡◌, ℕ, List, ◌∷◌, [], ◌<◌, ◌≤◌, ◌≢◌, MatchOption, length, slice_index};
+ghost use Rattle.std.specs.Option.{option_copied};
+ghost use Rattle.gg_steps.specs.Words.{words, words_left};
+
+use std::marker::Model;
+
+/// The words of a line that are still to be read. A contract sees the list of them.
+#[derive(Drop)]
+pub(crate) struct Words<'a> {
+    // what follows the last blank that was read, or nothing where the last word was read
+    rest: Option<&'a [u8]>,
+}
+
+impl<'a> Model for Words<'a> {
+    ghost use Rattle.std.specs.Prelude.{ℕ, List};
+    ghost use Rattle.std.specs.Option.{option_copied};
+
+    ghost Value = { List (List ℕ) };
+
+    ghost use Rattle.gg_steps.specs.Words.{words_left};
+
+    ghost view = { λ a. words_left (option_copied a.rest) };
+}
+
+/// How many bytes stand before the first blank.
+fn word_len(line: &[u8]) -> usize
+    ensures within { result ≤ length line.now }
+    ensures before { (k : ℕ) → k < result → slice_index line.now k ≢ 32 }
+    ensures ends { result < length line.now → slice_index line.now result ≡ 32 }
+{
+    for (i, byte) in line.iter().enumerate() {
+        if *byte == b' ' {
+            return i;
+        }
+    }
+    line.len()
+}
+
+/// The first word, and what follows the blank behind it, if there is one.
+fn cut_word(line: &[u8]) -> (&[u8], Option<&[u8]>)
+    ensures { words line.now ≡ result.0.now ∷ words_left (option_copied result.1) }
+{
+    let (word, after) = line.split_at(word_len(line));
+    if after.is_empty() {
+        return (word, None);
+    }
+    let (_, rest) = after.split_at(1);
+    (word, Some(rest))
+}
+
+impl<'a> Words<'a> {
+    /// The words of this line.
+    pub fn of(line: &'a [u8]) -> Words<'a>
+        ensures { result ≡ words line.now }
+    {
+        Words { rest: Some(line) }
+    }
+
+    /// The next word, if one is left.
+    pub fn next(&mut self) -> Option<&'a [u8]>
+        ensures { MatchOption result
+            ((self.old ≡ []) × (self.new ≡ []))
+            (λ word. self.old ≡ word.now ∷ self.new) }
+    {
+        let (word, rest) = cut_word(self.rest?);
+        self.rest = rest;
+        Some(word)
+    }
+}
