@@ -50,7 +50,7 @@ heads-same x y xs ys up up' (inl e) q = sym e
 heads-same x y xs ys up up' (inr h) (inl e) = e
 heads-same x y xs ys up up' (inr h) (inr k) = let a = head-least y ys x up' h in let b = head-least x xs y up k in absurd (omega (arith, a, b))
 
-ascending-same : (xs ys : List ℕ) → AllPairs (λ a b. a < b) xs → AllPairs (λ a b. a < b) ys → ((d : ℕ) → Contains xs d → Contains ys d) → ((d : ℕ) → Contains ys d → Contains xs d) → xs ≡ ys
+pub ascending-same : (xs ys : List ℕ) → AllPairs (λ a b. a < b) xs → AllPairs (λ a b. a < b) ys → ((d : ℕ) → Contains xs d → Contains ys d) → ((d : ℕ) → Contains ys d → Contains xs d) → xs ≡ ys
 ascending-same [] [] up up' into back = refl
 ascending-same [] (y ∷ ys) up up' into back = let h = back y (0, omega arith, refl) in absurd (omega (arith, h.1))
 ascending-same (x ∷ xs) [] up up' into back = let h = into x (0, omega arith, refl) in absurd (omega (arith, h.1))
@@ -58,7 +58,7 @@ ascending-same (x ∷ xs) (y ∷ ys) up up' into back =
     let e : x ≡ y = heads-same x y xs ys up up' (head-or y ys x (into x (0, omega arith, refl))) (head-or x xs y (back y (0, omega arith, refl))) in
     let es : xs ≡ ys = ascending-same xs ys (tail-up x xs up) (tail-up y ys up') (others x y xs ys e up into) (others y x ys xs (sym e) up' back) in cc
 
-needs-same : (circuit : FlatCircuit) (listed : Listed) (wires : List Wire) (c : ℕ) (one other : List ℕ) → AreChannelNeeds circuit listed wires c one → AreChannelNeeds circuit listed wires c other → one ≡ other
+pub needs-same : (circuit : FlatCircuit) (listed : Listed) (wires : List Wire) (c : ℕ) (one other : List ℕ) → AreChannelNeeds circuit listed wires c one → AreChannelNeeds circuit listed wires c other → one ≡ other
 needs-same circuit listed wires c one other a b =
     ascending-same one other a.ascending b.ascending (λ d h. (b.each d).1 ((a.each d).0 h)) (λ d h. (a.each d).1 ((b.each d).0 h))
 
@@ -101,7 +101,7 @@ module _ (one other : FlatCircuit) (readers : (m : ℕ) → readers_at one m ≡
       ap (λ (rs : List Reader). flattened (reader_wires outside number) rs ++ flattened (writer_wires outside number) (writers_at one m)) (readers m)
       ∙ ap (λ (ws : List Writer). flattened (reader_wires outside number) (readers_at other m) ++ flattened (writer_wires outside number) ws) (writers m)
 
-  wires-same : (tree : InstanceTree) (listed : Listed) → one.ins ≡ other.ins → one.outs ≡ other.outs → wires_of one tree listed ≡ wires_of other tree listed
+  pub wires-same : (tree : InstanceTree) (listed : Listed) → one.ins ≡ other.ins → one.outs ≡ other.outs → wires_of one tree listed ≡ wires_of other tree listed
   wires-same tree listed ins outs =
       let ports = numbered (port_wires tree listed.units) 1 listed.units in
       let fields = numbered (field_wires one tree listed.units) (first_memory listed) listed.memories in
@@ -114,7 +114,7 @@ path-carried : (one other : FlatCircuit) → ((a b : ℕ) → Reads one a b → 
 path-carried one other reads taken a [] b e = e
 path-carried one other reads taken a (next ∷ path) b h = (h.0, reads a next h.1, path-carried one other reads taken next path b h.2)
 
-need-carried : (one other : FlatCircuit) → ((a b : ℕ) → Reads one a b → Reads other a b) → (listed : Listed) (wires : List Wire) (c d : ℕ) → NeedsChannel one listed wires c d → NeedsChannel other listed wires c d
+pub need-carried : (one other : FlatCircuit) → ((a b : ℕ) → Reads one a b → Reads other a b) → (listed : Listed) (wires : List Wire) (c d : ℕ) → NeedsChannel one listed wires c d → NeedsChannel other listed wires c d
 need-carried one other reads listed wires c d n = record {
   made = n.made;
   known = n.known;
@@ -131,7 +131,7 @@ module _ (one other : Ordered) (s : AreAlike one other) (request : Request) (def
       ∙ ap (λ (x : List ℕ). codes "hub:" ∷ (request.units ++ map (path_at other.tree.memory_paths) listed.memories ++ map (λ k. codes "in:" ++ path_at other.circuit.paths k) x ++ map (λ k. codes "out:" ++ path_at other.circuit.paths k) one.circuit.outs)) s.ins
       ∙ ap (λ (x : List ℕ). codes "hub:" ∷ (request.units ++ map (path_at other.tree.memory_paths) listed.memories ++ map (λ k. codes "in:" ++ path_at other.circuit.paths k) other.circuit.ins ++ map (λ k. codes "out:" ++ path_at other.circuit.paths k) x)) s.outs
 
-  count-same : machine_count one.circuit listed ≡ machine_count other.circuit listed
+  pub count-same : machine_count one.circuit listed ≡ machine_count other.circuit listed
   count-same = ap (λ (x : List ℕ). first_source listed + length x + length one.circuit.outs) s.ins ∙ ap (λ (x : List ℕ). first_source listed + length other.circuit.ins + length x) s.outs
 
   machine-line-same : (m : ℕ) → machine_text one request listed m ≡ machine_text other request listed m

@@ -23,7 +23,7 @@ length-from : (plan : Plan) (a : ℕ) (channels : List Channel) → length (wire
 length-from plan a [] = refl
 length-from plan a (channel ∷ channels) = ap suc (length-from plan (suc a) channels)
 
-wire-from : (plan : Plan) (a : ℕ) (channels : List Channel) (c : ℕ) (any : Channel) → c < length channels → wire_at (wires_from plan a channels) c ≡ wire_of plan (a + c) (get_or channels c any)
+pub wire-from : (plan : Plan) (a : ℕ) (channels : List Channel) (c : ℕ) (any : Channel) → c < length channels → wire_at (wires_from plan a channels) c ≡ wire_of plan (a + c) (get_or channels c any)
 wire-from plan a [] c any lt = absurd (omega (arith, lt))
 wire-from plan a (channel ∷ channels) zero any lt = ap (λ k. wire_of plan k channel) (let same : a ≡ a + 0 = omega arith in same)
 wire-from plan a (channel ∷ channels) (suc c) any lt =

@@ -177,10 +177,10 @@ module _ (design : Ordered) (listed : Listed) (m : ℕ) (part : Part) (is : IsDe
     from : IsMemoryFrom circuit part.piece part.globals part.memories 0
     from = cut.is.memory_from 0 (omega (arith, count))
 
-    known : own < length circuit.memories
+    pub known : own < length circuit.memories
     known = subst (λ k. k < length circuit.memories) first from.within
 
-    whole : get_or circuit.memories own memory ≡ renamed_memory part.globals memory
+    pub whole : get_or circuit.memories own memory ≡ renamed_memory part.globals memory
     whole =
         ap (λ k. get_or circuit.memories k memory) (sym first)
         ∙ from.is memory memory

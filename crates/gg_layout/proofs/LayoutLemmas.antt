@@ -1,0 +1,238 @@
+-- The network of a plan has the layout of its cut.
+use Rattle.std.proofs.Common.{◌≡◌, ◌≢◌, ℕ, ◌+◌, ◌<◌, ◌≤◌, List, [], length, map, get_or, Bool, true, false, refl, sym, ◌∙◌, ap, subst, inl, inr, ◌⊎◌, arith}
+use Rattle.std.specs.Prelude.{AllPairs, Contains, ◌&&◌, if◌then◌else◌, nat_le, nat_lt}
+use Rattle.std.specs.List.{range_with_len}
+use Rattle.std.proofs.lemmas.Bool.{lt-leb, le-ltb, le-leb, lt-ltb}
+use Rattle.std.proofs.lemmas.List.{length-map, get_or-map}
+use Rattle.std.proofs.lemmas.List.Elements.{Contains-get_or}
+use Rattle.std.proofs.lemmas.List.FromFn.{length-range_with_len, get_or-range_with_len}
+use Rattle.gg_flat.specs.Line.{value_at}
+use Rattle.gg_order.specs.Design.{Ordered}
+use Rattle.gg_partfile.specs.declared.request.Request.{Request}
+use Rattle.gg_cut.specs.declared.listed.Listed.{Listed}
+use Rattle.gg_cut.specs.declared.plan.Body.{Body}
+use Rattle.gg_cut.specs.declared.plan.Body.TheVariants.{Cut, Memory, Source, Tray}
+use Rattle.gg_cut.specs.declared.plan.Channel.{Channel}
+use Rattle.gg_cut.specs.declared.plan.Machine as planned
+use Rattle.gg_cut.specs.declared.plan.Plan.{Plan}
+use Rattle.gg_cut.specs.declared.wires.Wire.{Wire}
+use Rattle.gg_cut.specs.Listed.{listed_of}
+use Rattle.gg_cut.specs.Channels.{first_memory, first_source, machine_count, wires_of}
+use Rattle.gg_cut.specs.Plan.{wire_at, channels_to, channels_from, IsBody}
+use Rattle.gg_closed.specs.Apart.{AreApart, AreFew}
+use Rattle.gg_closed.proofs.FaultlessLemmas.{faultless-apart, faultless-few}
+use Rattle.gg_check.specs.CheckText.{AreChannelNeeds}
+use Rattle.gg_check.proofs.PlanLemmas.{channel-needs}
+use Rattle.gg_node.specs.Machine.{Machine, machine_at, needs_at}
+use Rattle.gg_memunit.specs.MemoryUnit.{opening_unit}
+use Rattle.gg_memunit.proofs.UnitLemmas.{sole}
+use Rattle.gg_net.specs.Network.{Frame, kind_of, kind_at, wire_at as joint_at}
+use Rattle.gg_marking.specs.Marking.{Link, Turn, Layout, link_at, turns_at}
+use Rattle.gg_marking.specs.Fits.{AreTaken, AreTurnsOf, HasLayout, IsLinkOf, places_of}
+use Rattle.gg_sound.specs.Built.{machine_in, nameless, place_in, wires_of_plan, AreBuilt, IsBuilt, IsGiven, IsMemoryOf, plan_frame}
+use Rattle.gg_sound.proofs.LinkLemmas.{AreLinks, length-wires, linked, some-channel}
+use Rattle.gg_sound.proofs.PlanLemmas.{links}
+use Rattle.gg_sound.proofs.FitLemmas.{kind-is}
+use Rattle.gg_sound.proofs.MemoryPartLemmas.{memory-part}
+use Rattle.gg_layout.specs.CutLayout.{IsChannelLink, IsLayoutBy, IsLayoutOf, machine_turns, memory_turns, memory_of}
+use Rattle.gg_layout.proofs.AscendingLemmas.{AreMadeOf, made-same}
+use Rattle.gg_layout.proofs.WireLemmas.{places-up, joint-capacity, place-at, out-at, joints-in-order, outs-in-order}
+use Rattle.gg_layout.proofs.MemoryLemmas.{memory-turns}
+use Rattle.gg_layout.proofs.NeedLemmas.{IsNeedy, needy}
+
+-- ---- turns by the kind of a machine
+
+either-false : {A : Type 0} (a b : Bool) (x y : A) → (a ≡ false) ⊎ (b ≡ false) → (if a && b then x else y) ≡ y
+either-false false b x y is = refl
+either-false true false x y is = refl
+either-false true true x y (inl is) = absurd (cc)
+either-false true true x y (inr is) = absurd (cc)
+
+both-true : {A : Type 0} (a b : Bool) (x y : A) → a ≡ true → b ≡ true → (if a && b then x else y) ≡ x
+both-true true true x y p q = refl
+both-true true false x y p q = absurd (cc)
+both-true false b x y p q = absurd (cc)
+
+no-turns : (frame : Frame) (m : ℕ) (turns : List Turn) → turns ≡ [] → AreTurnsOf frame m [] turns
+no-turns frame m turns none = record { count = ap length none; each = λ i port turn lt. absurd (omega (arith, lt)) }
+
+module _ (design : Ordered) (request : Request) (default : ℕ) (plan : Plan) (columns : List (List ℕ)) (n : ℕ) (rows : List (List ℕ)) (machines : List Machine) (given : IsGiven design request default plan columns n rows) (built : AreBuilt plan columns n machines) where
+  abbrev listed : Listed
+  listed = listed_of design.tree request
+
+  abbrev wires : List Wire
+  wires = wires_of design.circuit design.tree (listed_of design.tree request)
+
+  abbrev frame : Frame
+  frame = plan_frame plan machines n
+
+  apart : AreApart design.tree listed
+  apart = faultless-apart design request given.faultless given.design_is.fitting
+
+  few : AreFew design.circuit design.tree listed
+  few = faultless-few design request given.faultless
+
+  are : AreLinks plan wires
+  are = links design request default plan columns n rows machines given built
+
+  -- ---- the layout
+
+  abbrev link_of : Channel → Link
+  link_of channel = record { producer = channel.producer; consumer = channel.consumer; capacity = channel.capacity; needs = channel.needs }
+
+  abbrev turns_of : ℕ → List Turn
+  turns_of m = machine_turns design.circuit design.tree (listed_of design.tree request) (wires_of design.circuit design.tree (listed_of design.tree request)) m
+
+  abbrev pub layout : Layout
+  layout = record { links = map link_of plan.channels; turns = map turns_of (range_with_len 0 (machine_count design.circuit (listed_of design.tree request))); end = n }
+
+  link-is : (c : ℕ) (any : Channel) → c < length plan.channels → link_at layout c ≡ link_of (get_or plan.channels c any)
+  link-is c any lt = get_or-map link_of plan.channels c any (record { producer = 0; consumer = 0; capacity = 0; needs = [] }) lt
+
+  turns-are : (m : ℕ) → m < machine_count design.circuit listed → turns_at layout m ≡ turns_of m
+  turns-are m lt =
+      let count = machine_count design.circuit listed in
+      get_or-map turns_of (range_with_len 0 count) m 0 [] (omega (arith, lt, length-range_with_len 0 count))
+      ∙ ap turns_of (get_or-range_with_len 0 count m 0 lt ∙ (let same : 0 + m ≡ m = omega arith in same))
+
+  -- ---- it is that of the cut
+
+  link-needs : (c : ℕ) → c < length wires → AreChannelNeeds design.circuit listed wires c (link_at layout c).needs
+  link-needs c lt =
+      let known : c < length plan.channels = omega (arith, lt, given.planned.channel_total) in
+      let any = some-channel plan.channels c known in
+      subst (λ (link : Link). AreChannelNeeds design.circuit listed wires c link.needs) (sym (link-is c any known)) (channel-needs design request default plan given.planned c any lt)
+
+  cut-link : (c : ℕ) → c < length wires → IsChannelLink design request default listed wires c (link_at layout c)
+  cut-link c lt =
+      let known : c < length plan.channels = omega (arith, lt, given.planned.channel_total) in
+      let any = some-channel plan.channels c known in
+      let channel = given.planned.channel c any known in
+      let is = link-is c any known in
+      record {
+        producer = ap (λ (link : Link). link.producer) is ∙ channel.producer;
+        consumer = ap (λ (link : Link). link.consumer) is ∙ channel.consumer;
+        capacity = ap (λ (link : Link). link.capacity) is ∙ channel.bound;
+        needs = link-needs c lt;
+      }
+
+  pub of-cut : IsLayoutBy design request default n listed wires layout
+  of-cut = record { channels = length-map plan.channels link_of ∙ given.planned.channel_total; link = cut-link; turns = refl; end = refl }
+
+  -- ---- and that of the network
+
+  module _ (c : ℕ) (lt : c < length wires) where
+    abbrev p : ℕ
+    p = (wire_at wires c).producer
+
+    abbrev needs : List ℕ
+    needs = (link_at layout c).needs
+
+    abbrev place : ℕ → ℕ
+    place d = (joint_at (wires_of_plan plan) d).place
+
+    below : p < length plan.machines
+    below = (are.ends c lt).producer
+
+    own-needy : IsNeedy wires p c needs (kind_of (machine_at machines p))
+    own-needy =
+        let known : c < length plan.channels = omega (arith, lt, given.planned.channel_total) in
+        let any = some-channel plan.channels c known in
+        let machine = given.planned.machine p nameless below in
+        subst (λ (link : Link). IsNeedy wires p c link.needs (kind_of (machine_at machines p))) (sym (link-is c any known))
+        (needy design listed given.design_is apart few p c (record { known = lt; producer = refl }) columns n (machine_in plan p) (machine_in plan p).body (machine_at machines p) (machine_in plan p).ins (get_or plan.channels c any).needs machine.body (built.each p below) machine.ins ((given.planned.channel c any known).needs nameless))
+
+    -- a needed channel stands at its place among those that the machine takes
+    place-is : (d : ℕ) → Contains needs d → place d ≡ place_in (channels_to wires p) d
+    place-is d has = let need = ((link-needs c lt).each d).0 has in place-at plan wires are p d need.known need.taken
+
+    grows : (d e : ℕ) → Contains needs d → Contains needs e → d < e → place d < place e
+    grows d e one other less =
+        let a = ((link-needs c lt).each d).0 one in
+        let b = ((link-needs c lt).each e).0 other in
+        let up = places-up wires p d e less b.known a.taken b.taken in
+        omega (arith, up, place-is d one, place-is e other)
+
+    made : AreMadeOf place needs (needs_at (kind_of (machine_at machines p)).needs (place_in (channels_from wires p) c))
+    made =
+        let all = needs_at (kind_of (machine_at machines p)).needs (place_in (channels_from wires p) c) in
+        record {
+          into = λ d has. subst (λ i. Contains all i) (sym (place-is d has)) (own-needy.made.into d has);
+          back = λ i has. let found = own-needy.made.back i has in (found.0, (found.1.0, place-is found.0 found.1.0 ∙ found.1.1));
+        }
+
+    needs-are : places_of frame needs ≡ needs_at (kind_at frame.kinds (joint_at frame.wires c).producer).needs (joint_at frame.wires c).out
+    needs-are =
+        let link = linked plan wires are c lt in
+        made-same place needs (needs_at (kind_of (machine_at machines p)).needs (place_in (channels_from wires p) c)) (link-needs c lt).ascending own-needy.up grows made
+        ∙ ap (λ o. needs_at (kind_of (machine_at machines p)).needs o) (sym link.out)
+        ∙ ap (λ k. needs_at k.needs (joint_at frame.wires c).out) (sym (kind-is machines p (omega (arith, below, built.count))))
+        ∙ ap (λ k. needs_at (kind_at frame.kinds k).needs (joint_at frame.wires c).out) (sym link.producer)
+
+    needs-taken : AreTaken frame (joint_at frame.wires c).producer needs
+    needs-taken i d within =
+        let x = get_or needs i d in
+        let need = ((link-needs c lt).each x).0 (Contains-get_or needs i d within) in
+        (omega (arith, need.known, length-wires plan wires are), (linked plan wires are x need.known).consumer ∙ need.taken ∙ sym (linked plan wires are c lt).producer)
+
+    net-link : IsLinkOf frame c (link_at layout c)
+    net-link =
+        let known : c < length plan.channels = omega (arith, lt, given.planned.channel_total) in
+        let any = some-channel plan.channels c known in
+        let link = linked plan wires are c lt in
+        let cut = cut-link c lt in
+        record {
+          producer = cut.producer ∙ sym link.producer;
+          consumer = cut.consumer ∙ sym link.consumer;
+          capacity = ap (λ (l : Link). l.capacity) (link-is c any known) ∙ sym (joint-capacity plan wires are c any known);
+          needs = needs-are;
+          taken = needs-taken;
+        }
+
+  -- ---- turns
+
+  module _ (m : ℕ) (lt : m < machine_count design.circuit listed) where
+    not-memory : (m < first_memory listed) ⊎ (first_source listed ≤ m) → turns_of m ≡ []
+    not-memory (inl low) = either-false (nat_le (first_memory listed) m) (nat_lt m (first_source listed)) (memory_turns design.circuit wires (memory_of design.tree listed m)) [] (inl (lt-leb (first_memory listed) m low))
+    not-memory (inr high) = either-false (nat_le (first_memory listed) m) (nat_lt m (first_source listed)) (memory_turns design.circuit wires (memory_of design.tree listed m)) [] (inr (le-ltb m (first_source listed) high))
+
+    body-turns : (body : Body) (machine : Machine) → IsBody design listed wires m body → IsBuilt columns n (machine_in plan m) body machine → AreTurnsOf frame m (kind_of machine).ports (turns_of m)
+    body-turns (Cut part) machine body unit = subst (λ (t : Machine). AreTurnsOf frame m (kind_of t).ports (turns_of m)) (sym unit.is) (no-turns frame m (turns_of m) (not-memory (inl body.0)))
+    body-turns (Memory part) machine body stands =
+        let outer = memory-part design listed m part given.design_is apart body.0 body.1 body.2 few in
+        let inner = sole stands.alone.piece.memories stands.is_memory.one in
+        let are_turns = memory-turns design listed m part given.design_is apart body.0 body.1 body.2 machine stands outer.0 inner.0 outer.1 inner.1 plan are frame refl in
+        let same = both-true (nat_le (first_memory listed) m) (nat_lt m (first_source listed)) (memory_turns design.circuit wires (memory_of design.tree listed m)) [] (le-leb (first_memory listed) m body.0) (lt-ltb m (first_source listed) body.1) in
+        subst (λ (t : Machine). AreTurnsOf frame m (kind_of t).ports (turns_of m)) (sym stands.is)
+        (subst (λ (l : List Turn). AreTurnsOf frame m (kind_of (opening_unit stands.alone.piece)).ports l) (sym same) are_turns)
+    body-turns Source machine body is = subst (λ (t : Machine). AreTurnsOf frame m (kind_of t).ports (turns_of m)) (sym is) (no-turns frame m (turns_of m) (not-memory (inr body.0)))
+    body-turns Tray machine body is =
+        let low : first_source listed ≤ m = omega (arith, body) in
+        subst (λ (t : Machine). AreTurnsOf frame m (kind_of t).ports (turns_of m)) (sym is) (no-turns frame m (turns_of m) (not-memory (inr low)))
+
+    net-turns : AreTurnsOf frame m (kind_at frame.kinds m).ports (turns_at layout m)
+    net-turns =
+        let below : m < length plan.machines = omega (arith, lt, given.planned.machine_total) in
+        subst (λ (l : List Turn). AreTurnsOf frame m (kind_at frame.kinds m).ports l) (sym (turns-are m lt))
+        (subst (λ k. AreTurnsOf frame m k.ports (turns_of m)) (sym (kind-is machines m (omega (arith, below, built.count))))
+        (body-turns (machine_in plan m).body (machine_at machines m) (given.planned.machine m nameless below).body (built.each m below)))
+
+  pub of-network : HasLayout frame layout
+  of-network =
+      let count = machine_count design.circuit listed in
+      let kinds = length-map machines kind_of in
+      let joints = length-wires plan wires are in
+      record {
+        machines = omega (arith, length-map (range_with_len 0 count) turns_of, length-range_with_len 0 count, kinds, built.count, given.planned.machine_total);
+        channels = omega (arith, length-map plan.channels link_of, joints, given.planned.channel_total);
+        end = refl;
+        link = λ c lt. net-link c (omega (arith, lt, joints));
+        turns = λ m lt. net-turns m (omega (arith, lt, kinds, built.count, given.planned.machine_total));
+        ins = joints-in-order plan wires are;
+        outs = outs-in-order plan wires are;
+      }
+
+pub plan-layout : (design : Ordered) (request : Request) (default : ℕ) (plan : Plan) (columns : List (List ℕ)) (n : ℕ) (rows : List (List ℕ)) (machines : List Machine) → IsGiven design request default plan columns n rows → AreBuilt plan columns n machines
+    → (layout : Layout) × (IsLayoutOf design request default n layout × HasLayout (plan_frame plan machines n) layout)
+plan-layout design request default plan columns n rows machines given built =
+    (layout design request default plan columns n rows machines given built, (of-cut design request default plan columns n rows machines given built, of-network design request default plan columns n rows machines given built))

@@ -1,0 +1,274 @@
+-- A listed memory as a machine of the network: the channels of its fields, its turns, and what its outs need.
+use Rattle.std.proofs.Common.{◌≡◌, ◌≢◌, ℕ, suc, ◌+◌, ◌-◌, ◌<◌, ◌≤◌, List, [], ◌∷◌, ◌++◌, length, map, get_or, refl, sym, ◌∙◌, ap, ap₂, subst, arith}
+use Rattle.std.specs.Prelude.{All, AllPairs, ◌==◌}
+use Rattle.std.proofs.lemmas.List.{length-map, get_or-map}
+use Rattle.std.proofs.lemmas.Simd.{map-map}
+use Rattle.gg_flat.specs.declared.memory.Latency.{Latency}
+use Rattle.gg_flat.specs.declared.memory.Latency.TheVariants.{Zero, One}
+use Rattle.gg_flat.specs.declared.memory.Reader.{Reader}
+use Rattle.gg_flat.specs.declared.memory.Writer.{Writer}
+use Rattle.gg_flat.specs.declared.memory.Memory.{Memory}
+use Rattle.gg_flat.specs.declared.piece.Driver.TheVariants.{MemoryWord}
+use Rattle.gg_flat.specs.Line.{value_at}
+use Rattle.gg_flat.specs.Circuit.{FlatCircuit, driver_at, latency_at, readers_at, reader_at}
+use Rattle.gg_flat.specs.Memory.{LooksAmong}
+use Rattle.gg_flat.specs.Tree.{InstanceTree, memory_at}
+use Rattle.gg_flat.specs.Scoped.{writers_at}
+use Rattle.gg_flat.specs.WellFormed.{AreDriven, reader_driver}
+use Rattle.gg_order.specs.Design.{Ordered, IsDesign}
+use Rattle.gg_program.specs.Cone.{AreNeeds}
+use Rattle.gg_part.specs.Part.{renamed_memory, renamed_reader, renamed_writer}
+use Rattle.gg_part.specs.declared.part.Part.{Part}
+use Rattle.gg_part.proofs.FormedLemmas.{IsWellFormed-part}
+use Rattle.gg_cut.specs.declared.listed.Listed.{Listed}
+use Rattle.gg_cut.specs.declared.plan.Plan.{Plan}
+use Rattle.gg_cut.specs.declared.wires.Wire.{Wire}
+use Rattle.gg_cut.specs.Channels.{wire, flattened, numbered, field_wires, first_memory, first_source, first_tray, port_wires, reader_wires, source_wires, tray_wires, wires_of, writer_wires}
+use Rattle.gg_cut.specs.Plan.{wire_at, channels_to, IsCutPart}
+use Rattle.gg_closed.specs.Apart.{AreApart, AreFew}
+use Rattle.gg_closed.proofs.KindLemmas.{outside_memory}
+use Rattle.gg_closed.proofs.ChoiceLemmas.{pairs-once}
+use Rattle.gg_memunit.specs.MemoryUnit.{needs_by, needs_of, ports_by, ports_of}
+use Rattle.gg_memunit.proofs.UnitLemmas.{of-sole}
+use Rattle.gg_node.specs.Machine.{Machine, Port, needs_at}
+use Rattle.gg_net.specs.Network.{Frame, IsAtIn}
+use Rattle.gg_marking.specs.Fits.{AreTurnsOf}
+use Rattle.gg_sound.specs.Built.{IsMemoryOf, place_in, wires_of_plan}
+use Rattle.gg_sound.proofs.NumberLemmas.{numbers-once, place-back}
+use Rattle.gg_sound.proofs.LinkLemmas.{AreLinks}
+use Rattle.gg_sound.proofs.ListedLemmas.{at-in, taken-at}
+use Rattle.gg_sound.proofs.SideLemmas.{link-one}
+use Rattle.gg_sound.proofs.PortLemmas.{IsFitPort, ports-fit}
+use Rattle.gg_sound.proofs.FitLemmas.{ins-count}
+use Rattle.gg_sound.proofs.MemoryPartLemmas.{IsMemoryPart, known, whole}
+use Rattle.gg_layout.specs.CutLayout.{channel_of, turn_of, memory_turns, memory_of}
+use Rattle.gg_layout.proofs.BeforeLemmas.{IsBefore, before-left, before-right, flattened-before, numbered-before}
+use Rattle.gg_layout.proofs.WireLemmas.{places-up}
+use Rattle.gg_layout.proofs.ChannelLemmas.{channel-back}
+use Rattle.gg_layout.proofs.TurnLemmas.{number_of, reader_of, writer_of, turns-alone}
+use Rattle.gg_layout.proofs.ReachLemmas.{late-needs, same-cycle-needs}
+
+module _ (design : Ordered) (listed : Listed) (m : ℕ) (part : Part) (is : IsDesign design) (apart : AreApart design.tree listed) (low : first_memory listed ≤ m) (high : m < first_source listed) (cut : IsCutPart design listed (wires_of design.circuit design.tree listed) m part) (machine : Machine) (stands : IsMemoryOf part machine) where
+  abbrev circuit : FlatCircuit
+  circuit = design.circuit
+
+  abbrev tree : InstanceTree
+  tree = design.tree
+
+  abbrev wires : List Wire
+  wires = wires_of design.circuit design.tree listed
+
+  abbrev piece : FlatCircuit
+  piece = stands.alone.piece
+
+  abbrev number : ℕ → ℕ
+  number = number_of part.globals stands.alone.globals
+
+  wires-once : AllPairs (λ (v w : Wire). v.signal ≢ w.signal) wires
+  wires-once = pairs-once circuit tree listed is.formed is.fitting is.scoped apart
+
+  -- ---- fields
+
+  in-count : length piece.ins ≡ length part.piece.ins
+  in-count = sym (length-map piece.ins (value_at stands.alone.globals)) ∙ ap length stands.ins
+
+  channel-count : length part.piece.ins ≡ length (channels_to wires m)
+  channel-count = ins-count design listed wires m part cut
+
+  -- a field is the in-signal of that number
+  in-at : (x : ℕ) → x < length piece.ins → value_at stands.alone.globals x ≡ value_at part.piece.ins x
+  in-at x lt =
+      ap (value_at stands.alone.globals) (sym (stands.is_memory.first x lt))
+      ∙ sym (get_or-map (value_at stands.alone.globals) piece.ins x 0 0 lt)
+      ∙ ap (λ (l : List ℕ). value_at l x) stands.ins
+
+  field-signal : (x : ℕ) → x < length piece.ins → number x ≡ (wire_at wires (value_at (channels_to wires m) x)).signal
+  field-signal x lt =
+      let inside : x < length part.piece.ins = omega (arith, lt, in-count) in
+      ap (value_at part.globals) (in-at x lt)
+      ∙ sym (get_or-map (value_at part.globals) part.piece.ins x 0 0 inside)
+      ∙ ap (λ (l : List ℕ). value_at l x) cut.ins
+      ∙ get_or-map (λ c. (wire_at wires c).signal) (channels_to wires m) x 0 0 (omega (arith, inside, channel-count))
+
+  -- the channel of a field stands at the in of the field's number
+  field-at : (plan : Plan) → AreLinks plan wires → (x : ℕ) → x < length piece.ins → IsAtIn (wires_of_plan plan) m x (channel_of wires (number x))
+  field-at plan are x lt =
+      let inside : x < length (channels_to wires m) = omega (arith, lt, in-count, channel-count) in
+      let c = value_at (channels_to wires m) x in
+      subst (IsAtIn (wires_of_plan plan) m x)
+      (sym (ap (channel_of wires) (field-signal x lt) ∙ channel-back wires c wires-once (taken-at wires m x inside).known))
+      (at-in plan wires are m x inside)
+
+  field-place : (x c : ℕ) → x < length piece.ins → c < length wires → (wire_at wires c).signal ≡ number x → place_in (channels_to wires m) c ≡ x
+  field-place x c lt inside same =
+      let low : x < length (channels_to wires m) = omega (arith, lt, in-count, channel-count) in
+      let d = value_at (channels_to wires m) x in
+      ap (place_in (channels_to wires m)) (link-one wires c d wires-once inside (taken-at wires m x low).known (same ∙ field-signal x lt))
+      ∙ place-back (channels_to wires m) x (numbers-once (λ k. (wire_at wires k).consumer == m) (length wires)) low
+
+  -- ---- the memory
+
+  module _ (outer inner : Memory) (own : IsMemoryPart part outer) (only : piece.memories ≡ inner ∷ []) where
+    abbrev k : ℕ
+    k = memory_of design.tree listed m
+
+    inner-is : outer ≡ renamed_memory stands.alone.globals inner
+    inner-is =
+        let first : value_at stands.alone.memories 0 ≡ 0 = ap (λ (l : List ℕ). value_at l 0) stands.memories in
+        ap (λ (l : List Memory). get_or l 0 outer) (sym own.only)
+        ∙ ap (λ j. get_or part.piece.memories j outer) (sym first)
+        ∙ (stands.is_part.memory_from 0 (omega (arith, ap length stands.memories))).is inner outer
+        ∙ ap (λ (l : List Memory). renamed_memory stands.alone.globals (get_or l 0 inner)) only
+
+    there : k < length circuit.memories
+    there = known design listed m part is apart low high cut outer own.only
+
+    whole-is : get_or circuit.memories k outer ≡ renamed_memory part.globals (renamed_memory stands.alone.globals inner)
+    whole-is = whole design listed m part is apart low high cut outer own.only ∙ ap (renamed_memory part.globals) inner-is
+
+    latency-is : latency_at circuit k ≡ inner.latency
+    latency-is = get_or-map (λ (x : Memory). x.latency) circuit.memories k outer Zero there ∙ ap (λ (x : Memory). x.latency) whole-is
+
+    readers-are : readers_at circuit k ≡ map (reader_of part.globals stands.alone.globals) inner.readers
+    readers-are =
+        get_or-map (λ (x : Memory). x.readers) circuit.memories k outer [] there
+        ∙ ap (λ (x : Memory). x.readers) whole-is
+        ∙ map-map (renamed_reader part.globals) (renamed_reader stands.alone.globals) inner.readers
+
+    writers-are : writers_at circuit k ≡ map (writer_of part.globals stands.alone.globals) inner.writers
+    writers-are =
+        get_or-map (λ (x : Memory). x.writers) circuit.memories k outer [] there
+        ∙ ap (λ (x : Memory). x.writers) whole-is
+        ∙ map-map (renamed_writer part.globals) (renamed_writer stands.alone.globals) inner.writers
+
+    turns-by : ports_by (latency_at circuit k) (readers_at circuit k) (writers_at circuit k) ≡ ports_by inner.latency (map (reader_of part.globals stands.alone.globals) inner.readers) (map (writer_of part.globals stands.alone.globals) inner.writers)
+    turns-by =
+        ap (λ (l : Latency). ports_by l (readers_at circuit k) (writers_at circuit k)) latency-is
+        ∙ ap (λ (l : List Reader). ports_by inner.latency l (writers_at circuit k)) readers-are
+        ∙ ap (λ (l : List Writer). ports_by inner.latency (map (reader_of part.globals stands.alone.globals) inner.readers) l) writers-are
+
+    pub memory-turns : (plan : Plan) → AreLinks plan wires → (frame : Frame) → frame.wires ≡ wires_of_plan plan → AreTurnsOf frame m (ports_of piece.memories) (memory_turns circuit wires k)
+    memory-turns plan are frame same =
+        let fit = ports-fit piece.memories (length piece.ins) stands.is_memory.readers stands.is_memory.writers stands.is_memory.few in
+        let at : (x : ℕ) → x < length piece.ins → IsAtIn frame.wires m x (channel_of wires (number x)) =
+        λ x lt. subst (λ l. IsAtIn l m x (channel_of wires (number x))) (sym same) (field-at plan are x lt) in
+        subst (λ (l : List Memory). AreTurnsOf frame m (ports_of l) (memory_turns circuit wires k)) (sym only)
+        (subst (λ (l : List Port). AreTurnsOf frame m (ports_by inner.latency inner.readers inner.writers) (map (turn_of wires) l)) (sym turns-by)
+        (turns-alone part.globals stands.alone.globals frame wires m (length piece.ins) at inner.latency inner.readers inner.writers
+        (subst (λ (l : List Memory). All (IsFitPort (length piece.ins)) (ports_of l)) only fit)))
+
+    -- ---- needs
+
+    abbrev nobody : Reader
+    nobody = record { addr = 0; en = 0; word = 0 }
+
+    module _ (o : ℕ) (some : o < length inner.readers) where
+      abbrev reader : Reader
+      reader = get_or inner.readers o nobody
+
+      abbrev i : ℕ
+      i = m - first_memory listed
+
+      abbrev outside : ℕ
+      outside = outside_memory design.tree listed (m - first_memory listed)
+
+      abbrev self : ℕ
+      self = first_memory listed + (m - first_memory listed)
+
+      self-is : self ≡ m
+      self-is = omega (arith, low)
+
+      looks : LooksAmong (length piece.ins) reader
+      looks = of-sole (λ (memory : Memory). All (LooksAmong (length piece.ins)) memory.readers) piece.memories inner only stands.is_memory.readers o nobody some
+
+      -- the channel of the address stands before that of the enable
+      abbrev address : Wire
+      address = wire (number reader.addr) outside self
+
+      abbrev enable : Wire
+      enable = wire (number reader.en) outside self
+
+      at-reader : IsBefore address enable (reader_wires outside self (reader_of part.globals stands.alone.globals reader))
+      at-reader = record { first = 0; second = 1; less = omega arith; within = omega arith; is_first = λ d. refl; is_second = λ d. refl }
+
+      at-readers : IsBefore address enable (flattened (reader_wires outside self) (readers_at circuit k))
+      at-readers =
+          let rename = reader_of part.globals stands.alone.globals in
+          subst (λ (l : List Reader). IsBefore address enable (flattened (reader_wires outside self) l)) (sym readers-are)
+          (flattened-before address enable (reader_wires outside self) (map rename inner.readers) o (rename nobody) (omega (arith, some, length-map inner.readers rename))
+          (subst (λ (r : Reader). IsBefore address enable (reader_wires outside self r)) (sym (get_or-map rename inner.readers o nobody (rename nobody) some)) at-reader))
+
+      abbrev fields : List Wire
+      fields = numbered (field_wires design.circuit design.tree listed.units) (first_memory listed) listed.memories
+
+      abbrev trays : List Wire
+      trays = numbered tray_wires (first_tray design.circuit listed) design.circuit.outs
+
+      abbrev ports : List Wire
+      ports = numbered (port_wires design.tree listed.units) 1 listed.units
+
+      abbrev sources : List Wire
+      sources = numbered source_wires (first_source listed) design.circuit.ins
+
+      before : IsBefore address enable wires
+      before =
+          before-right address enable sources (ports ++ (fields ++ trays))
+          (before-right address enable ports (fields ++ trays)
+          (before-left address enable fields trays
+          (numbered-before address enable (field_wires circuit tree listed.units) (first_memory listed) listed.memories i 0 (omega (arith, low, high))
+          (before-left address enable (flattened (reader_wires outside self) (readers_at circuit k)) (flattened (writer_wires outside self) (writers_at circuit k)) at-readers))))
+
+      less : reader.addr < reader.en
+      less =
+          let one = before.is_first (wire 0 0 0) in
+          let other = before.is_second (wire 0 0 0) in
+          let c = before.first in
+          let d = before.second in
+          let inside = before.within in
+          let apart = before.less in
+          let lower : c < length wires = omega (arith, apart, inside) in
+          let up = places-up wires m c d apart inside (ap (λ (w : Wire). w.consumer) one ∙ self-is) (ap (λ (w : Wire). w.consumer) other ∙ self-is) in
+          let first = field-place reader.addr c looks.0 lower (ap (λ (w : Wire). w.signal) one) in
+          let second = field-place reader.en d looks.1 inside (ap (λ (w : Wire). w.signal) other) in
+          omega (arith, up, first, second)
+
+      -- the out of the reader, and its driver
+      abbrev inner_reader : Reader
+      inner_reader = renamed_reader stands.alone.globals reader
+
+      there-inner : o < length (map (renamed_reader stands.alone.globals) inner.readers)
+      there-inner = omega (arith, some, length-map inner.readers (renamed_reader stands.alone.globals))
+
+      reader-is : get_or (map (renamed_reader stands.alone.globals) inner.readers) o nobody ≡ inner_reader
+      reader-is = get_or-map (renamed_reader stands.alone.globals) inner.readers o nobody nobody some
+
+      out-is : value_at part.piece.outs o ≡ inner_reader.word
+      out-is =
+          ap (λ (l : List ℕ). value_at l o) own.words
+          ∙ ap (λ (x : Memory). value_at (map (λ (r : Reader). r.word) x.readers) o) inner-is
+          ∙ get_or-map (λ (r : Reader). r.word) (map (renamed_reader stands.alone.globals) inner.readers) o nobody 0 there-inner
+          ∙ ap (λ (r : Reader). r.word) reader-is
+
+      driven : driver_at part.piece inner_reader.word ≡ reader_driver inner.latency 0 o inner_reader
+      driven =
+          let formed = IsWellFormed-part circuit part.piece part.globals part.held part.memories is.formed cut.is in
+          let first : 0 < length part.piece.memories = omega (arith, ap length own.only) in
+          let one = subst (λ (l : List Memory). AreDriven (driver_at part.piece) 0 (get_or (map (λ (x : Memory). x.latency) l) 0 Zero) (get_or (map (λ (x : Memory). x.readers) l) 0 [])) own.only (formed.reads 0 first) in
+          let all = subst (λ (x : Memory). AreDriven (driver_at part.piece) 0 x.latency x.readers) inner-is one in
+          subst (λ (r : Reader). driver_at part.piece r.word ≡ reader_driver inner.latency 0 o r) reader-is (all o there-inner)
+
+      needed : (latency : Latency) → o < length part.piece.outs → driver_at part.piece (value_at part.piece.outs o) ≡ reader_driver latency 0 o inner_reader → AreNeeds part.piece (value_at part.piece.outs o) (needs_by latency reader)
+      needed Zero lt is_driven =
+          same-cycle-needs part.piece (λ place inside. (cut.is.ins place inside).1) own.ins_once (value_at part.piece.outs o) (let below = cut.is.outs o lt in omega (arith, below, cut.is.count)) 0 o reader.addr reader.en less
+          (let inside = looks.1 in omega (arith, inside, in-count))
+          (is_driven ∙ ap₂ (λ a e. MemoryWord 0 o a e) (in-at reader.addr looks.0) (in-at reader.en looks.1))
+      needed (One under) lt is_driven =
+          late-needs part.piece (λ place inside. (cut.is.ins place inside).1) own.ins_once (value_at part.piece.outs o) (let below = cut.is.outs o lt in omega (arith, below, cut.is.count)) 0 o is_driven
+
+    pub memory-needs : (o : ℕ) → o < length part.piece.outs → AreNeeds part.piece (value_at part.piece.outs o) (needs_at (needs_of piece.memories) o)
+    memory-needs o lt =
+        let some : o < length inner.readers =
+        omega (arith, lt, ap length own.words, length-map outer.readers (λ (r : Reader). r.word), ap (λ (x : Memory). length x.readers) inner-is, length-map inner.readers (renamed_reader stands.alone.globals)) in
+        subst (AreNeeds part.piece (value_at part.piece.outs o))
+        (sym (ap (λ (l : List Memory). needs_at (needs_of l) o) only ∙ get_or-map (needs_by inner.latency) inner.readers o nobody [] some))
+        (needed o some inner.latency lt (ap (driver_at part.piece) (out-is o some) ∙ driven o some))

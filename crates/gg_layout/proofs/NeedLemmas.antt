@@ -1,0 +1,119 @@
+-- What an out of a machine needs are the ins of the channels that its channel needs.
+use Rattle.std.proofs.Common.{◌≡◌, ◌≢◌, ℕ, zero, suc, ◌<◌, ◌≤◌, List, [], ◌∷◌, length, map, refl, sym, ◌∙◌, ap, subst, arith}
+use Rattle.std.specs.Prelude.{Contains, AllPairs, ◌==◌}
+use Rattle.std.proofs.lemmas.List.{get_or-map}
+use Rattle.gg_flat.specs.Line.{value_at}
+use Rattle.gg_order.specs.Design.{Ordered, IsDesign}
+use Rattle.gg_program.specs.Cone.{AreNeeds}
+use Rattle.gg_part.specs.declared.part.Part.{Part}
+use Rattle.gg_cut.specs.declared.listed.Listed.{Listed}
+use Rattle.gg_cut.specs.declared.plan.Body.{Body}
+use Rattle.gg_cut.specs.declared.plan.Body.TheVariants.{Cut, Memory, Source, Tray}
+use Rattle.gg_cut.specs.declared.plan.Machine as planned
+use Rattle.gg_cut.specs.declared.wires.Wire.{Wire}
+use Rattle.gg_cut.specs.Channels.{first_memory, first_source, wires_of}
+use Rattle.gg_cut.specs.Plan.{wire_at, channels_to, channels_from, AreNeedsOf, IsBody, IsCutPart, NeedsIn}
+use Rattle.gg_closed.specs.Apart.{AreApart, AreFew}
+use Rattle.gg_closed.proofs.ListLemmas.{pairs-nil}
+use Rattle.gg_memunit.specs.MemoryUnit.{needs_of}
+use Rattle.gg_memunit.proofs.UnitLemmas.{sole}
+use Rattle.gg_node.specs.Machine.{Machine, needs_at}
+use Rattle.gg_net.specs.Network.{Kind, kind_of}
+use Rattle.gg_sound.specs.Built.{place_in, IsBuilt, IsMemoryOf, IsUnitOf}
+use Rattle.gg_sound.proofs.NumberLemmas.{numbers-once, place-back}
+use Rattle.gg_sound.proofs.ListedLemmas.{IsGivenBy, given-placed}
+use Rattle.gg_sound.proofs.FitLemmas.{ins-count, outs-count}
+use Rattle.gg_sound.proofs.MemoryPartLemmas.{memory-part}
+use Rattle.gg_layout.proofs.AscendingLemmas.{AreMadeOf}
+use Rattle.gg_layout.proofs.MemoryLemmas.{memory-needs}
+
+-- At the out of channel c a machine of this kind needs, in ascending order, the ins at which it takes the channels `needs`.
+pub record IsNeedy (wires : List Wire) (m c : ℕ) (needs : List ℕ) (kind : Kind) : Type 0 where
+  pub up : AllPairs (λ a b. a < b) (needs_at kind.needs (place_in (channels_from wires m) c))
+  pub made : AreMadeOf (place_in (channels_to wires m)) needs (needs_at kind.needs (place_in (channels_from wires m) c))
+
+-- ---- machines with a piece
+
+module _ (design : Ordered) (listed : Listed) (wires : List Wire) (m : ℕ) (part : Part) (cut : IsCutPart design listed wires m part) (c : ℕ) (is : IsGivenBy wires m c) where
+  abbrev pub out_of : ℕ
+  out_of = place_in (channels_from wires m) c
+
+  pub out-low : out_of < length part.piece.outs
+  out-low = let at = given-placed wires m c is in let within = at.within in omega (arith, within, outs-count design listed wires m part cut)
+
+  out-signal : value_at part.globals (value_at part.piece.outs out_of) ≡ (wire_at wires c).signal
+  out-signal =
+      let at = given-placed wires m c is in
+      sym (get_or-map (value_at part.globals) part.piece.outs out_of 0 0 out-low)
+      ∙ ap (λ (l : List ℕ). value_at l out_of) cut.outs
+      ∙ get_or-map (λ k. (wire_at wires k).signal) (channels_from wires m) out_of 0 0 at.within
+      ∙ ap (λ k. (wire_at wires k).signal) at.is
+
+  pub part-made : (channels needs own : List ℕ) → channels ≡ channels_to wires m → ((out : ℕ) → out < length part.globals → value_at part.globals out ≡ (wire_at wires c).signal → AreNeedsOf part channels out needs)
+      → AreNeeds part.piece (value_at part.piece.outs out_of) own → AreMadeOf (place_in (channels_to wires m)) needs own
+  part-made channels needs own same are exact =
+      let here = are (value_at part.piece.outs out_of) (cut.is.outs out_of out-low) out-signal in
+      let count = ins-count design listed wires m part cut in
+      let back : (i : ℕ) → i < length part.piece.ins → place_in (channels_to wires m) (value_at (channels_to wires m) i) ≡ i =
+      λ i lt. place-back (channels_to wires m) i (numbers-once (λ k. (wire_at wires k).consumer == m) (length wires)) (omega (arith, lt, count)) in
+      record {
+        into = λ d has.
+            let need = (here d).0 has in
+            let at : value_at (channels_to wires m) need.place ≡ d = ap (λ (l : List ℕ). value_at l need.place) (sym same) ∙ need.is in
+            subst (λ i. Contains own i) (sym (ap (place_in (channels_to wires m)) (sym at) ∙ back need.place need.known)) ((exact.exact need.place).1 (need.known, need.reached));
+        back = λ i has.
+            let at = (exact.exact i).0 has in
+            let d = value_at (channels_to wires m) i in
+            (d, ((here d).1 (record { place = i; known = at.0; is = ap (λ (l : List ℕ). value_at l i) same; reached = at.1 }), back i at.0));
+      }
+
+-- ---- machines without a piece
+
+none-made : (f : ℕ → ℕ) (needs own : List ℕ) → needs ≡ [] → own ≡ [] → AreMadeOf f needs own
+none-made f needs own none empty =
+    record {
+      into = λ d has. absurd (omega (arith, has.1, ap length none));
+      back = λ i has. absurd (omega (arith, has.1, ap length empty));
+    }
+
+none-up : (own : List ℕ) → own ≡ [] → AllPairs (λ a b. a < b) own
+none-up own empty = subst (λ (l : List ℕ). AllPairs (λ a b. a < b) l) (sym empty) (pairs-nil (λ a b. a < b))
+
+source-needs : (o : ℕ) → needs_at ([] ∷ []) o ≡ []
+source-needs zero = refl
+source-needs (suc o) = refl
+
+-- ---- all machines
+
+module _ (design : Ordered) (listed : Listed) (is : IsDesign design) (apart : AreApart design.tree listed) (few : AreFew design.circuit design.tree listed) (m c : ℕ) (given : IsGivenBy (wires_of design.circuit design.tree listed) m c) where
+  abbrev wires : List Wire
+  wires = wires_of design.circuit design.tree listed
+
+  abbrev o : ℕ
+  o = place_in (channels_from (wires_of design.circuit design.tree listed) m) c
+
+  unit-needy : (part : Part) (cut : IsCutPart design listed wires m part) (machine : Machine) → IsUnitOf part machine → (channels needs : List ℕ) → channels ≡ channels_to wires m
+      → ((out : ℕ) → out < length part.globals → value_at part.globals out ≡ (wire_at wires c).signal → AreNeedsOf part channels out needs) → IsNeedy wires m c needs (kind_of machine)
+  unit-needy part cut machine unit channels needs same are =
+      let exact = unit.exact.each o (out-low design listed wires m part cut c given) in
+      subst (λ (t : Machine). IsNeedy wires m c needs (kind_of t)) (sym unit.is)
+      (record { up = exact.ascending; made = part-made design listed wires m part cut c given channels needs (needs_at unit.needs o) same are exact })
+
+  memory-needy : (part : Part) (cut : IsCutPart design listed wires m part) (low : first_memory listed ≤ m) (high : m < first_source listed) (machine : Machine) → IsMemoryOf part machine → (channels needs : List ℕ) → channels ≡ channels_to wires m
+      → ((out : ℕ) → out < length part.globals → value_at part.globals out ≡ (wire_at wires c).signal → AreNeedsOf part channels out needs) → IsNeedy wires m c needs (kind_of machine)
+  memory-needy part cut low high machine stands channels needs same are =
+      let outer = memory-part design listed m part is apart low high cut few in
+      let inner = sole stands.alone.piece.memories stands.is_memory.one in
+      let exact = memory-needs design listed m part is apart low high cut machine stands outer.0 inner.0 outer.1 inner.1 o (out-low design listed wires m part cut c given) in
+      subst (λ (t : Machine). IsNeedy wires m c needs (kind_of t)) (sym stands.is)
+      (record { up = exact.ascending; made = part-made design listed wires m part cut c given channels needs (needs_at (needs_of stands.alone.piece.memories) o) same are exact })
+
+  pub needy : (columns : List (List ℕ)) (n : ℕ) (own : planned.Machine) (body : Body) (machine : Machine) (channels needs : List ℕ) → IsBody design listed wires m body → IsBuilt columns n own body machine → channels ≡ channels_to wires m → NeedsIn body channels (wire_at wires c).signal needs → IsNeedy wires m c needs (kind_of machine)
+  needy columns n own (Cut part) machine channels needs body built same are = unit-needy part body.1 machine built channels needs same are
+  needy columns n own (Memory part) machine channels needs body built same are = memory-needy part body.2 body.0 body.1 machine built channels needs same are
+  needy columns n own Source machine channels needs body built same none =
+      subst (λ (t : Machine). IsNeedy wires m c needs (kind_of t)) (sym built)
+      (record { up = none-up (needs_at ([] ∷ []) o) (source-needs o); made = none-made (place_in (channels_to wires m)) needs (needs_at ([] ∷ []) o) none (source-needs o) })
+  needy columns n own Tray machine channels needs body built same none =
+      subst (λ (t : Machine). IsNeedy wires m c needs (kind_of t)) (sym built)
+      (record { up = none-up [] refl; made = none-made (place_in (channels_to wires m)) needs [] none refl })

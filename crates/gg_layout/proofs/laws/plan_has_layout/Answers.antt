@@ -1,0 +1,5 @@
+use Rattle.gg_layout.proofs.LayoutLemmas.{plan-layout}
+use Rattle.gg_layout.proofs.laws.plan_has_layout.Goals as goal
+
+pub returns : goal.returns
+returns c = λ design request default plan columns n rows machines given built. plan-layout design request default plan columns n rows machines given built

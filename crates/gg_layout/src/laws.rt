@@ -1,0 +1,21 @@
+//! Laws: facts about the definitions, each on a function with an empty body.
+ghost use Rattle.std.specs.Prelude.{◌≡◌, ℕ, List};
+ghost use Rattle.gg_order.specs.Design.{Ordered};
+ghost use Rattle.gg_partfile.specs.declared.request.Request.{Request};
+ghost use Rattle.gg_cut.specs.declared.plan.Plan.{Plan};
+ghost use Rattle.gg_check.specs.Alike.{AreAlike};
+ghost use Rattle.gg_node.specs.Machine.{Machine};
+ghost use Rattle.gg_marking.specs.Marking.{Layout};
+ghost use Rattle.gg_marking.specs.Fits.{HasLayout};
+ghost use Rattle.gg_sound.specs.Built.{AreBuilt, IsGiven, plan_frame};
+ghost use Rattle.gg_layout.specs.CutLayout.{IsLayoutOf};
+
+/// The network of a plan has the layout of its cut.
+pub fn plan_has_layout()
+    ensures { (design : Ordered) (request : Request) (default : ℕ) (plan : Plan) (columns : List (List ℕ)) (n : ℕ) (rows : List (List ℕ)) (machines : List Machine) → IsGiven design request default plan columns n rows → AreBuilt plan columns n machines → (layout : Layout) × (IsLayoutOf design request default n layout × HasLayout (plan_frame plan machines n) layout) }
+{}
+
+/// The cut of a request has one layout, for all designs that are alike.
+pub fn one_layout()
+    ensures { (one other : Ordered) (request : Request) (default n : ℕ) (layout others : Layout) → AreAlike one other → IsLayoutOf one request default n layout → IsLayoutOf other request default n others → layout ≡ others }
+{}
