@@ -19,7 +19,7 @@ pub record AreLinks (plan : Plan) (links : List Link) : Type 0 where
 
 -- ---- the network's channels by number
 
-length-from : (plan : Plan) (a : ℕ) (channels : List Channel) → length (wires_from plan a channels) ≡ length channels
+pub length-from : (plan : Plan) (a : ℕ) (channels : List Channel) → length (wires_from plan a channels) ≡ length channels
 length-from plan a [] = refl
 length-from plan a (channel ∷ channels) = ap suc (length-from plan (suc a) channels)
 

@@ -6,7 +6,7 @@ use Rattle.gg_flat.specs.Line.{value_at}
 use Rattle.gg_flat.specs.Circuit.{FlatCircuit}
 use Rattle.gg_flat.specs.Reads.{Reaches}
 use Rattle.gg_order.specs.Design.{Ordered}
-use Rattle.gg_program.proofs.ReachLemmas.{Reaches-itself, Reaches-on}
+use Rattle.gg_needs.proofs.ReachLemmas.{Reaches-itself, Reaches-on}
 use Rattle.gg_part.specs.declared.part.Part.{Part}
 use Rattle.gg_cut.specs.declared.listed.Listed.{Listed}
 use Rattle.gg_cut.specs.declared.plan.Body.{Body}

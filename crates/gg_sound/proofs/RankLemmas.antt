@@ -6,7 +6,7 @@ use Rattle.gg_flat.specs.Circuit.{FlatCircuit, driver_at}
 use Rattle.gg_flat.specs.Reads.{Reads, Reaches}
 use Rattle.gg_flat.specs.Order.{IsOrder}
 use Rattle.gg_flat.proofs.OrderLemmas.{read-before}
-use Rattle.gg_program.proofs.ReachLemmas.{Reaches-itself, Reaches-on, along-reaches}
+use Rattle.gg_needs.proofs.ReachLemmas.{Reaches-itself, Reaches-on, along-reaches}
 use Rattle.gg_part.specs.Part.{IsPart}
 use Rattle.gg_part.proofs.AlongLemmas.{named-in}
 use Rattle.gg_closed.proofs.ListLemmas.{one-place}

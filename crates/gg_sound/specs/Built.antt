@@ -7,7 +7,7 @@ use Rattle.gg_flat.specs.Line.{value_at}
 use Rattle.gg_flat.specs.Run.{IsRun, IsColumns}
 use Rattle.gg_order.specs.Design.{Ordered, IsDesign}
 use Rattle.gg_partfile.specs.declared.request.Request.{Request}
-use Rattle.gg_program.specs.Programmed.{AreNeedsOfOuts}
+use Rattle.gg_needs.specs.Needs.{AreNeedsOfOuts}
 use Rattle.gg_part.specs.Part.{IsPart}
 use Rattle.gg_part.specs.PartRun.{part_rows}
 use Rattle.gg_part.specs.declared.part.Part.{Part}

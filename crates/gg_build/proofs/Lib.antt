@@ -1,0 +1,6 @@
+pub mod PortLemmas
+pub mod PlaceLemmas
+pub mod WireLemmas
+pub mod SeatLemmas
+pub mod ReadyLemmas
+pub mod OpenLemmas

@@ -1,0 +1,125 @@
+-- The hosts and stations of a plan's machines open its network.
+use Rattle.std.proofs.Common.{◌≡◌, ℕ, ◌<◌, List, [], ◌∷◌, length, map, get_or, sym, ap, subst, ◌∙◌, arith}
+use Rattle.std.proofs.lemmas.List.{get_or-map, length-map}
+use Rattle.gg_flat.specs.Line.{value_at}
+use Rattle.gg_order.specs.Design.{Ordered}
+use Rattle.gg_partfile.specs.declared.request.Request.{Request}
+use Rattle.gg_cut.specs.declared.plan.Plan.{Plan}
+use Rattle.gg_cut.specs.Solves.{columns_of}
+use Rattle.gg_node.specs.Machine.{Machine, machine_at, no_machine}
+use Rattle.gg_net.specs.declared.shape.Wire.{Wire}
+use Rattle.gg_net.specs.declared.shape.Station.{Station}
+use Rattle.gg_net.specs.Network.{Network, Kind, kind_of, kind_at, IsAtIn, IsAtOut}
+use Rattle.gg_net.specs.Seats.{hosted, seated, machines_by, IsSeated, AreSeated}
+use Rattle.gg_net.specs.Kept.{IsSound}
+use Rattle.gg_net.specs.Net.{entry_of, IsListed, opening_net, Opens}
+use Rattle.gg_sound.specs.Built.{machine_in, wires_of_plan, IsBuilt, AreBuilt, IsGiven, plan_frame, rows_of}
+use Rattle.gg_sound.proofs.PlanLemmas.{fit, plan-listed, plan-wired, plan-no-ring}
+use Rattle.gg_sound.proofs.FitLemmas.{kind-is}
+use Rattle.gg_sound.proofs.SolvedLemmas.{plan-solved}
+use Rattle.gg_sound.proofs.OpeningLemmas.{built-opening}
+use Rattle.gg_build.specs.declared.node.Node.{Node}
+use Rattle.gg_build.specs.declared.node.Node.TheVariants as node
+use Rattle.gg_build.specs.Node.{machines_of}
+use Rattle.gg_build.specs.Build.{IsToRun, IsOpeningOf}
+use Rattle.gg_build.specs.Hosts.{IsSeat, AreSeats}
+
+abbrev no_node : Node
+no_node = node.Tray no_machine
+
+abbrev no_station : Station
+no_station = record { host = 0; thread = 0; ins = []; outs = []; ports = [] }
+
+module _ (plan : Plan) (columns : List (List ℕ)) (n : ℕ) (hosts : List Node) (stations : List Station) (are : AreSeats plan columns n (length plan.machines) hosts stations) where
+  abbrev pub lists_of : List (List Machine)
+  lists_of = map machines_of hosts
+
+  seat-at : (m : ℕ) (s : Station) → m < length plan.machines → IsSeat columns n m (machine_in plan m) (get_or hosts m no_node) (get_or stations m s)
+  seat-at m s lt = are.each m no_node s lt
+
+  -- ---- seats
+
+  hosted-is : (m : ℕ) (s : Station) (lt : m < length plan.machines) → hosted lists_of (get_or stations m s).host ≡ (seat-at m s lt).host.machine ∷ []
+  hosted-is m s lt =
+      let seat = seat-at m s lt in
+      ap (hosted lists_of) seat.number ∙ get_or-map machines_of hosts m no_node [] (omega (arith, lt, are.hosts)) ∙ seat.host.host
+
+  seated-is : (m : ℕ) (s : Station) (lt : m < length plan.machines) → seated lists_of (get_or stations m s) ≡ (seat-at m s lt).host.machine
+  seated-is m s lt =
+      let seat = seat-at m s lt in
+      ap (λ l. machine_at l (get_or stations m s).thread) (hosted-is m s lt) ∙ ap (machine_at (seat.host.machine ∷ [])) seat.thread
+
+  is-seated : (m : ℕ) (s : Station) → m < length plan.machines → IsSeated lists_of (get_or stations m s)
+  is-seated m s lt =
+      let seat = seat-at m s lt in
+      record {
+        host = omega (arith, lt, seat.number, are.hosts, length-map hosts machines_of);
+        thread = omega (arith, seat.thread, ap length (hosted-is m s lt));
+      }
+
+  are-seated : AreSeated lists_of stations
+  are-seated =
+      record {
+        each = λ m s lt. is-seated m s (omega (arith, lt, are.places));
+        alone = λ m k s t low high same threads. sym (seat-at m s (omega (arith, low, are.places))).number ∙ same ∙ (seat-at k t (omega (arith, high, are.places))).number;
+      }
+
+  -- ---- machines
+
+  machine-is : (m : ℕ) (s : Station) (lt : m < length plan.machines) → machine_at (machines_by lists_of stations) m ≡ (seat-at m s lt).host.machine
+  machine-is m s lt = get_or-map (seated lists_of) stations m s no_machine (omega (arith, lt, are.places)) ∙ seated-is m s lt
+
+  pub are-built : AreBuilt plan columns n (machines_by lists_of stations)
+  are-built =
+      record {
+        count = length-map stations (seated lists_of) ∙ are.places;
+        each = λ m lt. subst (IsBuilt columns n (machine_in plan m) (machine_in plan m).body) (sym (machine-is m no_station lt)) (seat-at m no_station lt).host.is;
+      }
+
+  -- ---- of a design, a request and a run
+
+  module _ (design : Ordered) (request : Request) (default : ℕ) (rows : List (List ℕ)) (given : IsGiven design request default plan columns n rows) where
+    is-listed : (m : ℕ) (s : Station) → m < length plan.machines → IsListed (wires_of_plan plan) m (kind_at (map kind_of (machines_by lists_of stations)) m) (get_or stations m s)
+    is-listed m s lt =
+        let machines = machines_by lists_of stations in
+        let seat = seat-at m s lt in
+        let at = plan-listed design request default plan columns n rows machines given are-built m lt in
+        let fits = (fit design request default plan columns n rows machines given are-built).each m lt in
+        let kind : kind_at (map kind_of machines) m ≡ kind_of seat.host.machine = kind-is machines m (omega (arith, lt, are-built.count)) ∙ ap kind_of (machine-is m s lt) in
+        record {
+          ins = ap length seat.ins ∙ at.ins;
+          into = λ i low. subst (λ (l : List ℕ). IsAtIn (wires_of_plan plan) m i (value_at l i)) (sym seat.ins) (at.into i low);
+          outs = ap length seat.outs ∙ at.outs;
+          from = λ o low. subst (λ (l : List ℕ). IsAtOut (wires_of_plan plan) m o (value_at l o)) (sym seat.outs) (at.from o low);
+          ports = seat.host.served ∙ sym (ap (λ (k : Kind). map entry_of k.ports) kind);
+          few = at.few;
+          numbers = fits.numbers;
+        }
+
+    is-sound : IsSound (columns_of plan rows) (rows_of plan rows) (plan_frame plan (machines_by lists_of stations) n)
+    is-sound =
+        let machines = machines_by lists_of stations in
+        record {
+          wired = plan-wired design request default plan columns n rows machines given are-built;
+          no_ring = plan-no-ring design request default plan columns n rows machines given are-built;
+          solves = plan-solved design request default plan columns n rows machines given are-built;
+        }
+
+    opens-plan : Opens (columns_of plan rows) (rows_of plan rows) lists_of stations (wires_of_plan plan) n
+    opens-plan =
+        record {
+          seated = are-seated;
+          opening = built-opening plan columns n (machines_by lists_of stations) are-built;
+          listed = λ m s lt. is-listed m s (omega (arith, lt, are.places));
+          sound = is-sound;
+        }
+
+  pub opens : (values : List (List ℕ)) (runs : List (List (List ℕ))) (wires : List Wire) → IsToRun plan columns n values runs → wires ≡ wires_of_plan plan → Opens values runs lists_of stations wires n
+  opens values runs wires is same =
+      subst (λ (ws : List Wire). Opens values runs lists_of stations ws n) (sym same)
+      (subst (λ (vs : List (List ℕ)). Opens vs runs lists_of stations (wires_of_plan plan) n) (sym is.carried)
+      (subst (λ (rs : List (List (List ℕ))). Opens (columns_of plan is.rows) rs lists_of stations (wires_of_plan plan) n) (sym is.done)
+      (opens-plan is.design is.request is.default is.rows is.given)))
+
+  pub opened : (wires : List Wire) (net : Network) → wires ≡ wires_of_plan plan → net ≡ opening_net (machines_by lists_of stations) wires n → IsOpeningOf plan columns n net
+  opened wires net same is = record { machines = machines_by lists_of stations; built = are-built; is = is ∙ ap (λ (ws : List Wire). opening_net (machines_by lists_of stations) ws n) same }

@@ -1,0 +1,8 @@
+use Rattle.std.proofs.Common.{◌≡◌, ◌++◌, map, take}
+use Rattle.gg_flat.specs.Served.{by_writers}
+use Rattle.gg_memunit.specs.MemoryUnit.{port_of}
+use Rattle.gg_net.specs.Net.{entry_of}
+use Rattle.gg_build.proofs.ports.add_writers.Given as goal
+
+abbrev pub invariant-loop-place : goal.invariant-loop-place
+invariant-loop-place l = l.ports.items ≡ l.fn.ports.items ++ map entry_of (map (port_of l.readers) (by_writers 0 (take l.place l.writers)))

@@ -1,0 +1,130 @@
+//! The hosts of a plan's machines.
+ghost use Rattle.std.specs.Prelude.{◌≡◌, ◌++◌, ◌∷◌, [], None, false, IfOk, length, slice_index_or};
+ghost use Rattle.gg_flat.specs.Line.{value_at};
+ghost use Rattle.gg_node.specs.Machine.{source_machine, tray_machine};
+ghost use Rattle.gg_sound.specs.Alone.{IsCutAgain};
+ghost use Rattle.gg_sound.specs.Built.{IsUnitOf, IsMemoryOf, IsBuilt};
+ghost use Rattle.gg_build.specs.Hosts.{IsUnitPart, IsMemoryPart, IsSourceOf, CanBuild, IsHost};
+
+use crate::node::Node;
+use crate::ports::ports_of;
+use gg_cut::{Body, Machine};
+use gg_fame1::{NoMemory, Unit};
+use gg_flat::{Memory, Piece};
+use gg_memunit::MemUnit;
+use gg_net::ServedPort;
+use gg_node::{Source, Tray};
+use gg_part::{Part, part_of};
+use gg_program::Program;
+use gg_trace::Trace;
+use std::alloc::{AllocError, Global};
+
+/// A host of one machine, with the ports that it serves in a cycle.
+#[derive(Drop)]
+pub(crate) struct Hosted<'a> {
+    pub node: Node<'a>,
+    pub ports: Vec<ServedPort>,
+}
+
+// The unit of a part.
+fn unit_of<'a>(alloc: Global, part: &'a Part) -> Result<Unit<'a>, NoMemory>
+    requires { IsUnitPart part.now }
+    ensures { IfOk result (λ unit. IsUnitOf part.now unit) }
+{
+    let program = Program::of(alloc, &part.piece)?;
+    let unit = Unit::new(alloc, program)?;
+    Ok(unit)
+}
+
+// The host of the hub or of a unit.
+fn cut_host<'a>(alloc: Global, part: &'a Part) -> Result<Hosted<'a>, AllocError>
+    requires { IsUnitPart part.now }
+    ensures { IfOk result (λ made. IsHost (IsUnitOf part.now) made.node made.ports.items) }
+{
+    match unit_of(alloc, part) {
+        Ok(unit) => Ok(Hosted {
+            node: Node::Unit(unit),
+            ports: Vec::new(alloc),
+        }),
+        Err(_) => Err(AllocError),
+    }
+}
+
+// A memory that stands alone: a part of a listed memory's part.
+fn alone_of(alloc: Global, part: &Part) -> Result<Part, AllocError>
+    requires { IsMemoryPart part.now }
+    ensures { IfOk result (λ alone. IsCutAgain part.now alone) }
+{
+    let piece = &part.piece;
+    let mut globals = Vec::from_slice(alloc, piece.ins())?;
+    globals.extend_from_slice(piece.outs())?;
+    let memories = vec![in alloc; 0]?;
+    let alone = part_of(alloc, piece, &globals, piece.ins(), piece.outs(), &memories)?;
+    Ok(alone)
+}
+
+// The only memory of a piece.
+fn memory_of(piece: &Piece) -> &Memory
+    requires { length piece.now.memories ≡ 1 }
+    ensures { piece.now.memories ≡ result.now ∷ [] }
+{
+    &piece.memories()[0]
+}
+
+// The host of a listed memory.
+fn memory_host<'a>(alloc: Global, part: &Part) -> Result<Hosted<'a>, AllocError>
+    requires { IsMemoryPart part.now }
+    ensures { IfOk result (λ made. IsHost (IsMemoryOf part.now) made.node made.ports.items) }
+{
+    let alone = alone_of(alloc, part)?;
+    let ports = ports_of(alloc, memory_of(&alone.piece))?;
+    let unit = MemUnit::new(alloc, alone.piece)?;
+    Ok(Hosted {
+        node: Node::Memory(unit),
+        ports,
+    })
+}
+
+// The host of a source, which gives the channels `outs`.
+fn source_host<'a>(alloc: Global, trace: &Trace, outs: &[u32]) -> Result<Hosted<'a>, AllocError>
+    requires { IsSourceOf trace.now.columns outs.now }
+    ensures { IfOk result (λ made. IsHost (λ machine. machine ≡ source_machine (slice_index_or trace.now.columns (value_at outs.now 0) []) 0 false) made.node made.ports.items) }
+{
+    let column = trace.column(alloc, outs[0] as usize)?;
+    Ok(Hosted {
+        node: Node::Source(Source::new(column)),
+        ports: Vec::new(alloc),
+    })
+}
+
+// The host of a tray.
+fn tray_host<'a>(alloc: Global, trace: &Trace) -> Result<Hosted<'a>, AllocError>
+    ensures { IfOk result (λ made. IsHost (λ machine. machine ≡ tray_machine trace.now.rows 0 [] None) made.node made.ports.items) }
+{
+    let tray = Tray::new(alloc, trace.rows())?;
+    Ok(Hosted {
+        node: Node::Tray(tray),
+        ports: Vec::new(alloc),
+    })
+}
+
+/// The host of a machine of a plan.
+///
+/// # Errors
+///
+/// Where memory is refused.
+pub(crate) fn host_of<'a>(
+    alloc: Global,
+    trace: &Trace,
+    machine: &'a Machine,
+) -> Result<Hosted<'a>, AllocError>
+    requires { CanBuild trace.now.columns machine.now.outs machine.now.body }
+    ensures { IfOk result (λ made. IsHost (IsBuilt trace.now.columns trace.now.rows machine.now machine.now.body) made.node made.ports.items) }
+{
+    match &machine.body {
+        Body::Cut(part) => cut_host(alloc, part),
+        Body::Memory(part) => memory_host(alloc, part),
+        Body::Source => source_host(alloc, trace, machine.outs.as_slice()),
+        Body::Tray => tray_host(alloc, trace),
+    }
+}

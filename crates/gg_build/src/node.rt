@@ -1,0 +1,144 @@
+//! `Node`: the hosts of a plan's machines.
+ghost use Rattle.std.specs.Prelude.{◌≡◌, ℕ, ◌<◌, length, is_some, slice_set};
+ghost use Rattle.gg_node.specs.Machine.{machine_at, latch_at, flag_at, missing, due};
+ghost use Rattle.gg_node.specs.Token.{IsToken, IsNextState};
+ghost use Rattle.gg_node.specs.Step.{MayLatch, MayFire, MayServe, MayFinish, with_latch, with_flag, with_served, finished};
+ghost use Rattle.gg_build.specs.Node.{machines_of};
+
+use gg_fame1::Unit;
+use gg_memunit::MemUnit;
+use gg_node::{Host, Source, Tray};
+
+/// The host of a machine of a plan, by the kind of the machine.
+#[derive(Drop)]
+pub enum Node<'a> {
+    /// The hub or a unit.
+    Unit(Unit<'a>),
+    /// A memory that is served port by port.
+    Memory(MemUnit),
+    /// Gives the column of a top input.
+    Source(Source),
+    /// Keeps the values of a top output.
+    Tray(Tray),
+}
+
+impl<'a> Host for Node<'a> {
+    ghost machines = { machines_of };
+
+    fn threads(&self) -> u32 {
+        match self {
+            Node::Unit(host) => host.threads(),
+            Node::Memory(host) => host.threads(),
+            Node::Source(host) => host.threads(),
+            Node::Tray(host) => host.threads(),
+        }
+    }
+
+    fn cycle(&self, thread: u32) -> u64 {
+        match self {
+            Node::Unit(host) => host.cycle(thread),
+            Node::Memory(host) => host.cycle(thread),
+            Node::Source(host) => host.cycle(thread),
+            Node::Tray(host) => host.cycle(thread),
+        }
+    }
+
+    fn latched(&self, thread: u32, place: u32) -> bool {
+        match self {
+            Node::Unit(host) => host.latched(thread, place),
+            Node::Memory(host) => host.latched(thread, place),
+            Node::Source(host) => host.latched(thread, place),
+            Node::Tray(host) => host.latched(thread, place),
+        }
+    }
+
+    fn fired(&self, thread: u32, place: u32) -> bool {
+        match self {
+            Node::Unit(host) => host.fired(thread, place),
+            Node::Memory(host) => host.fired(thread, place),
+            Node::Source(host) => host.fired(thread, place),
+            Node::Tray(host) => host.fired(thread, place),
+        }
+    }
+
+    fn missing(&self, thread: u32, place: u32) -> Option<u32> {
+        match self {
+            Node::Unit(host) => host.missing(thread, place),
+            Node::Memory(host) => host.missing(thread, place),
+            Node::Source(host) => host.missing(thread, place),
+            Node::Tray(host) => host.missing(thread, place),
+        }
+    }
+
+    fn due(&self, thread: u32) -> Option<u32> {
+        match self {
+            Node::Unit(host) => host.due(thread),
+            Node::Memory(host) => host.due(thread),
+            Node::Source(host) => host.due(thread),
+            Node::Tray(host) => host.due(thread),
+        }
+    }
+
+    fn served(&self, thread: u32) -> u32 {
+        match self {
+            Node::Unit(host) => host.served(thread),
+            Node::Memory(host) => host.served(thread),
+            Node::Source(host) => host.served(thread),
+            Node::Tray(host) => host.served(thread),
+        }
+    }
+
+    fn dues(&self, thread: u32) -> u32 {
+        match self {
+            Node::Unit(host) => host.dues(thread),
+            Node::Memory(host) => host.dues(thread),
+            Node::Source(host) => host.dues(thread),
+            Node::Tray(host) => host.dues(thread),
+        }
+    }
+
+    fn token(&mut self, thread: u32, place: u32) -> u128 {
+        match self {
+            Node::Unit(host) => host.token(thread, place),
+            Node::Memory(host) => host.token(thread, place),
+            Node::Source(host) => host.token(thread, place),
+            Node::Tray(host) => host.token(thread, place),
+        }
+    }
+
+    fn latch(&mut self, thread: u32, place: u32, value: u128) {
+        match self {
+            Node::Unit(host) => host.latch(thread, place, value),
+            Node::Memory(host) => host.latch(thread, place, value),
+            Node::Source(host) => host.latch(thread, place, value),
+            Node::Tray(host) => host.latch(thread, place, value),
+        }
+    }
+
+    fn fire(&mut self, thread: u32, place: u32) -> u128 {
+        match self {
+            Node::Unit(host) => host.fire(thread, place),
+            Node::Memory(host) => host.fire(thread, place),
+            Node::Source(host) => host.fire(thread, place),
+            Node::Tray(host) => host.fire(thread, place),
+        }
+    }
+
+    fn serve(&mut self, thread: u32, port: u32) {
+        match self {
+            Node::Unit(host) => host.serve(thread, port),
+            Node::Memory(host) => host.serve(thread, port),
+            Node::Source(host) => host.serve(thread, port),
+            Node::Tray(host) => host.serve(thread, port),
+        }
+    }
+
+    fn finish(&mut self, thread: u32) {
+        match self {
+            Node::Unit(host) => host.finish(thread),
+            Node::Memory(host) => host.finish(thread),
+            Node::Source(host) => host.finish(thread),
+            Node::Tray(host) => host.finish(thread),
+        }
+    }
+}

@@ -1,0 +1,42 @@
+//! `build`: the network of a plan.
+ghost use Rattle.std.specs.Prelude.{IfOk};
+ghost use Rattle.gg_build.specs.Build.{IsToRun, IsOpeningOf};
+
+use crate::node::Node;
+use crate::seats::{Seats, seats_of};
+use crate::wires::wires_of;
+use gg_cut::Plan;
+use gg_net::{Net, Shape, Streams};
+use gg_trace::Trace;
+use std::alloc::{AllocError, Global};
+
+/// The network of a plan before its first cycle, whose sources give the columns of a trace: it is to do as many cycles as the
+/// trace has rows. Each machine has a host of its own.
+///
+/// It takes all the memory that the network will want.
+///
+/// # Errors
+///
+/// Where memory is refused.
+pub fn build<'a, Z: Streams>(
+    alloc: Global,
+    plan: &'a Plan,
+    trace: &Trace,
+) -> Result<Net<Node<'a>, Z>, AllocError>
+    requires { IsToRun plan.now trace.now.columns trace.now.rows Z.lists Z.runs }
+    ensures { IfOk result (λ net. IsOpeningOf plan.now trace.now.columns trace.now.rows net) }
+{
+    let Seats { hosts, stations } = seats_of(alloc, plan, trace)?;
+    let wires = wires_of(alloc, plan)?;
+    let end = trace.rows();
+    let net = Net::new(
+        alloc,
+        hosts,
+        Shape {
+            stations,
+            wires,
+            end,
+        },
+    )?;
+    Ok(net)
+}

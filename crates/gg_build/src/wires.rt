@@ -1,0 +1,85 @@
+//! The channels of a network.
+ghost use Rattle.std.specs.Prelude.{◌≡◌, ◌^◌, ◌<◌, ◌≤◌, ℕ, length, map, All, IfOk, slice_index_or};
+ghost use Rattle.gg_flat.specs.Line.{value_at};
+ghost use Rattle.gg_cut.specs.declared.plan.Channel.{Channel};
+ghost use Rattle.gg_sound.specs.Built.{wires_of_plan};
+ghost use Rattle.gg_build.specs.Build.{IsFaultless};
+ghost use Rattle.gg_build.specs.Wires.{IsNoted, AreListed, ArePlaces, AreWires};
+
+use gg_cut::{Channel, Machine, Plan};
+use gg_net::Wire;
+use std::alloc::{AllocError, Global};
+
+// For each channel its place among those that its producer gives, and its place among those that its consumer takes.
+#[derive(Drop)]
+struct Places {
+    outs: Vec<u32>,
+    ins: Vec<u32>,
+}
+
+// Writes the place of each of these channels among them.
+fn note(channels: &[u32], places: &mut Vec<u32>)
+    requires few { length channels.now ≤ 2 ^ 32 }
+    requires known { All (λ c. c < length places.old.items) channels.now }
+    ensures { IsNoted channels.now places.old.items places.new.items }
+{
+    for place in 0..channels.len() {
+        places[channels[place] as usize] = place as u32;
+    }
+}
+
+// The places of all channels.
+fn places_of(alloc: Global, machines: &[Machine], count: usize) -> Result<Places, AllocError>
+    requires outs { AreListed (map (λ machine. machine.outs) machines.now) count }
+    requires ins { AreListed (map (λ machine. machine.ins) machines.now) count }
+    ensures outs { IfOk result (λ places. ArePlaces (map (λ machine. machine.outs) machines.now) count places.outs.items) }
+    ensures ins { IfOk result (λ places. ArePlaces (map (λ machine. machine.ins) machines.now) count places.ins.items) }
+{
+    let mut outs = vec![in alloc; 0; count]?;
+    let mut ins = vec![in alloc; 0; count]?;
+    for machine in machines {
+        note(machine.outs.as_slice(), &mut outs);
+        note(machine.ins.as_slice(), &mut ins);
+    }
+    Ok(Places { outs, ins })
+}
+
+// These channels, at these places.
+fn wires_at(
+    alloc: Global,
+    channels: &[Channel],
+    outs: &[u32],
+    ins: &[u32],
+) -> Result<Vec<Wire>, AllocError>
+    requires outs { length outs.now ≡ length channels.now }
+    requires ins { length ins.now ≡ length channels.now }
+    ensures { IfOk result (λ wires. AreWires channels.now outs.now ins.now (length channels.now) wires.items) }
+{
+    let mut wires = Vec::new(alloc);
+    for number in 0..channels.len() {
+        let channel = &channels[number];
+        wires.push(Wire {
+            producer: channel.producer,
+            out: outs[number],
+            consumer: channel.consumer,
+            place: ins[number],
+            capacity: channel.capacity,
+        })?;
+    }
+    Ok(wires)
+}
+
+/// The channels of the network of a plan.
+///
+/// # Errors
+///
+/// Where memory is refused.
+pub(crate) fn wires_of(alloc: Global, plan: &Plan) -> Result<Vec<Wire>, AllocError>
+    requires { IsFaultless plan.now }
+    ensures { IfOk result (λ wires. wires.items ≡ wires_of_plan plan.now) }
+{
+    let channels = plan.channels.as_slice();
+    let places = places_of(alloc, plan.machines.as_slice(), channels.len())?;
+    let wires = wires_at(alloc, channels, &places.outs, &places.ins)?;
+    Ok(wires)
+}
