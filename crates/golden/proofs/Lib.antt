@@ -3,12 +3,15 @@ pub mod CutLemmas
 pub mod EndingLemmas
 pub mod FrontLemmas
 pub mod LineLemmas
+pub mod NetLemmas
 pub mod OrderLemmas
 pub mod OutcomeLemmas
 pub mod PartitionLemmas
 pub mod PortLemmas
 pub mod PrintingLemmas
 pub mod ReadingLemmas
+pub mod ReplayLemmas
 pub mod RunLemmas
+pub mod SettingLemmas
 pub mod TextLemmas
 pub mod WritingLemmas

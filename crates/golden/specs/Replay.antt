@@ -1,24 +1,25 @@
 -- The command `replay`: its four files, and the text that it writes.
 -- Sources: MEMOCODE 2009 (the k-th token of each channel is the value of its signal in cycle k, whatever the order of steps); the lines and
 -- the forms of a steps file are this program's own.
-use Rattle.std.specs.Prelude.{◌≡◌, ℕ, ◌-◌, List, [], flat_map, if◌then◌else◌, map, nat_le, nat_lt, slice_index_or, take, ◌&&◌, Result, Ok, Err, length}
+use Rattle.std.specs.Prelude.{◌≡◌, ℕ, ◌-◌, List, [], None, Option, Result, Ok, Err, flat_map, if◌then◌else◌, length, map, slice_index_or, take}
 use Rattle.std.specs.List.{range_with_len}
 use Rattle.gg_flat.specs.Circuit.{signal_shapes}
 use Rattle.gg_flat.specs.Line.{shape_at, value_at}
 use Rattle.gg_flat.specs.Run.{IsRun, column}
-use Rattle.gg_flat.specs.Tree.{memory_at, path_at}
+use Rattle.gg_flat.specs.Tree.{InstanceTree, memory_at, path_at}
 use Rattle.gg_front.specs.Meaning.{MeansDesign}
 use Rattle.gg_order.specs.Design.{Ordered}
 use Rattle.gg_partfile.specs.declared.request.Request.{Request}
-use Rattle.gg_cut.specs.Channels.{first_memory, first_source, machine_count, wires_of}
+use Rattle.gg_cut.specs.Channels.{first_memory, machine_count, wires_of}
 use Rattle.gg_cut.specs.Listed.{listed_of}
 use Rattle.gg_cut.specs.Plan.{machine_names, wire_at}
 use Rattle.gg_cut.specs.declared.listed.Listed.{Listed}
 use Rattle.gg_cut.specs.declared.wires.Wire.{Wire}
 use Rattle.gg_check.specs.CheckText.{channel_name}
+use Rattle.gg_net.specs.declared.event.Event.{Event}
 use Rattle.gg_marking.specs.Marking.{Layout, Marking, opening_marking, puts, takes}
 use Rattle.gg_marking.specs.Goes.{Stopped, replayed_from}
-use Rattle.gg_layout.specs.CutLayout.{IsLayoutOf}
+use Rattle.gg_layout.specs.CutLayout.{IsLayoutOf, is_memory}
 use Rattle.gg_steps.specs.Naming.{Naming}
 use Rattle.gg_steps.specs.Steps.{steps_of}
 use Rattle.gg_steps.specs.Cause.{cause_text}
@@ -51,19 +52,16 @@ pub record IsSetting (circuit partition trace : List ℕ) (capacity : ℕ) (sett
 -- ---- names
 
 -- the names of a machine's ports, by number: of a listed memory its readers' and then its writers'
-abbrev pub port_names : Ordered → Listed → ℕ → List (List ℕ)
-port_names design listed m =
-    if nat_le (first_memory listed) m && nat_lt m (first_source listed)
-    then (memory_at design.tree (value_at listed.memories (m - first_memory listed))).ports
-    else []
+abbrev pub port_names : InstanceTree → Listed → ℕ → List (List ℕ)
+port_names tree listed m = if is_memory listed m then (memory_at tree (value_at listed.memories (m - first_memory listed))).ports else []
 
 -- what the steps of a cut can name
 abbrev pub naming_by : Ordered → Request → Listed → List Wire → Naming
 naming_by design request listed wires =
     record {
       channels = map (channel_name design.circuit wires) (range_with_len 0 (length wires));
-      machines = machine_names design request listed;
-      ports = map (port_names design listed) (range_with_len 0 (machine_count design.circuit listed));
+      machines = map (path_at (machine_names design request listed)) (range_with_len 0 (machine_count design.circuit listed));
+      ports = map (port_names design.tree listed) (range_with_len 0 (machine_count design.circuit listed));
     }
 
 abbrev pub naming_of : Ordered → Request → Naming
@@ -80,12 +78,18 @@ abbrev pub AreDone : (circuit partition trace : List ℕ) (capacity : ℕ) (step
 AreDone circuit partition trace capacity steps =
     (setting : Setting) × IsSetting circuit partition trace capacity setting × ((marking : Marking) × (replayed setting steps ≡ Ok marking))
 
--- this is said of steps of which one is refused: its number, from 1 on, and the cause
+-- what is said of a step that is refused: its number, from 1 on, and the cause, by the names of the cut
+abbrev pub stopped_by : Naming → (events : List (Option Event)) → Stopped → Said
+stopped_by naming events stopped = step_fault stopped.step (cause_text naming (slice_index_or events (stopped.step - 1) None) stopped.cause)
+
+abbrev pub stopped_said : Setting → (steps : List ℕ) → Stopped → Said
+stopped_said setting steps stopped = stopped_by (naming_of setting.design setting.request) (steps_of (naming_of setting.design setting.request) steps) stopped
+
+-- this is said of steps of which one is refused
 abbrev pub TellsSteps : (circuit partition trace : List ℕ) (capacity : ℕ) (steps : List ℕ) → Said → Type 0
 TellsSteps circuit partition trace capacity steps said =
     (setting : Setting) × IsSetting circuit partition trace capacity setting
-    × ((stopped : Stopped) × (replayed setting steps ≡ Err stopped)
-    × (said ≡ step_fault stopped.step (cause_text (naming_of setting.design setting.request) (slice_index_or (steps_of (naming_of setting.design setting.request) steps) (stopped.step - 1) None) stopped.cause)))
+    × ((stopped : Stopped) × (replayed setting steps ≡ Err stopped) × (said ≡ stopped_said setting steps stopped))
 
 -- a steps file: at most 67,108,864 bytes
 abbrev pub steps_file_for : (circuit partition trace : List ℕ) (capacity : ℕ) (name : List ℕ) → File
@@ -127,8 +131,15 @@ abbrev pub steps_order : (circuit partition trace : List ℕ) (capacity : ℕ) (
 steps_order circuit partition trace capacity steps =
     Load (steps_file_for circuit partition trace capacity steps) (λ s. Write (IsOnlyReplayText circuit partition trace capacity s))
 
+-- what is left where the circuit's and the partition's are known
+abbrev pub fed_order : (circuit partition : List ℕ) (trace steps : List ℕ) (capacity : ℕ) → Order
+fed_order circuit partition trace steps capacity = Load (trace_file_for circuit trace) (λ t. steps_order circuit partition t capacity steps)
+
+-- what is left where the circuit's are known
+abbrev pub network_order : (circuit : List ℕ) (partition trace steps : List ℕ) (capacity : ℕ) → Order
+network_order circuit partition trace steps capacity = Load (partition_file_for circuit partition) (λ p. fed_order circuit p trace steps capacity)
+
 -- The order of `replay`: the circuit, the partition, the trace and the steps are loaded and judged, each before the next; then the text is
 -- written.
 abbrev pub replay_order : (circuit partition trace steps : List ℕ) (capacity : ℕ) → Order
-replay_order circuit partition trace steps capacity =
-    Load (circuit_file circuit) (λ c. Load (partition_file_for c partition) (λ p. Load (trace_file_for c trace) (λ t. steps_order c p t capacity steps)))
+replay_order circuit partition trace steps capacity = Load (circuit_file circuit) (λ c. network_order c partition trace steps capacity)
