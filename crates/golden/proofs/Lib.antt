@@ -1,8 +1,10 @@
 pub mod CapacityLemmas
 pub mod CutLemmas
 pub mod EndingLemmas
+pub mod FewLemmas
 pub mod FrontLemmas
 pub mod LineLemmas
+pub mod NamingLemmas
 pub mod NetLemmas
 pub mod OrderLemmas
 pub mod OutcomeLemmas

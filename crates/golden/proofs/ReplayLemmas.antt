@@ -1,5 +1,5 @@
 -- How `replay` has ended: from the network of a plan to the setting of its design, and from there to the order of refusals.
-use Rattle.std.proofs.Common.{◌≡◌, ℕ, suc, ◌+◌, ◌<◌, ◌≤◌, ◌^◌, List, [], ◌∷◌, ◌++◌, length, map, get_or, refl, sym, ap, ◌∙◌, subst, inl, inr, arith}
+use Rattle.std.proofs.Common.{◌≡◌, ℕ, zero, suc, ◌+◌, ◌<◌, ◌≤◌, ◌^◌, List, [], ◌∷◌, ◌++◌, length, map, get_or, refl, sym, ap, ◌∙◌, subst, inl, inr, arith}
 use Rattle.std.specs.Prelude.{Option, None, Some, Result, Ok, Err, flat_map, slice_index_or, take}
 use Rattle.std.specs.List.{range_with_len}
 use Rattle.std.proofs.lemmas.List.{get_or-map}
@@ -8,15 +8,18 @@ use Rattle.gg_flat.specs.Circuit.{FlatCircuit, signal_shapes}
 use Rattle.gg_flat.specs.Line.{shape_at}
 use Rattle.gg_flat.specs.Order.{IsOrder}
 use Rattle.gg_flat.specs.Ports.{in_ports}
-use Rattle.gg_flat.specs.Run.{IsRun, column}
+use Rattle.gg_flat.specs.Along.{rows_along}
+use Rattle.gg_flat.specs.Run.{IsColumns, IsRun, column}
+use Rattle.gg_flat.proofs.AlongLemmas.{IsRun-along}
 use Rattle.gg_flat.specs.Tree.{path_at}
 use Rattle.gg_front.specs.Meaning.{Means, MeansDesign}
 use Rattle.gg_io.specs.Told.{Told}
-use Rattle.gg_order.specs.Design.{Ordered}
+use Rattle.gg_order.specs.Design.{IsDesign, Ordered}
 use Rattle.gg_partfile.specs.declared.request.Request.{Request}
 use Rattle.gg_cut.specs.Channels.{capacity_of, machine_count, wires_of}
+use Rattle.gg_cut.specs.Fault.{first_fault}
 use Rattle.gg_cut.specs.Listed.{listed_of}
-use Rattle.gg_cut.specs.Plan.{IsChannel, machine_names, wire_at}
+use Rattle.gg_cut.specs.Plan.{IsChannel, IsPlan, machine_names, wire_at}
 use Rattle.gg_cut.specs.Solves.{columns_of}
 use Rattle.gg_cut.specs.declared.listed.Listed.{Listed}
 use Rattle.gg_cut.specs.declared.plan.Channel.{Channel}
@@ -24,7 +27,7 @@ use Rattle.gg_cut.specs.declared.plan.Machine as planned
 use Rattle.gg_cut.specs.declared.plan.Plan.{Plan}
 use Rattle.gg_cut.specs.declared.wires.Wire.{Wire}
 use Rattle.gg_check.specs.CheckText.{channel_name}
-use Rattle.gg_node.specs.Machine.{Machine}
+use Rattle.gg_node.specs.Machine.{Machine, cycle_limit}
 use Rattle.gg_net.specs.declared.event.Event.{Event}
 use Rattle.gg_net.specs.Kept.{list_at}
 use Rattle.gg_net.specs.Net.{opening_net}
@@ -51,7 +54,7 @@ use Rattle.golden.specs.Endings.{EndedOn, Prints}
 use Rattle.golden.specs.Order.{CanBe, Write}
 use Rattle.golden.specs.Partition.{Cuts}
 use Rattle.golden.specs.Replay.{IsOnlyReplayText, IsReplayText, IsSetting, Setting, channel_told, naming_by, naming_of, port_names, replay_text, replayed, steps_file_for, steps_order}
-use Rattle.golden.specs.Replayed.{AreSet, NetEnds, NetWent, NetStops, NetWants, Opened, ReplayEnds, Went, Stops, Wants, name_in, net_line, net_text, plan_naming, setting_of, width_in}
+use Rattle.golden.specs.Replayed.{AreSet, IsToReplay, NetEnds, NetWent, NetStops, NetWants, Opened, ReplayEnds, Went, Stops, Wants, lists_along, name_in, net_line, net_text, plan_naming, runs_along_rows, setting_of, width_in}
 use Rattle.golden.specs.RunText.{FeedsOnly}
 use Rattle.golden.proofs.EndingLemmas.{printed-ends, refused-ends}
 use Rattle.golden.proofs.PartitionLemmas.{DesignsAgree}
@@ -70,9 +73,12 @@ map-range f g (x ∷ xs) a h =
     map-range f g xs (a + 1) (λ k any lt. h (suc k) any (omega (arith, lt)) ∙ ap g (let e : a + suc k ≡ a + 1 + k = omega arith in e)) in
     cc
 
+map-numbers : {A B : Type 0} (f : A → B) (g : ℕ → B) (xs : List A) → ((k : ℕ) (any : A) → k < length xs → f (slice_index_or xs k any) ≡ g k) → map f xs ≡ map g (range_with_len 0 (length xs))
+map-numbers f g xs h = map-range f g xs 0 (λ k any lt. h k any lt ∙ ap g (let e : k ≡ 0 + k = omega arith in e))
+
 -- lines that are the same for each number
 lines-on : (f g : ℕ → List ℕ) (a n : ℕ) → ((k : ℕ) → a ≤ k → k < a + n → f k ≡ g k) → flat_map f (range_with_len a n) ≡ flat_map g (range_with_len a n)
-lines-on f g a 0 h = refl
+lines-on f g a zero h = refl
 lines-on f g a (suc n) h =
     let head : f a ≡ g a = h a (omega arith) (omega arith) in
     let rest = lines-on f g (a + 1) n (λ k le lt. h k (omega (arith, le)) (omega (arith, lt))) in
@@ -102,12 +108,12 @@ module _ (design : Ordered) (request : Request) (default : ℕ) (plan : Plan) (c
 
   channel-names : map (λ (channel : Channel). channel.name) plan.channels ≡ map (channel_name design.circuit the_wires) (range_with_len 0 (length the_wires))
   channel-names =
-      map-range (λ (channel : Channel). channel.name) (channel_name design.circuit the_wires) plan.channels 0 (λ k any lt. (given.planned.channel k any lt).name)
+      map-numbers (λ (channel : Channel). channel.name) (channel_name design.circuit the_wires) plan.channels (λ k any lt. (given.planned.channel k any lt).name)
       ∙ ap (λ count. map (channel_name design.circuit the_wires) (range_with_len 0 count)) given.planned.channel_total
 
   machine-names : map (λ (machine : planned.Machine). machine.name) plan.machines ≡ map path_of (range_with_len 0 (machine_count design.circuit the_listed))
   machine-names =
-      map-range (λ (machine : planned.Machine). machine.name) path_of plan.machines 0 (λ k any lt. (given.planned.machine k any lt).name)
+      map-numbers (λ (machine : planned.Machine). machine.name) path_of plan.machines (λ k any lt. (given.planned.machine k any lt).name)
       ∙ ap (λ count. map path_of (range_with_len 0 count)) given.planned.machine_total
 
   naming-is : plan_naming plan design.tree the_listed ≡ naming_of design request
@@ -194,6 +200,25 @@ module _ (design : Ordered) (request : Request) (default : ℕ) (plan : Plan) (c
     pub request-ends : NetEnds plan columns n lists runs (plan_naming plan design.tree the_listed) (steps_of (plan_naming plan design.tree the_listed) steps) before now failed r
         → ReplayEnds design request default n columns steps before now failed r
     request-ends ended = net-ends (subst (λ (names : Naming). NetEnds plan columns n lists runs names (steps_of names steps) before now failed r) naming-is ended)
+
+-- ---- the run of a design's circuit, along its order
+
+module _ (design : Ordered) (request : Request) (default : ℕ) (plan : Plan) (columns : List (List ℕ)) (n : ℕ) (is : IsDesign design) (faultless : first_fault design request ≡ None) (planned : IsPlan design request default plan) (most : n ≤ cycle_limit) (fed : IsColumns design.circuit n columns) where
+  abbrev run_rows : List (List ℕ)
+  run_rows = rows_along design.circuit design.order columns n
+
+  given-of : IsGiven design request default plan columns n run_rows
+  given-of = record { design_is = is; faultless = faultless; planned = planned; most = most; given = fed; run = IsRun-along design.circuit design.order columns n is.formed is.ordered fed }
+
+  pub to-replay : IsToReplay design plan columns n
+  to-replay = record { design = design; request = request; default = default; rows = run_rows; given = given-of; carried = refl; done = refl }
+
+  pub along-ends : (T : Type 0) (listed : Listed) → listed ≡ listed_of design.tree request → (steps : List ℕ) (before now : Option (List ℕ)) (failed : Type 0) (r : Result T Ending)
+      → NetEnds plan columns n (lists_along design plan columns n) (runs_along_rows design plan columns n) (plan_naming plan design.tree listed) (steps_of (plan_naming plan design.tree listed) steps) before now failed r
+      → ReplayEnds design request default n columns steps before now failed r
+  along-ends T listed same steps before now failed r ended =
+      request-ends design request default plan columns n run_rows given-of T steps before now failed r
+      (subst (λ (l : Listed). NetEnds plan columns n (lists_along design plan columns n) (runs_along_rows design plan columns n) (plan_naming plan design.tree l) (steps_of (plan_naming plan design.tree l) steps) before now failed r) same ended)
 
 -- ---- the order of refusals
 

@@ -1,5 +1,5 @@
 //! The network of a plan: its steps, and the line of each channel.
-ghost use Rattle.std.specs.Prelude.{◌≡◌, ◌<◌, ◌^◌, ◌++◌, IfOk, codes, decimal, length, string_bytes};
+ghost use Rattle.std.specs.Prelude.{◌≡◌, ◌-◌, ◌<◌, ◌^◌, ◌++◌, IfOk, None, codes, decimal, length, slice_index_or, string_bytes};
 ghost use Rattle.gg_build.specs.Build.{IsToRun};
 ghost use Rattle.gg_io.specs.Count.{Rose};
 ghost use Rattle.gg_replay.specs.Log.{AreFronts};
@@ -83,6 +83,16 @@ fn step_texts(
     Ok((front, text))
 }
 
+// The step of this number, counted from 1.
+fn event_at(events: &[Option<Event>], step: u64) -> Option<Event>
+    ensures { result ≡ slice_index_or events.now (step - 1) None }
+{
+    match events.get(step.saturating_sub(1) as usize) {
+        Some(event) => *event,
+        None => None,
+    }
+}
+
 // The ending at a step that is refused.
 fn end_at_step(
     alloc: Global,
@@ -93,11 +103,7 @@ fn end_at_step(
 ) -> Ending
     ensures { IfRefused (λ said. said ≡ stopped_by names.now events.now (record { step = step; cause = cause })) result }
 {
-    let event = match events.get(step.saturating_sub(1) as usize) {
-        Some(event) => *event,
-        None => None,
-    };
-    match step_texts(alloc, names, event, step, cause) {
+    match step_texts(alloc, names, event_at(events, step), step, cause) {
         Ok((front, text)) => end_with(make_refusal(
             alloc,
             9,

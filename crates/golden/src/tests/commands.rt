@@ -31,7 +31,7 @@ static UNASKED: [(&str, &str); 13] = [
     ("golden run k1.fir p.json k1.trace --mono --mono", COMMANDS),
     ("golden run k1.fir p.json k1.trace --capacity", COMMANDS),
     ("golden walk k1.fir p.json k1.trace", COMMANDS),
-    ("golden replay k1.fir p.json k1.trace s.steps", COMMANDS),
+    ("golden replay k1.fir p.json k1.trace", COMMANDS),
     ("golden --help", COMMANDS),
     (
         "golden run k1.fir p.json k1.trace --capacity 0",

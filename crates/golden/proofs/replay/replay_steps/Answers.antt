@@ -1,8 +1,9 @@
-use Rattle.std.proofs.Common.{inl}
+use Rattle.std.proofs.Common.{ℕ, List, inl, subst}
 use Rattle.std.proofs.lemmas.Result.{err_from_is_err_and}
 use Rattle.gg_io.specs.Count.{Rose}
 use Rattle.golden.specs.Order.{Write}
 use Rattle.golden.specs.Replay.{IsOnlyReplayText, steps_file_for}
+use Rattle.golden.specs.Replayed.{ReplayEnds}
 use Rattle.golden.proofs.EndingLemmas.{refused-ends}
 use Rattle.golden.proofs.PartitionLemmas.{designs-agree}
 use Rattle.golden.proofs.ReadingLemmas.{IfRefused-map}
@@ -30,4 +31,7 @@ returns-clause-ended g c =
     (Rose (g.S.Shelf.faults c.args.shelf.now) (g.S.Shelf.faults c.load.new.shelf)) (Rose (g.S.Shelf.cuts c.args.shelf.now) (g.S.Shelf.cuts c.load.new.shelf))
     (Rose (g.K.Sink.faults c.args.out.now) (g.K.Sink.faults c.replay_request.new.out)) (Unit {0}) (g.K.Sink.written c.args.out.now) (g.K.Sink.written c.replay_request.new.out)
     c.args.steps.now c.in_ok-bytes.bytes.items (record { held = c.in_ok-bytes.ensures.held; within = c.in_ok-bytes.ensures.within }) c.replay_request.result
-    (rw (← c.as_slice.ensures) c.replay_request.ensures.ended)
+    (subst
+    (λ (b : List ℕ). ReplayEnds {T = Unit {0}} c.args.design.now c.args.request.now c.args.capacity c.args.inputs.now.rows c.args.inputs.now.columns b (g.K.Sink.written c.args.out.now) (g.K.Sink.written c.replay_request.new.out)
+    (Rose (g.K.Sink.faults c.args.out.now) (g.K.Sink.faults c.replay_request.new.out)) c.replay_request.result)
+    c.as_slice.ensures.value c.replay_request.ensures.ended)
