@@ -55,11 +55,11 @@ module _ (design : Ordered) (request : Request) (default : ℕ) (plan : Plan) (i
         | inl same ↦ past place (omega (arith, same))
         | inr other ↦ elim other [
           | inl known ↦
-            let ports : length (memory_at design.tree place).ports ≡ port_count design.circuit own = (is.fitting.held place known).ports in
-            let counted : port_count design.circuit own ≡ length (readers_at design.circuit own) + length (writers_at design.circuit own) = ports-counted design.circuit.memories own in
-            let most : length (readers_at design.circuit own) + length (writers_at design.circuit own) ≤ length wires_in = memory-few design.circuit design.tree listed (first_memory listed + i) i lt refl in
-            let channels = few.channels in
-            omega (arith, ports, counted, most, channels)
+              let ports : length (memory_at design.tree place).ports ≡ port_count design.circuit own = (is.fitting.held place known).ports in
+              let counted : port_count design.circuit own ≡ length (readers_at design.circuit own) + length (writers_at design.circuit own) = ports-counted design.circuit.memories own in
+              let most : length (readers_at design.circuit own) + length (writers_at design.circuit own) ≤ length wires_in = memory-few design.circuit design.tree listed (first_memory listed + i) i lt refl in
+              let channels = few.channels in
+              omega (arith, ports, counted, most, channels)
           | inr above ↦ past place (omega (arith, above))
         ]
       ]

@@ -7,7 +7,7 @@ use Rattle.gg_read.specs.Text.{HasReadFault}
 use Rattle.gg_read.specs.declared.text.ReadFault.{ReadFault}
 use Rattle.gg_flat.specs.Circuit.{FlatCircuit}
 use Rattle.gg_front.specs.Meaning.{Means, MeansDesign}
-use Rattle.gg_marking.specs.Goes.{Stopped}
+use Rattle.gg_marking.specs.Goes as goes
 use Rattle.gg_order.specs.Design.{Ordered}
 use Rattle.gg_front.specs.declared.fault.FrontFault.TheVariants as front
 use Rattle.gg_flat.specs.Ports.{in_ports}
@@ -39,13 +39,13 @@ OneMeaning = (words : List (List ℕ)) (one other : Result Cmd (List ℕ)) → S
 -- so they ask for one command at most
 asks-once : OneMeaning → (words : List (List ℕ)) (command other : Command) → Asks words command → Asks words other → command ≡ other
 asks-once once words (Run a b c k w m) (Run x y z l v n) asks others = let e = once words (Ok (cmd.Run a b c k w m)) (Ok (cmd.Run x y z l v n)) asks others in cc
-asks-once once words (Run a b c k w m) (Replay x y z w l) asks others = let e = once words (Ok (cmd.Run a b c k w m)) (Ok (cmd.Replay x y z w l)) asks others in absurd (cc)
+asks-once once words (Run a b c k w m) (Replay x y z o l) asks others = let e = once words (Ok (cmd.Run a b c k w m)) (Ok (cmd.Replay x y z o l)) asks others in absurd (cc)
 asks-once once words (Run a b c k w m) (Check x y l) asks others = let e = once words (Ok (cmd.Run a b c k w m)) (Ok (cmd.Check x y l)) asks others in absurd (cc)
 asks-once once words (Replay a b c d k) (Run x y z l v n) asks others = let e = once words (Ok (cmd.Replay a b c d k)) (Ok (cmd.Run x y z l v n)) asks others in absurd (cc)
-asks-once once words (Replay a b c d k) (Replay x y z w l) asks others = let e = once words (Ok (cmd.Replay a b c d k)) (Ok (cmd.Replay x y z w l)) asks others in cc
+asks-once once words (Replay a b c d k) (Replay x y z o l) asks others = let e = once words (Ok (cmd.Replay a b c d k)) (Ok (cmd.Replay x y z o l)) asks others in cc
 asks-once once words (Replay a b c d k) (Check x y l) asks others = let e = once words (Ok (cmd.Replay a b c d k)) (Ok (cmd.Check x y l)) asks others in absurd (cc)
 asks-once once words (Check a b k) (Run x y z l v n) asks others = let e = once words (Ok (cmd.Check a b k)) (Ok (cmd.Run x y z l v n)) asks others in absurd (cc)
-asks-once once words (Check a b k) (Replay x y z w l) asks others = let e = once words (Ok (cmd.Check a b k)) (Ok (cmd.Replay x y z w l)) asks others in absurd (cc)
+asks-once once words (Check a b k) (Replay x y z o l) asks others = let e = once words (Ok (cmd.Check a b k)) (Ok (cmd.Replay x y z o l)) asks others in absurd (cc)
 asks-once once words (Check a b k) (Check x y l) asks others = let e = once words (Ok (cmd.Check a b k)) (Ok (cmd.Check x y l)) asks others in cc
 
 -- a fault that is no want of memory is one of the words
@@ -396,7 +396,7 @@ module _ {words : List (List ℕ)} {files : List ℕ → Told} {lost cut unwritt
           (tells-due command said asks (c, hc, inr (lc, accepted, (p, hp, inr (lp, fits, (t, ht, inl (inr (lt, refuses))))))))
       tells-traced unique (Check circuit partition capacity) c p t trace flat fault asks named hc lc means hp lp fits held lt first = absurd (cc)
 
-      tells-stepped : UniqueOrders → (circuit partition trace steps : List ℕ) (capacity : ℕ) (c p t s : List ℕ) (setting : Setting) (stopped : Stopped)
+      tells-stepped : UniqueOrders → (circuit partition trace steps : List ℕ) (capacity : ℕ) (c p t s : List ℕ) (setting : Setting) (stopped : goes.Stopped)
           → Asks words (Replay circuit partition trace steps capacity)
           → files circuit ≡ Holds c → length c ≤ 4194304
           → files partition ≡ Holds p → length p ≤ 1048576

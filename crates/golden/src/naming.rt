@@ -28,10 +28,7 @@ fn port_names<'a>(tree: &'a Tree, listed: &Listed, machine: usize) -> &'a [Name]
 }
 
 // Adds the names of these channels.
-fn add_channels<'a>(
-    names: &mut StepNames<'a>,
-    channels: &'a [Channel],
-) -> Result<(), AllocError>
+fn add_channels<'a>(names: &mut StepNames<'a>, channels: &'a [Channel]) -> Result<(), AllocError>
     requires { length names.old.channels + length channels.now < 2 ^ 32 }
     ensures { OnOk result (names.new ≡ record names.old { channels = names.old.channels ++ map (λ channel. channel.name) channels.now }) }
 {

@@ -104,13 +104,7 @@ fn end_at_step(
     ensures { IfRefused (λ said. said ≡ stopped_by names.now events.now (record { step = step; cause = cause })) result }
 {
     match step_texts(alloc, names, event_at(events, step), step, cause) {
-        Ok((front, text)) => end_with(make_refusal(
-            alloc,
-            9,
-            front.as_str(),
-            ": ",
-            text.as_str(),
-        )),
+        Ok((front, text)) => end_with(make_refusal(alloc, 9, front.as_str(), ": ", text.as_str())),
         Err(_) => Ending::NoMemory,
     }
 }

@@ -199,5 +199,7 @@ pub(crate) fn replay<S: Shelf, K: Sink>(
     ensures out { SinkWentOn (K.faults out.old) (K.faults out.new) (K.refused out.old) (K.refused out.new) }
 {
     let design = read_circuit(alloc, shelf, circuit)?;
-    replay_design(alloc, &design, partition, trace, steps, capacity, shelf, out)
+    replay_design(
+        alloc, &design, partition, trace, steps, capacity, shelf, out,
+    )
 }

@@ -19,12 +19,7 @@ const READ: &str =
     "fire a\nfire v\nlatch a\nlatch v\nfire m.r.addr\nfire m.r.en\nfire m.s.addr\nfire m.s.en\nlatch m.r.addr\nlatch m.r.en\nlatch m.s.addr\nlatch m.s.en\nfire m.r.data\nfire m.s.data\n";
 
 // A call on these files, with these steps.
-fn replay(
-    alloc: Global,
-    line: &str,
-    mut files: MemFiles,
-    steps: &[u8],
-) -> Result<Answer, Fail> {
+fn replay(alloc: Global, line: &str, mut files: MemFiles, steps: &[u8]) -> Result<Answer, Fail> {
     hold(&mut files, alloc, "s.steps", steps)?;
     call(
         alloc,
@@ -122,7 +117,12 @@ fn refused_steps(rt: HostRuntime) -> Result<(), Fail> {
         )?;
         check(&rt, &answer, 9, 4, "", err);
     }
-    let answer = replay(alloc, REPLAY_1, pair_files(alloc, "cycle x\n")?, b"fire x\n")?;
+    let answer = replay(
+        alloc,
+        REPLAY_1,
+        pair_files(alloc, "cycle x\n")?,
+        b"fire x\n",
+    )?;
     check(&rt, &answer, 9, 4, "", "golden: step 1: Ended\n");
     Ok(())
 }
@@ -167,7 +167,14 @@ fn files_of_steps(rt: HostRuntime) -> Result<(), Fail> {
     check(&rt, &answer, 3, 4, "", "golden: cannot load s.steps\n");
     let long = vec![in alloc; b' '; 67_108_865]?;
     let answer = replay(alloc, REPLAY, counter_files(alloc)?, long.as_slice())?;
-    check(&rt, &answer, 8, 4, "", "golden: s.steps is over 67108864 bytes\n");
+    check(
+        &rt,
+        &answer,
+        8,
+        4,
+        "",
+        "golden: s.steps is over 67108864 bytes\n",
+    );
     let circuit = counter(alloc, 11, 0, "")?;
     let files = files_of(alloc, circuit.as_bytes(), b"{}", b"cycle out\n")?;
     let answer = replay(alloc, REPLAY, files, b"go\n")?;
