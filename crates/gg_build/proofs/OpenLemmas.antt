@@ -5,22 +5,27 @@ use Rattle.gg_flat.specs.Line.{value_at}
 use Rattle.gg_order.specs.Design.{Ordered}
 use Rattle.gg_partfile.specs.declared.request.Request.{Request}
 use Rattle.gg_cut.specs.declared.plan.Plan.{Plan}
+use Rattle.gg_cut.specs.Listed.{listed_of}
 use Rattle.gg_cut.specs.Solves.{columns_of}
+use Rattle.gg_closed.proofs.FaultlessLemmas.{faultless-few}
+use Rattle.gg_closed.proofs.EndLemmas.{few-machines}
 use Rattle.gg_node.specs.Machine.{Machine, machine_at, no_machine}
 use Rattle.gg_net.specs.declared.shape.Wire.{Wire}
 use Rattle.gg_net.specs.declared.shape.Station.{Station}
 use Rattle.gg_net.specs.Network.{Network, Kind, kind_of, kind_at, IsAtIn, IsAtOut}
 use Rattle.gg_net.specs.Seats.{hosted, seated, machines_by, IsSeated, AreSeated}
 use Rattle.gg_net.specs.Kept.{IsSound}
-use Rattle.gg_net.specs.Net.{entry_of, IsListed, opening_net, Opens}
+use Rattle.gg_net.specs.Net.{entry_of, IsListed, IsWithinLimits, opening_net, Opens}
 use Rattle.gg_sound.specs.Built.{machine_in, wires_of_plan, IsBuilt, AreBuilt, IsGiven, plan_frame, rows_of}
 use Rattle.gg_sound.proofs.PlanLemmas.{fit, plan-listed, plan-wired, plan-no-ring}
+use Rattle.gg_sound.proofs.LinkLemmas.{length-from}
+use Rattle.gg_sound.proofs.GivenLemmas.{links-of}
 use Rattle.gg_sound.proofs.FitLemmas.{kind-is}
 use Rattle.gg_sound.proofs.SolvedLemmas.{plan-solved}
 use Rattle.gg_sound.proofs.OpeningLemmas.{built-opening}
 use Rattle.gg_build.specs.declared.node.Node.{Node}
 use Rattle.gg_build.specs.declared.node.Node.TheVariants as node
-use Rattle.gg_build.specs.Node.{machines_of}
+use Rattle.gg_build.specs.Node.{machine_of, machines_of}
 use Rattle.gg_build.specs.Build.{IsToRun, IsOpeningOf}
 use Rattle.gg_build.specs.Hosts.{IsSeat, AreSeats}
 
@@ -39,15 +44,15 @@ module _ (plan : Plan) (columns : List (List ℕ)) (n : ℕ) (hosts : List Node)
 
   -- ---- seats
 
-  hosted-is : (m : ℕ) (s : Station) (lt : m < length plan.machines) → hosted lists_of (get_or stations m s).host ≡ (seat-at m s lt).host.machine ∷ []
+  hosted-is : (m : ℕ) (s : Station) (lt : m < length plan.machines) → hosted lists_of (get_or stations m s).host ≡ machine_of (get_or hosts m no_node) ∷ []
   hosted-is m s lt =
       let seat = seat-at m s lt in
-      ap (hosted lists_of) seat.number ∙ get_or-map machines_of hosts m no_node [] (omega (arith, lt, are.hosts)) ∙ seat.host.host
+      ap (hosted lists_of) seat.number ∙ get_or-map machines_of hosts m no_node [] (omega (arith, lt, are.hosts))
 
-  seated-is : (m : ℕ) (s : Station) (lt : m < length plan.machines) → seated lists_of (get_or stations m s) ≡ (seat-at m s lt).host.machine
+  seated-is : (m : ℕ) (s : Station) (lt : m < length plan.machines) → seated lists_of (get_or stations m s) ≡ machine_of (get_or hosts m no_node)
   seated-is m s lt =
       let seat = seat-at m s lt in
-      ap (λ l. machine_at l (get_or stations m s).thread) (hosted-is m s lt) ∙ ap (machine_at (seat.host.machine ∷ [])) seat.thread
+      ap (λ l. machine_at l (get_or stations m s).thread) (hosted-is m s lt) ∙ ap (machine_at (machine_of (get_or hosts m no_node) ∷ [])) seat.thread
 
   is-seated : (m : ℕ) (s : Station) → m < length plan.machines → IsSeated lists_of (get_or stations m s)
   is-seated m s lt =
@@ -66,7 +71,7 @@ module _ (plan : Plan) (columns : List (List ℕ)) (n : ℕ) (hosts : List Node)
 
   -- ---- machines
 
-  machine-is : (m : ℕ) (s : Station) (lt : m < length plan.machines) → machine_at (machines_by lists_of stations) m ≡ (seat-at m s lt).host.machine
+  machine-is : (m : ℕ) (s : Station) (lt : m < length plan.machines) → machine_at (machines_by lists_of stations) m ≡ machine_of (get_or hosts m no_node)
   machine-is m s lt = get_or-map (seated lists_of) stations m s no_machine (omega (arith, lt, are.places)) ∙ seated-is m s lt
 
   pub are-built : AreBuilt plan columns n (machines_by lists_of stations)
@@ -85,7 +90,7 @@ module _ (plan : Plan) (columns : List (List ℕ)) (n : ℕ) (hosts : List Node)
         let seat = seat-at m s lt in
         let at = plan-listed design request default plan columns n rows machines given are-built m lt in
         let fits = (fit design request default plan columns n rows machines given are-built).each m lt in
-        let kind : kind_at (map kind_of machines) m ≡ kind_of seat.host.machine = kind-is machines m (omega (arith, lt, are-built.count)) ∙ ap kind_of (machine-is m s lt) in
+        let kind : kind_at (map kind_of machines) m ≡ kind_of (machine_of (get_or hosts m no_node)) = kind-is machines m (omega (arith, lt, are-built.count)) ∙ ap kind_of (machine-is m s lt) in
         record {
           ins = ap length seat.ins ∙ at.ins;
           into = λ i low. subst (λ (l : List ℕ). IsAtIn (wires_of_plan plan) m i (value_at l i)) (sym seat.ins) (at.into i low);
@@ -105,12 +110,23 @@ module _ (plan : Plan) (columns : List (List ℕ)) (n : ℕ) (hosts : List Node)
           solves = plan-solved design request default plan columns n rows machines given are-built;
         }
 
+    is-within : IsWithinLimits (plan_frame plan (machines_by lists_of stations) n)
+    is-within =
+        let few = faultless-few design request given.faultless in
+        let links = links-of design request default plan given.design_is given.faultless given.planned in
+        record {
+          cycles = given.most;
+          machines = omega (arith, few-machines design.circuit design.tree (listed_of design.tree request) few, given.planned.machine_total, length-map (machines_by lists_of stations) kind_of, length-map stations (seated lists_of), are.places);
+          channels = omega (arith, few.channels, links.count, length-from plan 0 plan.channels);
+        }
+
     opens-plan : Opens (columns_of plan rows) (rows_of plan rows) lists_of stations (wires_of_plan plan) n
     opens-plan =
         record {
           seated = are-seated;
           opening = built-opening plan columns n (machines_by lists_of stations) are-built;
           listed = λ m s lt. is-listed m s (omega (arith, lt, are.places));
+          limits = is-within;
           sound = is-sound;
         }
 

@@ -18,7 +18,7 @@ use Rattle.gg_net.specs.Net.{entry_of}
 use Rattle.gg_sound.specs.Alone.{IsCutAgain}
 use Rattle.gg_sound.specs.Built.{IsBuilt, machine_in}
 use Rattle.gg_build.specs.declared.node.Node.{Node}
-use Rattle.gg_build.specs.Node.{machines_of}
+use Rattle.gg_build.specs.Node.{machine_of}
 
 -- ---- what a machine of a plan must be, so that it can be built
 
@@ -51,12 +51,10 @@ AllCanBuild plan columns = (m : ℕ) → m < length plan.machines → CanBuild c
 
 -- ---- what is made
 
--- A node is the host of one machine, for which a fact holds, and these are the ports that it serves.
+-- The machine of a node is such a one, and these are the ports that it serves.
 pub record IsHost (Is : Machine → Type 0) (node : Node) (ports : List ServedPort) : Type 0 where
-  pub machine : Machine
-  pub host : machines_of node ≡ machine ∷ []
-  pub is : Is machine
-  pub served : ports ≡ map entry_of machine.ports
+  pub is : Is (machine_of node)
+  pub served : ports ≡ map entry_of (machine_of node).ports
 
 -- The host and the station of machine m of a plan. Each machine has a host of its own, of the machine's number.
 pub record IsSeat (columns : List (List ℕ)) (n m : ℕ) (own : planned.Machine) (node : Node) (station : Station) : Type 0 where

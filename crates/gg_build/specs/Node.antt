@@ -1,13 +1,22 @@
--- The machines of a node.
+-- The machine of a node.
 -- Source: ICCAD 2019 (units and memories of a target as models of their own, each on a host).
-use Rattle.std.specs.Prelude.{List, [], ◌∷◌}
-use Rattle.gg_node.specs.Machine.{Machine}
+use Rattle.std.specs.Prelude.{◌≡◌, ℕ, List, [], ◌∷◌}
+use Rattle.gg_node.specs.Machine.{KeepsValues, Machine}
 use Rattle.gg_build.specs.declared.node.Node.{Node}
 use Rattle.gg_build.specs.declared.node.Node.TheVariants as node
 
--- the machines of a node: one, whatever it is
+-- the machine of a node, whatever it is
+abbrev pub machine_of : Node → Machine
+machine_of (node.Unit machine) = machine
+machine_of (node.Memory machine) = machine
+machine_of (node.Source machine) = machine
+machine_of (node.Tray machine) = machine
+
+-- the machines of a node: one
 abbrev pub machines_of : Node → List Machine
-machines_of (node.Unit machine) = machine ∷ []
-machines_of (node.Memory machine) = machine ∷ []
-machines_of (node.Source machine) = machine ∷ []
-machines_of (node.Tray machine) = machine ∷ []
+machines_of node = machine_of node ∷ []
+
+-- The values are what a machine that keeps its values has kept.
+pub record HasColumn (machine : Machine) (column : List ℕ) : Type 0 where
+  pub keeps : machine.behaviour ≡ KeepsValues
+  pub is : column ≡ machine.kept

@@ -1,9 +1,9 @@
 //! `Node`: the hosts of a plan's machines.
-ghost use Rattle.std.specs.Prelude.{◌≡◌, ℕ, ◌<◌, length, is_some, slice_set};
-ghost use Rattle.gg_node.specs.Machine.{machine_at, latch_at, flag_at, missing, due};
+ghost use Rattle.std.specs.Prelude.{◌≡◌, ◌≢◌, ℕ, ◌<◌, length, is_some, slice_set, MatchOption};
+ghost use Rattle.gg_node.specs.Machine.{KeepsValues, machine_at, latch_at, flag_at, missing, due};
 ghost use Rattle.gg_node.specs.Token.{IsToken, IsNextState};
 ghost use Rattle.gg_node.specs.Step.{MayLatch, MayFire, MayServe, MayFinish, with_latch, with_flag, with_served, finished};
-ghost use Rattle.gg_build.specs.Node.{machines_of};
+ghost use Rattle.gg_build.specs.Node.{machine_of, machines_of, HasColumn};
 
 use gg_fame1::Unit;
 use gg_memunit::MemUnit;
@@ -20,6 +20,29 @@ pub enum Node<'a> {
     Source(Source),
     /// Keeps the values of a top output.
     Tray(Tray),
+}
+
+impl<'a> Node<'a> {
+    /// What a machine that keeps its values has kept, by cycle: that of a tray. `None` exactly for any other.
+    pub fn column(&self) -> Option<&[u128]>
+        ensures { MatchOption result ((machine_of self.now).behaviour ≢ KeepsValues) (λ column. HasColumn (machine_of self.now) column.now) }
+    {
+        match self {
+            Node::Unit(host) => {
+                let _ = host.piece();
+                None
+            }
+            Node::Memory(host) => {
+                let _ = host.piece();
+                None
+            }
+            Node::Source(host) => {
+                let _ = host.column();
+                None
+            }
+            Node::Tray(host) => Some(host.column()),
+        }
+    }
 }
 
 impl<'a> Host for Node<'a> {

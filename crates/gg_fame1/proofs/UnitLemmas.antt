@@ -13,7 +13,7 @@ use Rattle.gg_node.specs.Token.{IsTokenOf, IsNextOf}
 use Rattle.gg_program.specs.ConeValue.{IsConeValue}
 use Rattle.gg_needs.specs.Needs.{AreNeedsOfOuts}
 use Rattle.gg_program.specs.Programmed.{Programmed}
-use Rattle.gg_program.specs.Slots.{Slotted, NoneDone, HasInput, HasInputs, HasNeeded, with_input, DoneWith, inputs_in}
+use Rattle.gg_program.specs.Slots.{Slotted, NoneDone, HasInput, HasNeeded, with_input, DoneWith, inputs_in}
 use Rattle.gg_program.specs.Right.{InCycle}
 use Rattle.gg_program.proofs.SearchLemmas.{mark-more, mark-cases}
 use Rattle.gg_program.proofs.RightLemmas.{ins-once}
@@ -169,10 +169,6 @@ kept-read piece state slots after latches flags out kept needed done cycle same 
       );
       tokens = subst (HaveTokens latches) (sym same) kept.tokens;
     }
-
--- all inputs were put
-pub all-put : (piece : FlatCircuit) (state : State) (slots : Slotted) (latches : List (Option ℕ)) (flags : List Bool) → IsOfPiece piece state slots latches flags → All (λ latch. IsSome latch) latches → HasInputs piece slots
-all-put piece state slots latches flags kept all place within = (kept.put place within).1 (all place None (omega (arith, within, kept.ins)))
 
 -- where nothing is done and all latches are empty
 pub kept-empty : (piece : FlatCircuit) (state : State) (slots : Slotted) (n : ℕ) (flags : List Bool) → IsState piece state → InCycle piece state slots → NoneDone slots → n ≡ length piece.ins → length flags ≡ length piece.outs → IsOfPiece piece state slots (replicate n None) flags

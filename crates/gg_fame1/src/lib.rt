@@ -4,6 +4,8 @@
 //! out needs have theirs, and cleans itself when it finishes a cycle. The crate promises that each of its steps does to its
 //! machine what the definitions of gg_node say: a unit is its piece.
 //!
+//! In a cycle each signal of the piece is worked out at most once, whatever the number of outs that reach it.
+//!
 //! No call but the new one takes memory.
 #![tactic(auto)]
 

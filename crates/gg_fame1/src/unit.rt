@@ -1,11 +1,11 @@
 //! `Unit`: a piece of a cut circuit as a machine of its own.
 ghost use Rattle.std.specs.Prelude.{◌≡◌, ℕ, ◌<◌, List, [], ◌∷◌, All, None, false, length, replicate, is_some, slice_set, IfOk};
-ghost use Rattle.gg_node.specs.Machine.{Machine, machine_at, latch_at, flag_at, first_empty, missing, due};
+ghost use Rattle.gg_node.specs.Machine.{RunsPiece, Machine, machine_at, latch_at, flag_at, first_empty, missing, due};
 ghost use Rattle.gg_node.specs.Token.{IsToken, IsNextState};
 ghost use Rattle.gg_node.specs.Step.{MayLatch, MayFire, MayServe, MayFinish, with_latch, with_flag, with_served, finished};
 ghost use Rattle.gg_fame1.specs.Unit.{opening_unit};
 
-use gg_flat::{State, settled_once};
+use gg_flat::{Piece, State, settled_once};
 use gg_node::Host;
 use gg_program::{NoMemory, Program, Slots};
 use std::alloc::{AllocError, Global};
@@ -84,6 +84,13 @@ impl<'a> Unit<'a> {
             flags,
             cycle: 0,
         })
+    }
+
+    /// The piece that it runs.
+    pub fn piece(&self) -> &Piece
+        ensures { self.now.behaviour ≡ RunsPiece result.now }
+    {
+        self.program.piece()
     }
 
     // The first in that an out needs and that has no token yet.

@@ -1,19 +1,17 @@
 -- The network of a plan has the layout of its cut.
-use Rattle.std.proofs.Common.{◌≡◌, ◌≢◌, ℕ, ◌+◌, ◌<◌, ◌≤◌, List, [], length, map, get_or, Bool, true, false, refl, sym, ◌∙◌, ap, subst, inl, inr, ◌⊎◌, arith}
-use Rattle.std.specs.Prelude.{AllPairs, Contains, ◌&&◌, if◌then◌else◌, nat_le, nat_lt}
+use Rattle.std.proofs.Common.{◌≡◌, ℕ, ◌+◌, ◌<◌, ◌≤◌, List, [], length, map, get_or, Bool, true, false, refl, sym, ◌∙◌, ap, subst, inl, inr, ◌⊎◌, arith}
+use Rattle.std.specs.Prelude.{Contains, ◌&&◌, if◌then◌else◌, nat_le, nat_lt}
 use Rattle.std.specs.List.{range_with_len}
 use Rattle.std.proofs.lemmas.Bool.{lt-leb, le-ltb, le-leb, lt-ltb}
 use Rattle.std.proofs.lemmas.List.{length-map, get_or-map}
 use Rattle.std.proofs.lemmas.List.Elements.{Contains-get_or}
 use Rattle.std.proofs.lemmas.List.FromFn.{length-range_with_len, get_or-range_with_len}
-use Rattle.gg_flat.specs.Line.{value_at}
 use Rattle.gg_order.specs.Design.{Ordered}
 use Rattle.gg_partfile.specs.declared.request.Request.{Request}
 use Rattle.gg_cut.specs.declared.listed.Listed.{Listed}
 use Rattle.gg_cut.specs.declared.plan.Body.{Body}
 use Rattle.gg_cut.specs.declared.plan.Body.TheVariants.{Cut, Memory, Source, Tray}
 use Rattle.gg_cut.specs.declared.plan.Channel.{Channel}
-use Rattle.gg_cut.specs.declared.plan.Machine as planned
 use Rattle.gg_cut.specs.declared.plan.Plan.{Plan}
 use Rattle.gg_cut.specs.declared.wires.Wire.{Wire}
 use Rattle.gg_cut.specs.Listed.{listed_of}
@@ -29,16 +27,16 @@ use Rattle.gg_memunit.proofs.UnitLemmas.{sole}
 use Rattle.gg_net.specs.Network.{Frame, kind_of, kind_at, wire_at as joint_at}
 use Rattle.gg_marking.specs.Marking.{Link, Turn, Layout, link_at, turns_at}
 use Rattle.gg_marking.specs.Fits.{AreTaken, AreTurnsOf, HasLayout, IsLinkOf, places_of}
-use Rattle.gg_sound.specs.Built.{machine_in, nameless, place_in, wires_of_plan, AreBuilt, IsBuilt, IsGiven, IsMemoryOf, plan_frame}
+use Rattle.gg_sound.specs.Built.{machine_in, nameless, place_in, wires_of_plan, AreBuilt, IsBuilt, IsGiven, plan_frame}
 use Rattle.gg_sound.proofs.LinkLemmas.{AreLinks, length-wires, linked, some-channel}
 use Rattle.gg_sound.proofs.PlanLemmas.{links}
 use Rattle.gg_sound.proofs.FitLemmas.{kind-is}
 use Rattle.gg_sound.proofs.MemoryPartLemmas.{memory-part}
 use Rattle.gg_layout.specs.CutLayout.{IsChannelLink, IsLayoutBy, IsLayoutOf, machine_turns, memory_turns, memory_of}
 use Rattle.gg_layout.proofs.AscendingLemmas.{AreMadeOf, made-same}
-use Rattle.gg_layout.proofs.WireLemmas.{places-up, joint-capacity, place-at, out-at, joints-in-order, outs-in-order}
+use Rattle.gg_layout.proofs.WireLemmas.{places-up, joint-capacity, place-at, joints-in-order, outs-in-order}
 use Rattle.gg_layout.proofs.MemoryLemmas.{memory-turns}
-use Rattle.gg_layout.proofs.NeedLemmas.{IsNeedy, needy}
+use Rattle.gg_layout.proofs.NeedLemmas.{HasOutNeeds, out-needs}
 
 -- ---- turns by the kind of a machine
 
@@ -134,13 +132,13 @@ module _ (design : Ordered) (request : Request) (default : ℕ) (plan : Plan) (c
     below : p < length plan.machines
     below = (are.ends c lt).producer
 
-    own-needy : IsNeedy wires p c needs (kind_of (machine_at machines p))
-    own-needy =
+    own-needs : HasOutNeeds wires p c needs (kind_of (machine_at machines p))
+    own-needs =
         let known : c < length plan.channels = omega (arith, lt, given.planned.channel_total) in
         let any = some-channel plan.channels c known in
         let machine = given.planned.machine p nameless below in
-        subst (λ (link : Link). IsNeedy wires p c link.needs (kind_of (machine_at machines p))) (sym (link-is c any known))
-        (needy design listed given.design_is apart few p c (record { known = lt; producer = refl }) columns n (machine_in plan p) (machine_in plan p).body (machine_at machines p) (machine_in plan p).ins (get_or plan.channels c any).needs machine.body (built.each p below) machine.ins ((given.planned.channel c any known).needs nameless))
+        subst (λ (link : Link). HasOutNeeds wires p c link.needs (kind_of (machine_at machines p))) (sym (link-is c any known))
+        (out-needs design listed given.design_is apart few p c (record { known = lt; producer = refl }) columns n (machine_in plan p) (machine_in plan p).body (machine_at machines p) (machine_in plan p).ins (get_or plan.channels c any).needs machine.body (built.each p below) machine.ins ((given.planned.channel c any known).needs nameless))
 
     -- a needed channel stands at its place among those that the machine takes
     place-is : (d : ℕ) → Contains needs d → place d ≡ place_in (channels_to wires p) d
@@ -157,14 +155,14 @@ module _ (design : Ordered) (request : Request) (default : ℕ) (plan : Plan) (c
     made =
         let all = needs_at (kind_of (machine_at machines p)).needs (place_in (channels_from wires p) c) in
         record {
-          into = λ d has. subst (λ i. Contains all i) (sym (place-is d has)) (own-needy.made.into d has);
-          back = λ i has. let found = own-needy.made.back i has in (found.0, (found.1.0, place-is found.0 found.1.0 ∙ found.1.1));
+          into = λ d has. subst (λ i. Contains all i) (sym (place-is d has)) (own-needs.made.into d has);
+          back = λ i has. let found = own-needs.made.back i has in (found.0, (found.1.0, place-is found.0 found.1.0 ∙ found.1.1));
         }
 
     needs-are : places_of frame needs ≡ needs_at (kind_at frame.kinds (joint_at frame.wires c).producer).needs (joint_at frame.wires c).out
     needs-are =
         let link = linked plan wires are c lt in
-        made-same place needs (needs_at (kind_of (machine_at machines p)).needs (place_in (channels_from wires p) c)) (link-needs c lt).ascending own-needy.up grows made
+        made-same place needs (needs_at (kind_of (machine_at machines p)).needs (place_in (channels_from wires p) c)) (link-needs c lt).ascending own-needs.up grows made
         ∙ ap (λ o. needs_at (kind_of (machine_at machines p)).needs o) (sym link.out)
         ∙ ap (λ k. needs_at k.needs (joint_at frame.wires c).out) (sym (kind-is machines p (omega (arith, below, built.count))))
         ∙ ap (λ k. needs_at (kind_at frame.kinds k).needs (joint_at frame.wires c).out) (sym link.producer)

@@ -8,3 +8,4 @@ pub mod MemoryLemmas
 pub mod NeedLemmas
 pub mod OneLemmas
 pub mod LayoutLemmas
+mod WorkedLayout

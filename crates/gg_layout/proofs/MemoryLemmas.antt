@@ -1,5 +1,5 @@
 -- A listed memory as a machine of the network: the channels of its fields, its turns, and what its outs need.
-use Rattle.std.proofs.Common.{◌≡◌, ◌≢◌, ℕ, suc, ◌+◌, ◌-◌, ◌<◌, ◌≤◌, List, [], ◌∷◌, ◌++◌, length, map, get_or, refl, sym, ◌∙◌, ap, ap₂, subst, arith}
+use Rattle.std.proofs.Common.{◌≡◌, ◌≢◌, ℕ, ◌+◌, ◌-◌, ◌<◌, ◌≤◌, List, [], ◌∷◌, ◌++◌, length, map, get_or, refl, sym, ◌∙◌, ap, ap₂, subst, arith}
 use Rattle.std.specs.Prelude.{All, AllPairs, ◌==◌}
 use Rattle.std.proofs.lemmas.List.{length-map, get_or-map}
 use Rattle.std.proofs.lemmas.Simd.{map-map}
@@ -10,13 +10,12 @@ use Rattle.gg_flat.specs.declared.memory.Writer.{Writer}
 use Rattle.gg_flat.specs.declared.memory.Memory.{Memory}
 use Rattle.gg_flat.specs.declared.piece.Driver.TheVariants.{MemoryWord}
 use Rattle.gg_flat.specs.Line.{value_at}
-use Rattle.gg_flat.specs.Circuit.{FlatCircuit, driver_at, latency_at, readers_at, reader_at}
+use Rattle.gg_flat.specs.Circuit.{FlatCircuit, driver_at, latency_at, readers_at}
 use Rattle.gg_flat.specs.Memory.{LooksAmong}
-use Rattle.gg_flat.specs.Tree.{InstanceTree, memory_at}
+use Rattle.gg_flat.specs.Tree.{InstanceTree}
 use Rattle.gg_flat.specs.Scoped.{writers_at}
 use Rattle.gg_flat.specs.WellFormed.{AreDriven, reader_driver}
 use Rattle.gg_order.specs.Design.{Ordered, IsDesign}
-use Rattle.gg_program.specs.Cone.{AreNeeds}
 use Rattle.gg_part.specs.Part.{renamed_memory, renamed_reader, renamed_writer}
 use Rattle.gg_part.specs.declared.part.Part.{Part}
 use Rattle.gg_part.proofs.FormedLemmas.{IsWellFormed-part}
@@ -25,7 +24,7 @@ use Rattle.gg_cut.specs.declared.plan.Plan.{Plan}
 use Rattle.gg_cut.specs.declared.wires.Wire.{Wire}
 use Rattle.gg_cut.specs.Channels.{wire, flattened, numbered, field_wires, first_memory, first_source, first_tray, port_wires, reader_wires, source_wires, tray_wires, wires_of, writer_wires}
 use Rattle.gg_cut.specs.Plan.{wire_at, channels_to, IsCutPart}
-use Rattle.gg_closed.specs.Apart.{AreApart, AreFew}
+use Rattle.gg_closed.specs.Apart.{AreApart}
 use Rattle.gg_closed.proofs.KindLemmas.{outside_memory}
 use Rattle.gg_closed.proofs.ChoiceLemmas.{pairs-once}
 use Rattle.gg_memunit.specs.MemoryUnit.{needs_by, needs_of, ports_by, ports_of}
@@ -46,7 +45,7 @@ use Rattle.gg_layout.proofs.BeforeLemmas.{IsBefore, before-left, before-right, f
 use Rattle.gg_layout.proofs.WireLemmas.{places-up}
 use Rattle.gg_layout.proofs.ChannelLemmas.{channel-back}
 use Rattle.gg_layout.proofs.TurnLemmas.{number_of, reader_of, writer_of, turns-alone}
-use Rattle.gg_layout.proofs.ReachLemmas.{late-needs, same-cycle-needs}
+use Rattle.gg_layout.proofs.ReachLemmas.{AreReached, late-needs, same-cycle-needs}
 
 module _ (design : Ordered) (listed : Listed) (m : ℕ) (part : Part) (is : IsDesign design) (apart : AreApart design.tree listed) (low : first_memory listed ≤ m) (high : m < first_source listed) (cut : IsCutPart design listed (wires_of design.circuit design.tree listed) m part) (machine : Machine) (stands : IsMemoryOf part machine) where
   abbrev circuit : FlatCircuit
@@ -257,7 +256,7 @@ module _ (design : Ordered) (listed : Listed) (m : ℕ) (part : Part) (is : IsDe
           let all = subst (λ (x : Memory). AreDriven (driver_at part.piece) 0 x.latency x.readers) inner-is one in
           subst (λ (r : Reader). driver_at part.piece r.word ≡ reader_driver inner.latency 0 o r) reader-is (all o there-inner)
 
-      needed : (latency : Latency) → o < length part.piece.outs → driver_at part.piece (value_at part.piece.outs o) ≡ reader_driver latency 0 o inner_reader → AreNeeds part.piece (value_at part.piece.outs o) (needs_by latency reader)
+      needed : (latency : Latency) → o < length part.piece.outs → driver_at part.piece (value_at part.piece.outs o) ≡ reader_driver latency 0 o inner_reader → AreReached part.piece (value_at part.piece.outs o) (needs_by latency reader)
       needed Zero lt is_driven =
           same-cycle-needs part.piece (λ place inside. (cut.is.ins place inside).1) own.ins_once (value_at part.piece.outs o) (let below = cut.is.outs o lt in omega (arith, below, cut.is.count)) 0 o reader.addr reader.en less
           (let inside = looks.1 in omega (arith, inside, in-count))
@@ -265,10 +264,10 @@ module _ (design : Ordered) (listed : Listed) (m : ℕ) (part : Part) (is : IsDe
       needed (One under) lt is_driven =
           late-needs part.piece (λ place inside. (cut.is.ins place inside).1) own.ins_once (value_at part.piece.outs o) (let below = cut.is.outs o lt in omega (arith, below, cut.is.count)) 0 o is_driven
 
-    pub memory-needs : (o : ℕ) → o < length part.piece.outs → AreNeeds part.piece (value_at part.piece.outs o) (needs_at (needs_of piece.memories) o)
+    pub memory-needs : (o : ℕ) → o < length part.piece.outs → AreReached part.piece (value_at part.piece.outs o) (needs_at (needs_of piece.memories) o)
     memory-needs o lt =
         let some : o < length inner.readers =
         omega (arith, lt, ap length own.words, length-map outer.readers (λ (r : Reader). r.word), ap (λ (x : Memory). length x.readers) inner-is, length-map inner.readers (renamed_reader stands.alone.globals)) in
-        subst (AreNeeds part.piece (value_at part.piece.outs o))
+        subst (AreReached part.piece (value_at part.piece.outs o))
         (sym (ap (λ (l : List Memory). needs_at (needs_of l) o) only ∙ get_or-map (needs_by inner.latency) inner.readers o nobody [] some))
         (needed o some inner.latency lt (ap (driver_at part.piece) (out-is o some) ∙ driven o some))

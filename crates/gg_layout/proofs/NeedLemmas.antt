@@ -1,10 +1,9 @@
 -- What an out of a machine needs are the ins of the channels that its channel needs.
-use Rattle.std.proofs.Common.{◌≡◌, ◌≢◌, ℕ, zero, suc, ◌<◌, ◌≤◌, List, [], ◌∷◌, length, map, refl, sym, ◌∙◌, ap, subst, arith}
+use Rattle.std.proofs.Common.{◌≡◌, ℕ, zero, suc, ◌<◌, ◌≤◌, List, [], ◌∷◌, length, refl, sym, ◌∙◌, ap, subst, arith}
 use Rattle.std.specs.Prelude.{Contains, AllPairs, ◌==◌}
 use Rattle.std.proofs.lemmas.List.{get_or-map}
 use Rattle.gg_flat.specs.Line.{value_at}
 use Rattle.gg_order.specs.Design.{Ordered, IsDesign}
-use Rattle.gg_program.specs.Cone.{AreNeeds}
 use Rattle.gg_part.specs.declared.part.Part.{Part}
 use Rattle.gg_cut.specs.declared.listed.Listed.{Listed}
 use Rattle.gg_cut.specs.declared.plan.Body.{Body}
@@ -25,10 +24,11 @@ use Rattle.gg_sound.proofs.ListedLemmas.{IsGivenBy, given-placed}
 use Rattle.gg_sound.proofs.FitLemmas.{ins-count, outs-count}
 use Rattle.gg_sound.proofs.MemoryPartLemmas.{memory-part}
 use Rattle.gg_layout.proofs.AscendingLemmas.{AreMadeOf}
+use Rattle.gg_layout.proofs.ReachLemmas.{AreReached}
 use Rattle.gg_layout.proofs.MemoryLemmas.{memory-needs}
 
 -- At the out of channel c a machine of this kind needs, in ascending order, the ins at which it takes the channels `needs`.
-pub record IsNeedy (wires : List Wire) (m c : ℕ) (needs : List ℕ) (kind : Kind) : Type 0 where
+pub record HasOutNeeds (wires : List Wire) (m c : ℕ) (needs : List ℕ) (kind : Kind) : Type 0 where
   pub up : AllPairs (λ a b. a < b) (needs_at kind.needs (place_in (channels_from wires m) c))
   pub made : AreMadeOf (place_in (channels_to wires m)) needs (needs_at kind.needs (place_in (channels_from wires m) c))
 
@@ -50,7 +50,7 @@ module _ (design : Ordered) (listed : Listed) (wires : List Wire) (m : ℕ) (par
       ∙ ap (λ k. (wire_at wires k).signal) at.is
 
   pub part-made : (channels needs own : List ℕ) → channels ≡ channels_to wires m → ((out : ℕ) → out < length part.globals → value_at part.globals out ≡ (wire_at wires c).signal → AreNeedsOf part channels out needs)
-      → AreNeeds part.piece (value_at part.piece.outs out_of) own → AreMadeOf (place_in (channels_to wires m)) needs own
+      → AreReached part.piece (value_at part.piece.outs out_of) own → AreMadeOf (place_in (channels_to wires m)) needs own
   part-made channels needs own same are exact =
       let here = are (value_at part.piece.outs out_of) (cut.is.outs out_of out-low) out-signal in
       let count = ins-count design listed wires m part cut in
@@ -92,28 +92,28 @@ module _ (design : Ordered) (listed : Listed) (is : IsDesign design) (apart : Ar
   abbrev o : ℕ
   o = place_in (channels_from (wires_of design.circuit design.tree listed) m) c
 
-  unit-needy : (part : Part) (cut : IsCutPart design listed wires m part) (machine : Machine) → IsUnitOf part machine → (channels needs : List ℕ) → channels ≡ channels_to wires m
-      → ((out : ℕ) → out < length part.globals → value_at part.globals out ≡ (wire_at wires c).signal → AreNeedsOf part channels out needs) → IsNeedy wires m c needs (kind_of machine)
-  unit-needy part cut machine unit channels needs same are =
+  unit-out-needs : (part : Part) (cut : IsCutPart design listed wires m part) (machine : Machine) → IsUnitOf part machine → (channels needs : List ℕ) → channels ≡ channels_to wires m
+      → ((out : ℕ) → out < length part.globals → value_at part.globals out ≡ (wire_at wires c).signal → AreNeedsOf part channels out needs) → HasOutNeeds wires m c needs (kind_of machine)
+  unit-out-needs part cut machine unit channels needs same are =
       let exact = unit.exact.each o (out-low design listed wires m part cut c given) in
-      subst (λ (t : Machine). IsNeedy wires m c needs (kind_of t)) (sym unit.is)
-      (record { up = exact.ascending; made = part-made design listed wires m part cut c given channels needs (needs_at unit.needs o) same are exact })
+      subst (λ (t : Machine). HasOutNeeds wires m c needs (kind_of t)) (sym unit.is)
+      (record { up = exact.ascending; made = part-made design listed wires m part cut c given channels needs (needs_at unit.needs o) same are (record { ascending = exact.ascending; exact = exact.exact }) })
 
-  memory-needy : (part : Part) (cut : IsCutPart design listed wires m part) (low : first_memory listed ≤ m) (high : m < first_source listed) (machine : Machine) → IsMemoryOf part machine → (channels needs : List ℕ) → channels ≡ channels_to wires m
-      → ((out : ℕ) → out < length part.globals → value_at part.globals out ≡ (wire_at wires c).signal → AreNeedsOf part channels out needs) → IsNeedy wires m c needs (kind_of machine)
-  memory-needy part cut low high machine stands channels needs same are =
+  memory-out-needs : (part : Part) (cut : IsCutPart design listed wires m part) (low : first_memory listed ≤ m) (high : m < first_source listed) (machine : Machine) → IsMemoryOf part machine → (channels needs : List ℕ) → channels ≡ channels_to wires m
+      → ((out : ℕ) → out < length part.globals → value_at part.globals out ≡ (wire_at wires c).signal → AreNeedsOf part channels out needs) → HasOutNeeds wires m c needs (kind_of machine)
+  memory-out-needs part cut low high machine stands channels needs same are =
       let outer = memory-part design listed m part is apart low high cut few in
       let inner = sole stands.alone.piece.memories stands.is_memory.one in
       let exact = memory-needs design listed m part is apart low high cut machine stands outer.0 inner.0 outer.1 inner.1 o (out-low design listed wires m part cut c given) in
-      subst (λ (t : Machine). IsNeedy wires m c needs (kind_of t)) (sym stands.is)
+      subst (λ (t : Machine). HasOutNeeds wires m c needs (kind_of t)) (sym stands.is)
       (record { up = exact.ascending; made = part-made design listed wires m part cut c given channels needs (needs_at (needs_of stands.alone.piece.memories) o) same are exact })
 
-  pub needy : (columns : List (List ℕ)) (n : ℕ) (own : planned.Machine) (body : Body) (machine : Machine) (channels needs : List ℕ) → IsBody design listed wires m body → IsBuilt columns n own body machine → channels ≡ channels_to wires m → NeedsIn body channels (wire_at wires c).signal needs → IsNeedy wires m c needs (kind_of machine)
-  needy columns n own (Cut part) machine channels needs body built same are = unit-needy part body.1 machine built channels needs same are
-  needy columns n own (Memory part) machine channels needs body built same are = memory-needy part body.2 body.0 body.1 machine built channels needs same are
-  needy columns n own Source machine channels needs body built same none =
-      subst (λ (t : Machine). IsNeedy wires m c needs (kind_of t)) (sym built)
+  pub out-needs : (columns : List (List ℕ)) (n : ℕ) (own : planned.Machine) (body : Body) (machine : Machine) (channels needs : List ℕ) → IsBody design listed wires m body → IsBuilt columns n own body machine → channels ≡ channels_to wires m → NeedsIn body channels (wire_at wires c).signal needs → HasOutNeeds wires m c needs (kind_of machine)
+  out-needs columns n own (Cut part) machine channels needs body built same are = unit-out-needs part body.1 machine built channels needs same are
+  out-needs columns n own (Memory part) machine channels needs body built same are = memory-out-needs part body.2 body.0 body.1 machine built channels needs same are
+  out-needs columns n own Source machine channels needs body built same none =
+      subst (λ (t : Machine). HasOutNeeds wires m c needs (kind_of t)) (sym built)
       (record { up = none-up (needs_at ([] ∷ []) o) (source-needs o); made = none-made (place_in (channels_to wires m)) needs (needs_at ([] ∷ []) o) none (source-needs o) })
-  needy columns n own Tray machine channels needs body built same none =
-      subst (λ (t : Machine). IsNeedy wires m c needs (kind_of t)) (sym built)
+  out-needs columns n own Tray machine channels needs body built same none =
+      subst (λ (t : Machine). HasOutNeeds wires m c needs (kind_of t)) (sym built)
       (record { up = none-up [] refl; made = none-made (place_in (channels_to wires m)) needs [] none refl })

@@ -1,5 +1,5 @@
 -- The layout of a cut is one, for all designs that are alike.
-use Rattle.std.proofs.Common.{◌≡◌, ℕ, ◌<◌, List, [], length, map, refl, sym, ◌∙◌, ap, subst, arith}
+use Rattle.std.proofs.Common.{◌≡◌, ℕ, ◌<◌, List, [], length, map, sym, ◌∙◌, ap, subst, arith}
 use Rattle.std.specs.Prelude.{slice_index_or, if◌then◌else◌}
 use Rattle.std.specs.List.{range_with_len}
 use Rattle.std.proofs.lemmas.List.{same_lists, get_or_default}
@@ -16,7 +16,7 @@ use Rattle.gg_cut.specs.Plan.{wire_at}
 use Rattle.gg_check.specs.Alike.{AreAlike}
 use Rattle.gg_check.proofs.SameCutLemmas.{needs-same, need-carried, readers-same, writers-same, wires-same, count-same}
 use Rattle.gg_memunit.specs.MemoryUnit.{ports_by}
-use Rattle.gg_marking.specs.Marking.{Link, Turn, Layout, link_at}
+use Rattle.gg_marking.specs.Marking.{Link, Layout, link_at}
 use Rattle.gg_layout.specs.CutLayout.{IsChannelLink, IsLayoutBy, IsLayoutOf, is_memory, machine_turns, memory_of, turn_of}
 
 -- ---- a cut has one layout

@@ -1,6 +1,6 @@
 -- What the data of a memory's reader needs: its address and its enable, where it gives the word in the same cycle, else nothing.
-use Rattle.std.proofs.Common.{◌≡◌, ◌≢◌, ℕ, zero, suc, ◌<◌, List, [], ◌∷◌, length, refl, sym, ◌∙◌, ap, subst, inl, inr, ◌⊎◌, arith}
-use Rattle.std.specs.Prelude.{AllPairs, Contains, All}
+use Rattle.std.proofs.Common.{◌≡◌, ◌≢◌, ℕ, ◌<◌, List, [], ◌∷◌, length, refl, sym, ◌∙◌, ap, subst, inl, inr, ◌⊎◌, arith}
+use Rattle.std.specs.Prelude.{◌↔◌, AllPairs, Contains}
 use Rattle.std.proofs.lemmas.List.Elements.{All-nil, All-cons}
 use Rattle.std.proofs.lemmas.List.Kept.{AllPairs-cons}
 use Rattle.gg_flat.specs.declared.piece.Driver.{Driver}
@@ -8,8 +8,12 @@ use Rattle.gg_flat.specs.declared.piece.Driver.TheVariants.{Input, MemoryWord, R
 use Rattle.gg_flat.specs.Line.{value_at}
 use Rattle.gg_flat.specs.Circuit.{FlatCircuit, driver_at}
 use Rattle.gg_flat.specs.Reads.{NamesSignal, Reads, IsPath, Reaches}
-use Rattle.gg_program.specs.Cone.{AreNeeds}
 use Rattle.gg_closed.proofs.ListLemmas.{Contains-cases, one-place, pairs-nil}
+
+-- the places, ascending, of just the in-signals that a signal reaches
+pub record AreReached (circuit : FlatCircuit) (out : ℕ) (places : List ℕ) : Type 0 where
+  pub ascending : AllPairs (λ a b. a < b) places
+  pub exact : (place : ℕ) → Contains places place ↔ ((place < length circuit.ins) × Reaches circuit out (value_at circuit.ins place))
 
 module _ (circuit : FlatCircuit) (inputs : (place : ℕ) → place < length circuit.ins → driver_at circuit (value_at circuit.ins place) ≡ Input place) (once : AllPairs (λ a b. a ≢ b) circuit.ins) (out : ℕ) (known : out < length circuit.signals) where
   -- an in-signal reaches itself alone
@@ -19,7 +23,7 @@ module _ (circuit : FlatCircuit) (inputs : (place : ℕ) → place < length circ
 
   -- ---- a late reader
 
-  pub late-needs : (m r : ℕ) → driver_at circuit out ≡ ReadRegister m r → AreNeeds circuit out []
+  pub late-needs : (m r : ℕ) → driver_at circuit out ≡ ReadRegister m r → AreReached circuit out []
   late-needs m r driven =
       record {
         ascending = pairs-nil (λ a b. a < b);
@@ -66,7 +70,7 @@ module _ (circuit : FlatCircuit) (inputs : (place : ℕ) → place < length circ
     from place [] lt is = let clash : MemoryWord m r (value_at circuit.ins addr) (value_at circuit.ins en) ≡ Input place = sym driven ∙ ap (driver_at circuit) is ∙ inputs place lt in absurd (cc)
     from place (next ∷ path) lt is = named place next path lt is.1 (subst (λ (d : Driver). NamesSignal d next) driven is.0.names)
 
-    pub same-cycle-needs : AreNeeds circuit out (addr ∷ en ∷ [])
+    pub same-cycle-needs : AreReached circuit out (addr ∷ en ∷ [])
     same-cycle-needs =
         record {
           ascending = AllPairs-cons (λ a b. a < b) addr (en ∷ []) (All-cons (λ b. addr < b) en [] less (All-nil (λ b. addr < b))) (λ i j d lt within. absurd (omega (arith, lt, within)));

@@ -16,7 +16,6 @@ use Rattle.gg_node.specs.Machine.{Port}
 use Rattle.gg_node.specs.Step.{fields_of}
 use Rattle.gg_memunit.specs.MemoryUnit.{port_of, ports_by}
 use Rattle.gg_net.specs.Network.{Frame, IsAtIn, wire_at}
-use Rattle.gg_marking.specs.Marking.{Turn}
 use Rattle.gg_marking.specs.Fits.{AreTaken, IsTurnOf, AreTurnsOf, places_of}
 use Rattle.gg_sound.proofs.PortLemmas.{IsFitPort}
 use Rattle.gg_layout.specs.CutLayout.{channel_of, turn_of}

@@ -1,13 +1,13 @@
 -- The channels of the network of a plan: their capacities, and their places in the order of channels.
-use Rattle.std.proofs.Common.{◌≡◌, ℕ, ◌+◌, ◌<◌, List, length, get_or, refl, sym, ◌∙◌, ap, arith}
+use Rattle.std.proofs.Common.{◌≡◌, ℕ, ◌<◌, List, length, get_or, refl, sym, ◌∙◌, ap, arith}
 use Rattle.std.specs.Prelude.{◌==◌}
 use Rattle.gg_cut.specs.declared.plan.Channel.{Channel}
 use Rattle.gg_cut.specs.declared.plan.Plan.{Plan}
 use Rattle.gg_cut.specs.declared.wires.Wire.{Wire}
 use Rattle.gg_cut.specs.Plan.{wire_at, channels_to, channels_from}
 use Rattle.gg_net.specs.Network.{wire_at as joint_at}
-use Rattle.gg_sound.specs.Built.{place_in, wire_of, wires_of_plan}
-use Rattle.gg_sound.proofs.LinkLemmas.{AreLinks, IsLinkedAs, linked, length-wires, wire-from}
+use Rattle.gg_sound.specs.Built.{place_in, wires_of_plan}
+use Rattle.gg_sound.proofs.LinkLemmas.{AreLinks, linked, length-wires, wire-from}
 use Rattle.gg_sound.proofs.ListedLemmas.{taken-in, given-in}
 use Rattle.gg_layout.proofs.AscendingLemmas.{numbers-up, place-up}
 

@@ -5,7 +5,7 @@ use Rattle.std.proofs.lemmas.Bool.{cases_lt}
 use Rattle.std.proofs.lemmas.List.{length-map, length-replicate, get_or-map, get_or-replicate, get_or_past, ext_get_or}
 use Rattle.gg_node.specs.Machine.{Machine, no_machine, machine_at, latch_at, flag_at}
 use Rattle.gg_net.specs.declared.shape.Wire.{Wire}
-use Rattle.gg_net.specs.Network.{Network, wire_at, kind_of, frame_of}
+use Rattle.gg_net.specs.Network.{Network, wire_at, given_by, puts, kind_of, frame_of}
 use Rattle.gg_net.specs.Net.{IsOpening, opening_net}
 use Rattle.gg_net.proofs.StepLemmas.{clear-after, empty-after}
 use Rattle.gg_marking.specs.Marking.{Layout, opening_marking}
@@ -38,6 +38,19 @@ module _ (machines : List Machine) (wires : List Wire) (end : ℕ) (opening : Al
       (λ (there : m < length machines). ap (λ flags. flag_at flags o) (opening m no_machine there).flags ∙ clear-after (length (machine_at machines m).flags) o)
       (λ (past : length machines ≤ m). ap (λ (x : Machine). flag_at x.flags o) (get_or_past machines m no_machine past))
       (cases_lt m (length machines))
+
+  no-cycle : (m : ℕ) → (machine_at machines m).cycle ≡ 0
+  no-cycle m =
+      ⊎_elim
+      (λ (there : m < length machines). (opening m no_machine there).cycle)
+      (λ (past : length machines ≤ m). ap (λ (x : Machine). x.cycle) (get_or_past machines m no_machine past))
+      (cases_lt m (length machines))
+
+  -- no token was put
+  pub none-put : (c : ℕ) → puts net c ≡ 0
+  none-put c =
+      let x : Machine = machine_at machines (wire_at wires c).producer in
+      ap (given_by x.cycle) (no-flag (wire_at wires c).producer (wire_at wires c).out) ∙ no-cycle (wire_at wires c).producer
 
   pub opens-so : (layout : Layout) → HasLayout (frame_of net) layout → marking_of net ≡ opening_marking layout
   opens-so layout has =

@@ -1,24 +1,28 @@
 -- A token is put into a channel where it is fired, and at no other step.
-use Rattle.std.proofs.Common.{◌≡◌, ℕ, suc, ◌<◌, ◌≤◌, List, Bool, true, false, length, refl, sym, ap, ◌∙◌, ⊎_elim, arith, get_or-set_same, get_or-set_other}
-use Rattle.std.specs.Prelude.{slice_set}
+use Rattle.std.proofs.Common.{◌≡◌, ℕ, suc, ◌-◌, ◌<◌, ◌≤◌, ◌++◌, List, [], ◌∷◌, Bool, true, false, length, refl, sym, ap, ◌∙◌, ⊎_elim, arith, get_or-set_same, get_or-set_other}
+use Rattle.std.specs.Prelude.{slice_set, take}
 use Rattle.std.proofs.lemmas.Bool.{cases_eq}
-use Rattle.std.proofs.lemmas.List.{length-map}
+use Rattle.std.proofs.lemmas.List.{length-map, length-append}
+use Rattle.std.proofs.Math.Seq.{take-suc}
+use Rattle.gg_flat.specs.Line.{value_at}
 use Rattle.gg_flat.specs.State.{State}
 use Rattle.gg_node.specs.Machine.{Machine, no_machine, machine_at, flag_at}
 use Rattle.gg_node.specs.Step.{with_latch, with_flag, with_served, finished}
 use Rattle.gg_net.specs.declared.event.Event.{Event}
 use Rattle.gg_net.specs.declared.event.Event.TheVariants.{Latch, Fire, Serve, Finish}
 use Rattle.gg_net.specs.declared.shape.Wire.{Wire}
-use Rattle.gg_net.specs.Network.{Network, wire_at, consumer_of, producer_of, given_by, puts, kind_of, frame_of}
+use Rattle.gg_net.specs.Network.{Network, Frame, wire_at, queue_at, consumer_of, producer_of, given_by, puts, kind_of, frame_of}
 use Rattle.gg_net.specs.Step.{CanLatch, CanFire, CanServe, CanFinish, Step, front_of, after_latch, after_fire, after_serve, after_finish}
-use Rattle.gg_net.specs.Kept.{MachineAt, Kept}
+use Rattle.gg_net.specs.Kept.{MachineAt, Kept, list_at}
 use Rattle.gg_net.proofs.MachineLemmas.{out-within}
 use Rattle.gg_net.proofs.MayLemmas.{consumer-there, producer-there}
-use Rattle.gg_net.proofs.StepLemmas.{clear-after}
+use Rattle.gg_net.proofs.StepLemmas.{clear-after, kept-step}
+use Rattle.gg_marking.proofs.CountLemmas.{newest-is}
+use Rattle.gg_marking.proofs.GoesLemmas.{step-frame}
 
 -- ---- over plain variables
 
--- what is told of the machines is as it was, since it tells the new one from the old by nothing
+-- what is told of each machine is as it was, where the same is told of the new one as of the old
 told-same : (told : Machine → ℕ) (machines : List Machine) (m : ℕ) (y : Machine) → m < length machines → (k : ℕ) → (k ≡ m → told y ≡ told (machine_at machines m)) → told (machine_at (slice_set machines m y) k) ≡ told (machine_at machines k)
 told-same told machines m y there k same =
     ⊎_elim
@@ -90,3 +94,25 @@ module _ (lists : List (List ℕ)) (runs : List (List (List ℕ))) (net : Networ
   step-others (Fire c) new d step known other = ap (λ (n : Network). puts n d) step.after.after ∙ fire-other d c step.after.token step.ready known (λ same. other (ap Fire (sym same)))
   step-others (Serve m p) new d step known other = ap (λ (n : Network). puts n d) step.after ∙ serve-puts d m p step.ready
   step-others (Finish m) new d step known other = ap (λ (n : Network). puts n d) step.after.after ∙ finish-puts d m step.after.state step.ready known
+
+-- ---- the token that was given
+
+module _ (lists : List (List ℕ)) (runs : List (List (List ℕ))) (old new : Network) (kept : Kept lists runs old) (c : ℕ) (step : Step old (Fire c) new) where
+  -- it is in the queue
+  pub one-held : 0 < length (queue_at new.queues c)
+  one-held =
+      let queue : List ℕ = queue_at old.queues c ++ step.after.token ∷ [] in
+      let is : queue_at new.queues c ≡ queue = ap (λ (n : Network). queue_at n.queues c) step.after.after ∙ get_or-set_same old.queues c queue [] (omega (arith, step.ready.can.0, kept.queues)) in
+      omega (arith, ap length is, length-append (queue_at old.queues c) (step.after.token ∷ []))
+
+  -- and the tokens that were put are the front of the channel's list, one longer
+  pub front-grows : take (puts new c) (list_at lists c) ≡ take (puts old c) (list_at lists c) ++ value_at (queue_at new.queues c) (length (queue_at new.queues c) - 1) ∷ []
+  front-grows =
+      let list : List ℕ = list_at lists c in
+      let more : puts new c ≡ suc (puts old c) = step-fires lists runs old kept c new step in
+      let frame : frame_of new ≡ frame_of old = step-frame old (Fire c) new step in
+      let known : c < length new.wires = omega (arith, step.ready.can.0, ap (λ (f : Frame). length f.wires) frame) in
+      let after : Kept lists runs new = kept-step lists runs old (Fire c) new kept step in
+      let within : puts old c < length list = omega (arith, more, puts-within lists runs new after c known, after.sound.solves.long c known) in
+      let newest : value_at (queue_at new.queues c) (length (queue_at new.queues c) - 1) ≡ value_at list (puts old c) = newest-is lists runs new c after known one-held ∙ ap (value_at list) (omega (arith, more)) in
+      ap (λ n. take n list) more ∙ take-suc list (puts old c) 0 within ∙ ap (λ token. take (puts old c) list ++ token ∷ []) (sym newest)

@@ -1,14 +1,17 @@
 -- Layouts of networks by hand: which layout a network has, how far it is, and which layouts it hasn't.
-use Rattle.std.proofs.Common.{◌≡◌, ℕ, zero, suc, ◌<◌, List, [], ◌∷◌, Option, Some, None, Bool, true, false, length, refl, arith, lit<}
-use Rattle.std.specs.Prelude.{slice_index_or}
+use Rattle.std.proofs.Common.{◌≡◌, ℕ, zero, suc, ◌+◌, ◌<◌, List, [], ◌∷◌, Option, Some, None, Bool, true, false, refl, sym, subst, arith, lit<}
+use Rattle.std.specs.Prelude.{slice_index_or, slice_get}
+use Rattle.std.proofs.lemmas.Option.{same_Some}
 use Rattle.gg_flat.specs.Served.{ByReader}
 use Rattle.gg_flat.specs.Circuit.{no_circuit}
 use Rattle.gg_node.specs.Machine.{RunsPiece, KeepsValues, Port, Machine, no_state, source_machine, tray_machine}
-use Rattle.gg_net.specs.declared.shape.Wire.{Wire}
+use Rattle.gg_net.specs.declared.event.Event.{Event}
 use Rattle.gg_net.specs.declared.event.Event.TheVariants.{Latch, Fire}
-use Rattle.gg_net.specs.Network.{Network, Kind, Frame, frame_of, kind_at, wire_at}
-use Rattle.gg_net.specs.Step.{after_latch, after_fire}
-use Rattle.gg_marking.specs.Marking.{Link, Turn, Layout, Marking, opening_marking, link_at, turns_at, puts, takes, held, after}
+use Rattle.gg_net.specs.declared.event.Refusal.TheVariants.{Stranger, Fired}
+use Rattle.gg_net.specs.Network.{Network, Frame, frame_of, kind_at, wire_at}
+use Rattle.gg_net.specs.Step.{Step, FireRefused, after_latch, after_fire}
+use Rattle.gg_marking.specs.Marking.{Turn, Layout, opening_marking, link_at, turns_at, puts, held, after}
+use Rattle.gg_marking.specs.Steps.{StepRefused, StopsAt}
 use Rattle.gg_marking.specs.Fits.{IsLinkOf, IsTurnOf, AreTurnsOf, HasLayout, marking_of}
 
 -- no ports, no turns
@@ -47,17 +50,20 @@ counter-fits = record { machines = refl; channels = refl; end = refl; link = lin
     links zero lt = record { producer = refl; consumer = refl; capacity = refl; needs = refl; taken = λ k any below. absurd (omega (arith, below)) }
     links (suc zero) lt = record { producer = refl; consumer = refl; capacity = refl; needs = refl; taken = λ k any below. absurd (omega (arith, below)) }
     links (suc (suc c)) lt = absurd (omega (arith, lt))
+
     turns : (m : ℕ) → m < 3 → AreTurnsOf (frame_of opens) m (kind_at (frame_of opens).kinds m).ports (turns_at counter m)
     turns zero lt = no-turns (frame_of opens) 0
     turns (suc zero) lt = no-turns (frame_of opens) 1
     turns (suc (suc zero)) lt = no-turns (frame_of opens) 2
     turns (suc (suc (suc m))) lt = absurd (omega (arith, lt))
+
     ins : (c d : ℕ) → c < d → d < 2 → (wire_at opens.wires c).consumer ≡ (wire_at opens.wires d).consumer → (wire_at opens.wires c).place < (wire_at opens.wires d).place
     ins zero zero before lt same = absurd (omega (arith, before))
     ins zero (suc zero) before lt same = absurd (omega (arith, same))
     ins (suc c) zero before lt same = absurd (omega (arith, before))
     ins (suc c) (suc zero) before lt same = absurd (omega (arith, before))
     ins c (suc (suc d)) before lt same = absurd (omega (arith, lt))
+
     outs : (c d : ℕ) → c < d → d < 2 → (wire_at opens.wires c).producer ≡ (wire_at opens.wires d).producer → (wire_at opens.wires c).out < (wire_at opens.wires d).out
     outs zero zero before lt same = absurd (omega (arith, before))
     outs zero (suc zero) before lt same = absurd (omega (arith, same))
@@ -83,6 +89,38 @@ one-held = refl
 
 none-held : held counter (marking_of (net (Some 5) false true [] [])) 0 ≡ 0
 none-held = refl
+
+-- ---- steps: the source's token is given, and can't be given again
+
+abbrev given : Network
+given = net None false true (5 ∷ []) []
+
+gives : Step opens (Fire 0) given
+gives = record { ready = record { can = (lit< tt, lit< tt); clear = refl; needed = refl; room = lit< tt }; after = record { token = 5; is = refl; after = refl } }
+
+stops-twice : StopsAt 1 opens (Some (Fire 0) ∷ Some (Fire 0) ∷ Some (Latch 0) ∷ []) given (record { step = 2; cause = Fired })
+stops-twice = record { done = 1; steps = (given, gives, refl); event = Some (Fire 0); next = refl; number = refl; refused = ((lit< tt, lit< tt), refl) }
+
+stops-at-none : StopsAt 1 opens (None ∷ []) opens (record { step = 1; cause = Stranger })
+stops-at-none = record { done = 0; steps = refl; event = None; next = refl; number = refl; refused = refl }
+
+-- a step isn't refused for what it isn't refused for, and the number is that of the refused one
+not-so : StopsAt 1 opens (Some (Fire 0) ∷ []) opens (record { step = 1; cause = Fired }) → ⊥
+not-so stops = by stops.done stops.number stops.event stops.next stops.refused
+  where
+    by : (done : ℕ) → 1 ≡ 1 + done → (event : Option Event) → slice_get (Some (Fire 0) ∷ []) done ≡ Some event → StepRefused opens event Fired → ⊥
+    by zero number event next refused =
+        let so : FireRefused opens 0 Fired = subst (λ e. StepRefused opens e Fired) (sym (same_Some (Some (Fire 0)) event next)) refused in
+        let is : false ≡ true = so.1 in
+        cc
+    by (suc done) number event next refused = omega (arith, number)
+
+not-another-number : (stops : StopsAt 1 opens (None ∷ []) opens (record { step = 2; cause = Stranger })) → ⊥
+not-another-number stops = by stops.done stops.number stops.event stops.next
+  where
+    by : (done : ℕ) → 2 ≡ 1 + done → (event : Option Event) → slice_get (None ∷ []) done ≡ Some event → ⊥
+    by zero number event next = omega (arith, number)
+    by (suc done) number event next = let is : ◌≡◌ {A = Option (Option Event)} None (Some event) = next in cc
 
 -- with a greater capacity it is another layout
 not-longer : HasLayout (frame_of opens) (record counter { links = (record { producer = 1; consumer = 0; capacity = 2; needs = [] }) ∷ (record { producer = 0; consumer = 2; capacity = 1; needs = [] }) ∷ [] }) → ⊥
@@ -122,18 +160,22 @@ needy-fits = record { machines = refl; channels = refl; end = refl; link = links
     both zero any lt = (lit< tt, refl)
     both (suc zero) any lt = (lit< tt, refl)
     both (suc (suc k)) any lt = absurd (omega (arith, lt))
+
     links : (c : ℕ) → c < 3 → IsLinkOf needy c (link_at (with_these (1 ∷ 0 ∷ []) (1 ∷ 0 ∷ [])) c)
     links zero lt = record { producer = refl; consumer = refl; capacity = refl; needs = refl; taken = λ k any below. absurd (omega (arith, below)) }
     links (suc zero) lt = record { producer = refl; consumer = refl; capacity = refl; needs = refl; taken = λ k any below. absurd (omega (arith, below)) }
     links (suc (suc zero)) lt = record { producer = refl; consumer = refl; capacity = refl; needs = refl; taken = both }
     links (suc (suc (suc c))) lt = absurd (omega (arith, lt))
+
     own : (i : ℕ) (port : Port) (turn : Turn) → i < 1 → IsTurnOf needy 0 (slice_index_or (reader ∷ []) i port) (slice_index_or ((record { number = 4; fields = 1 ∷ 0 ∷ [] }) ∷ []) i turn)
     own zero port turn lt = record { number = refl; fields = refl; taken = both }
     own (suc i) port turn lt = absurd (omega (arith, lt))
+
     turns : (m : ℕ) → m < 2 → AreTurnsOf needy m (kind_at needy.kinds m).ports (turns_at (with_these (1 ∷ 0 ∷ []) (1 ∷ 0 ∷ [])) m)
     turns zero lt = record { count = refl; each = own }
     turns (suc zero) lt = no-turns needy 1
     turns (suc (suc m)) lt = absurd (omega (arith, lt))
+
     ins : (c d : ℕ) → c < d → d < 3 → (wire_at needy.wires c).consumer ≡ (wire_at needy.wires d).consumer → (wire_at needy.wires c).place < (wire_at needy.wires d).place
     ins c zero before lt same = absurd (omega (arith, before))
     ins zero (suc zero) before lt same = lit< tt
@@ -142,6 +184,7 @@ needy-fits = record { machines = refl; channels = refl; end = refl; link = links
     ins (suc zero) (suc (suc zero)) before lt same = absurd (omega (arith, same))
     ins (suc (suc c)) (suc (suc zero)) before lt same = absurd (omega (arith, before))
     ins c (suc (suc (suc d))) before lt same = absurd (omega (arith, lt))
+
     outs : (c d : ℕ) → c < d → d < 3 → (wire_at needy.wires c).producer ≡ (wire_at needy.wires d).producer → (wire_at needy.wires c).out < (wire_at needy.wires d).out
     outs c zero before lt same = absurd (omega (arith, before))
     outs zero (suc zero) before lt same = lit< tt

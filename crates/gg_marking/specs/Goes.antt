@@ -1,4 +1,6 @@
 -- Steps one after another on markings: where they lead, or which of them is refused first.
+-- Source: Commoner, Holt, Even and Pnueli, "Marked Directed Graphs" (1971) (from marking to marking, one firing after another). That a
+-- step which is no event is refused as a stranger, and that steps are numbered, is this program's.
 use Rattle.std.specs.Prelude.{ℕ, suc, List, [], ◌∷◌, Option, Some, None, Result, Ok, Err}
 use Rattle.gg_net.specs.declared.event.Event.{Event}
 use Rattle.gg_net.specs.declared.event.Refusal.{Refusal}

@@ -1,6 +1,6 @@
 -- Steps of a network one after another, up to the first that is refused.
--- Source: MEMOCODE 2009 (a network goes on by steps, one node at a time). That one which is no event is refused as a stranger is
--- this program's.
+-- Source: MEMOCODE 2009 (a network goes on by steps, one node at a time). That a step which is no event is refused as a stranger, and
+-- that steps are numbered, is this program's.
 use Rattle.std.specs.Prelude.{◌≡◌, ℕ, ◌+◌, List, [], ◌∷◌, Option, Some, None, take, slice_get}
 use Rattle.gg_net.specs.declared.event.Event.{Event}
 use Rattle.gg_net.specs.declared.event.Refusal.{Refusal}

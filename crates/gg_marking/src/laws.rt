@@ -1,5 +1,5 @@
 //! Laws: facts about the definitions, each on a function with an empty body.
-ghost use Rattle.std.specs.Prelude.{◌≡◌, ◌≢◌, ℕ, suc, ◌-◌, ◌<◌, ◌≤◌, ◌++◌, List, [], ◌∷◌, Option, Some, None, Ok, Err, All, length};
+ghost use Rattle.std.specs.Prelude.{◌≡◌, ◌≢◌, ℕ, suc, ◌-◌, ◌<◌, ◌≤◌, ◌++◌, List, [], ◌∷◌, Option, Some, None, Ok, Err, All, length, take};
 ghost use Rattle.gg_flat.specs.Line.{value_at};
 ghost use Rattle.gg_node.specs.Machine.{Machine};
 ghost use Rattle.gg_net.specs.declared.shape.Wire.{Wire};
@@ -27,13 +27,14 @@ pub fn goes_by_marking()
     ensures frame { (old new : Network) (event : Event) → Step old event new → frame_of new ≡ frame_of old }
 {}
 
-/// Before the first cycle the marking of a network is the opening one.
+/// Before the first cycle the marking of a network is the opening one, and no token was put.
 pub fn opens_with_marking()
-    ensures { (machines : List Machine) (wires : List Wire) (end : ℕ) (layout : Layout) → All IsOpening machines → HasLayout (frame_of (opening_net machines wires end)) layout → marking_of (opening_net machines wires end) ≡ opening_marking layout }
+    ensures marking { (machines : List Machine) (wires : List Wire) (end : ℕ) (layout : Layout) → All IsOpening machines → HasLayout (frame_of (opening_net machines wires end)) layout → marking_of (opening_net machines wires end) ≡ opening_marking layout }
+    ensures none { (machines : List Machine) (wires : List Wire) (end c : ℕ) → All IsOpening machines → network.puts (opening_net machines wires end) c ≡ 0 }
 {}
 
-/// The counts of a network are those of its marking, and so is the length of each queue. The newest token of a queue is the value of
-/// its channel's list that the count of puts names.
+/// The counts of a network are those of its marking, and so is the length of each queue. The newest token of a queue is the last of
+/// the values of its channel's list that were put so far.
 pub fn counts_by_marking()
     ensures puts { (net : Network) (layout : Layout) (c : ℕ) → HasLayout (frame_of net) layout → c < length net.wires → network.puts net c ≡ puts layout (marking_of net) c }
     ensures takes { (net : Network) (layout : Layout) (c : ℕ) → HasLayout (frame_of net) layout → c < length net.wires → network.takes net c ≡ takes layout (marking_of net) c }
@@ -41,11 +42,14 @@ pub fn counts_by_marking()
     ensures newest { (lists : List (List ℕ)) (runs : List (List (List ℕ))) (net : Network) (c : ℕ) → Kept lists runs net → c < length net.wires → 0 < length (queue_at net.queues c) → value_at (queue_at net.queues c) (length (queue_at net.queues c) - 1) ≡ value_at (list_at lists c) (network.puts net c - 1) }
 {}
 
-/// A token is put into a channel where it is fired, and at no other step; no more are put than the network has cycles.
+/// A token is put into a channel where it is fired, and at no other step; no more are put than the network has cycles. It is then the
+/// newest of the queue, and the tokens put so far are a front part of the channel's list.
 pub fn puts_by_step()
     ensures fires { (lists : List (List ℕ)) (runs : List (List (List ℕ))) (old new : Network) (c : ℕ) → Kept lists runs old → Step old (Fire c) new → network.puts new c ≡ suc (network.puts old c) }
     ensures others { (lists : List (List ℕ)) (runs : List (List (List ℕ))) (old new : Network) (event : Event) (c : ℕ) → Kept lists runs old → Step old event new → c < length old.wires → event ≢ Fire c → network.puts new c ≡ network.puts old c }
     ensures within { (lists : List (List ℕ)) (runs : List (List (List ℕ))) (net : Network) (c : ℕ) → Kept lists runs net → c < length net.wires → network.puts net c ≤ net.end }
+    ensures held { (lists : List (List ℕ)) (runs : List (List (List ℕ))) (old new : Network) (c : ℕ) → Kept lists runs old → Step old (Fire c) new → 0 < length (queue_at new.queues c) }
+    ensures front { (lists : List (List ℕ)) (runs : List (List (List ℕ))) (old new : Network) (c : ℕ) → Kept lists runs old → Step old (Fire c) new → take (network.puts new c) (list_at lists c) ≡ take (network.puts old c) (list_at lists c) ++ value_at (queue_at new.queues c) (length (queue_at new.queues c) - 1) ∷ [] }
 {}
 
 /// Steps one after another keep what a network keeps, and leave its layout as it is.

@@ -11,7 +11,7 @@
 //! - that it begins with the opening marking (`opens_with_marking`);
 //! - that how many tokens were put into a channel, were taken from it and are held are those of the marking, and that the newest token
 //!   is its list's (`counts_by_marking`);
-//! - that a token is put just where it is fired (`puts_by_step`);
+//! - that a token is put just where it is fired, as the next value of its list (`puts_by_step`);
 //! - that where a list of steps leads, or which of them is refused first and why, is what they do to the marking (`steps_keep`,
 //!   `steps_by_marking`).
 #![tactic(auto)]

@@ -1,6 +1,6 @@
 //! `MemUnit`: a memory that is served port by port.
 ghost use Rattle.std.specs.Prelude.{◌≡◌, ℕ, ◌<◌, List, [], ◌∷◌, length, is_some, slice_set, IfOk};
-ghost use Rattle.gg_node.specs.Machine.{Machine, machine_at, latch_at, flag_at, missing, due};
+ghost use Rattle.gg_node.specs.Machine.{RunsPiece, Machine, machine_at, latch_at, flag_at, missing, due};
 ghost use Rattle.gg_node.specs.Token.{IsToken, IsNextState};
 ghost use Rattle.gg_node.specs.Step.{MayLatch, MayFire, MayServe, MayFinish, with_latch, with_flag, with_served, finished};
 ghost use Rattle.gg_memunit.specs.MemoryUnit.{IsMemoryPiece, opening_unit};
@@ -67,6 +67,13 @@ impl MemUnit {
             cycle: 0,
             served: 0,
         })
+    }
+
+    /// The piece that it runs.
+    pub fn piece(&self) -> &Piece
+        ensures { self.now.behaviour ≡ RunsPiece result.now }
+    {
+        &self.piece
     }
 
     // The first in that an out needs and that has no token yet.

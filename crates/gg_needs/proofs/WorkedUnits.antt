@@ -34,29 +34,29 @@ p-x = record { path = 0 ∷ []; reads = (record { signal = lit< tt; names = (0, 
 q-x : Reaches unit 3 0
 q-x = record { path = 0 ∷ []; reads = (record { signal = lit< tt; names = (0, lit< tt, refl) }, refl) }
 
-q-k : Reaches unit 3 1
+pub q-k : Reaches unit 3 1
 q-k = record { path = 1 ∷ []; reads = (record { signal = lit< tt; names = (1, lit< tt, refl) }, refl) }
 
 -- the signals that `p` reaches: `x` and itself
-abbrev In : ℕ → Type 0
+abbrev pub In : ℕ → Type 0
 In zero = Unit {0}
 In (suc zero) = ⊥
 In (suc (suc zero)) = Unit {0}
 In (suc (suc (suc s))) = ⊥
 
 -- what a copy of signal a reads is a
-copies : (a s : ℕ) → Contains (Ref a ∷ []) (Ref s) → a ≡ s
+pub copies : (a s : ℕ) → Contains (Ref a ∷ []) (Ref s) → a ≡ s
 copies a s (zero, lt, is) = same a s is
 copies a s (suc k, lt, is) = absurd (omega arith)
 
-in-closed : (x y : ℕ) → In x → Reads unit x y → In y
+pub in-closed : (x y : ℕ) → In x → Reads unit x y → In y
 in-closed zero y at reads = absurd reads.names
 in-closed (suc zero) y at reads = absurd at
 in-closed (suc (suc zero)) y at reads = subst In (copies 0 y reads.names) tt
 in-closed (suc (suc (suc x))) y at reads = absurd at
 
 -- `p` doesn't reach `k`
-p-k : ¬ Reaches unit 2 1
+pub p-k : ¬ Reaches unit 2 1
 p-k to = along-reaches unit In in-closed 2 1 tt to
 
 -- `p` needs `x` alone

@@ -17,20 +17,20 @@ use Rattle.gg_net.specs.Step.{CanLatch, CanFire, CanServe, CanFinish, front_of, 
 use Rattle.gg_net.specs.Kept.{Kept}
 use Rattle.gg_net.specs.Queue.{Held}
 use Rattle.gg_net.specs.Seats.{machines_by, seated, IsReseated, HasGoneOn}
-use Rattle.gg_net.specs.Net.{net_of, held_at, AreListed, HasRoom, IsNet}
+use Rattle.gg_net.specs.Net.{net_of, held_at, AreListed, HasRoom, IsWithinLimits, IsNet}
 use Rattle.gg_net.proofs.SeatLemmas.{machines-set, are-seated}
 use Rattle.gg_net.proofs.StepLemmas.{kept-step}
 use Rattle.gg_net.proofs.MayLemmas.{consumer-there, producer-there, may-latch, may-fire, may-serve, may-finish}
 
 -- ---- kinds
 
-kind-latch : (x : Machine) (i value : ℕ) → kind_of (with_latch x i value) ≡ kind_of x
+pub kind-latch : (x : Machine) (i value : ℕ) → kind_of (with_latch x i value) ≡ kind_of x
 kind-latch x i value = ap (λ n. record { behaviour = x.behaviour; limit = x.limit; needs = x.needs; ports = x.ports; ins = n; outs = length x.flags }) (length-set x.latches i (Some value))
 
-kind-flag : (x : Machine) (o : ℕ) → kind_of (with_flag x o) ≡ kind_of x
+pub kind-flag : (x : Machine) (o : ℕ) → kind_of (with_flag x o) ≡ kind_of x
 kind-flag x o = ap (λ n. record { behaviour = x.behaviour; limit = x.limit; needs = x.needs; ports = x.ports; ins = length x.latches; outs = n }) (length-set x.flags o true)
 
-kind-finished : (x : Machine) (next : State) → kind_of (finished x next) ≡ kind_of x
+pub kind-finished : (x : Machine) (next : State) → kind_of (finished x next) ≡ kind_of x
 kind-finished x next =
     ap (λ n. record { behaviour = x.behaviour; limit = x.limit; needs = x.needs; ports = x.ports; ins = n; outs = length (replicate (length x.flags) false) }) (length-replicate (length x.latches) None)
     ∙ ap (λ n. record { behaviour = x.behaviour; limit = x.limit; needs = x.needs; ports = x.ports; ins = length x.latches; outs = n }) (length-replicate (length x.flags) false)
@@ -47,7 +47,7 @@ pub tokens-at : (queues : List Held) (c : ℕ) (queue : Held) → c < length que
 tokens-at queues c queue below is = ap tokens is ∙ sym (get_or-map tokens queues c queue [] below)
 
 -- a queue was changed, and its room is the same
-room-set : (wires : List Wire) (queues : List Held) (c : ℕ) (queue new : Held) → c < length queues → queue ≡ slice_index_or queues c queue → new.room ≡ queue.room → HasRoom wires queues → HasRoom wires (slice_set queues c new)
+pub room-set : (wires : List Wire) (queues : List Held) (c : ℕ) (queue new : Held) → c < length queues → queue ≡ slice_index_or queues c queue → new.room ≡ queue.room → HasRoom wires queues → HasRoom wires (slice_set queues c new)
 room-set wires queues c queue new below is same room d known =
     ⊎_elim
     (λ (here : d ≡ c).
@@ -91,6 +91,7 @@ module _ {lists : List (List ℕ)} {runs : List (List (List ℕ))} {hosts : List
             seated = are-seated hosts after stations m station y net.seated below step-at;
             listed = subst (λ f. AreListed f stations) (sym (frame-is kind)) net.listed;
             room = room;
+            limits = subst IsWithinLimits (sym (frame-is kind)) net.limits;
             kept = kept;
           }
 

@@ -10,3 +10,4 @@ pub mod MayLemmas
 pub mod CloseLemmas
 pub mod WorkedNets
 pub mod OpenLemmas
+pub mod FedLemmas

@@ -103,5 +103,6 @@ module _ {lists : List (List ℕ)} {runs : List (List (List ℕ))} {hosts : List
           seated = opens.seated;
           listed = opens.listed;
           room = are.room;
+          limits = opens.limits;
           kept = subst (Kept lists runs) (sym open-is) kept-open;
         }

@@ -34,7 +34,7 @@ empty-after zero i = refl
 empty-after (suc n) zero = refl
 empty-after (suc n) (suc i) = empty-after n i
 
-no-port : (port : Option Port) → port_number port ≡ None → port ≡ None
+pub no-port : (port : Option Port) → port_number port ≡ None → port ≡ None
 no-port None is = refl
 no-port (Some q) is = absurd (some-is-no-none q.number is)
 
@@ -66,7 +66,7 @@ module _ (lists : List (List ℕ)) (runs : List (List (List ℕ))) (net : Networ
         (λ other. subst (MachineAt lists runs (frame_of net) k) (sym (get_or-set_other net.machines m k y no_machine other)) (kept.machines k lt))
         (cases_eq k m)
 
-    puts-same : (c : ℕ) → ((wire_at net.wires c).producer ≡ m → given_by y.cycle (flag_at y.flags (wire_at net.wires c).out) ≡ given_by (machine_at net.machines m).cycle (flag_at (machine_at net.machines m).flags (wire_at net.wires c).out)) → puts changed c ≡ puts net c
+    pub puts-same : (c : ℕ) → ((wire_at net.wires c).producer ≡ m → given_by y.cycle (flag_at y.flags (wire_at net.wires c).out) ≡ given_by (machine_at net.machines m).cycle (flag_at (machine_at net.machines m).flags (wire_at net.wires c).out)) → puts changed c ≡ puts net c
     puts-same c is =
         let given : Machine → ℕ = λ z. given_by z.cycle (flag_at z.flags (wire_at net.wires c).out) in
         ⊎_elim
@@ -75,7 +75,7 @@ module _ (lists : List (List ℕ)) (runs : List (List (List ℕ))) (net : Networ
         (λ other. ap given (get_or-set_other net.machines m (wire_at net.wires c).producer y no_machine other))
         (cases_eq (wire_at net.wires c).producer m)
 
-    takes-same : (c : ℕ) → ((wire_at net.wires c).consumer ≡ m → got_by y.cycle (latch_at y.latches (wire_at net.wires c).place) ≡ got_by (machine_at net.machines m).cycle (latch_at (machine_at net.machines m).latches (wire_at net.wires c).place)) → takes changed c ≡ takes net c
+    pub takes-same : (c : ℕ) → ((wire_at net.wires c).consumer ≡ m → got_by y.cycle (latch_at y.latches (wire_at net.wires c).place) ≡ got_by (machine_at net.machines m).cycle (latch_at (machine_at net.machines m).latches (wire_at net.wires c).place)) → takes changed c ≡ takes net c
     takes-same c is =
         let got : Machine → ℕ = λ z. got_by z.cycle (latch_at z.latches (wire_at net.wires c).place) in
         ⊎_elim

@@ -14,10 +14,11 @@ use Rattle.gg_node.specs.Step.{fields_of}
 use Rattle.gg_flat.proofs.WorkedForms.{only, both}
 use Rattle.gg_net.specs.declared.shape.Wire.{Wire}
 use Rattle.gg_net.specs.declared.event.Refusal.TheVariants.{Stranger, Ended, Fired, NoToken, NeedsInput, Full, Order, Unfired, Unserved}
-use Rattle.gg_net.specs.Network.{Network, IsAtIn, puts, takes, frame_of, wire_at, IsAtOut, kind_at}
+use Rattle.gg_net.specs.Network.{Network, IsAtIn, puts, takes, serves, frame_of, wire_at, IsAtOut, kind_at}
 use Rattle.gg_net.specs.Step.{CanFire, CanServe, after_latch, after_fire, after_serve, after_finish, due_or_count, LatchRefused, FireRefused, ServeRefused, FinishRefused}
 use Rattle.gg_net.specs.Kept.{list_at, rows_at, Runs, Answers, Asks, Solves, IsWired, NeedsChannel, HasNoRing, BetweenAt}
-use Rattle.gg_net.specs.Net.{opening_net}
+use Rattle.gg_net.specs.Net.{IsWithinLimits, opening_net}
+use Rattle.gg_net.specs.Fixture.{fed_wires, fed_lists, fed_runs}
 
 -- ---- two units: the out of `a` is its register, which takes its in; the out of `b` is its in
 
@@ -87,6 +88,10 @@ none-taken = refl
 
 still-put : puts (pair (a 1 3 None false) (b (Some 3) true) [] []) 0 ≡ 1
 still-put = refl
+
+-- nothing is served where there is no port
+none-served : serves (pair (a 1 3 None false) (b (Some 3) true) [] []) 0 ≡ 0
+none-served = refl
 
 -- ---- when: an out needs its ins alone
 
@@ -222,10 +227,21 @@ left = (lit< tt, lit< tt, all-true, refl)
 served-one : after_serve (alone (memory 0 with_reader true)) 0 ≡ alone (record (memory 1 with_reader true) { state = record { registers = []; banks = record { words = 7 ∷ 9 ∷ []; reads = 9 ∷ [] } ∷ [] } })
 served-one = refl
 
+-- two ports a cycle, over four cycles, and one of the fifth
+served-so-far : serves (alone (record (memory 1 with_reader true) { cycle = 4 })) 0 ≡ 9
+served-so-far = refl
+
+-- what is served in a cycle is counted at once, and counted no more once the cycle is finished
+counted-once : serves (after_finish (alone (memory 2 with_reader true)) 0 no_state) 0 ≡ serves (alone (memory 2 with_reader true)) 0
+counted-once = refl
+
+one-more : serves (after_serve (alone (memory 0 with_reader true)) 0) 0 ≡ 1
+one-more = refl
+
 -- ---- a source that feeds a tray: the lists that its channel and its rows are to have do solve it
 
-abbrev fed : Network
-fed = opening_net (source_machine (4 ∷ 6 ∷ []) 0 false ∷ tray_machine 2 0 [] None ∷ []) (record { producer = 0; out = 0; consumer = 1; place = 0; capacity = 1 } ∷ []) 2
+abbrev pub fed : Network
+fed = opening_net (source_machine (4 ∷ 6 ∷ []) 0 false ∷ tray_machine 2 0 [] None ∷ []) fed_wires 2
 
 fed-into : (m i : ℕ) → m < 2 → i < (kind_at (frame_of fed).kinds m).ins → (c : ℕ) × IsAtIn fed.wires m i c
 fed-into zero i there below = absurd (omega (arith, below))
@@ -239,7 +255,7 @@ fed-from zero (suc o) there below = absurd (omega (arith, below))
 fed-from (suc zero) o there below = absurd (omega (arith, below))
 fed-from (suc (suc m)) o there below = absurd (omega (arith, there))
 
-no-needs : (o i : ℕ) → Contains (needs_at ([] ∷ []) o) i → ⊥
+pub no-needs : (o i : ℕ) → Contains (needs_at ([] ∷ []) o) i → ⊥
 no-needs zero i has = omega (arith, has.1)
 no-needs (suc o) i has = omega (arith, has.1)
 
@@ -253,7 +269,7 @@ fed-fields zero there k d below = absurd (omega (arith, below))
 fed-fields (suc zero) there k d below = absurd (omega (arith, below))
 fed-fields (suc (suc m)) there k d below = absurd (omega (arith, there))
 
-fed-wired : IsWired (frame_of fed)
+pub fed-wired : IsWired (frame_of fed)
 fed-wired =
     record {
       producer = only (λ c. (wire_at fed.wires c).producer < 2) (lit< tt);
@@ -268,7 +284,7 @@ fed-wired =
       one_out = λ c d known there same_machine same_out. omega (arith, known, there);
     }
 
-fed-solved : Solves ((4 ∷ 6 ∷ []) ∷ []) ([] ∷ [] ∷ []) (frame_of fed)
+pub fed-solved : Solves fed_lists fed_runs (frame_of fed)
 fed-solved =
     record {
       able = both (λ m. 2 ≤ (kind_at (frame_of fed).kinds m).limit) (omega arith) (omega arith);
@@ -286,6 +302,13 @@ fed-solved =
     taken zero known t = tt
     taken (suc c) known t = absurd (omega (arith, known))
 
--- another list does not
+-- it is within the limits, and would not be with one cycle more than may be done
+pub within-limits : IsWithinLimits (frame_of fed)
+within-limits = record { cycles = omega arith; machines = omega arith; channels = omega arith }
+
+too-long : IsWithinLimits (frame_of (record fed { end = 1000001 })) → ⊥
+too-long within = omega (arith, within.cycles)
+
+-- another list does not solve it
 not-solved : Solves ((4 ∷ 7 ∷ []) ∷ []) ([] ∷ [] ∷ []) (frame_of fed) → ⊥
 not-solved solves = let is : value_at (4 ∷ 6 ∷ []) 1 ≡ value_at (4 ∷ 7 ∷ []) 1 = solves.given 0 (lit< tt) 1 (lit< tt) in omega (arith, is)

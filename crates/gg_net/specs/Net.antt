@@ -4,11 +4,12 @@
 use Rattle.std.specs.Prelude.{◌≡◌, ℕ, ◌-◌, ◌^◌, ◌<◌, ◌≤◌, List, [], None, false, All, length, map, replicate, slice_index_or, ⊤}
 use Rattle.gg_flat.specs.Line.{value_at}
 use Rattle.gg_flat.specs.State.{State, opening}
-use Rattle.gg_node.specs.Machine.{Behaviour, RunsPiece, GivesColumn, KeepsValues, Port, Machine}
+use Rattle.gg_node.specs.Machine.{Behaviour, RunsPiece, GivesColumn, KeepsValues, Port, Machine, cycle_limit}
 use Rattle.gg_node.specs.Step.{fields_of}
 use Rattle.gg_net.specs.declared.shape.Wire.{Wire}
 use Rattle.gg_net.specs.declared.shape.Station.{Station}
 use Rattle.gg_net.specs.declared.shape.ServedPort.{ServedPort}
+use Rattle.gg_net.specs.declared.shape.Shape.{Shape}
 use Rattle.gg_net.specs.Network.{wire_at, IsAtIn, IsAtOut, Network, Kind, kind_at, Frame, frame_of}
 use Rattle.gg_net.specs.Queue.{Held}
 use Rattle.gg_net.specs.Seats.{machines_by, AreSeated}
@@ -48,12 +49,28 @@ AreListed frame stations = (m : ℕ) (s : Station) → m < length stations → I
 abbrev pub HasRoom : List Wire → List Held → Type 0
 HasRoom wires queues = (c : ℕ) → c < length wires → (wire_at wires c).capacity ≤ (held_at queues c).room
 
+-- A network is within the limits: it is to do at most 1,000,000 cycles, and its machines and channels are few enough to be
+-- named by numbers of 32 bits.
+pub record IsWithinLimits (frame : Frame) : Type 0 where
+  pub cycles : frame.end ≤ cycle_limit
+  pub machines : length frame.kinds < 2 ^ 32
+  pub channels : length frame.wires < 2 ^ 32
+
 -- What a network's parts keep.
 pub record IsNet (lists : List (List ℕ)) (runs : List (List (List ℕ))) (hosts : List (List Machine)) (stations : List Station) (wires : List Wire) (queues : List Held) (end : ℕ) : Type 0 where
   pub seated : AreSeated hosts stations
   pub listed : AreListed (frame_of (net_of hosts stations wires queues end)) stations
   pub room : HasRoom wires queues
+  pub limits : IsWithinLimits (frame_of (net_of hosts stations wires queues end))
   pub kept : Kept lists runs (net_of hosts stations wires queues end)
+
+-- the network of these hosts' machines, joined in this shape, with these queues
+abbrev pub joined : List (List Machine) → Shape → List Held → Network
+joined hosts shape queues = net_of hosts shape.stations.items shape.wires.items queues shape.end
+
+-- These hosts, this shape and these queues are the parts of a network.
+abbrev pub AreParts : List (List ℕ) → List (List (List ℕ)) → List (List Machine) → Shape → List Held → Type 0
+AreParts lists runs hosts shape queues = IsNet lists runs hosts shape.stations.items shape.wires.items queues shape.end
 
 -- ---- before the first cycle
 
@@ -82,6 +99,7 @@ pub record Opens (lists : List (List ℕ)) (runs : List (List (List ℕ))) (host
   pub seated : AreSeated hosts stations
   pub opening : All IsOpening (machines_by hosts stations)
   pub listed : AreListed (frame_of (opening_net (machines_by hosts stations) wires end)) stations
+  pub limits : IsWithinLimits (frame_of (opening_net (machines_by hosts stations) wires end))
   pub sound : IsSound lists runs (frame_of (opening_net (machines_by hosts stations) wires end))
 
 -- The queues of the first n channels before the first cycle: empty, with room for their capacities.

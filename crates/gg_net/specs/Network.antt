@@ -1,7 +1,7 @@
 -- A network: machines joined by channels, each with a queue of its own.
 -- Source: MEMOCODE 2009 (a bounded dataflow network: nodes joined by queues of a bounded length); ICCAD 2019 (units
 -- of a target that pass one another a token for each target cycle).
-use Rattle.std.specs.Prelude.{◌≡◌, ℕ, suc, ◌<◌, List, [], Option, Some, None, Bool, true, false, length, map, slice_index_or}
+use Rattle.std.specs.Prelude.{◌≡◌, ℕ, suc, ◌+◌, ◌*◌, ◌<◌, List, [], Option, Some, None, Bool, true, false, length, map, slice_index_or}
 use Rattle.gg_net.specs.declared.shape.Wire.{Wire}
 use Rattle.gg_node.specs.Machine.{Behaviour, KeepsValues, Port, Machine, machine_at, latch_at, flag_at}
 
@@ -63,6 +63,11 @@ puts net c = given_by (producer_of net c).cycle (flag_at (producer_of net c).fla
 -- how many tokens were taken from a channel
 abbrev pub takes : Network → ℕ → ℕ
 takes net c = got_by (consumer_of net c).cycle (latch_at (consumer_of net c).latches (wire_at net.wires c).place)
+
+-- how many ports of a machine were served since the first cycle: all of them in each cycle that it has finished, and those
+-- of this one
+abbrev pub serves : Network → ℕ → ℕ
+serves net m = length (machine_at net.machines m).ports * (machine_at net.machines m).cycle + (machine_at net.machines m).served
 
 -- ---- what no step changes
 

@@ -10,8 +10,10 @@
 //! - Whatever the order of the events, a network stays what its lists of values say ([`Net::kept`]): each queue is
 //!   the channel's list from the tokens taken to those put, each latch holds its channel's value of the cycle, each
 //!   machine is in the state of its own run, and a tray has kept the values of its channel.
-//! - [`Net::new`] makes the network before its first cycle. The other calls tell of a network. None but `new` takes
-//!   memory, and none looks at more than one machine with its ins, outs and ports.
+//! - [`Net::new`] makes the network before its first cycle. [`Net::parts`] takes a network apart, and [`Net::of`] joins
+//!   the parts to the same network again.
+//! - The other calls tell of a network, and are what the definitions say. None but `new` takes memory, and none looks at
+//!   more than one machine with its ins, outs and ports.
 //!
 //! The lists of values stand in the type of a network ([`Streams`]), and no code reads them.
 #![tactic(auto)]
@@ -19,6 +21,7 @@
 mod event;
 mod judge;
 mod net;
+mod parts;
 mod ports;
 mod queue;
 mod seats;
@@ -29,5 +32,10 @@ mod tells;
 
 pub use event::{Event, Refusal};
 pub use net::Net;
+pub use parts::Parts;
+pub use queue::Queue;
 pub use shape::{ServedPort, Shape, Station, Wire};
 pub use streams::Streams;
+
+#[cfg(test)]
+mod tests;

@@ -1,15 +1,15 @@
 //! `Net`: a network of machines.
-ghost use Rattle.std.specs.Prelude.{◌≡◌, ◌-◌, ◌<◌, [], length, map, IfOk, MatchOption};
+ghost use Rattle.std.specs.Prelude.{◌≡◌, ◌-◌, ◌<◌, ◌≤◌, [], length, map, IfOk, MatchOption};
 ghost use Rattle.gg_flat.specs.Line.{value_at};
-ghost use Rattle.gg_node.specs.Machine.{machine_at};
-ghost use Rattle.gg_net.specs.Network.{queue_at, puts, takes};
+ghost use Rattle.gg_node.specs.Machine.{machine_at, cycle_limit};
+ghost use Rattle.gg_net.specs.Network.{queue_at, puts, takes, serves, frame_of};
 ghost use Rattle.gg_net.specs.Kept.{Kept};
 ghost use Rattle.gg_net.specs.Seats.{machines_by};
-ghost use Rattle.gg_net.specs.Net.{AreOpen, Opens, opening_net};
+ghost use Rattle.gg_net.specs.Net.{AreListed, AreOpen, IsWithinLimits, Opens, opening_net};
 
 use crate::queue::Queue;
 use crate::seats;
-use crate::shape::{Shape, Station, Wire};
+use crate::shape::{Shape, Wire};
 use crate::streams::Streams;
 use gg_node::Host;
 use std::alloc::{AllocError, Global};
@@ -19,11 +19,9 @@ use std::marker::{Model, PhantomData};
 #[derive(Drop)]
 pub struct Net<H: Host, Z: Streams> {
     pub(crate) hosts: Vec<H>,
-    pub(crate) stations: Vec<Station>,
-    pub(crate) wires: Vec<Wire>,
+    pub(crate) shape: Shape,
     pub(crate) queues: Vec<Queue>,
-    pub(crate) end: u64,
-    of: PhantomData<Z>,
+    pub(crate) streams: PhantomData<Z>,
 }
 
 impl<H: Host, Z: Streams> Model for Net<H, Z> {
@@ -33,9 +31,9 @@ impl<H: Host, Z: Streams> Model for Net<H, Z> {
 
     ghost Value = { Network };
 
-    ghost view = { λ net. net_of (map H.machines net.hosts.items) net.stations.items net.wires.items net.queues.items net.end };
+    ghost view = { λ net. net_of (map H.machines net.hosts.items) net.shape.stations.items net.shape.wires.items net.queues.items net.shape.end };
 
-    ghost invariant = { λ net. IsNet Z.lists Z.runs (map H.machines net.hosts.items) net.stations.items net.wires.items net.queues.items net.end };
+    ghost invariant = { λ net. IsNet Z.lists Z.runs (map H.machines net.hosts.items) net.shape.stations.items net.shape.wires.items net.queues.items net.shape.end };
 }
 
 // The queues of these channels.
@@ -62,11 +60,9 @@ impl<H: Host, Z: Streams> Net<H, Z> {
         let queues = open_queues(alloc, &shape.wires)?;
         Ok(Net {
             hosts,
-            stations: shape.stations,
-            wires: shape.wires,
+            shape,
             queues,
-            end: shape.end,
-            of: PhantomData,
+            streams: PhantomData,
         })
     }
 
@@ -74,28 +70,45 @@ impl<H: Host, Z: Streams> Net<H, Z> {
     pub fn kept(&self)
         ensures { Kept Z.lists Z.runs self.now }
     {
-        let _ = &self.wires;
+        let _ = &self.shape;
+    }
+
+    /// Every network is within the limits.
+    pub fn within_limits(&self)
+        ensures { IsWithinLimits (frame_of self.now) }
+    {
+        let _ = &self.shape;
+    }
+
+    /// How its machines are joined.
+    pub fn shape(&self) -> &Shape
+        ensures count { length result.now.stations.items ≡ length self.now.machines }
+        ensures listed { AreListed (frame_of self.now) result.now.stations.items }
+        ensures wires { result.now.wires.items ≡ self.now.wires }
+        ensures end { result.now.end ≡ self.now.end }
+    {
+        &self.shape
     }
 
     /// How many cycles it is to do.
     pub fn end(&self) -> u64
         ensures { result ≡ self.now.end }
     {
-        self.end
+        self.shape.end
     }
 
     /// How many machines it has.
     pub fn machines(&self) -> usize
         ensures { result ≡ length self.now.machines }
     {
-        self.stations.len()
+        self.shape.stations.len()
     }
 
     /// How many channels it has.
     pub fn channels(&self) -> usize
         ensures { result ≡ length self.now.wires }
     {
-        self.wires.len()
+        self.shape.wires.len()
     }
 
     /// The cycle that a machine is in.
@@ -103,7 +116,7 @@ impl<H: Host, Z: Streams> Net<H, Z> {
         requires { machine < length self.now.machines }
         ensures { result ≡ (machine_at self.now.machines machine).cycle }
     {
-        seats::cycle(&self.hosts, &self.stations[machine as usize])
+        seats::cycle(&self.hosts, &self.shape.stations[machine as usize])
     }
 
     /// How many ports of a machine were served in this cycle.
@@ -111,7 +124,7 @@ impl<H: Host, Z: Streams> Net<H, Z> {
         requires { machine < length self.now.machines }
         ensures { result ≡ (machine_at self.now.machines machine).served }
     {
-        seats::served(&self.hosts, &self.stations[machine as usize])
+        seats::served(&self.hosts, &self.shape.stations[machine as usize])
     }
 
     /// How many ports of a machine are served in a cycle.
@@ -119,7 +132,27 @@ impl<H: Host, Z: Streams> Net<H, Z> {
         requires { machine < length self.now.machines }
         ensures { result ≡ length (machine_at self.now.machines machine).ports }
     {
-        seats::dues(&self.hosts, &self.stations[machine as usize])
+        seats::dues(&self.hosts, &self.shape.stations[machine as usize])
+    }
+
+    // The cycle that a machine is in: within the limit.
+    fn counted_cycle(&self, machine: u32) -> u64
+        requires { machine < length self.now.machines }
+        ensures is { result ≡ (machine_at self.now.machines machine).cycle }
+        ensures within { result ≤ cycle_limit }
+    {
+        self.kept();
+        self.within_limits();
+        self.cycle(machine)
+    }
+
+    /// How many ports of a machine were served since the first cycle.
+    pub fn serves(&self, machine: u32) -> u64
+        requires { machine < length self.now.machines }
+        ensures { result ≡ serves self.now machine }
+    {
+        let dues = u64::from(self.dues(machine));
+        dues * self.counted_cycle(machine) + u64::from(self.served(machine))
     }
 
     /// How many tokens were put into a channel.

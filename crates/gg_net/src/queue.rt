@@ -8,7 +8,7 @@ use std::marker::Model;
 
 /// The tokens of a channel, the front first, and for how many there is room. No call but the new one takes memory.
 #[derive(Drop)]
-pub(crate) struct Queue {
+pub struct Queue {
     tokens: VecDeque<u128>,
 }
 

@@ -15,11 +15,11 @@ impl<H: Host, Z: Streams> Net<H, Z> {
         requires { CanLatch self.old channel }
         ensures { self.new ≡ after_latch self.old channel }
     {
-        let wire = self.wires[channel as usize];
+        let wire = self.shape.wires[channel as usize];
         let token = self.queues[channel as usize].take();
         seats::latch(
             &mut self.hosts,
-            &self.stations[wire.consumer as usize],
+            &self.shape.stations[wire.consumer as usize],
             wire.place,
             token,
         );
@@ -30,10 +30,10 @@ impl<H: Host, Z: Streams> Net<H, Z> {
         requires { CanFire self.old channel }
         ensures { Gives self.old channel self.new }
     {
-        let wire = self.wires[channel as usize];
+        let wire = self.shape.wires[channel as usize];
         let token = seats::fire(
             &mut self.hosts,
-            &self.stations[wire.producer as usize],
+            &self.shape.stations[wire.producer as usize],
             wire.out,
         );
         self.queues[channel as usize].put(token);
@@ -44,7 +44,11 @@ impl<H: Host, Z: Streams> Net<H, Z> {
         requires { CanServe self.old machine port }
         ensures { self.new ≡ after_serve self.old machine }
     {
-        seats::serve(&mut self.hosts, &self.stations[machine as usize], port);
+        seats::serve(
+            &mut self.hosts,
+            &self.shape.stations[machine as usize],
+            port,
+        );
     }
 
     // Finishes the cycle of a machine.
@@ -52,7 +56,7 @@ impl<H: Host, Z: Streams> Net<H, Z> {
         requires { CanFinish self.old machine }
         ensures { GoesOn self.old machine self.new }
     {
-        seats::finish(&mut self.hosts, &self.stations[machine as usize]);
+        seats::finish(&mut self.hosts, &self.shape.stations[machine as usize]);
     }
 
     // Latches the front token of a channel, where that may be done.

@@ -22,7 +22,7 @@ impl<H: Host, Z: Streams> Net<H, Z> {
         ensures consumer { result.consumer < length self.now.machines }
         ensures place { result.place < length (machine_at self.now.machines result.consumer).latches }
     {
-        self.wires[channel as usize]
+        self.shape.wires[channel as usize]
     }
 
     // How many tokens the queue of a channel holds.
@@ -39,7 +39,7 @@ impl<H: Host, Z: Streams> Net<H, Z> {
         requires within { place < length (machine_at self.now.machines machine).latches }
         ensures { result ≡ is_some (latch_at (machine_at self.now.machines machine).latches place) }
     {
-        seats::latched(&self.hosts, &self.stations[machine as usize], place)
+        seats::latched(&self.hosts, &self.shape.stations[machine as usize], place)
     }
 
     // Whether an out of a machine has given its token of this cycle.
@@ -48,7 +48,7 @@ impl<H: Host, Z: Streams> Net<H, Z> {
         requires within { place < length (machine_at self.now.machines machine).flags }
         ensures { result ≡ flag_at (machine_at self.now.machines machine).flags place }
     {
-        seats::fired(&self.hosts, &self.stations[machine as usize], place)
+        seats::fired(&self.hosts, &self.shape.stations[machine as usize], place)
     }
 
     // The first in that an out of a machine needs and that has no token yet.
@@ -57,7 +57,7 @@ impl<H: Host, Z: Streams> Net<H, Z> {
         requires within { place < length (machine_at self.now.machines machine).flags }
         ensures { result ≡ missing (machine_at self.now.machines machine) place }
     {
-        seats::missing(&self.hosts, &self.stations[machine as usize], place)
+        seats::missing(&self.hosts, &self.shape.stations[machine as usize], place)
     }
 
     // The port of a machine that is to be served next.
@@ -65,7 +65,7 @@ impl<H: Host, Z: Streams> Net<H, Z> {
         requires { machine < length self.now.machines }
         ensures { result ≡ due (machine_at self.now.machines machine) }
     {
-        seats::due(&self.hosts, &self.stations[machine as usize])
+        seats::due(&self.hosts, &self.shape.stations[machine as usize])
     }
 
     // The channel at an in of a machine.
@@ -74,7 +74,7 @@ impl<H: Host, Z: Streams> Net<H, Z> {
         requires within { place < length (machine_at self.now.machines machine).latches }
         ensures { IsAtIn self.now.wires machine place result }
     {
-        self.stations[machine as usize].ins.as_slice()[place as usize]
+        self.shape.stations[machine as usize].ins.as_slice()[place as usize]
     }
 
     // The channel at an out of a machine.
@@ -83,7 +83,7 @@ impl<H: Host, Z: Streams> Net<H, Z> {
         requires within { place < length (machine_at self.now.machines machine).flags }
         ensures { IsAtOut self.now.wires machine place result }
     {
-        self.stations[machine as usize].outs.as_slice()[place as usize]
+        self.shape.stations[machine as usize].outs.as_slice()[place as usize]
     }
 
     // The first out of a machine that hasn't given its token of this cycle.
@@ -91,7 +91,7 @@ impl<H: Host, Z: Streams> Net<H, Z> {
         requires { machine < length self.now.machines }
         ensures { MatchOption result (AllFired (machine_at self.now.machines machine)) (IsFirstClear (machine_at self.now.machines machine).flags) }
     {
-        seats::first_unfired(&self.hosts, &self.stations[machine as usize])
+        seats::first_unfired(&self.hosts, &self.shape.stations[machine as usize])
     }
 
     // The first in of a machine that has no token of this cycle.
@@ -99,7 +99,7 @@ impl<H: Host, Z: Streams> Net<H, Z> {
         requires { machine < length self.now.machines }
         ensures { MatchOption result (AllLatched (machine_at self.now.machines machine)) (IsFirstEmpty (machine_at self.now.machines machine).latches) }
     {
-        seats::first_unlatched(&self.hosts, &self.stations[machine as usize])
+        seats::first_unlatched(&self.hosts, &self.shape.stations[machine as usize])
     }
 
     // The first in that the port that is due looks at and that has no token yet.
@@ -108,7 +108,7 @@ impl<H: Host, Z: Streams> Net<H, Z> {
         requires due { due (machine_at self.now.machines machine) ≡ Some port }
         ensures { result ≡ first_empty (machine_at self.now.machines machine).latches (due_fields (machine_at self.now.machines machine)) }
     {
-        let station = &self.stations[machine as usize];
+        let station = &self.shape.stations[machine as usize];
         let served = seats::served(&self.hosts, station);
         let port = &station.ports.as_slice()[served as usize];
         seats::first_missing(&self.hosts, station, port.fields.as_slice())
@@ -119,7 +119,7 @@ impl<H: Host, Z: Streams> Net<H, Z> {
         requires { machine < length self.now.machines }
         ensures { Decides result (Contains (numbers (machine_at self.now.machines machine).ports) port) }
     {
-        ports::has(self.stations[machine as usize].ports.as_slice(), port)
+        ports::has(self.shape.stations[machine as usize].ports.as_slice(), port)
     }
 
     // One more than the greatest number of a machine's ports.
@@ -127,6 +127,6 @@ impl<H: Host, Z: Streams> Net<H, Z> {
         requires { machine < length self.now.machines }
         ensures { result ≡ bound_of (numbers (machine_at self.now.machines machine).ports) }
     {
-        ports::bound(self.stations[machine as usize].ports.as_slice())
+        ports::bound(self.shape.stations[machine as usize].ports.as_slice())
     }
 }

@@ -1,6 +1,6 @@
 //! `Source`: a machine that gives the values of a column.
 ghost use Rattle.std.specs.Prelude.{◌≡◌, ℕ, ◌<◌, List, [], ◌∷◌, false, length, is_some, slice_set};
-ghost use Rattle.gg_node.specs.Machine.{Machine, machine_at, latch_at, flag_at, missing, due, source_machine};
+ghost use Rattle.gg_node.specs.Machine.{GivesColumn, Machine, machine_at, latch_at, flag_at, missing, due, source_machine};
 ghost use Rattle.gg_node.specs.Token.{IsToken, IsNextState};
 ghost use Rattle.gg_node.specs.Step.{MayLatch, MayFire, MayServe, MayFinish, with_latch, with_flag, with_served, finished};
 
@@ -34,6 +34,13 @@ impl Source {
             cycle: 0,
             fired: false,
         }
+    }
+
+    /// The values that it gives, by cycle.
+    pub fn column(&self) -> &[u128]
+        ensures { self.now.behaviour ≡ GivesColumn result.now }
+    {
+        &self.column
     }
 }
 

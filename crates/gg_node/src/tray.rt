@@ -1,6 +1,6 @@
 //! `Tray`: a machine that keeps the values that it gets.
 ghost use Rattle.std.specs.Prelude.{◌≡◌, ℕ, ◌<◌, ◌≤◌, List, [], ◌∷◌, None, IfOk, length, is_some, slice_set};
-ghost use Rattle.gg_node.specs.Machine.{Machine, machine_at, latch_at, flag_at, missing, due, tray_machine};
+ghost use Rattle.gg_node.specs.Machine.{KeepsValues, Machine, machine_at, latch_at, flag_at, missing, due, tray_machine};
 ghost use Rattle.gg_node.specs.Token.{IsToken, IsNextState};
 ghost use Rattle.gg_node.specs.Step.{MayLatch, MayFire, MayServe, MayFinish, with_latch, with_flag, with_served, finished};
 
@@ -48,7 +48,8 @@ impl Tray {
 
     /// The values that it has kept, by cycle.
     pub fn column(&self) -> &[u128]
-        ensures { result.now ≡ self.now.kept }
+        ensures keeps { self.now.behaviour ≡ KeepsValues }
+        ensures kept { result.now ≡ self.now.kept }
     {
         &self.values[..self.cycle as usize]
     }

@@ -8,18 +8,18 @@ use Rattle.gg_bits.specs.Shape.{shape, Fits}
 use Rattle.gg_flat.specs.declared.piece.Signal.{Signal}
 use Rattle.gg_flat.specs.declared.piece.Driver.TheVariants.{Input}
 use Rattle.gg_flat.specs.Line.{shape_at, value_at, AreTyped}
-use Rattle.gg_flat.specs.Circuit.{FlatCircuit, signal_shapes, driver_at}
+use Rattle.gg_flat.specs.Circuit.{FlatCircuit, signal_shapes}
 use Rattle.gg_flat.specs.Reads.{Reaches}
 use Rattle.gg_flat.specs.Room.{HasRoom}
 use Rattle.gg_flat.specs.WellFormed.{IsWellFormed, MayDrive}
-use Rattle.gg_flat.specs.State.{State, next_state}
-use Rattle.gg_flat.specs.Settled.{in_shapes, driver_value}
+use Rattle.gg_flat.specs.State.{State}
+use Rattle.gg_flat.specs.Settled.{in_shapes}
 use Rattle.gg_flat.proofs.TypedLemmas.{shape_at-in_shapes, AreTyped-zeros, AreTyped-set}
 use Rattle.gg_part.specs.InOrder.{IsInOrder}
 use Rattle.gg_order.specs.Marks.{is_marked}
 use Rattle.gg_needs.proofs.ReachLemmas.{Reaches-on, Reaches-within}
-use Rattle.gg_program.specs.Slots.{Slotted, IsDone, NoneDone, AreSlots, HasInput, HasNeeded, with_input, inputs_in}
-use Rattle.gg_program.specs.Right.{AreRight, InCycle, IsCycle, IsInner}
+use Rattle.gg_program.specs.Slots.{Slotted, IsDone, NoneDone, AreSlots, HasInput, HasNeeded, with_input}
+use Rattle.gg_program.specs.Right.{AreRight, InCycle, IsInner}
 use Rattle.gg_program.specs.Search.{Searched, IsGathered, StandBehind}
 use Rattle.gg_program.proofs.SearchLemmas.{mark-more, mark-cases}
 use Rattle.gg_program.proofs.RightLemmas.{AreRight-same, AreRight-none, AreRight-put}
@@ -126,14 +126,3 @@ InCycle-put circuit state slots place input formed within fits free h =
     }
 
 -- ---- the whole cycle
-
-pub IsCycle-all : (circuit : FlatCircuit) (before after : State) (inputs values : List ℕ) → AreTyped (signal_shapes circuit) values → inputs_in circuit values ≡ inputs → AreRight circuit before values (λ s. s < length circuit.signals) → after ≡ next_state circuit before values → IsCycle circuit before inputs after
-IsCycle-all circuit before after inputs values typed same right next =
-    record {
-      signals = values;
-      settled = record {
-        typed = typed;
-        driven = λ s known. right.driven s known known ∙ ap (λ (l : List ℕ). driver_value before l values (shape_at (signal_shapes circuit) s) (driver_at circuit s)) same;
-      };
-      next = next;
-    }

@@ -1,5 +1,5 @@
 -- Signals that are worked out one after another are right.
-use Rattle.std.proofs.Common.{◌≡◌, ℕ, ◌+◌, ◌<◌, ◌≤◌, List, [], ◌∷◌, ◌++◌, length, take, set, Bool, true, false, true≢false, refl, sym, ◌∙◌, ap, subst, inl, inr, ◌⊎◌, arith}
+use Rattle.std.proofs.Common.{◌≡◌, ℕ, ◌+◌, ◌<◌, ◌≤◌, List, [], ◌∷◌, ◌++◌, length, take, set, Bool, true, false, true≢false, sym, ◌∙◌, ap, subst, inl, inr, ◌⊎◌, arith}
 use Rattle.std.specs.Prelude.{Contains}
 use Rattle.std.proofs.lemmas.Bool.{cases_lt}
 use Rattle.std.proofs.lemmas.List.{length-map, take_all, take_more}
@@ -20,7 +20,6 @@ use Rattle.gg_order.specs.Marks.{is_marked}
 use Rattle.gg_program.specs.Slots.{inputs_in}
 use Rattle.gg_program.specs.Right.{AreRight, IsInner}
 use Rattle.gg_program.specs.Search.{StandBehind}
-use Rattle.gg_program.proofs.SearchLemmas.{marked-within}
 use Rattle.gg_program.proofs.RightLemmas.{inputs-inner, AreRight-same, AreRight-more}
 
 -- there is a value for each signal
@@ -37,15 +36,6 @@ pub record IsWorking (circuit : FlatCircuit) (state : State) (signals first : Li
   pub typed : AreTyped (signal_shapes circuit) values
   pub inputs : inputs_in circuit values ≡ inputs_in circuit first
   pub right : (marks : List Bool) → StandBehind circuit marks signals → AreRight circuit state first (λ s. is_marked marks s ≡ true) → AreRight circuit state values (λ s. (is_marked marks s ≡ true) ⊎ Contains (take i signals) s)
-
-pub IsWorking-start : (circuit : FlatCircuit) (state : State) (signals first : List ℕ) → AreTyped (signal_shapes circuit) first → IsWorking circuit state signals first 0 first
-IsWorking-start circuit state signals first typed =
-    record {
-      typed = typed;
-      inputs = refl;
-      right = λ marks behind right. AreRight-same circuit state first (λ s. is_marked marks s ≡ true) (λ s. (is_marked marks s ≡ true) ⊎ Contains (take 0 signals) s)
-          (λ s m. inl m) (λ s e. elim e [ inl m ↦ m | inr h ↦ absurd (omega (arith, h.1)) ]) right;
-    }
 
 pub IsWorking-step : (circuit : FlatCircuit) (state : State) (signals first : List ℕ) (i s : ℕ) (values : List ℕ) (value : ℕ) → IsWellFormed circuit → IsInOrder circuit → i < length signals → s ≡ value_at signals i → IsInner circuit s → value ≡ driver_value state [] values (shape_at (signal_shapes circuit) s) (driver_at circuit s) → Fits (shape_at (signal_shapes circuit) s) value → IsWorking circuit state signals first i values → IsWorking circuit state signals first (i + 1) (set values s value)
 IsWorking-step circuit state signals first i s values value formed ordered within at inner is fits h =
@@ -87,14 +77,6 @@ pub record IsSettling (circuit : FlatCircuit) (state : State) (marks : List Bool
   pub inputs : inputs_in circuit values ≡ inputs_in circuit first
   pub right : AreRight circuit state values (λ s. (is_marked marks s ≡ true) ⊎ (s < k))
 
-pub IsSettling-start : (circuit : FlatCircuit) (state : State) (marks : List Bool) (first : List ℕ) → AreTyped (signal_shapes circuit) first → AreRight circuit state first (λ s. is_marked marks s ≡ true) → IsSettling circuit state marks first 0 first
-IsSettling-start circuit state marks first typed right =
-    record {
-      typed = typed;
-      inputs = refl;
-      right = AreRight-same circuit state first (λ s. is_marked marks s ≡ true) (λ s. (is_marked marks s ≡ true) ⊎ (s < 0)) (λ s m. inl m) (λ s e. elim e [ inl m ↦ m | inr lt ↦ absurd (omega (arith, lt)) ]) right;
-    }
-
 pub IsSettling-skip : (circuit : FlatCircuit) (state : State) (marks : List Bool) (first : List ℕ) (k : ℕ) (values : List ℕ) → is_marked marks k ≡ true → IsSettling circuit state marks first k values → IsSettling circuit state marks first (k + 1) values
 IsSettling-skip circuit state marks first k values is h =
     record {
@@ -128,10 +110,3 @@ IsSettling-step circuit state marks first k values value formed ordered inner is
           (λ t e. elim e [ inl m ↦ inl m | inr lt ↦ inr (omega (arith, lt)) ])
           h.right;
     }
-
-pub IsSettling-end : (circuit : FlatCircuit) (state : State) (marks : List Bool) (first : List ℕ) (k : ℕ) (values : List ℕ) → k ≡ length circuit.signals → length marks ≡ length circuit.signals → IsSettling circuit state marks first k values → AreRight circuit state values (λ s. s < length circuit.signals)
-IsSettling-end circuit state marks first k values all count h =
-    AreRight-same circuit state values (λ s. (is_marked marks s ≡ true) ⊎ (s < k)) (λ s. s < length circuit.signals)
-    (λ s e. elim e [ inl m ↦ omega (arith, marked-within marks s m, count) | inr lt ↦ omega (arith, lt, all) ])
-    (λ s lt. inr (omega (arith, lt, all)))
-    h.right

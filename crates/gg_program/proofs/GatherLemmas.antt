@@ -1,10 +1,8 @@
 -- A queue of the signals whose reads are looked at comes to just what a signal reaches.
 use Rattle.std.proofs.Common.{◌≡◌, ℕ, ◌+◌, ◌<◌, ◌≤◌, List, [], ◌++◌, length, Bool, true, false, true≢false, refl, sym, ◌∙◌, ap, subst, inl, inr, ◌⊎◌, ◌↔◌, arith, below_more}
 use Rattle.std.specs.Prelude.{Contains}
-use Rattle.std.specs.List.Sorted.{IsPermutation}
 use Rattle.std.proofs.lemmas.List.{get_or_append_left, get_or_default, length-append}
 use Rattle.std.proofs.lemmas.List.Elements.{Contains-append_left, Contains-append_right, Contains-append_cases}
-use Rattle.std.proofs.lemmas.List.Sorted.{Contains-permutation, IsPermutation-sym}
 use Rattle.gg_flat.specs.Line.{value_at}
 use Rattle.gg_flat.specs.Circuit.{FlatCircuit, driver_at}
 use Rattle.gg_flat.specs.Reads.{Reads, NamesSignal, Reaches}
@@ -99,13 +97,13 @@ IsGathered-end circuit out first place now closed all h =
     reached s to = along-reaches circuit (λ (x : ℕ). is_marked now.marks x ≡ true) on out s h.itself to
 
 -- what was found, in another order
-pub IsGathered-moved : (circuit : FlatCircuit) (out : ℕ) (first : List Bool) (before after : Searched) → after.marks ≡ before.marks → IsPermutation before.found after.found → IsGathered circuit out first before → IsGathered circuit out first after
+pub IsGathered-moved : (circuit : FlatCircuit) (out : ℕ) (first : List Bool) (before after : Searched) → after.marks ≡ before.marks → ((s : ℕ) → Contains after.found s ↔ Contains before.found s) → IsGathered circuit out first before → IsGathered circuit out first after
 IsGathered-moved circuit out first before after marks same h =
     record {
       count = ap (λ (l : List Bool). length l) marks ∙ h.count;
       found = λ s. (
-        λ has. (h.found s).0 (Contains-permutation after.found before.found s (IsPermutation-sym before.found after.found same) has),
-        λ both. Contains-permutation before.found after.found s same ((h.found s).1 both),
+        λ has. (h.found s).0 ((same s).0 has),
+        λ both. (same s).1 ((h.found s).1 both),
       );
       marked = λ s. subst (λ (l : List Bool). (is_marked l s ≡ true) ↔ ((is_marked first s ≡ true) ⊎ Reaches circuit out s)) (sym marks) (h.marked s);
     }

@@ -1,15 +1,12 @@
 -- Marks on signals with a list of those that were found, signal by signal.
-use Rattle.std.proofs.Common.{◌≡◌, ◌≢◌, ℕ, ◌+◌, ◌<◌, ◌≤◌, List, [], ◌∷◌, ◌++◌, length, take, set, Bool, true, false, true≢false, nat_eq, eqb, refl, sym, ◌∙◌, ap, subst, inl, inr, ◌⊎◌, arith, append_assoc}
-use Rattle.std.specs.Prelude.{Contains, slice_index_or}
-use Rattle.std.specs.List.Sorted.{IsPermutation}
+use Rattle.std.proofs.Common.{◌≡◌, ◌≢◌, ℕ, ◌+◌, ◌<◌, ◌≤◌, List, [], ◌∷◌, ◌++◌, length, take, set, Bool, true, false, true≢false, nat_eq, refl, sym, ◌∙◌, ap, subst, inl, inr, ◌⊎◌, ◌↔◌, arith, append_assoc}
+use Rattle.std.specs.Prelude.{AllPairs, Contains, slice_index_or}
 use Rattle.std.proofs.lemmas.Bool.{cases_lt}
 use Rattle.std.proofs.lemmas.Bool.Decides.{Decides-eqb}
 use Rattle.std.proofs.lemmas.List.{append-nil, get_or_default, get_or_past, get_or-set_same, get_or-set_other, length-append, length-set, take_more}
 use Rattle.std.proofs.lemmas.List.Elements.{Contains-append_left, Contains-append_right, Contains-append_cases}
 use Rattle.std.proofs.lemmas.List.Quantifiers.{all_pairs_push}
-use Rattle.std.proofs.lemmas.List.Sorted.{Contains-permutation, IsPermutation-sym}
-use Rattle.std.proofs.lemmas.Map.Keys.{IsDistinct-IsPermutation}
-use Rattle.std.proofs.lemmas.Map.Made.{AllPairs-from_IsDistinct, IsDistinct-from_AllPairs}
+use Rattle.std.proofs.lemmas.Map.Made.{IsDistinct-from_AllPairs}
 use Rattle.std.proofs.lemmas.Map.Steps.{length-le_from_distinct_below}
 use Rattle.std.proofs.lemmas.Map.Views.{Contains-from_any}
 use Rattle.gg_flat.specs.declared.line.Node.{Node}
@@ -79,21 +76,6 @@ IsListed-room marks found signal known not h =
     let most = IsListed-most (set marks signal true) (found ++ signal ∷ []) (IsListed-push marks found signal known not h) in
     omega (arith, most, length-append found (signal ∷ []), length-set marks signal true)
 
-pub IsListed-permutation : (marks : List Bool) (found moved : List ℕ) → IsPermutation found moved → IsListed marks found → IsListed marks moved
-IsListed-permutation marks found moved same h =
-    record {
-      marked = λ s has. h.marked s (Contains-permutation moved found s (IsPermutation-sym found moved same) has);
-      once = AllPairs-from_IsDistinct Decides-eqb moved (IsDistinct-IsPermutation eqb flips found moved same (IsDistinct-from_AllPairs Decides-eqb found h.once));
-    }
-  where
-    flips : (x y : ℕ) → eqb x y ≡ eqb y x
-    flips x y = by (eqb x y) (eqb y x) refl refl
-      where
-        by : (a b : Bool) → eqb x y ≡ a → eqb y x ≡ b → eqb x y ≡ eqb y x
-        by true b e f = e ∙ sym ((Decides-eqb y x).1 (sym ((Decides-eqb x y).0 e)))
-        by false true e f = absurd (true≢false (sym ((Decides-eqb x y).1 (sym ((Decides-eqb y x).0 f))) ∙ e))
-        by false false e f = e ∙ sym f
-
 -- ---- one signal is found
 
 pub Finds-marked : (search : Searched) (signal : ℕ) → is_marked search.marks signal ≡ true → Finds (λ s. signal ≡ s) search search
@@ -125,17 +107,6 @@ Finds-new marks found signal known not =
     itself s same = subst (λ (x : ℕ). is_marked (set marks signal true) x ≡ true) same (get_or-set_same marks signal true false known)
 
 -- ---- one after another
-
-pub Finds-none : (P : ℕ → Type 0) (search : Searched) → ((s : ℕ) → P s → ⊥) → Finds P search search
-Finds-none P search none =
-    record {
-      count = refl;
-      more = [];
-      grown = sym (append-nil search.found);
-      fresh = λ s h. absurd (omega (arith, h.1));
-      marked = λ s. (λ m. inl m, λ e. elim e [ inl m ↦ m | inr h ↦ absurd (omega (arith, h.1)) ]);
-      named = λ s p. absurd (none s p);
-    }
 
 pub Finds-then : (P Q R : ℕ → Type 0) (a b c : Searched) → ((s : ℕ) → P s → R s) → ((s : ℕ) → Q s → R s) → ((s : ℕ) → R s → P s ⊎ Q s) → Finds P a b → Finds Q b c → Finds R a c
 Finds-then P Q R a b c from_p from_q cases first second =
@@ -198,3 +169,7 @@ Finds-both addr en a b c first second = Finds-then (λ s. addr ≡ s) (λ s. en 
 -- what is listed has a mark
 pub IsListed-within : (marks : List Bool) (found : List ℕ) (place : ℕ) → place < length found → IsListed marks found → value_at found place < length marks
 IsListed-within marks found place lt h = marked-within marks (value_at found place) (h.marked (value_at found place) (place, lt, get_or_default found place (value_at found place) 0 lt))
+
+-- the same signals in another order
+pub IsListed-moved : (marks : List Bool) (found moved : List ℕ) → ((s : ℕ) → Contains moved s ↔ Contains found s) → AllPairs (λ a b. a ≢ b) moved → IsListed marks found → IsListed marks moved
+IsListed-moved marks found moved same once h = record { marked = λ s has. h.marked s ((same s).0 has); once = once }

@@ -13,6 +13,7 @@
 //! Only `Program::of` and `Program::slots` take memory.
 #![tactic(auto)]
 
+mod ascend;
 mod evaluate;
 mod laws;
 mod program;

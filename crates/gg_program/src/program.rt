@@ -127,8 +127,8 @@ impl<'a> Program<'a> {
         slots.put(piece.ins()[place as usize], input);
     }
 
-    /// The value of the out-signal at this place, in this state and with the inputs that it needs, which were put. What it
-    /// reaches is done then, and each signal that was done keeps its value. It depends on no other input, and takes no memory.
+    /// The value of the out-signal at this place, in this state and with the inputs that it needs, which were put. It depends
+    /// on no other input. What it reaches is done then, beside what was; just what wasn't is worked out. It takes no memory.
     ///
     /// State and slots are of the program's circuit, in a cycle from this state.
     pub fn run_cone(&self, state: &State, slots: &mut Slots, out: u32) -> u128

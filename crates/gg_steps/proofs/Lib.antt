@@ -1,2 +1,5 @@
 pub mod WordLaws
 pub mod PlaceLaws
+pub mod WorkedSteps
+pub mod NamedLaws
+pub mod SpellingLaws

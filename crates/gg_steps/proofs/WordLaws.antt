@@ -7,7 +7,7 @@ use Rattle.std.proofs.lemmas.List.{get_or_default}
 use Rattle.std.proofs.lemmas.Bool.Decides.{nat_tests}
 use Rattle.gg_steps.specs.Words.{words}
 
-not_eqb : (a b : ℕ) → (a ≡ b → ⊥) → eqb a b ≡ false
+pub not_eqb : (a b : ℕ) → (a ≡ b → ⊥) → eqb a b ≡ false
 not_eqb a b h = grind (arith, nat_tests)
 
 -- where no blank stands in it, the line is the one word

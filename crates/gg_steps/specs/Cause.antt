@@ -15,7 +15,7 @@ step_ports naming (Some (Fire channel)) = []
 step_ports naming (Some (Serve machine port)) = ports_at naming machine
 step_ports naming (Some (Finish machine)) = ports_at naming machine
 
--- the name of the port that is due; `-` where none is
+-- the name of the port that is due; `-` where the number is no port's, which is so where none is due
 abbrev pub due_name : Option (List ℕ) → List ℕ
 due_name None = codes "-"
 due_name (Some name) = name

@@ -3,3 +3,4 @@ pub mod Table
 pub mod Words
 pub mod Steps
 pub mod Cause
+pub mod Spelling

@@ -10,7 +10,8 @@ use std::alloc::{AllocError, Global};
 /// The text of the cause for which a step isn't done.
 ///
 /// It is the cause's name, and behind a blank each what it speaks of: a channel, or a port of the machine that the step
-/// names, by its name; for a full queue also how many tokens it holds, in decimal. Where no port is due, `-` stands for it.
+/// names, by its name; for a full queue also how many tokens it holds, in decimal. Where a number has no name, nothing stands
+/// for it, but for the port that is due `-`: no port is due then.
 ///
 /// # Errors
 ///

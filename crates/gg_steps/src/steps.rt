@@ -1,6 +1,6 @@
 //! The steps of a file, line by line.
 
-ghost use Rattle.std.specs.Prelude.{◌≡◌, ◌∷◌, IfOk};
+ghost use Rattle.std.specs.Prelude.{◌≡◌, IfOk};
 ghost use Rattle.gg_steps.specs.Naming.{first_place};
 ghost use Rattle.gg_steps.specs.Steps.{named_step, served_step, step_of, steps_of};
 

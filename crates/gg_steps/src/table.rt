@@ -1,6 +1,6 @@
 //! A list of names, with the places at which they stand.
 
-ghost use Rattle.std.specs.Prelude.{◌≡◌, ℕ, List, [], ◌∷◌, ◌++◌, ◌<◌, ◌^◌, length, map, slice_get, option_map, IfOk, OnOk, OnErr};
+ghost use Rattle.std.specs.Prelude.{◌≡◌, ℕ, List, [], ◌∷◌, ◌++◌, ◌<◌, ◌^◌, length, slice_get, option_map, IfOk, OnOk, OnErr};
 ghost use Rattle.gg_steps.specs.Naming.{first_place};
 ghost use Rattle.gg_steps.specs.Table.{TellsNames};
 

@@ -1,6 +1,6 @@
 //! The words of one line, from left to right.
 
-ghost use Rattle.std.specs.Prelude.{◌≡◌, ℕ, List, ◌∷◌, [], ◌<◌, ◌≤◌, ◌≢◌, MatchOption, length, slice_index};
+ghost use Rattle.std.specs.Prelude.{◌≡◌, ℕ, ◌∷◌, [], ◌<◌, ◌≤◌, ◌≢◌, MatchOption, length, slice_index};
 ghost use Rattle.std.specs.Option.{option_copied};
 ghost use Rattle.gg_steps.specs.Words.{words, words_left};
 

@@ -4,6 +4,7 @@
 //! the whole text gives, or the first thing that is wrong with it, and no other: a text that has columns is read, and a
 //! text that has a fault is refused with its first one, unless memory runs out. `header_text` and `row_text` give the
 //! exact bytes of the lines of an output trace, and what is printed there is read again as the same value.
+//! `Lines` gives the lines of any text, one after another.
 #![tactic(auto)]
 
 mod cells;
@@ -22,7 +23,7 @@ mod trace_table;
 pub use faults::TraceFault;
 pub use field_cuts::fields_part_their_line;
 pub use laws::one_first_fault;
-pub use line_cuts::{lines_part_their_text, Lines};
+pub use line_cuts::{Lines, lines_part_their_text};
 pub use printing::{header_text, printed_values_are_read, row_text};
 pub use reading::read_trace;
 pub use trace_table::Trace;

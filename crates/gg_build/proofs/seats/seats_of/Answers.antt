@@ -12,8 +12,8 @@ loop-number-preserved c =
     let own = c.index-machines-number.result in
     let known : m < length plan.machines = omega (arith, c.loop-number-test.true, ap length c.as_slice-machines.ensures) in
     let is : machine_in plan m ≡ own =
-            get_or_default plan.machines m nameless own known
-            ∙ sym (ap (λ (l : List planned.Machine). get_or l m own) c.as_slice-machines.ensures)
-            ∙ sym c.index-machines-number.is
-        in
+    get_or_default plan.machines m nameless own known
+    ∙ sym (ap (λ (l : List planned.Machine). get_or l m own) c.as_slice-machines.ensures)
+    ∙ sym c.index-machines-number.is
+    in
     seats-more plan c.args.trace.now.columns c.args.trace.now.rows m own c.loop-number.hosts.items c.add_seat.new.hosts.items c.loop-number.stations.items c.add_seat.new.stations.items is c.loop-number.invariant c.in_ok-add_seat.ensures

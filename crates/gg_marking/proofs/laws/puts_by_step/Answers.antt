@@ -1,4 +1,4 @@
-use Rattle.gg_marking.proofs.PutsLemmas.{puts-within, step-fires, step-others}
+use Rattle.gg_marking.proofs.PutsLemmas.{puts-within, step-fires, step-others, one-held, front-grows}
 use Rattle.gg_marking.proofs.laws.puts_by_step.Goals as goal
 
 pub returns-clause-fires : goal.returns-clause-fires
@@ -9,3 +9,9 @@ returns-clause-others c = λ lists runs old new event d kept step known other. s
 
 pub returns-clause-within : goal.returns-clause-within
 returns-clause-within c = λ lists runs net d kept known. puts-within lists runs net kept d known
+
+pub returns-clause-held : goal.returns-clause-held
+returns-clause-held c = λ lists runs old new d kept step. one-held lists runs old new kept d step
+
+pub returns-clause-front : goal.returns-clause-front
+returns-clause-front c = λ lists runs old new d kept step. front-grows lists runs old new kept d step

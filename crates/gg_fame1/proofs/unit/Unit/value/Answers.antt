@@ -1,6 +1,6 @@
-use Rattle.std.proofs.Common.{◌≡◌, ◌<◌, None, length, ap, subst, ◌∙◌, arith}
+use Rattle.std.proofs.Common.{◌<◌, length, ap, subst, ◌∙◌, arith}
 use Rattle.gg_flat.specs.Line.{value_at}
-use Rattle.gg_node.specs.Machine.{missing, first_empty, needs_at}
+use Rattle.gg_node.specs.Machine.{missing}
 use Rattle.gg_node.specs.Token.{IsToken}
 use Rattle.gg_program.specs.Slots.{inputs_in}
 use Rattle.gg_fame1.proofs.UnitLemmas.{needed-put, kept-read, token-is}

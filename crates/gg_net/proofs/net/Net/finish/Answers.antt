@@ -9,7 +9,7 @@ use Rattle.gg_net.proofs.net.Net.finish.Goals as goal
 pub invariant_of-self : goal.invariant_of-self
 invariant_of-self g c =
     let m = c.args.machine in
-    let stations = c.self.inside.stations.items in
+    let stations = c.self.inside.shape.stations.items in
     let can = subst (λ n. CanFinish n m) (sym c.self.view_is) c.requires in
     let below : m < length stations = omega (arith, can.there, length-map stations (seated (map g.H.Host.machines c.self.inside.hosts.items))) in
     finish-closes c.self.invariant m c.index.result.now below c.index.ensures can (map g.H.Host.machines c.finish.new.hosts.items) c.finish.ensures
@@ -17,9 +17,9 @@ invariant_of-self g c =
 pub returns : goal.returns
 returns g c =
     let m = c.args.machine in
-    let stations = c.self.inside.stations.items in
+    let stations = c.self.inside.shape.stations.items in
     let can = subst (λ n. CanFinish n m) (sym c.self.view_is) c.requires in
     let below : m < length stations = omega (arith, can.there, length-map stations (seated (map g.H.Host.machines c.self.inside.hosts.items))) in
     let after = map g.H.Host.machines c.finish.new.hosts.items in
-    subst (λ n. GoesOn n m (net_of after stations c.self.inside.wires.items c.self.inside.queues.items c.self.inside.end)) c.self.view_is
+    subst (λ n. GoesOn n m (net_of after stations c.self.inside.shape.wires.items c.self.inside.queues.items c.self.inside.shape.end)) c.self.view_is
     (finish-goes c.self.invariant m c.index.result.now below c.index.ensures can after c.finish.ensures)

@@ -24,6 +24,6 @@ invariant_of-self g c =
 pub returns : goal.returns
 returns g c =
     let can = subst (λ n. CanFire n c.args.channel) (sym c.self.view_is) c.requires in
-    subst (λ n. Gives n c.args.channel (net_of (map g.H.Host.machines c.fire-token.new.hosts.items) c.self.inside.stations.items c.self.inside.wires.items (slice_set c.self.inside.queues.items c.args.channel c.put.new.self) c.self.inside.end)) c.self.view_is
+    subst (λ n. Gives n c.args.channel (net_of (map g.H.Host.machines c.fire-token.new.hosts.items) c.self.inside.shape.stations.items c.self.inside.shape.wires.items (slice_set c.self.inside.queues.items c.args.channel c.put.new.self) c.self.inside.shape.end)) c.self.view_is
     (fire-gives c.self.invariant c.args.channel c.index-wire.result.now c.index-wire.ensures can.can.0 c.index_mut.result.now c.index_mut.ensures.value c.index.result.now c.index.ensures can
     (map g.H.Host.machines c.fire-token.new.hosts.items) c.fire-token.result c.fire-token.ensures.token c.put.new.self c.put.ensures.tokens c.put.ensures.room c.fire-token.ensures.step)

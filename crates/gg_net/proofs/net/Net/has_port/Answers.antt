@@ -13,7 +13,7 @@ use Rattle.gg_net.proofs.net.Net.has_port.Goals as goal
 pub returns : goal.returns
 returns g c =
     let m = c.args.machine in
-    let stations = c.self.inside.stations.items in
+    let stations = c.self.inside.shape.stations.items in
     let below : m < length stations = omega (arith, c.requires, ap (λ (net : Network). length net.machines) c.self.view_is, length-map stations (seated (map g.H.Host.machines c.self.inside.hosts.items))) in
     subst (λ ns. Decides c.has.result (Contains ns c.args.port))
     (ap (map (λ (p : ServedPort). p.number)) c.as_slice.ensures

@@ -8,7 +8,7 @@ use Rattle.gg_net.proofs.net.Net.serve.Goals as goal
 pub invariant_of-self : goal.invariant_of-self
 invariant_of-self g c =
     let m = c.args.machine in
-    let stations = c.self.inside.stations.items in
+    let stations = c.self.inside.shape.stations.items in
     let can = subst (λ n. CanServe n m c.args.port) (sym c.self.view_is) c.requires in
     let below : m < length stations = omega (arith, can.there.0, length-map stations (seated (map g.H.Host.machines c.self.inside.hosts.items))) in
     serve-closes c.self.invariant m c.index.result.now below c.index.ensures c.args.port can (map g.H.Host.machines c.serve.new.hosts.items) c.serve.ensures
@@ -16,7 +16,7 @@ invariant_of-self g c =
 pub returns : goal.returns
 returns g c =
     let m = c.args.machine in
-    let stations = c.self.inside.stations.items in
+    let stations = c.self.inside.shape.stations.items in
     let can = subst (λ n. CanServe n m c.args.port) (sym c.self.view_is) c.requires in
     let below : m < length stations = omega (arith, can.there.0, length-map stations (seated (map g.H.Host.machines c.self.inside.hosts.items))) in
     serve-is c.self.invariant m c.index.result.now below c.index.ensures c.args.port can (map g.H.Host.machines c.serve.new.hosts.items) c.serve.ensures

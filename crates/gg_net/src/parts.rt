@@ -1,0 +1,48 @@
+//! `Parts`: a network taken apart, and joined again.
+ghost use Rattle.std.specs.Prelude.{◌≡◌, map};
+ghost use Rattle.gg_net.specs.Net.{joined, AreParts};
+
+use crate::net::Net;
+use crate::queue::Queue;
+use crate::shape::Shape;
+use crate::streams::Streams;
+use gg_node::Host;
+use std::marker::PhantomData;
+
+/// The parts of a network.
+#[derive(Drop)]
+pub struct Parts<H> {
+    /// The hosts of its machines.
+    pub hosts: Vec<H>,
+    /// How the machines are joined.
+    pub shape: Shape,
+    /// The queues of its channels, by number.
+    pub queues: Vec<Queue>,
+}
+
+impl<H: Host, Z: Streams> Net<H, Z> {
+    /// Takes a network apart. Each queue has room for its capacity.
+    pub fn parts(self) -> Parts<H>
+        ensures parts { AreParts Z.lists Z.runs (map H.machines result.hosts.items) result.shape result.queues.items }
+        ensures same { joined (map H.machines result.hosts.items) result.shape result.queues.items ≡ self }
+    {
+        Parts {
+            hosts: self.hosts,
+            shape: self.shape,
+            queues: self.queues,
+        }
+    }
+
+    /// Joins the parts of a network.
+    pub fn of(parts: Parts<H>) -> Net<H, Z>
+        requires { AreParts Z.lists Z.runs (map H.machines parts.hosts.items) parts.shape parts.queues.items }
+        ensures { result ≡ joined (map H.machines parts.hosts.items) parts.shape parts.queues.items }
+    {
+        Net {
+            hosts: parts.hosts,
+            shape: parts.shape,
+            queues: parts.queues,
+            streams: PhantomData,
+        }
+    }
+}

@@ -1,0 +1,85 @@
+-- Slots by hand, of the unit whose output `p` is its input `x` and whose output `q` is `xor(x, k)`: what is done after each step, and what
+-- is no cycle.
+use Rattle.std.proofs.Common.{◌≡◌, ℕ, zero, suc, List, [], ◌∷◌, Bool, true, false, true≢false, refl, sym, subst, inl, inr, arith, lit<}
+use Rattle.gg_flat.specs.Line.{shape_at, value_at}
+use Rattle.gg_flat.specs.Circuit.{signal_shapes, driver_at}
+use Rattle.gg_flat.specs.Reads.{Reads, Reaches}
+use Rattle.gg_flat.specs.State.{State}
+use Rattle.gg_flat.specs.Settled.{driver_value}
+use Rattle.gg_flat.proofs.WorkedForms.{four}
+use Rattle.gg_needs.proofs.ReachLemmas.{Reaches-itself, along-reaches}
+use Rattle.gg_needs.proofs.WorkedUnits.{unit, q-k, In, copies, in-closed, p-k}
+use Rattle.gg_program.specs.Slots.{Slotted, IsDone, HasNeeded, HasInputs, with_input, DoneWith, inputs_in}
+use Rattle.gg_program.specs.Right.{AreRight, InCycle}
+
+abbrev start : State
+start = record { registers = []; banks = [] }
+
+abbrev slots : List ℕ → List Bool → Slotted
+slots values done = record { values = values; done = done; room = 3 }
+
+-- nothing is done, then `x` is put, then `p` is worked out
+abbrev empty : Slotted
+empty = slots (0 ∷ 0 ∷ 0 ∷ 0 ∷ []) (false ∷ false ∷ false ∷ false ∷ [])
+
+abbrev with-x : Slotted
+with-x = slots (5 ∷ 0 ∷ 0 ∷ 0 ∷ []) (true ∷ false ∷ false ∷ false ∷ [])
+
+abbrev with-p : Slotted
+with-p = slots (5 ∷ 0 ∷ 5 ∷ 0 ∷ []) (true ∷ false ∷ true ∷ false ∷ [])
+
+puts-x : with_input unit empty 0 5 ≡ with-x
+puts-x = refl
+
+inputs : inputs_in unit with-x.values ≡ 5 ∷ 0 ∷ []
+inputs = refl
+
+-- `p` may be worked out then, and `q` not
+p-may : HasNeeded unit with-x 2
+p-may zero lt to = refl
+p-may (suc zero) lt to = absurd (p-k to)
+p-may (suc (suc place)) lt to = absurd (omega (arith, lt))
+
+q-may-not : ¬ HasNeeded unit with-x 3
+q-may-not needed = true≢false (sym (needed 1 (lit< tt) q-k))
+
+-- the cycle may not be finished without `k`
+not-all : ¬ HasInputs unit with-p
+not-all all = true≢false (sym (all 1 (lit< tt)))
+
+-- `p` is done with its driver's value, and what it reads is done
+p-closed : (a b : ℕ) → IsDone with-p a → Reads unit a b → IsDone with-p b
+p-closed zero b is reads = absurd reads.names
+p-closed (suc zero) b is reads = absurd reads.names
+p-closed (suc (suc zero)) b is reads = subst (IsDone with-p) (copies 0 b reads.names) refl
+p-closed (suc (suc (suc zero))) b is reads = absurd (true≢false (sym is))
+p-closed (suc (suc (suc (suc a)))) b is reads = absurd (true≢false (sym is))
+
+p-right : AreRight unit start with-p.values (IsDone with-p)
+p-right =
+    record {
+      closed = p-closed;
+      driven = four (λ s. IsDone with-p s → value_at with-p.values s ≡ driver_value start (5 ∷ 0 ∷ []) with-p.values (shape_at (signal_shapes unit) s) (driver_at unit s))
+          (λ is. refl) (λ is. absurd (true≢false (sym is))) (λ is. refl) (λ is. absurd (true≢false (sym is)));
+    }
+
+-- another value, or one without what it reads, is no cycle
+not-another : ¬ InCycle unit start (slots (5 ∷ 0 ∷ 6 ∷ 0 ∷ []) (true ∷ false ∷ true ∷ false ∷ []))
+not-another cycle = absurd (omega (arith, cycle.right.driven 2 (lit< tt) refl))
+
+not-alone : ¬ InCycle unit start (slots (5 ∷ 0 ∷ 5 ∷ 0 ∷ []) (false ∷ false ∷ true ∷ false ∷ []))
+not-alone cycle = true≢false (sym (cycle.right.closed 2 0 refl (record { signal = lit< tt; names = (0, lit< tt, refl) })))
+
+-- `p` doesn't reach `q`, so that `q` is done doesn't come of it
+p-q : ¬ Reaches unit 2 3
+p-q to = along-reaches unit In in-closed 2 3 tt to
+
+not-q : ¬ DoneWith unit 2 with-x (slots (5 ∷ 0 ∷ 5 ∷ 5 ∷ []) (true ∷ false ∷ true ∷ true ∷ []))
+not-q done = elim ((done 3).0 refl) [
+  | inl was ↦ true≢false (sym was)
+  | inr to ↦ p-q to
+]
+
+-- `p` must be done
+not-less : ¬ DoneWith unit 2 with-x with-x
+not-less done = true≢false (sym ((done 2).1 (inr (Reaches-itself unit 2))))

@@ -1,0 +1,5 @@
+pub mod LogLemmas
+pub mod FrontLemmas
+pub mod LineLemmas
+pub mod OpeningLemmas
+pub mod WorkedRows

@@ -1,0 +1,84 @@
+-- Lines, logs and stops worked by hand.
+use Rattle.std.proofs.Common.{◌≡◌, ℕ, zero, suc, ◌<◌, List, [], ◌∷◌, Some, None, true, false, refl, ap, length, arith, lit<, codes, get_or}
+use Rattle.gg_node.specs.Machine.{Machine, KeepsValues, no_state}
+use Rattle.gg_net.specs.declared.shape.Wire.{Wire}
+use Rattle.gg_net.specs.declared.event.Event.TheVariants.{Fire}
+use Rattle.gg_net.specs.Step.{Step}
+use Rattle.gg_flat.specs.Line.{value_at}
+use Rattle.gg_net.specs.declared.event.Refusal.TheVariants.{Stranger}
+use Rattle.gg_net.specs.Network.{Network, puts}
+use Rattle.gg_replay.specs.Log.{AreFronts}
+use Rattle.gg_replay.specs.Stopping.{IsStop}
+use Rattle.gg_replay.specs.declared.stop.Stop.TheVariants.{Refused}
+use Rattle.gg_replay.specs.ReplayText.{channel_line}
+use Rattle.std.specs.Fmt.{digits}
+
+-- ---- lines
+
+one-bit : channel_line (codes "reset") 1 1 1 (1 ∷ []) ≡ codes "reset 1/1 1\n"
+unfolding digits
+one-bit = refl
+
+eight-bits : channel_line (codes "out") 8 2 1 (0 ∷ 0 ∷ []) ≡ codes "out 2/1 00 00\n"
+unfolding digits
+eight-bits = refl
+
+-- nine bits have three digits; letters are small; the first token stands first
+nine-bits : channel_line (codes "mem.r") 9 12 10 (1 ∷ 427 ∷ 16 ∷ []) ≡ codes "mem.r 12/10 001 1ab 010\n"
+unfolding digits
+nine-bits = refl
+
+no-token : channel_line (codes "x") 4 1 0 [] ≡ codes "x 1/0\n"
+unfolding digits
+no-token = refl
+
+-- ---- logs: machine 0 is in cycle 2, and has given its token of that cycle at out 0, and not at out 1
+
+abbrev giver : Machine
+giver = record { behaviour = KeepsValues; limit = 4; needs = [] ∷ [] ∷ []; ports = []; cycle = 2; state = no_state; served = 0; latches = []; flags = true ∷ false ∷ []; kept = [] }
+
+abbrev wires : List Wire
+wires = record { producer = 0; out = 0; consumer = 0; place = 0; capacity = 3 } ∷ record { producer = 0; out = 1; consumer = 0; place = 1; capacity = 3 } ∷ []
+
+abbrev net : Network
+net = record { machines = giver ∷ []; wires = wires; queues = [] ∷ [] ∷ []; end = 4 }
+
+abbrev lists : List (List ℕ)
+lists = (5 ∷ 6 ∷ 7 ∷ 8 ∷ []) ∷ (1 ∷ 2 ∷ 3 ∷ 4 ∷ []) ∷ []
+
+fronts : AreFronts lists net ((5 ∷ 6 ∷ 7 ∷ []) ∷ (1 ∷ 2 ∷ []) ∷ [])
+fronts = record { count = refl; each = each }
+  where
+    each : (c : ℕ) → c < 2 → get_or ((5 ∷ 6 ∷ 7 ∷ []) ∷ (1 ∷ 2 ∷ []) ∷ []) c [] ≡ lib.ListN.take (puts net c) (get_or lists c [])
+    each zero lt = refl
+    each (suc zero) lt = refl
+    each (suc (suc c)) lt = absurd (omega (arith, lt))
+
+-- the token of the cycle that the machine is in is wanted where its flag is set, and the tokens are the first of their list
+not-short : AreFronts lists net ((5 ∷ 6 ∷ []) ∷ (1 ∷ 2 ∷ []) ∷ []) → ⊥
+not-short fronts = omega (arith, ap length (fronts.each 0 (lit< tt)))
+
+not-long : AreFronts lists net ((5 ∷ 6 ∷ 7 ∷ []) ∷ (1 ∷ 2 ∷ 3 ∷ []) ∷ []) → ⊥
+not-long fronts = omega (arith, ap length (fronts.each 1 (lit< tt)))
+
+not-reversed : AreFronts lists net ((7 ∷ 6 ∷ 5 ∷ []) ∷ (1 ∷ 2 ∷ []) ∷ []) → ⊥
+not-reversed fronts = omega (arith, ap (λ tokens. value_at tokens 0) (fronts.each 0 (lit< tt)))
+
+-- ---- stops
+
+first-stranger : IsStop net (None ∷ []) net (Refused 1 Stranger)
+first-stranger = record { done = 0; steps = refl; event = None; next = refl; number = refl; refused = refl }
+
+-- steps don't count from 0
+not-from-zero : IsStop net (None ∷ []) net (Refused 0 Stranger) → ⊥
+not-from-zero stop = omega (arith, stop.number)
+
+-- the second is refused, behind one that is done
+abbrev gone : Machine
+gone = record giver { flags = true ∷ true ∷ [] }
+
+abbrev after : Network
+after = record { machines = gone ∷ []; wires = wires; queues = [] ∷ (3 ∷ []) ∷ []; end = 4 }
+
+second-stops : (step : Step net (Fire 1) after) → IsStop net (Some (Fire 1) ∷ None ∷ Some (Fire 0) ∷ []) after (Refused 2 Stranger)
+second-stops step = record { done = 1; steps = (after, step, refl); event = None; next = refl; number = refl; refused = refl }

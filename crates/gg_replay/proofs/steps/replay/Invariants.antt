@@ -1,0 +1,7 @@
+use Rattle.std.proofs.Common.{take}
+use Rattle.gg_marking.specs.Steps.{Steps}
+use Rattle.gg_replay.specs.Log.{AreFronts}
+use Rattle.gg_replay.proofs.steps.replay.Given as goal
+
+abbrev pub invariant-loop-i : goal.invariant-loop-i
+invariant-loop-i g l = Steps l.initial.net (take l.i l.steps) l.net × AreFronts g.Z.Streams.lists l.net l.log

@@ -1,0 +1,3 @@
+pub mod Log
+pub mod Stopping
+pub mod ReplayText

@@ -1,0 +1,96 @@
+//! `replay`: the steps of a network one after another.
+ghost use Rattle.std.specs.Prelude.{◌≡◌, Some, IfErr, OnOk, MatchResult};
+ghost use Rattle.gg_net.specs.declared.event.Event.TheVariants.{Fire};
+ghost use Rattle.gg_marking.specs.Steps.{IsStep, StepRefused, Steps};
+ghost use Rattle.gg_replay.specs.Log.{AreFronts, IsBehind};
+ghost use Rattle.gg_replay.specs.Stopping.{IsStop, KeepsLog};
+
+use crate::log::Log;
+use crate::stop::Stop;
+use gg_net::{Event, Net, Refusal, Streams};
+use gg_node::Host;
+use std::alloc::AllocError;
+
+// Does a step, where it is an event that may be done.
+fn try_step<H: Host, Z: Streams>(net: &mut Net<H, Z>, step: Option<Event>) -> Result<(), Refusal>
+    ensures { MatchResult result (λ _. IsStep net.old step net.new) (λ cause. StepRefused net.old step cause × (net.new ≡ net.old)) }
+{
+    match step {
+        None => Err(Refusal::Stranger),
+        Some(event) => net.step(event),
+    }
+}
+
+// Adds the newest token of a channel whose token was just given.
+fn add_newest<H: Host, Z: Streams>(
+    net: &Net<H, Z>,
+    channel: u32,
+    log: &mut Log,
+) -> Result<(), AllocError>
+    requires { IsBehind Z.lists Z.runs (Some (Fire channel)) net.now log.old }
+    ensures { OnOk result (AreFronts Z.lists net.now log.new) }
+{
+    match net.newest(channel) {
+        Some(token) => log.push(channel, token),
+        None => Ok(()),
+    }
+}
+
+// Adds the token that was put by the event just done, if one was.
+fn note_event<H: Host, Z: Streams>(
+    net: &Net<H, Z>,
+    event: Event,
+    log: &mut Log,
+) -> Result<(), AllocError>
+    requires { IsBehind Z.lists Z.runs (Some event) net.now log.old }
+    ensures { OnOk result (AreFronts Z.lists net.now log.new) }
+{
+    match event {
+        Event::Fire { channel } => add_newest(net, channel, log),
+        _ => Ok(()),
+    }
+}
+
+// Adds the token that was put by the step just done, if one was.
+fn note<H: Host, Z: Streams>(
+    net: &Net<H, Z>,
+    step: Option<Event>,
+    log: &mut Log,
+) -> Result<(), AllocError>
+    requires { IsBehind Z.lists Z.runs step net.now log.old }
+    ensures { OnOk result (AreFronts Z.lists net.now log.new) }
+{
+    match step {
+        Some(event) => note_event(net, event, log),
+        None => Ok(()),
+    }
+}
+
+/// Does these steps one after another, and adds each token that is put to the log.
+///
+/// # Errors
+///
+/// The first step that is refused, with its number, from 1 on, and its cause; no step is done then behind those before it. Or memory
+/// is refused.
+pub fn replay<H: Host, Z: Streams>(
+    net: &mut Net<H, Z>,
+    steps: &[Option<Event>],
+    log: &mut Log,
+) -> Result<(), Stop>
+    requires logged { AreFronts Z.lists net.old log.old }
+    ensures done { OnOk result (Steps net.old steps.now net.new × AreFronts Z.lists net.new log.new) }
+    ensures refused { IfErr result (λ stop. IsStop net.old steps.now net.new stop) }
+    ensures stands { IfErr result (λ stop. KeepsLog Z.lists net.new log.new stop) }
+{
+    for (i, step) in steps.iter().enumerate() {
+        net.kept();
+        if let Err(cause) = try_step(net, *step) {
+            return Err(Stop::Refused {
+                step: i as u64 + 1,
+                cause,
+            });
+        }
+        note(net, *step, log)?;
+    }
+    Ok(())
+}
