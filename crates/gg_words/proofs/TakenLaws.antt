@@ -1,5 +1,5 @@
 -- Where clap refuses nothing, a command is found, and each of its files was given.
-use Rattle.std.proofs.Common.{◌≡◌, ℕ, Bool, cond, true, false, not, true≢false, List, [], ◌∷◌, Option, None, Some, is_some, refl, sym, ap, ◌∙◌, subst, codes, inl, inr, ◌⊎◌}
+use Rattle.std.proofs.Common.{◌≡◌, ℕ, Bool, cond, true, false, not, true≢false, List, [], ◌∷◌, Option, None, Some, is_some, refl, sym, ap, ◌∙◌, subst, inl, inr}
 use Rattle.std.specs.Prelude.{◌&&◌, ◌||◌, find, option_and_then, option_map, slice_get}
 use Rattle.std.specs.List.{list_all}
 use Rattle.std.specs.Option.{option_map_or}
@@ -13,7 +13,7 @@ use Rattle.clap.specs.Walk.{answers_to}
 use Rattle.clap.specs.declared.error.kind.ErrorKind.{ErrorKind}
 use Rattle.gg_words.specs.Line.{golden_app}
 use Rattle.gg_words.specs.Meaning.{HaveTexts, NamesFiles, run_files, replay_files, check_files}
-use Rattle.gg_words.proofs.FileLaws.{AreFull, IsHeldFull, find-all, find-passes, full-finished, full-walk, has_value}
+use Rattle.gg_words.proofs.FileLaws.{AreFull, find-all, find-passes, full-finished, full-walk, has_value}
 
 cons≢nil : (k : ErrorKind) (ks : Kinds) → k ∷ ks ≡ [] → ⊥
 cons≢nil k ks e = true≢false (ap (λ (xs : Kinds). some xs) e)
