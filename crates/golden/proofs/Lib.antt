@@ -1,4 +1,3 @@
-pub mod CapacityLemmas
 pub mod CutLemmas
 pub mod EndingLemmas
 pub mod FewLemmas

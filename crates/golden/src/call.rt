@@ -16,7 +16,7 @@ use crate::run::run;
 use crate::words::end_at_words;
 use crate::writing::report;
 use gg_io::{Gate, Shelf, Sink};
-use gg_words::{Cmd, one_meaning, words};
+use gg_words::{Cmd, numbers_are_in_range, one_meaning, words};
 use std::alloc::Global;
 
 // A command of the command line, done.
@@ -33,6 +33,7 @@ fn do_command<S: Shelf, K: Sink>(
     ensures shelf { ShelfWentOn (S.files shelf.old) (S.files shelf.new) (S.faults shelf.old) (S.faults shelf.new) (S.cuts shelf.old) (S.cuts shelf.new) }
     ensures out { SinkWentOn (K.faults out.old) (K.faults out.new) (K.refused out.old) (K.refused out.new) }
 {
+    numbers_are_in_range();
     match cmd {
         Cmd::Run {
             circuit,

@@ -1,23 +1,29 @@
-use Rattle.std.proofs.Common.{subst}
+use Rattle.std.proofs.Common.{arith, subst}
 use Rattle.gg_words.specs.Meaning as command_line
+use Rattle.gg_words.specs.Range.{AreInRange}
 use Rattle.gg_words.specs.declared.command.Cmd.{Cmd}
 use Rattle.golden.specs.Outcome.{Asked}
 use Rattle.golden.specs.Words.{Run, Replay, Check}
-use Rattle.golden.proofs.CapacityLemmas.{capacity-range, replay-capacity-range}
 use Rattle.golden.proofs.OutcomeLemmas.{asks-same, asks-replay, asks-check}
 use Rattle.golden.proofs.call.do_command.Goals as goal
 
 pub check-requires-clause-some : goal.check-requires-clause-some
-check-requires-clause-some g c = (capacity-range c.requires.0 _ _ c.in-Check.capacity (subst (λ (k : Cmd). command_line.IsCommand c.requires.0 k) c.in-Check.is c.requires.1)).0
+check-requires-clause-some g c =
+    let range = subst AreInRange c.in-Check.is (c.numbers_are_in_range.ensures c.requires.0 c.args.cmd.now c.requires.1) in
+    let least = range.0 in omega (arith, least)
 
 pub check-requires-clause-bounded : goal.check-requires-clause-bounded
-check-requires-clause-bounded g c = (capacity-range c.requires.0 _ _ c.in-Check.capacity (subst (λ (k : Cmd). command_line.IsCommand c.requires.0 k) c.in-Check.is c.requires.1)).1
+check-requires-clause-bounded g c =
+    let range = subst AreInRange c.in-Check.is (c.numbers_are_in_range.ensures c.requires.0 c.args.cmd.now c.requires.1) in range.1
 
 pub replay-requires-clause-some : goal.replay-requires-clause-some
-replay-requires-clause-some g c = (replay-capacity-range c.requires.0 _ _ _ _ c.in-Replay.capacity (subst (λ (k : Cmd). command_line.IsCommand c.requires.0 k) c.in-Replay.is c.requires.1)).0
+replay-requires-clause-some g c =
+    let range = subst AreInRange c.in-Replay.is (c.numbers_are_in_range.ensures c.requires.0 c.args.cmd.now c.requires.1) in
+    let least = range.0 in omega (arith, least)
 
 pub replay-requires-clause-bounded : goal.replay-requires-clause-bounded
-replay-requires-clause-bounded g c = (replay-capacity-range c.requires.0 _ _ _ _ c.in-Replay.capacity (subst (λ (k : Cmd). command_line.IsCommand c.requires.0 k) c.in-Replay.is c.requires.1)).1
+replay-requires-clause-bounded g c =
+    let range = subst AreInRange c.in-Replay.is (c.numbers_are_in_range.ensures c.requires.0 c.args.cmd.now c.requires.1) in range.1
 
 pub returns-in-Run-clause-ended : goal.returns-in-Run-clause-ended
 returns-in-Run-clause-ended g c = λ words asks.
