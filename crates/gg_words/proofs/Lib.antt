@@ -2,4 +2,6 @@ pub mod TextLaws
 pub mod NumberLaws
 pub mod FileLaws
 pub mod TakenLaws
+pub mod RangeLaws
 pub mod WorkedRows
+pub mod ReplayRows

@@ -1,5 +1,5 @@
 -- Where clap refuses nothing, a command is found, and each of its files was given.
-use Rattle.std.proofs.Common.{◌≡◌, ℕ, Bool, cond, true, false, not, true≢false, List, [], ◌∷◌, Option, None, Some, is_some, refl, sym, ap, ◌∙◌, subst, codes, inl, inr, ◌⊎◌}
+use Rattle.std.proofs.Common.{◌≡◌, ℕ, Bool, cond, true, false, not, true≢false, List, [], ◌∷◌, Option, None, Some, is_some, refl, sym, ap, ◌∙◌, subst, inl, inr}
 use Rattle.std.specs.Prelude.{◌&&◌, ◌||◌, find, option_and_then, option_map, slice_get}
 use Rattle.std.specs.List.{list_all}
 use Rattle.std.specs.Option.{option_map_or}
@@ -12,8 +12,8 @@ use Rattle.clap.specs.Faults.{check_fault, defaults_fault, entered_fault, fault_
 use Rattle.clap.specs.Walk.{answers_to}
 use Rattle.clap.specs.declared.error.kind.ErrorKind.{ErrorKind}
 use Rattle.gg_words.specs.Line.{golden_app}
-use Rattle.gg_words.specs.Meaning.{HaveTexts, NamesFiles, run_files, check_files}
-use Rattle.gg_words.proofs.FileLaws.{AreFull, IsHeldFull, find-all, find-passes, full-finished, full-walk, has_value}
+use Rattle.gg_words.specs.Meaning.{HaveTexts, NamesFiles, run_files, replay_files, check_files}
+use Rattle.gg_words.proofs.FileLaws.{AreFull, find-all, find-passes, full-finished, full-walk, has_value}
 
 cons≢nil : (k : ErrorKind) (ks : Kinds) → k ∷ ks ≡ [] → ⊥
 cons≢nil k ks e = true≢false (ap (λ (xs : Kinds). some xs) e)
@@ -29,6 +29,10 @@ none-both (k ∷ ks) b e = absurd (cons≢nil k ks e)
 either-false : (a b : Bool) → (a || b) ≡ false → (a ≡ false) × (b ≡ false)
 either-false true b e = absurd (true≢false e)
 either-false false b e = (refl, e)
+
+both-true : (a b : Bool) → (a && b) ≡ true → (a ≡ true) × (b ≡ true)
+both-true true b e = (refl, e)
+both-true false b e = absurd (true≢false (sym e))
 
 not-false : (b : Bool) → not b ≡ false → b ≡ true
 not-false true e = refl
@@ -102,56 +106,64 @@ shape_at ss i = Rattle.std.proofs.Common.get_or ss i golden_app.top
 abbrev run_built : Shape
 run_built = shape_at whole.subs 0
 
-abbrev check_built : Shape
-check_built = shape_at whole.subs 1
+abbrev replay_built : Shape
+replay_built = shape_at whole.subs 1
 
--- a file isn't given
-abbrev lacks : List Row → Text → Bool
-lacks rows id = not (is_given id rows)
+abbrev check_built : Shape
+check_built = shape_at whole.subs 2
+
+-- one of these files isn't given
+abbrev lacks : List Row → List Text → Bool
+lacks rows [] = false
+lacks rows (id ∷ ids) = not (is_given id rows) || lacks rows ids
+
+-- none of these files is an option
+abbrev are_apart : List Rule → List Text → Bool
+are_apart c [] = true
+are_apart c (id ∷ ids) = list_all (is_apart id) c && are_apart c ids
+
+-- where none of a command's files is lacking, each has a text
+file-texts : (c : List Rule) → ((x : ℕ) → arg_by_short c x ≡ None) → (words : List Text) (ids : List Text) → are_apart c ids ≡ true
+    → lacks (finished c (walk c [] nothing_held words).held) ids ≡ false → HaveTexts ids (finished c (walk c [] nothing_held words).held)
+file-texts c no_short words [] all none = tt
+file-texts c no_short words (id ∷ ids) all none =
+    let apart = both-true (list_all (is_apart id) c) (are_apart c ids) all in
+    let given = either-false (not (is_given id (finished c (walk c [] nothing_held words).held))) (lacks (finished c (walk c [] nothing_held words).held) ids) none in
+    (file-text id c apart.0 no_short [] words (not-false _ given.0), file-texts c no_short words ids apart.1 given.1)
+
+-- a command that refuses nothing lacks none of its files
+none-lacking : (s : Shape) (words : List Text) (ids : List Text)
+    → check_fault s (rows_at s words).1 false ≡ check_kinds false false (lacks (rows_at s words).1 ids)
+    → level_fault s [] nothing_held words false [] ≡ [] → lacks (rows_at s words).1 ids ≡ false
+none-lacking s words ids is e = (check-none false false (lacks (rows_at s words).1 ids) (sym is ∙ (level-none s [] nothing_held words false [] e).1)).1
 
 run-texts : (words : List Text) → level_fault run_built [] nothing_held words false [] ≡ [] → HaveTexts run_files (rows_at run_built words).1
-run-texts words e =
-    let rows = (rows_at run_built words).1 in
-    let circuit = lacks rows (codes "circuit") in
-    let partition = lacks rows (codes "partition") in
-    let trace = lacks rows (codes "trace") in
-    let wanted : (circuit || (partition || (trace || false))) ≡ false =
-    (check-none false false (circuit || (partition || (trace || false))) (level-none run_built [] nothing_held words false [] e).1).1 in
-    let first = either-false circuit (partition || (trace || false)) wanted in
-    let second = either-false partition (trace || false) first.1 in
-    let third = either-false trace false second.1 in (
-      file-text (codes "circuit") run_built.rules refl (λ x. refl) [] words (not-false _ first.0),
-      (
-        file-text (codes "partition") run_built.rules refl (λ x. refl) [] words (not-false _ second.0),
-        (file-text (codes "trace") run_built.rules refl (λ x. refl) [] words (not-false _ third.0), tt),
-      ),
-    )
+run-texts words e = file-texts run_built.rules (λ x. refl) words run_files refl (none-lacking run_built words run_files refl e)
+
+replay-texts : (words : List Text) → level_fault replay_built [] nothing_held words false [] ≡ [] → HaveTexts replay_files (rows_at replay_built words).1
+replay-texts words e = file-texts replay_built.rules (λ x. refl) words replay_files refl (none-lacking replay_built words replay_files refl e)
 
 check-texts : (words : List Text) → level_fault check_built [] nothing_held words false [] ≡ [] → HaveTexts check_files (rows_at check_built words).1
-check-texts words e =
-    let rows = (rows_at check_built words).1 in
-    let circuit = lacks rows (codes "circuit") in
-    let partition = lacks rows (codes "partition") in
-    let wanted : (circuit || (partition || false)) ≡ false =
-    (check-none false false (circuit || (partition || false)) (level-none check_built [] nothing_held words false [] e).1).1 in
-    let first = either-false circuit (partition || false) wanted in
-    let second = either-false partition false first.1 in (
-      file-text (codes "circuit") check_built.rules refl (λ x. refl) [] words (not-false _ first.0),
-      (file-text (codes "partition") check_built.rules refl (λ x. refl) [] words (not-false _ second.0), tt),
-    )
+check-texts words e = file-texts check_built.rules (λ x. refl) words check_files refl (none-lacking check_built words check_files refl e)
 
--- the command that was entered, by which of the two it is
-by-command : (words : List Text) (b d : Bool)
-    → option_map_or (λ (s : Shape). level_fault s [] nothing_held words false []) (cond b (Some run_built) (cond d (Some check_built) None)) [] ≡ []
-    → is_some (option_map (λ (s : Shape). rows_at s words) (cond b (Some run_built) (cond d (Some check_built) None))) ≡ true
-    → NamesFiles (option_map (λ (s : Shape). rows_at s words) (cond b (Some run_built) (cond d (Some check_built) None)))
-by-command words true d none met = inl (refl, run-texts words none)
-by-command words false true none met = inr (refl, check-texts words none)
-by-command words false false none met = absurd (true≢false (sym met))
+-- the command that is entered, of these three
+abbrev entering : (run replay check : Bool) → Option Shape
+entering run replay check = cond run (Some run_built) (cond replay (Some replay_built) (cond check (Some check_built) None))
+
+-- the command that was entered, by which of the three it is
+by-command : (words : List Text) (run replay check : Bool)
+    → option_map_or (λ (s : Shape). level_fault s [] nothing_held words false []) (entering run replay check) [] ≡ []
+    → is_some (option_map (λ (s : Shape). rows_at s words) (entering run replay check)) ≡ true
+    → NamesFiles (option_map (λ (s : Shape). rows_at s words) (entering run replay check))
+by-command words true replay check none met = inl (refl, run-texts words none)
+by-command words false true check none met = inr (inl (refl, replay-texts words none))
+by-command words false false true none met = inr (inr (refl, check-texts words none))
+by-command words false false false none met = absurd (true≢false (sym met))
 
 entered-names : (stop : Option (Text × List Text)) → entered_fault whole stop ≡ [] → is_some (entered whole stop) ≡ true → NamesFiles (entered whole stop)
 entered-names None none met = absurd (true≢false (sym met))
-entered-names (Some p) none met = by-command p.1 (answers_to p.0 (label_of run_built)) (answers_to p.0 (label_of check_built)) none met
+entered-names (Some p) none met =
+    by-command p.1 (answers_to p.0 (label_of run_built)) (answers_to p.0 (label_of replay_built)) (answers_to p.0 (label_of check_built)) none met
 
 pub taken-names : (words : List Text) → fault_of golden_app words ≡ [] → NamesFiles (subcommand_of golden_app words)
 taken-names words e =

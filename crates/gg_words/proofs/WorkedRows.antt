@@ -9,7 +9,7 @@ use Rattle.gg_words.specs.Meaning.{Says}
 use Rattle.gg_words.specs.declared.command.Cmd.TheVariants.{Run, Check}
 
 -- the words behind the program's own name
-abbrev line : List Text → List Text
+abbrev pub line : List Text → List Text
 line words = codes "golden" ∷ words
 
 three-files : Says (line (codes "run" ∷ codes "c" ∷ codes "p" ∷ codes "t" ∷ [])) (Ok (Run (codes "c") (codes "p") (codes "t") 2 0 false))
@@ -199,10 +199,6 @@ check-workers = refl
 check-trace : fault_of golden_app (line (codes "check" ∷ codes "c" ∷ codes "p" ∷ codes "t" ∷ [])) ≡ kind.UnknownArgument ∷ []
 unfolding clap_on_literals
 check-trace = refl
-
-replay-is-no-command : fault_of golden_app (line (codes "replay" ∷ codes "c" ∷ codes "p" ∷ codes "t" ∷ codes "s" ∷ [])) ≡ kind.UnknownArgument ∷ kind.InvalidSubcommand ∷ []
-unfolding clap_on_literals
-replay-is-no-command = refl
 
 demo-is-no-command : fault_of golden_app (line (codes "demo" ∷ codes "1" ∷ codes "2" ∷ [])) ≡ kind.UnknownArgument ∷ kind.InvalidSubcommand ∷ []
 unfolding clap_on_literals

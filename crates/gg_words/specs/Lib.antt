@@ -2,3 +2,4 @@
 pub mod Line
 pub mod Number
 pub mod Meaning
+pub mod Range

@@ -23,6 +23,12 @@ run_rules =
     file_rule (codes "circuit") ∷ file_rule (codes "partition") ∷ file_rule (codes "trace")
     ∷ value_rule (codes "capacity") ∷ value_rule (codes "workers") ∷ flag_rule (codes "mono") ∷ []
 
+-- `replay CIRCUIT PARTITION TRACE STEPS [--capacity K]`
+abbrev pub replay_rules : List Rule
+replay_rules =
+    file_rule (codes "circuit") ∷ file_rule (codes "partition") ∷ file_rule (codes "trace") ∷ file_rule (codes "steps")
+    ∷ value_rule (codes "capacity") ∷ []
+
 -- `check CIRCUIT PARTITION [--capacity K]`
 abbrev pub check_rules : List Rule
 check_rules = file_rule (codes "circuit") ∷ file_rule (codes "partition") ∷ value_rule (codes "capacity") ∷ []
@@ -33,6 +39,9 @@ command_shape name rules = record (new_shape name) { rules = rules }
 
 abbrev pub run_shape : Shape
 run_shape = command_shape (codes "run") run_rules
+
+abbrev pub replay_shape : Shape
+replay_shape = command_shape (codes "replay") replay_rules
 
 abbrev pub check_shape : Shape
 check_shape = command_shape (codes "check") check_rules
@@ -46,5 +55,5 @@ golden_app = record {
     disable_help_subcommand = true;
     subcommand_required = true;
   };
-  subs = run_shape ∷ check_shape ∷ [];
+  subs = run_shape ∷ replay_shape ∷ check_shape ∷ [];
 }

@@ -10,7 +10,7 @@ use Rattle.clap.specs.Kinds.{IsAmong}
 use Rattle.gg_words.specs.Line.{golden_app}
 use Rattle.gg_words.specs.Number.{number_of}
 use Rattle.gg_words.specs.declared.command.Cmd.{Cmd}
-use Rattle.gg_words.specs.declared.command.Cmd.TheVariants.{Run, Check}
+use Rattle.gg_words.specs.declared.command.Cmd.TheVariants.{Run, Replay, Check}
 use Rattle.gg_words.specs.declared.command.WordFault.{WordFault}
 use Rattle.gg_words.specs.declared.command.WordFault.TheVariants.{Refused, Number, NoMemory}
 
@@ -41,6 +41,12 @@ run_of rows = with_number (capacity_of rows) (λ capacity. with_number (workers_
     Ok (Run (text_of (codes "circuit") rows) (text_of (codes "partition") rows) (text_of (codes "trace") rows)
     capacity workers (is_set (codes "mono") rows))))
 
+-- of `replay`
+abbrev pub replay_of : List Row → Result Cmd Text
+replay_of rows = with_number (capacity_of rows) (λ capacity.
+    Ok (Replay (text_of (codes "circuit") rows) (text_of (codes "partition") rows) (text_of (codes "trace") rows)
+    (text_of (codes "steps") rows) capacity))
+
 -- and of `check`
 abbrev pub check_of : List Row → Result Cmd Text
 check_of rows = with_number (capacity_of rows) (λ capacity.
@@ -49,7 +55,8 @@ check_of rows = with_number (capacity_of rows) (λ capacity.
 -- what was found under the command's name says this
 abbrev pub CommandSays : Text → List Row → Result Cmd Text → Type 0
 CommandSays name rows said = cond (bytes_eq name (codes "run")) (said ≡ run_of rows)
-    (cond (bytes_eq name (codes "check")) (said ≡ check_of rows) ⊥)
+    (cond (bytes_eq name (codes "replay")) (said ≡ replay_of rows)
+    (cond (bytes_eq name (codes "check")) (said ≡ check_of rows) ⊥))
 
 abbrev pub FoundSays : Option (Text × List Row) → Result Cmd Text → Type 0
 FoundSays None said = ⊥
@@ -95,13 +102,17 @@ HaveTexts (id ∷ ids) rows = (is_some (first_of id rows) ≡ true) × HaveTexts
 abbrev pub run_files : List Text
 run_files = codes "circuit" ∷ codes "partition" ∷ codes "trace" ∷ []
 
+abbrev pub replay_files : List Text
+replay_files = codes "circuit" ∷ codes "partition" ∷ codes "trace" ∷ codes "steps" ∷ []
+
 abbrev pub check_files : List Text
 check_files = codes "circuit" ∷ codes "partition" ∷ []
 
 -- a command was found, and each of its files is named
 abbrev pub NamesFiles : Option (Text × List Row) → Type 0
 NamesFiles None = ⊥
-NamesFiles (Some found) = ((found.0 ≡ codes "run") × HaveTexts run_files found.1) ⊎ ((found.0 ≡ codes "check") × HaveTexts check_files found.1)
+NamesFiles (Some found) = ((found.0 ≡ codes "run") × HaveTexts run_files found.1) ⊎ ((found.0 ≡ codes "replay") × HaveTexts replay_files found.1)
+    ⊎ ((found.0 ≡ codes "check") × HaveTexts check_files found.1)
 
 -- the texts of the words
 abbrev pub texts : {Y : Type 0} → List (String Y) → List Text

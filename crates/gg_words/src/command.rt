@@ -24,6 +24,19 @@ pub enum Cmd {
         /// Whether the circuit is run whole, without a network.
         mono: bool,
     },
+    /// `replay`: the network of a circuit after a list of host steps.
+    Replay {
+        /// The circuit's file.
+        circuit: Name,
+        /// The partition's file.
+        partition: Name,
+        /// The trace's file.
+        trace: Name,
+        /// The steps' file.
+        steps: Name,
+        /// The capacity of channels, 1 to 4,096.
+        capacity: u32,
+    },
     /// `check`: the plan of a partition.
     Check {
         /// The circuit's file.

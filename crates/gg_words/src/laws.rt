@@ -4,12 +4,18 @@ ghost use Rattle.clap.specs.Simple.{subcommand_of};
 ghost use Rattle.clap.specs.Faults.{fault_of};
 ghost use Rattle.gg_words.specs.Line.{golden_app};
 ghost use Rattle.gg_words.specs.Meaning.{IsWordFault, NamesFiles, Says, IsCommand};
+ghost use Rattle.gg_words.specs.Range.{AreInRange};
 ghost use Rattle.gg_words.specs.declared.command.Cmd.{Cmd};
 ghost use Rattle.gg_words.specs.declared.command.WordFault.{WordFault};
 
 /// Where `clap` takes words, it finds a command in them, and each of the command's files is named.
 pub fn files_are_named()
     ensures { (words : List (List ℕ)) → fault_of golden_app words ≡ [] → NamesFiles (subcommand_of golden_app words) }
+{}
+
+/// The numbers of a command are in their ranges: the capacity is 1 to 4,096, and the number of workers at most 64.
+pub fn numbers_are_in_range()
+    ensures { (words : List (List ℕ)) (cmd : Cmd) → IsCommand words cmd → AreInRange cmd }
 {}
 
 /// Words mean one thing at most, and words that mean a command have no fault.

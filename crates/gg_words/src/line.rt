@@ -3,7 +3,7 @@ ghost use Rattle.std.specs.Prelude.{◌≡◌, [], IfOk, true, false, codes};
 ghost use Rattle.clap.specs.Walk.{rule_of};
 ghost use Rattle.clap.specs.Simple.{app_of, new_app, with_rule, shape_of};
 ghost use Rattle.clap.specs.declared.builder.command.Command.TheViews.{out-Command};
-ghost use Rattle.gg_words.specs.Line.{file_rule, value_rule, flag_rule, run_shape, check_shape, golden_app};
+ghost use Rattle.gg_words.specs.Line.{file_rule, value_rule, flag_rule, run_shape, replay_shape, check_shape, golden_app};
 
 use clap::{Arg, ArgAction, Command};
 use std::alloc::{AllocError, Global};
@@ -54,6 +54,17 @@ fn run_line<'a>(alloc: Global) -> Result<Command<'a>, AllocError>
         .arg(flag(alloc, "mono"))
 }
 
+// The command `replay`.
+fn replay_line<'a>(alloc: Global) -> Result<Command<'a>, AllocError>
+    ensures shape { IfOk result (λ c. shape_of c ≡ replay_shape) }
+    ensures local { IfOk result (λ c. (out-Command c).has_globals ≡ false) }
+{
+    with_files(alloc, "replay")?
+        .arg(file(alloc, "trace"))?
+        .arg(file(alloc, "steps"))?
+        .arg(value(alloc, "capacity"))
+}
+
 // The command `check`.
 fn check_line<'a>(alloc: Global) -> Result<Command<'a>, AllocError>
     ensures shape { IfOk result (λ c. shape_of c ≡ check_shape) }
@@ -79,5 +90,6 @@ pub(crate) fn golden_line<'a>(alloc: Global) -> Result<Command<'a>, AllocError>
 {
     program(alloc)
         .subcommand(run_line(alloc)?)?
+        .subcommand(replay_line(alloc)?)?
         .subcommand(check_line(alloc)?)
 }

@@ -8,7 +8,7 @@ ghost use Rattle.clap.specs.Kinds.{HasKind};
 ghost use Rattle.clap.specs.Values.{kind_of};
 ghost use Rattle.gg_words.specs.Line.{golden_app};
 ghost use Rattle.gg_words.specs.Number.{number_of};
-ghost use Rattle.gg_words.specs.Meaning.{Answers, FoundSays, IfWordFault, IsCommand, IsWordFault, NamesFiles, SaysFault, capacity_of, check_of, is_set, run_of, text_of, texts};
+ghost use Rattle.gg_words.specs.Meaning.{Answers, FoundSays, IfWordFault, IsCommand, IsWordFault, NamesFiles, SaysFault, capacity_of, check_of, is_set, replay_of, run_of, text_of, texts};
 ghost use Rattle.gg_words.specs.declared.command.Cmd.{Cmd};
 ghost use Rattle.gg_words.specs.declared.command.WordFault.{WordFault};
 
@@ -91,6 +91,20 @@ fn run_of(alloc: Global, matches: &ArgMatches<'_>) -> Result<Cmd, WordFault>
     })
 }
 
+// The command `replay`.
+fn replay_of(alloc: Global, matches: &ArgMatches<'_>) -> Result<Cmd, WordFault>
+    ensures { Answers result (replay_of (rows_of (found_of matches.now))) }
+{
+    let capacity = capacity_of(alloc, matches)?;
+    Ok(Cmd::Replay {
+        circuit: name_of(alloc, matches, "circuit")?,
+        partition: name_of(alloc, matches, "partition")?,
+        trace: name_of(alloc, matches, "trace")?,
+        steps: name_of(alloc, matches, "steps")?,
+        capacity,
+    })
+}
+
 // The command `check`.
 fn check_of(alloc: Global, matches: &ArgMatches<'_>) -> Result<Cmd, WordFault>
     ensures { Answers result (check_of (rows_of (found_of matches.now))) }
@@ -109,10 +123,10 @@ fn command_of(alloc: Global, matches: &ArgMatches<'_>) -> Result<Cmd, WordFault>
     ensures { (said : Result Cmd (List ℕ)) × FoundSays (subcommand_rows_of matches.now) said × Answers result said }
 {
     let (name, inner) = matches.subcommand().unwrap();
-    if name == "run" {
-        run_of(alloc, inner)
-    } else {
-        check_of(alloc, inner)
+    match name {
+        "run" => run_of(alloc, inner),
+        "replay" => replay_of(alloc, inner),
+        _ => check_of(alloc, inner),
     }
 }
 
@@ -141,11 +155,12 @@ fn read_words(alloc: Global, words: &[String]) -> Result<Cmd, WordFault>
 
 /// The command that these words are. The first of them is the program's own name, and isn't looked at.
 ///
-/// The commands are `run CIRCUIT PARTITION TRACE [--capacity K] [--workers W] [--mono]` and
-/// `check CIRCUIT PARTITION [--capacity K]`, as `clap` reads them: options stand anywhere behind the command's name, at
-/// most once each, a value behind `=` or as the next word, and behind `--` each word is a file. So a file whose name
-/// begins with `-` needs `--` before it. K is 1 to 4,096, and 2 where it is left out; W is 0 to 64, and 0 where it is
-/// left out. A number is one or more decimal digits, and zeros may lead.
+/// The commands are `run CIRCUIT PARTITION TRACE [--capacity K] [--workers W] [--mono]`,
+/// `replay CIRCUIT PARTITION TRACE STEPS [--capacity K]` and `check CIRCUIT PARTITION [--capacity K]`, as `clap` reads
+/// them: options stand anywhere behind the command's name, at most once each, a value behind `=` or as the next word, and
+/// behind `--` each word is a file. So a file whose name begins with `-` needs `--` before it. K is 1 to 4,096, and 2
+/// where it is left out; W is 0 to 64, and 0 where it is left out. A number is one or more decimal digits, and zeros may
+/// lead.
 ///
 /// # Errors
 ///

@@ -1,12 +1,13 @@
 -- What an outcome says of its status, clause by clause.
 use Rattle.std.proofs.Common.{◌≡◌, ◌≢◌, ℕ, Bool, List, [], ◌≤◌, length, refl, ap, sym, ◌∙◌, subst, inl, inr, arith, ◌⊎◌}
-use Rattle.std.specs.Prelude.{Option, Result, Ok}
+use Rattle.std.specs.Prelude.{Option, Some, Result, Ok, Err}
 use Rattle.std.specs.Io.KnownBytes.{append_known}
 use Rattle.gg_io.specs.Told.{Told, Holds}
 use Rattle.gg_read.specs.Text.{HasReadFault}
 use Rattle.gg_read.specs.declared.text.ReadFault.{ReadFault}
 use Rattle.gg_flat.specs.Circuit.{FlatCircuit}
 use Rattle.gg_front.specs.Meaning.{Means, MeansDesign}
+use Rattle.gg_marking.specs.Goes as goes
 use Rattle.gg_order.specs.Design.{Ordered}
 use Rattle.gg_front.specs.declared.fault.FrontFault.TheVariants as front
 use Rattle.gg_flat.specs.Ports.{in_ports}
@@ -23,10 +24,11 @@ use Rattle.golden.specs.Lines.{Said, TellsUnread, partition_fault, trace_fault}
 use Rattle.golden.specs.Order.{Order, Write, StopsAt, IsWritten, DueAt, IsDueAccepted, IsExact, IsUnique, IsJudgement}
 use Rattle.golden.specs.Outcome.{Ends, Refused, Done, Unwritten, WantsMemory, Outcome, Asked, Unasked, WantsMemoryFirst, Answered, Reports}
 use Rattle.golden.specs.Check.{IsOnlyCutText, cut_order}
-use Rattle.golden.specs.Words.{Command, Run, Check, Asks, AskForCommand, TellsUnasked, TellsWords, circuit_of, order_behind, order_of, partition_of}
+use Rattle.golden.specs.Words.{Command, Run, Replay, Check, Asks, AskForCommand, TellsUnasked, TellsWords, circuit_of, order_behind, order_of, partition_of, trace_of}
+use Rattle.golden.specs.Replay.{IsOnlyReplayText, IsSetting, Setting, TellsSteps, fed_order, network_order, replayed, steps_file_for, steps_order, stopped_said}
 use Rattle.golden.specs.Promised.{Promised, Tells}
 use Rattle.golden.specs.Partition.{HasFault, IsPartitionFor, TellsPartitionFor, partition_file_for}
-use Rattle.golden.specs.Run.{IsOnlyText, TellsCircuit, TellsTraceFor, circuit_file, partition_order, trace_file_for, trace_order}
+use Rattle.golden.specs.Run.{IsOnlyText, IsTraceFor, TellsCircuit, TellsTraceFor, circuit_file, partition_order, trace_file_for, trace_order}
 use Rattle.golden.proofs.OrderLemmas.{Why, Lost, Cut, Judged, why-stops, stops-due, written-due, stops-accepted, due-behind, due-refused}
 use Rattle.golden.proofs.WritingLemmas.{append_known-nil}
 
@@ -37,8 +39,13 @@ OneMeaning = (words : List (List ℕ)) (one other : Result Cmd (List ℕ)) → S
 -- so they ask for one command at most
 asks-once : OneMeaning → (words : List (List ℕ)) (command other : Command) → Asks words command → Asks words other → command ≡ other
 asks-once once words (Run a b c k w m) (Run x y z l v n) asks others = let e = once words (Ok (cmd.Run a b c k w m)) (Ok (cmd.Run x y z l v n)) asks others in cc
+asks-once once words (Run a b c k w m) (Replay x y z o l) asks others = let e = once words (Ok (cmd.Run a b c k w m)) (Ok (cmd.Replay x y z o l)) asks others in absurd (cc)
 asks-once once words (Run a b c k w m) (Check x y l) asks others = let e = once words (Ok (cmd.Run a b c k w m)) (Ok (cmd.Check x y l)) asks others in absurd (cc)
+asks-once once words (Replay a b c d k) (Run x y z l v n) asks others = let e = once words (Ok (cmd.Replay a b c d k)) (Ok (cmd.Run x y z l v n)) asks others in absurd (cc)
+asks-once once words (Replay a b c d k) (Replay x y z o l) asks others = let e = once words (Ok (cmd.Replay a b c d k)) (Ok (cmd.Replay x y z o l)) asks others in cc
+asks-once once words (Replay a b c d k) (Check x y l) asks others = let e = once words (Ok (cmd.Replay a b c d k)) (Ok (cmd.Check x y l)) asks others in absurd (cc)
 asks-once once words (Check a b k) (Run x y z l v n) asks others = let e = once words (Ok (cmd.Check a b k)) (Ok (cmd.Run x y z l v n)) asks others in absurd (cc)
+asks-once once words (Check a b k) (Replay x y z o l) asks others = let e = once words (Ok (cmd.Check a b k)) (Ok (cmd.Replay x y z o l)) asks others in absurd (cc)
 asks-once once words (Check a b k) (Check x y l) asks others = let e = once words (Ok (cmd.Check a b k)) (Ok (cmd.Check x y l)) asks others in cc
 
 -- a fault that is no want of memory is one of the words
@@ -60,32 +67,42 @@ unasked-status words said (fault, has, tells) = fault-status fault said tells
 unjudged-0 : IsJudgement 0 → ⊥
 unjudged-0 (inl e) = absurd (omega arith)
 unjudged-0 (inr (inl e)) = absurd (omega arith)
-unjudged-0 (inr (inr e)) = absurd (omega arith)
+unjudged-0 (inr (inr (inl e))) = absurd (omega arith)
+unjudged-0 (inr (inr (inr e))) = absurd (omega arith)
 
 unjudged-2 : IsJudgement 2 → ⊥
 unjudged-2 (inl e) = absurd (omega arith)
 unjudged-2 (inr (inl e)) = absurd (omega arith)
-unjudged-2 (inr (inr e)) = absurd (omega arith)
+unjudged-2 (inr (inr (inl e))) = absurd (omega arith)
+unjudged-2 (inr (inr (inr e))) = absurd (omega arith)
 
 unjudged-3 : IsJudgement 3 → ⊥
 unjudged-3 (inl e) = absurd (omega arith)
 unjudged-3 (inr (inl e)) = absurd (omega arith)
-unjudged-3 (inr (inr e)) = absurd (omega arith)
+unjudged-3 (inr (inr (inl e))) = absurd (omega arith)
+unjudged-3 (inr (inr (inr e))) = absurd (omega arith)
 
 unjudged-4 : IsJudgement 4 → ⊥
 unjudged-4 (inl e) = absurd (omega arith)
 unjudged-4 (inr (inl e)) = absurd (omega arith)
-unjudged-4 (inr (inr e)) = absurd (omega arith)
+unjudged-4 (inr (inr (inl e))) = absurd (omega arith)
+unjudged-4 (inr (inr (inr e))) = absurd (omega arith)
 
 unjudged-5 : IsJudgement 5 → ⊥
 unjudged-5 (inl e) = absurd (omega arith)
 unjudged-5 (inr (inl e)) = absurd (omega arith)
-unjudged-5 (inr (inr e)) = absurd (omega arith)
+unjudged-5 (inr (inr (inl e))) = absurd (omega arith)
+unjudged-5 (inr (inr (inr e))) = absurd (omega arith)
 
 unjudged-8 : IsJudgement 8 → ⊥
 unjudged-8 (inl e) = absurd (omega arith)
 unjudged-8 (inr (inl e)) = absurd (omega arith)
-unjudged-8 (inr (inr e)) = absurd (omega arith)
+unjudged-8 (inr (inr (inl e))) = absurd (omega arith)
+unjudged-8 (inr (inr (inr e))) = absurd (omega arith)
+
+-- a name that is there is this one
+some-name : (one other : List ℕ) → Some one ≡ Some other → one ≡ other
+some-name one other e = cc
 
 -- each command's order is exact
 abbrev pub ExactOrders : Type 0
@@ -292,6 +309,13 @@ module _ {words : List (List ℕ)} {files : List ℕ → Told} {lost cut unwritt
           (λ other d. one bytes fault said other has tells
           (due-refused files (circuit_file circuit) (λ c. partition_order c partition trace) bytes said other (exact command).0 told short refuses d))
           (tells-due command said asks (bytes, told, inl (inr (short, refuses))))
+      tells-unread one (Replay circuit partition trace steps capacity) bytes fault said asks told short has tells =
+          let command : Command = Replay circuit partition trace steps capacity in
+          let refuses : TellsCircuit bytes said = (front.Read fault, (has, tells.0), (λ e. absurd (cc)), tells.1) in
+          only-due (order_of command) said
+          (λ other d. one bytes fault said other has tells
+          (due-refused files (circuit_file circuit) (λ c. network_order c partition trace steps capacity) bytes said other (exact command).0 told short refuses d))
+          (tells-due command said asks (bytes, told, inl (inr (short, refuses))))
       tells-unread one (Check circuit partition capacity) bytes fault said asks told short has tells =
           let command : Command = Check circuit partition capacity in
           let refuses : TellsCircuit bytes said = (front.Read fault, (has, tells.0), (λ e. absurd (cc)), tells.1) in
@@ -315,6 +339,17 @@ module _ {words : List (List ℕ)} {files : List ℕ → Told} {lost cut unwritt
           let same = due-refused files (partition_file_for c partition) (λ _. trace_order c trace) p said other ((exact command).1 c).0 hp lp refuses at_partition in
           (unique command c).0 p other said same refuses)
           (tells-due command said asks (c, hc, inr (lc, accepted, (p, hp, inl (inr (lp, refuses))))))
+      tells-partitioned unique (Replay circuit partition trace steps capacity) c p design fault asks hc lc means hp lp has =
+          let command : Command = Replay circuit partition trace steps capacity in
+          let said : Said = partition_fault fault in
+          let refuses : TellsPartitionFor c p said = (design, means, (fault, has, refl)) in
+          let accepted = means.means.text in
+          only-due (order_of command) said
+          (λ other d.
+          let at_partition = due-behind files (circuit_file circuit) (λ b. network_order b partition trace steps capacity) c other (exact command).0 hc lc accepted d in
+          let same = due-refused files (partition_file_for c partition) (λ b. fed_order c b trace steps capacity) p said other ((exact command).1 c).0 hp lp refuses at_partition in
+          (unique command c).0 p other said same refuses)
+          (tells-due command said asks (c, hc, inr (lc, accepted, (p, hp, inl (inr (lp, refuses))))))
       tells-partitioned unique (Check circuit partition capacity) c p design fault asks hc lc means hp lp has =
           let command : Command = Check circuit partition capacity in
           let said : Said = partition_fault fault in
@@ -327,24 +362,62 @@ module _ {words : List (List ℕ)} {files : List ℕ → Told} {lost cut unwritt
           (unique command c).0 p other said same refuses)
           (tells-due command said asks (c, hc, inr (lc, accepted, (p, hp, inl (inr (lp, refuses))))))
 
-      tells-traced : UniqueOrders → (circuit partition trace : List ℕ) (capacity workers : ℕ) (mono : Bool) (c p t : List ℕ) (flat : FlatCircuit) (fault : TraceFault)
-          → Asks words (Run circuit partition trace capacity workers mono)
-          → files circuit ≡ Holds c → length c ≤ 4194304 → Means c flat
-          → files partition ≡ Holds p → length p ≤ 1048576 → IsPartitionFor c p
+      tells-traced : UniqueOrders → (command : Command) (c p t trace : List ℕ) (flat : FlatCircuit) (fault : TraceFault)
+          → Asks words command → trace_of command ≡ Some trace
+          → files (circuit_of command) ≡ Holds c → length c ≤ 4194304 → Means c flat
+          → files (partition_of command) ≡ Holds p → length p ≤ 1048576 → IsPartitionFor c p
           → files trace ≡ Holds t → length t ≤ 67108864 → IsFirstFault (in_ports flat) t fault
           → Tells err err' trouble status (trace_fault (fault_words fault)) ⊎ (status ≡ 5)
-      tells-traced unique circuit partition trace capacity workers mono c p t flat fault asks hc lc means hp lp fits ht lt first =
-          let command : Command = Run circuit partition trace capacity workers mono in
+      tells-traced unique (Run circuit partition own capacity workers mono) c p t trace flat fault asks named hc lc means hp lp fits held lt first =
+          let command : Command = Run circuit partition own capacity workers mono in
+          let ht : files own ≡ Holds t = ap files (some-name own trace named) ∙ held in
           let said : Said = trace_fault (fault_words fault) in
           let refuses : TellsTraceFor c t said = (flat, means, (fault, first, refl)) in
           let accepted = means.text in
           only-due (order_of command) said
           (λ other d.
-          let at_partition = due-behind files (circuit_file circuit) (λ b. partition_order b partition trace) c other (exact command).0 hc lc accepted d in
-          let at_trace = due-behind files (partition_file_for c partition) (λ _. trace_order c trace) p other ((exact command).1 c).0 hp lp fits at_partition in
-          let same = due-refused files (trace_file_for c trace) (λ b. Write (IsOnlyText c b)) t said other (((exact command).1 c).1 p).0 ht lt refuses at_trace in
+          let at_partition = due-behind files (circuit_file circuit) (λ b. partition_order b partition own) c other (exact command).0 hc lc accepted d in
+          let at_trace = due-behind files (partition_file_for c partition) (λ _. trace_order c own) p other ((exact command).1 c).0 hp lp fits at_partition in
+          let same = due-refused files (trace_file_for c own) (λ b. Write (IsOnlyText c b)) t said other (((exact command).1 c).1 p).0 ht lt refuses at_trace in
           ((unique command c).1 p).0 t other said same refuses)
           (tells-due command said asks (c, hc, inr (lc, accepted, (p, hp, inr (lp, fits, (t, ht, inl (inr (lt, refuses))))))))
+      tells-traced unique (Replay circuit partition own steps capacity) c p t trace flat fault asks named hc lc means hp lp fits held lt first =
+          let command : Command = Replay circuit partition own steps capacity in
+          let ht : files own ≡ Holds t = ap files (some-name own trace named) ∙ held in
+          let said : Said = trace_fault (fault_words fault) in
+          let refuses : TellsTraceFor c t said = (flat, means, (fault, first, refl)) in
+          let accepted = means.text in
+          only-due (order_of command) said
+          (λ other d.
+          let at_partition = due-behind files (circuit_file circuit) (λ b. network_order b partition own steps capacity) c other (exact command).0 hc lc accepted d in
+          let at_trace = due-behind files (partition_file_for c partition) (λ b. fed_order c b own steps capacity) p other ((exact command).1 c).0 hp lp fits at_partition in
+          let same = due-refused files (trace_file_for c own) (λ b. steps_order c p b capacity steps) t said other (((exact command).1 c).1 p).0 ht lt refuses at_trace in
+          ((unique command c).1 p).0 t other said same refuses)
+          (tells-due command said asks (c, hc, inr (lc, accepted, (p, hp, inr (lp, fits, (t, ht, inl (inr (lt, refuses))))))))
+      tells-traced unique (Check circuit partition capacity) c p t trace flat fault asks named hc lc means hp lp fits held lt first = absurd (cc)
+
+      tells-stepped : UniqueOrders → (circuit partition trace steps : List ℕ) (capacity : ℕ) (c p t s : List ℕ) (setting : Setting) (stopped : goes.Stopped)
+          → Asks words (Replay circuit partition trace steps capacity)
+          → files circuit ≡ Holds c → length c ≤ 4194304
+          → files partition ≡ Holds p → length p ≤ 1048576
+          → files trace ≡ Holds t → length t ≤ 67108864 → IsSetting c p t capacity setting
+          → files steps ≡ Holds s → length s ≤ 67108864 → replayed setting s ≡ Err stopped
+          → Tells err err' trouble status (stopped_said setting s stopped) ⊎ (status ≡ 5)
+      tells-stepped unique circuit partition trace steps capacity c p t s setting stopped asks hc lc hp lp ht lt is hs ls stops =
+          let command : Command = Replay circuit partition trace steps capacity in
+          let said : Said = stopped_said setting s stopped in
+          let refuses : TellsSteps c p t capacity s said = (setting, is, (stopped, stops, refl)) in
+          let accepted = is.means.means.text in
+          let fits : IsPartitionFor c p = (setting.design, is.means, (setting.request, is.cuts)) in
+          let fed : IsTraceFor c t = (setting.design.circuit, is.means.means, (setting.cycles, setting.columns, is.feeds)) in
+          only-due (order_of command) said
+          (λ other d.
+          let at_partition = due-behind files (circuit_file circuit) (λ b. network_order b partition trace steps capacity) c other (exact command).0 hc lc accepted d in
+          let at_trace = due-behind files (partition_file_for c partition) (λ b. fed_order c b trace steps capacity) p other ((exact command).1 c).0 hp lp fits at_partition in
+          let at_steps = due-behind files (trace_file_for c trace) (λ b. steps_order c p b capacity steps) t other (((exact command).1 c).1 p).0 ht lt fed at_trace in
+          let same = due-refused files (steps_file_for c p t capacity steps) (λ b. Write (IsOnlyReplayText c p t capacity b)) s said other ((((exact command).1 c).1 p).1 t).0 hs ls refuses at_steps in
+          (((unique command c).1 p).1 t).0 s other said same refuses)
+          (tells-due command said asks (c, hc, inr (lc, accepted, (p, hp, inr (lp, fits, (t, ht, inr (lt, fed, (s, hs, inl (inr (ls, refuses))))))))))
 
     pub promised : OneMeaning → UniqueOrders → OneReading → Promised words files lost cut unwritten trouble out out' err err' status
     promised once unique one = record {
@@ -360,6 +433,7 @@ module _ {words : List (List ℕ)} {files : List ℕ → Told} {lost cut unwritt
       unread = λ none. tells-unread once none one;
       partitioned = λ none. tells-partitioned once none unique;
       traced = λ none. tells-traced once none unique;
+      stepped = λ none. tells-stepped once none unique;
       complete = complete-status files lost cut unwritten words status a.text a.line exact once a.outcome;
     }
 
@@ -368,7 +442,13 @@ pub asks-same : (words : List (List ℕ)) (a b c x y z : List ℕ) (k w : ℕ) (
 asks-same words a b c x y z k w m p q r asks =
     subst (λ (n : List ℕ). Asks words (Run n y z k w m)) (sym p) (subst (λ (n : List ℕ). Asks words (Run a n z k w m)) (sym q) (subst (λ (n : List ℕ). Asks words (Run a b n k w m)) (sym r) asks))
 
--- and so with `check`
+-- and so with `replay`
+pub asks-replay : (words : List (List ℕ)) (a b c d x y z w : List ℕ) (k : ℕ) → x ≡ a → y ≡ b → z ≡ c → w ≡ d → Asks words (Replay a b c d k) → Asks words (Replay x y z w k)
+asks-replay words a b c d x y z w k p q r s asks =
+    subst (λ (n : List ℕ). Asks words (Replay n y z w k)) (sym p) (subst (λ (n : List ℕ). Asks words (Replay a n z w k)) (sym q)
+    (subst (λ (n : List ℕ). Asks words (Replay a b n w k)) (sym r) (subst (λ (n : List ℕ). Asks words (Replay a b c n k)) (sym s) asks)))
+
+-- and with `check`
 pub asks-check : (words : List (List ℕ)) (a b x y : List ℕ) (k : ℕ) → x ≡ a → y ≡ b → Asks words (Check a b k) → Asks words (Check x y k)
 asks-check words a b x y k p q asks =
     subst (λ (n : List ℕ). Asks words (Check n y k)) (sym p) (subst (λ (n : List ℕ). Asks words (Check a n k)) (sym q) asks)

@@ -1,5 +1,5 @@
 -- The orders of the commands.
-use Rattle.std.proofs.Common.{◌≡◌, ℕ, List, refl, sym, ap, ◌∙◌, subst, inr}
+use Rattle.std.proofs.Common.{◌≡◌, ℕ, List, refl, sym, ap, ◌∙◌, subst, inl, inr}
 use Rattle.gg_flat.specs.Circuit.{FlatCircuit}
 use Rattle.gg_flat.specs.declared.ports.Port.{Port}
 use Rattle.gg_front.specs.Meaning.{Means}
@@ -10,9 +10,10 @@ use Rattle.gg_trace.specs.declared.faults.TraceFault.{TraceFault}
 use Rattle.golden.specs.Lines.{Said, trace_fault}
 use Rattle.golden.specs.Order.{IsExact, IsExactFile, IsUnique, IsUniqueFile}
 use Rattle.golden.specs.Run.{trace_file_for, IsTraceFor, TellsTraceFor}
-use Rattle.golden.specs.Words.{Command, Run, Check, order_behind, order_of}
+use Rattle.golden.specs.Words.{Command, Run, Replay, Check, order_behind, order_of}
 use Rattle.golden.proofs.FrontLemmas.{NoFaultAccepted, circuit_file-exact}
 use Rattle.golden.proofs.PartitionLemmas.{DesignsAgree, FileApart, OneKey, partition_file-exact, partition_file-unique}
+use Rattle.golden.proofs.SettingLemmas.{steps_file-exact, steps_file-unique}
 
 -- all flat circuits that some bytes mean have the same inputs
 abbrev pub InsAgree : Type 0
@@ -42,19 +43,24 @@ module _ (agree : InsAgree) (once : OneFirstFault) (never : NoFault) (circuit : 
 
   -- nothing is said of a trace without a fault, and all that is said of others has the status 7
   trace_file-exact : (name : List ℕ) → IsExactFile (trace_file_for circuit name)
-  trace_file-exact name = record { apart = trace-apart; status = trace-status; judges = inr (inr refl) }
+  trace_file-exact name = record { apart = trace-apart; status = trace-status; judges = inr (inr (inl refl)) }
 
   -- and it is one thing at most
   trace_file-unique : (name : List ℕ) → IsUniqueFile (trace_file_for circuit name)
   trace_file-unique name = trace-once
 
-pub order-exact : NoFaultAccepted → DesignsAgree → FileApart → OneKey → InsAgree → OneFirstFault → NoFault → (command : Command) → IsExact (order_of command)
-order-exact never designs apart key agree once none (Run circuit partition trace capacity workers mono) =
-    (circuit_file-exact never circuit, λ c. (partition_file-exact designs apart key c partition, λ p. (trace_file-exact agree once none c trace, λ t. tt)))
-order-exact never designs apart key agree once none (Check circuit partition capacity) =
-    (circuit_file-exact never circuit, λ c. (partition_file-exact designs apart key c partition, λ p. tt))
+module _ (designs : DesignsAgree) (apart : FileApart) (key : OneKey) (agree : InsAgree) (once : OneFirstFault) (none : NoFault) where
+  pub order-exact : NoFaultAccepted → (command : Command) → IsExact (order_of command)
+  order-exact never (Run circuit partition trace capacity workers mono) =
+      (circuit_file-exact never circuit, λ c. (partition_file-exact designs apart key c partition, λ p. (trace_file-exact agree once none c trace, λ t. tt)))
+  order-exact never (Replay circuit partition trace steps capacity) =
+      (circuit_file-exact never circuit, λ c. (partition_file-exact designs apart key c partition, λ p. (trace_file-exact agree once none c trace, λ t. (steps_file-exact designs c p t capacity steps, λ s. tt))))
+  order-exact never (Check circuit partition capacity) =
+      (circuit_file-exact never circuit, λ c. (partition_file-exact designs apart key c partition, λ p. tt))
 
-pub order-unique : DesignsAgree → FileApart → OneKey → InsAgree → OneFirstFault → NoFault → (command : Command) (circuit : List ℕ) → IsUnique (order_behind command circuit)
-order-unique designs apart key agree once none (Check name partition capacity) circuit = (partition_file-unique designs apart key circuit partition, λ p. tt)
-order-unique designs apart key agree once none (Run name partition trace capacity workers mono) circuit =
-    (partition_file-unique designs apart key circuit partition, λ p. (trace_file-unique agree once none circuit trace, λ t. tt))
+  pub order-unique : (command : Command) (circuit : List ℕ) → IsUnique (order_behind command circuit)
+  order-unique (Run name partition trace capacity workers mono) circuit =
+      (partition_file-unique designs apart key circuit partition, λ p. (trace_file-unique agree once none circuit trace, λ t. tt))
+  order-unique (Replay name partition trace steps capacity) circuit =
+      (partition_file-unique designs apart key circuit partition, λ p. (trace_file-unique agree once none circuit trace, λ t. (steps_file-unique designs circuit p t capacity steps, λ s. tt)))
+  order-unique (Check name partition capacity) circuit = (partition_file-unique designs apart key circuit partition, λ p. tt)

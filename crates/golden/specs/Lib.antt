@@ -5,6 +5,8 @@ pub mod Order
 pub mod Outcome
 pub mod Partition
 pub mod Promised
+pub mod Replay
+pub mod Replayed
 pub mod Run
 pub mod RunText
 pub mod Endings

@@ -20,7 +20,7 @@ words_said text = record { status = 2; line = line_of (codes "golden: words" ++ 
 
 -- the words are none of the commands
 abbrev pub no_command : Said
-no_command = words_said (codes ": the commands are run CIRCUIT PARTITION TRACE [--capacity K] [--workers W] [--mono] and check CIRCUIT PARTITION [--capacity K]")
+no_command = words_said (codes ": the commands are run CIRCUIT PARTITION TRACE [--capacity K] [--workers W] [--mono], replay CIRCUIT PARTITION TRACE STEPS [--capacity K] and check CIRCUIT PARTITION [--capacity K]")
 
 -- this value of an option is no number in its range
 abbrev pub bad_number : List ℕ → Said
@@ -41,6 +41,10 @@ partition_fault text = record { status = 6; line = line_of (codes "golden: parti
 -- the trace has a fault, in these words
 abbrev pub trace_fault : List ℕ → Said
 trace_fault text = record { status = 7; line = line_of (codes "golden: trace: " ++ text) }
+
+-- step k, counted from 1, is refused, in these words
+abbrev pub step_fault : ℕ → List ℕ → Said
+step_fault k text = record { status = 9; line = line_of (codes "golden: step " ++ decimal k ++ codes ": " ++ text) }
 
 -- the file of this name can't be loaded
 abbrev pub cannot_load : List ℕ → Said

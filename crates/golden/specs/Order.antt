@@ -18,9 +18,9 @@ pub data Order : Type 1 where
   Load : (file : File) (next : List ℕ → Order) → Order
   Write : (IsText : List ℕ → Type 0) → Order
 
--- a status with which the bytes of a file are refused: 1 for circuits, 6 for partitions, 7 for traces
+-- a status with which the bytes of a file are refused: 1 for circuits, 6 for partitions, 7 for traces, 9 for steps
 abbrev pub IsJudgement : ℕ → Type 0
-IsJudgement status = (status ≡ 1) ⊎ ((status ≡ 6) ⊎ (status ≡ 7))
+IsJudgement status = (status ≡ 1) ⊎ ((status ≡ 6) ⊎ ((status ≡ 7) ⊎ (status ≡ 9)))
 
 -- Nothing is said of the bytes of a file that are accepted, and all that is said of the others has the file's own status.
 -- More than one line may be right: where a circuit has several loops, any of them may be told.

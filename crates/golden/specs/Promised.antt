@@ -1,11 +1,12 @@
 -- What the program promises of each call: how it ends, why, and what is due.
-use Rattle.std.specs.Prelude.{◌≡◌, ◌≢◌, ℕ, ◌≤◌, ◌⊎◌, Bool, List, Option, length}
+use Rattle.std.specs.Prelude.{◌≡◌, ◌≢◌, ℕ, ◌≤◌, ◌⊎◌, Err, List, Option, Some, length}
 use Rattle.gg_io.specs.Told.{Told, Holds}
 use Rattle.gg_read.specs.Text.{HasReadFault}
 use Rattle.gg_read.specs.declared.text.ReadFault.{ReadFault}
 use Rattle.gg_flat.specs.Circuit.{FlatCircuit}
 use Rattle.gg_flat.specs.Ports.{in_ports}
 use Rattle.gg_front.specs.Meaning.{Means, MeansDesign}
+use Rattle.gg_marking.specs.Goes.{Stopped}
 use Rattle.gg_order.specs.Design.{Ordered}
 use Rattle.gg_trace.specs.FaultText.{fault_words}
 use Rattle.gg_trace.specs.Trace.{IsFirstFault}
@@ -14,7 +15,8 @@ use Rattle.golden.specs.Lines.{Said, TellsUnread, partition_fault, trace_fault}
 use Rattle.golden.specs.Order.{StopsAt, DueAt, IsDueAccepted, IsJudgement}
 use Rattle.golden.specs.Outcome.{Answered, Reports}
 use Rattle.golden.specs.Partition.{HasFault, IsPartitionFor}
-use Rattle.golden.specs.Words.{Command, Run, Asks, AskForCommand, TellsUnasked, circuit_of, order_of, partition_of}
+use Rattle.golden.specs.Replay.{IsSetting, Setting, replayed, stopped_said}
+use Rattle.golden.specs.Words.{Command, Replay, Asks, AskForCommand, TellsUnasked, circuit_of, order_of, partition_of, trace_of}
 
 -- A call with this status told this: the status is that of what was said, and its line is reported; `err` stood and stands
 -- so, and `trouble` says that something went wrong there.
@@ -27,7 +29,7 @@ pub record Tells (err err' : Option (List ℕ)) (trouble : Type 0) (status : ℕ
 -- stood on the two sinks before the call, and behind it.
 pub record Promised (words : List (List ℕ)) (files : List ℕ → Told) (lost cut unwritten trouble : Type 0) (out out' err err' : Option (List ℕ)) (status : ℕ) : Type 0 where
   -- The headline: status, text and line are an outcome of the words and the files; at status 0 the text is that of the
-  -- circuit's own run, or of the cut, and there is no other.
+  -- circuit's own run, of where the steps lead, or of the cut, and there is no other.
   pub outcome : Answered words files lost cut unwritten trouble out out' err err' status
   -- The cause of each status; of a judgement on a file, and of words that are no command, the line too.
   pub judged : IsJudgement status
@@ -55,12 +57,21 @@ pub record Promised (words : List (List ℕ)) (files : List ℕ → Told) (lost 
       → files (partition_of command) ≡ Holds p → length p ≤ 1048576 → HasFault design p fault
       → Tells err err' trouble status (partition_fault fault) ⊎ (status ≡ 5)
   -- And a trace's file that is told and has a fault is refused with its first, where the files before it are accepted.
-  pub traced : (lost → ⊥) → (circuit partition trace : List ℕ) (capacity workers : ℕ) (mono : Bool) (c p t : List ℕ) (flat : FlatCircuit) (fault : TraceFault)
-      → Asks words (Run circuit partition trace capacity workers mono)
-      → files circuit ≡ Holds c → length c ≤ 4194304 → Means c flat
-      → files partition ≡ Holds p → length p ≤ 1048576 → IsPartitionFor c p
+  pub traced : (lost → ⊥) → (command : Command) (c p t trace : List ℕ) (flat : FlatCircuit) (fault : TraceFault)
+      → Asks words command → trace_of command ≡ Some trace
+      → files (circuit_of command) ≡ Holds c → length c ≤ 4194304 → Means c flat
+      → files (partition_of command) ≡ Holds p → length p ≤ 1048576 → IsPartitionFor c p
       → files trace ≡ Holds t → length t ≤ 67108864 → IsFirstFault (in_ports flat) t fault
       → Tells err err' trouble status (trace_fault (fault_words fault)) ⊎ (status ≡ 5)
+  -- And a steps file that is told and has a step which may not be done then is refused with the first such, where the files before
+  -- it are accepted.
+  pub stepped : (lost → ⊥) → (circuit partition trace steps : List ℕ) (capacity : ℕ) (c p t s : List ℕ) (setting : Setting) (stopped : Stopped)
+      → Asks words (Replay circuit partition trace steps capacity)
+      → files circuit ≡ Holds c → length c ≤ 4194304
+      → files partition ≡ Holds p → length p ≤ 1048576
+      → files trace ≡ Holds t → length t ≤ 67108864 → IsSetting c p t capacity setting
+      → files steps ≡ Holds s → length s ≤ 67108864 → replayed setting s ≡ Err stopped
+      → Tells err err' trouble status (stopped_said setting s stopped) ⊎ (status ≡ 5)
   -- Where no load and no put fails, what is asked of files that are told and accepted is done: `outcome` then names the text.
   pub complete : (lost → ⊥) → (unwritten → ⊥) → (command : Command) → Asks words command → IsDueAccepted files (order_of command)
       → (status ≡ 0) ⊎ (status ≡ 5)

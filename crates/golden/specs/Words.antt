@@ -1,5 +1,5 @@
 -- What the words of a call ask for. Which words are which command is defined in gg_words, by `clap`'s own definitions.
-use Rattle.std.specs.Prelude.{◌≡◌, ℕ, Bool, List}
+use Rattle.std.specs.Prelude.{◌≡◌, ℕ, Bool, List, Option, Some, None}
 use Rattle.gg_words.specs.Meaning as command_line
 use Rattle.gg_words.specs.declared.command.Cmd.{Cmd}
 use Rattle.gg_words.specs.declared.command.Cmd.TheVariants as cmd
@@ -8,17 +8,20 @@ use Rattle.gg_words.specs.declared.command.WordFault.TheVariants.{Refused, Numbe
 use Rattle.golden.specs.Lines.{Said, bad_number, no_command}
 use Rattle.golden.specs.Check.{check_order, cut_order}
 use Rattle.golden.specs.Order.{Order}
+use Rattle.golden.specs.Replay.{network_order, replay_order}
 use Rattle.golden.specs.Run.{partition_order, run_order}
 
--- The commands: `run`, with the names of its files, its numbers, and whether it runs without a network; and `check`, with the names
--- of its files and its number.
+-- The commands: `run`, with the names of its files, its numbers, and whether it runs without a network; and `replay` and `check`,
+-- each with the names of its files and its number.
 pub data Command : Type 0 where
   Run : (circuit partition trace : List ℕ) (capacity workers : ℕ) (mono : Bool) → Command
+  Replay : (circuit partition trace steps : List ℕ) (capacity : ℕ) → Command
   Check : (circuit partition : List ℕ) (capacity : ℕ) → Command
 
 -- the same as a command of the command line
 abbrev pub cmd_of : Command → Cmd
 cmd_of (Run circuit partition trace capacity workers mono) = cmd.Run circuit partition trace capacity workers mono
+cmd_of (Replay circuit partition trace steps capacity) = cmd.Replay circuit partition trace steps capacity
 cmd_of (Check circuit partition capacity) = cmd.Check circuit partition capacity
 
 -- the words ask for this command
@@ -39,22 +42,32 @@ TellsWords NoMemory said = ⊥
 abbrev pub TellsUnasked : List (List ℕ) → Said → Type 0
 TellsUnasked words said = (fault : WordFault) × command_line.IsWordFault words fault × TellsWords fault said
 
--- the order of refusals of a command: neither the numbers of `run` nor the network have a part in it yet
+-- the order of refusals of a command: the numbers of `run` have no part in it yet
 abbrev pub order_of : Command → Order
 order_of (Run circuit partition trace capacity workers mono) = run_order circuit partition trace
+order_of (Replay circuit partition trace steps capacity) = replay_order circuit partition trace steps capacity
 order_of (Check circuit partition capacity) = check_order circuit partition capacity
 
 -- what is left of it where the circuit's bytes are known
 abbrev pub order_behind : Command → List ℕ → Order
 order_behind (Run circuit partition trace capacity workers mono) bytes = partition_order bytes partition trace
+order_behind (Replay circuit partition trace steps capacity) bytes = network_order bytes partition trace steps capacity
 order_behind (Check circuit partition capacity) bytes = cut_order bytes partition capacity
 
 -- the name of its circuit's file
 abbrev pub circuit_of : Command → List ℕ
 circuit_of (Run circuit partition trace capacity workers mono) = circuit
+circuit_of (Replay circuit partition trace steps capacity) = circuit
 circuit_of (Check circuit partition capacity) = circuit
 
 -- and of its partition's
 abbrev pub partition_of : Command → List ℕ
 partition_of (Run circuit partition trace capacity workers mono) = partition
+partition_of (Replay circuit partition trace steps capacity) = partition
 partition_of (Check circuit partition capacity) = partition
+
+-- and of its trace's, where it has one
+abbrev pub trace_of : Command → Option (List ℕ)
+trace_of (Run circuit partition trace capacity workers mono) = Some trace
+trace_of (Replay circuit partition trace steps capacity) = Some trace
+trace_of (Check circuit partition capacity) = None

@@ -11,11 +11,12 @@ ghost use Rattle.golden.specs.WentOn.{ShelfWentOn, SinkWentOn};
 use crate::check::check;
 use crate::endings::Ending;
 use crate::laws::refusals_are_exact;
+use crate::replay::replay;
 use crate::run::run;
 use crate::words::end_at_words;
 use crate::writing::report;
 use gg_io::{Gate, Shelf, Sink};
-use gg_words::{Cmd, one_meaning, words};
+use gg_words::{Cmd, numbers_are_in_range, one_meaning, words};
 use std::alloc::Global;
 
 // A command of the command line, done.
@@ -32,6 +33,7 @@ fn do_command<S: Shelf, K: Sink>(
     ensures shelf { ShelfWentOn (S.files shelf.old) (S.files shelf.new) (S.faults shelf.old) (S.faults shelf.new) (S.cuts shelf.old) (S.cuts shelf.new) }
     ensures out { SinkWentOn (K.faults out.old) (K.faults out.new) (K.refused out.old) (K.refused out.new) }
 {
+    numbers_are_in_range();
     match cmd {
         Cmd::Run {
             circuit,
@@ -43,6 +45,22 @@ fn do_command<S: Shelf, K: Sink>(
             circuit.as_str(),
             partition.as_str(),
             trace.as_str(),
+            shelf,
+            out,
+        ),
+        Cmd::Replay {
+            circuit,
+            partition,
+            trace,
+            steps,
+            capacity,
+        } => replay(
+            alloc,
+            circuit.as_str(),
+            partition.as_str(),
+            trace.as_str(),
+            steps.as_str(),
+            *capacity,
             shelf,
             out,
         ),
@@ -119,7 +137,9 @@ fn answer<S: Shelf, K: Sink, E: Sink>(
 /// isn't called yet.
 ///
 /// `run CIRCUIT PARTITION TRACE` writes the text of the circuit's own run on the trace: a header, then a row for each
-/// cycle. `check CIRCUIT PARTITION` writes a line for each machine of the cut, then one for each channel. Statuses:
+/// cycle. `replay CIRCUIT PARTITION TRACE STEPS` does the steps of a file, one after another, on the network of the cut before its
+/// first cycle, and writes a line for each channel: how many tokens were put and were taken, and those that were put. `check CIRCUIT
+/// PARTITION` writes a line for each machine of the cut, then one for each channel. Statuses:
 ///
 /// - 0: the text was written whole;
 /// - 1: the circuit has a fault; nothing was written;
@@ -129,7 +149,9 @@ fn answer<S: Shelf, K: Sink, E: Sink>(
 /// - 5: memory ran out; nothing or a front part of the text stands there;
 /// - 6: the partition has a fault for the circuit, which has none; nothing was written;
 /// - 7: the trace has a fault, and the files before it have none; nothing was written;
-/// - 8: a file is longer than its limit; nothing was written.
+/// - 8: a file is longer than its limit; nothing was written;
+/// - 9: a step of the steps file may not be done behind those before it, and the files before it have no fault; nothing was
+///   written.
 ///
 /// Where the files are told and no load or put fails, the files and the words decide the status, want of memory aside.
 pub fn golden<S: Shelf, K: Sink, E: Sink, G: Gate>(

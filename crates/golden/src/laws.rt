@@ -13,7 +13,7 @@ use gg_read::one_fault_line;
 use gg_trace::one_first_fault;
 
 /// Nothing is said of the bytes of a command's file that are accepted, and all that is said of others has the file's own
-/// status. Of a partition and of a trace one thing is said at most, and of a circuit with a fault of reading just that.
+/// status. Of a partition, of a trace and of steps one thing is said at most, and of a circuit with a fault of reading just that.
 pub fn refusals_are_exact()
     ensures exact { (command : Command) → IsExact (order_of command) }
     ensures unique { (command : Command) (circuit : List ℕ) → IsUnique (order_behind command circuit) }

@@ -6,6 +6,7 @@ mod files;
 mod outputs;
 mod partitions;
 mod refusals;
+mod steps;
 mod traces;
 
 use super::golden;

@@ -17,7 +17,7 @@ fn end_at_no_command(alloc: Global) -> Ending
         alloc,
         2,
         "golden: words",
-        ": the commands are run CIRCUIT PARTITION TRACE [--capacity K] [--workers W] [--mono] and check CIRCUIT PARTITION [--capacity K]",
+        ": the commands are run CIRCUIT PARTITION TRACE [--capacity K] [--workers W] [--mono], replay CIRCUIT PARTITION TRACE STEPS [--capacity K] and check CIRCUIT PARTITION [--capacity K]",
         "",
     ))
 }

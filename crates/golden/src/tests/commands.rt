@@ -20,7 +20,7 @@ static ASKED: [&str; 12] = [
 ];
 
 const COMMANDS: &str =
-    "golden: words: the commands are run CIRCUIT PARTITION TRACE [--capacity K] [--workers W] [--mono] and check CIRCUIT PARTITION [--capacity K]\n";
+    "golden: words: the commands are run CIRCUIT PARTITION TRACE [--capacity K] [--workers W] [--mono], replay CIRCUIT PARTITION TRACE STEPS [--capacity K] and check CIRCUIT PARTITION [--capacity K]\n";
 
 // Words that are no command, and the line of their refusal.
 static UNASKED: [(&str, &str); 13] = [
@@ -31,7 +31,7 @@ static UNASKED: [(&str, &str); 13] = [
     ("golden run k1.fir p.json k1.trace --mono --mono", COMMANDS),
     ("golden run k1.fir p.json k1.trace --capacity", COMMANDS),
     ("golden walk k1.fir p.json k1.trace", COMMANDS),
-    ("golden replay k1.fir p.json k1.trace s.steps", COMMANDS),
+    ("golden replay k1.fir p.json k1.trace", COMMANDS),
     ("golden --help", COMMANDS),
     (
         "golden run k1.fir p.json k1.trace --capacity 0",

@@ -6,8 +6,8 @@ use Rattle.golden.proofs.laws.refusals_are_exact.Goals as goal
 pub returns-clause-exact : goal.returns-clause-exact
 returns-clause-exact c =
     let d = c.designs_agree.ensures in
-    order-exact c.faults_apart.ensures.accepted (designs-agree d.trees d.paths d.shapes c.one_run.ensures.ins c.one_run.ensures.outs d.reads d.memories) c.one_answer.ensures.apart c.one_answer.ensures.key
-    c.ports_agree.ensures.ins c.one_first_fault.ensures.once c.one_first_fault.ensures.apart
+    order-exact (designs-agree d.trees d.paths d.shapes c.one_run.ensures.ins c.one_run.ensures.outs d.reads d.memories) c.one_answer.ensures.apart c.one_answer.ensures.key
+    c.ports_agree.ensures.ins c.one_first_fault.ensures.once c.one_first_fault.ensures.apart c.faults_apart.ensures.accepted
 
 pub returns-clause-unique : goal.returns-clause-unique
 returns-clause-unique c =

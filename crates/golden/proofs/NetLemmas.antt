@@ -1,0 +1,114 @@
+-- How the steps of a plan's network have ended.
+use Rattle.std.proofs.Common.{◌≡◌, ℕ, ◌+◌, ◌<◌, ◌≤◌, List, [], ◌++◌, length, map, replicate, take, get_or, refl, sym, ap, ◌∙◌, subst, arith}
+use Rattle.std.specs.Prelude.{IfOk, MatchResult, Option, Result, Ok, Err, codes, decimal, flat_map}
+use Rattle.std.specs.List.{range_with_len}
+use Rattle.std.proofs.lemmas.List.{get_or-map, take_all}
+use Rattle.std.proofs.lemmas.List.FromFn.{get_or-range_with_len, length-range_with_len}
+use Rattle.gg_build.specs.Build.{IsOpeningOf}
+use Rattle.gg_cut.specs.declared.plan.Channel.{Channel}
+use Rattle.gg_cut.specs.declared.plan.Plan.{Plan}
+use Rattle.gg_net.specs.declared.event.Event.{Event}
+use Rattle.gg_net.specs.Kept.{Kept, list_at}
+use Rattle.gg_net.specs.Net.{opening_net}
+use Rattle.gg_net.specs.Network.{Frame, Network, frame_of, puts, takes}
+use Rattle.gg_marking.specs.Goes.{Stopped}
+use Rattle.gg_marking.specs.Steps.{Steps, StopsAt}
+use Rattle.gg_marking.proofs.StepsLemmas.{steps-frame}
+use Rattle.gg_replay.specs.Log.{AreFronts, tokens_at}
+use Rattle.gg_replay.specs.ReplayText.{channel_line}
+use Rattle.gg_replay.proofs.OpeningLemmas.{empty-fronts}
+use Rattle.gg_sound.specs.Built.{wires_of_plan}
+use Rattle.gg_sound.proofs.LinkLemmas.{length-from}
+use Rattle.gg_sound.proofs.OpeningLemmas.{built-opening}
+use Rattle.gg_steps.specs.Naming.{Naming}
+use Rattle.gg_steps.specs.Steps.{steps_of}
+use Rattle.golden.specs.declared.endings.Ending.{Ending}
+use Rattle.golden.specs.declared.endings.Ending.TheVariants.{NoMemory}
+use Rattle.golden.specs.Lines.{Said, line_of, step_fault}
+use Rattle.golden.specs.Endings.{IfRefused, Prints}
+use Rattle.golden.specs.Replay.{stopped_by}
+use Rattle.golden.specs.Replayed.{NetEnds, NetWent, NetStops, name_in, net_line, net_text, width_in}
+use Rattle.golden.proofs.ReadingLemmas.{IfRefused-map}
+
+module _ (plan : Plan) (columns : List (List ℕ)) (n : ℕ) (lists : List (List ℕ)) (net : Network) (opens : IsOpeningOf plan columns n net) where
+  -- before the first cycle a log without a token is right
+  pub opening-log : (log : List (List ℕ)) (count : ℕ) → count ≡ length net.wires → log ≡ replicate count [] → AreFronts lists net log
+  opening-log log count same is =
+      let machines = opens.machines in
+      let opening = opening_net machines (wires_of_plan plan) n in
+      let fronts : AreFronts lists opening (replicate (length (wires_of_plan plan)) []) = empty-fronts machines (built-opening plan columns n machines opens.built) lists (wires_of_plan plan) n in
+      let wires : count ≡ length (wires_of_plan plan) = same ∙ ap (λ (x : Network). length x.wires) opens.is in
+      let given : log ≡ replicate (length (wires_of_plan plan)) [] = is ∙ ap (λ k. replicate k []) wires in
+      subst (λ (x : Network). AreFronts lists x log) (sym opens.is) (subst (λ l. AreFronts lists opening l) (sym given) fronts)
+
+  -- steps leave the channels as they are
+  pub wires-stay : (events : List (Option Event)) (new : Network) → Steps net events new → length new.wires ≡ length plan.channels
+  wires-stay events new steps =
+      ap (λ (f : Frame). length f.wires) (steps-frame net events new steps) ∙ ap (λ (x : Network). length x.wires) opens.is ∙ length-from plan 0 plan.channels
+
+  module _ (T : Type 0) (runs : List (List (List ℕ))) (kept : Kept lists runs net) (naming : Naming) (events : List (Option Event)) (new : Network) (before now : Option (List ℕ)) (failed : Type 0) where
+    abbrev opening : Network
+    opening = opening_net opens.machines (wires_of_plan plan) n
+
+    opening-kept : Kept lists runs opening
+    opening-kept = subst (λ (x : Network). Kept lists runs x) opens.is kept
+
+    pub net-went : (r : Result T Ending) → Steps net events new → Prints before now failed (net_text plan lists new) r → NetEnds plan columns n lists runs naming events before now failed r
+    net-went r steps prints = NetWent opens.machines (record { built = opens.built; kept = opening-kept }) new (subst (λ (x : Network). Steps x events new) opens.is steps) prints
+
+    pub net-stops : (stopped : Stopped) (ending : Ending) → StopsAt 1 net events new stopped → IfRefused (λ said. said ≡ stopped_by naming events stopped) ending
+        → NetEnds {T = T} plan columns n lists runs naming events before before failed (Err ending)
+    net-stops stopped ending stops says =
+        NetStops opens.machines (record { built = opens.built; kept = opening-kept }) new stopped (subst (λ (x : Network). StopsAt 1 x events new stopped) opens.is stops) ending refl says refl
+
+-- the names and the steps by other words
+pub net-named : (plan : Plan) (columns : List (List ℕ)) (n : ℕ) (lists : List (List ℕ)) (runs : List (List (List ℕ))) (names own : Naming) (events : List (Option Event)) (text : List ℕ) (T : Type 0) (before now : Option (List ℕ)) (failed : Type 0) (r : Result T Ending)
+    → names ≡ own → events ≡ steps_of names text
+    → NetEnds plan columns n lists runs names events before now failed r → NetEnds plan columns n lists runs own (steps_of own text) before now failed r
+net-named plan columns n lists runs names own events text T before now failed r same is ended =
+    subst (λ (x : Naming). NetEnds plan columns n lists runs x (steps_of x text) before now failed r) same
+    (subst (λ (e : List (Option Event)). NetEnds plan columns n lists runs names e before now failed r) is ended)
+
+-- ---- lines
+
+-- the line of a channel, from what is told of it
+pub line-of : (plan : Plan) (lists log : List (List ℕ)) (net : Network) (c : ℕ) (channels : List Channel) (own : Channel) (name tokens : List ℕ) (width put took : ℕ)
+    → channels ≡ plan.channels → c < length plan.channels → length net.wires ≡ length plan.channels → AreFronts lists net log
+    → name ≡ (get_or channels c own).name → width ≡ (get_or channels c own).ty.width → put ≡ puts net c → took ≡ takes net c → tokens ≡ tokens_at log c
+    → channel_line name width put took tokens ≡ net_line plan lists net c
+line-of plan lists log net c channels own name tokens width put took same known wires fronts named wide puts_are takes_are tokens_are =
+    let here : get_or channels c own ≡ get_or plan.channels c own = ap (λ (l : List Channel). get_or l c own) same in
+    let called : name ≡ name_in plan c = named ∙ ap (λ (x : Channel). x.name) here ∙ sym (get_or-map (λ (x : Channel). x.name) plan.channels c own [] known) in
+    let across : width ≡ width_in plan c = wide ∙ ap (λ (x : Channel). x.ty.width) here ∙ sym (get_or-map (λ (x : Channel). x.ty.width) plan.channels c own 0 known) in
+    let given : tokens ≡ take (puts net c) (list_at lists c) = tokens_are ∙ fronts.each c (omega (arith, known, wires)) in
+    ap (λ x. channel_line x width put took tokens) called
+    ∙ ap (λ x. channel_line (name_in plan c) x put took tokens) across
+    ∙ ap (λ x. channel_line (name_in plan c) (width_in plan c) x took tokens) puts_are
+    ∙ ap (λ x. channel_line (name_in plan c) (width_in plan c) (puts net c) x tokens) takes_are
+    ∙ ap (λ x. channel_line (name_in plan c) (width_in plan c) (puts net c) (takes net c) x) given
+
+-- a number of so many stands at its own place
+pub in-range : (i n : ℕ) → i < n → i < length (range_with_len 0 n)
+in-range i n lt = omega (arith, lt, length-range_with_len 0 n)
+
+pub at-range : (i n d : ℕ) → i < n → get_or (range_with_len 0 n) i d ≡ i
+at-range i n d lt = get_or-range_with_len 0 n i d lt ∙ (let e : 0 + i ≡ i = omega arith in e)
+
+pub whole-range : (f : ℕ → List ℕ) (i n : ℕ) → n ≤ i → flat_map f (take i (range_with_len 0 n)) ≡ flat_map f (range_with_len 0 n)
+whole-range f i n le = ap (flat_map f) (take_all i (range_with_len 0 n) (omega (arith, le, length-range_with_len 0 n)))
+
+abbrev step_said : List ℕ → Said
+step_said l = record { status = 9; line = line_of l }
+
+-- the line of a refused step
+pub step-line : (front text told : List ℕ) (step : ℕ) → front ≡ codes "golden: step " ++ decimal step → text ≡ told
+    → record { status = 9; line = line_of (front ++ codes ": " ++ text) } ≡ step_fault step told
+step-line front text told step e same =
+    ap (λ (l : List ℕ). step_said l)
+    (ap (λ x. x ++ codes ": " ++ text) e ∙ ap (λ x. codes "golden: step " ++ decimal step ++ codes ": " ++ x) same)
+
+-- what is made is said, where memory suffices
+pub made-said : {E : Type 0} (r : Result Said E) (ending : Ending) (made whole : Said) → made ≡ whole
+    → MatchResult r (λ said. IfRefused (λ given. given ≡ said) ending) (λ _. ending ≡ NoMemory) → IfOk r (λ said. said ≡ made) → IfRefused (λ said. said ≡ whole) ending
+made-said (Ok said) ending made whole same ends is = IfRefused-map (λ given e. e ∙ is ∙ same) ending ends
+made-said (Err error) ending made whole same ends is = subst (IfRefused (λ said. said ≡ whole)) (sym ends) tt

@@ -1,0 +1,274 @@
+-- How `replay` has ended: from the network of a plan to the setting of its design, and from there to the order of refusals.
+use Rattle.std.proofs.Common.{◌≡◌, ℕ, zero, suc, ◌+◌, ◌<◌, ◌≤◌, ◌^◌, List, [], ◌∷◌, ◌++◌, length, map, get_or, refl, sym, ap, ◌∙◌, subst, inl, inr, arith}
+use Rattle.std.specs.Prelude.{Option, None, Some, Result, Ok, Err, flat_map, slice_index_or, take}
+use Rattle.std.specs.List.{range_with_len}
+use Rattle.std.proofs.lemmas.List.{get_or-map}
+use Rattle.gg_bits.specs.Shape.{Shape}
+use Rattle.gg_flat.specs.Circuit.{FlatCircuit, signal_shapes}
+use Rattle.gg_flat.specs.Line.{shape_at}
+use Rattle.gg_flat.specs.Order.{IsOrder}
+use Rattle.gg_flat.specs.Ports.{in_ports}
+use Rattle.gg_flat.specs.Along.{rows_along}
+use Rattle.gg_flat.specs.Run.{IsColumns, IsRun, column}
+use Rattle.gg_flat.proofs.AlongLemmas.{IsRun-along}
+use Rattle.gg_flat.specs.Tree.{path_at}
+use Rattle.gg_front.specs.Meaning.{Means, MeansDesign}
+use Rattle.gg_io.specs.Told.{Told}
+use Rattle.gg_order.specs.Design.{IsDesign, Ordered}
+use Rattle.gg_partfile.specs.declared.request.Request.{Request}
+use Rattle.gg_cut.specs.Channels.{capacity_of, machine_count, wires_of}
+use Rattle.gg_cut.specs.Fault.{first_fault}
+use Rattle.gg_cut.specs.Listed.{listed_of}
+use Rattle.gg_cut.specs.Plan.{IsChannel, IsPlan, machine_names, wire_at}
+use Rattle.gg_cut.specs.Solves.{columns_of}
+use Rattle.gg_cut.specs.declared.listed.Listed.{Listed}
+use Rattle.gg_cut.specs.declared.plan.Channel.{Channel}
+use Rattle.gg_cut.specs.declared.plan.Machine as planned
+use Rattle.gg_cut.specs.declared.plan.Plan.{Plan}
+use Rattle.gg_cut.specs.declared.wires.Wire.{Wire}
+use Rattle.gg_check.specs.CheckText.{channel_name}
+use Rattle.gg_node.specs.Machine.{Machine, cycle_limit}
+use Rattle.gg_net.specs.declared.event.Event.{Event}
+use Rattle.gg_net.specs.Kept.{list_at}
+use Rattle.gg_net.specs.Net.{opening_net}
+use Rattle.gg_net.specs.Network.{Frame, Network, frame_of}
+use Rattle.gg_net.specs.Network as network
+use Rattle.gg_marking.specs.Fits.{HasLayout, marking_of}
+use Rattle.gg_marking.specs.Goes.{Stopped, replayed_from}
+use Rattle.gg_marking.specs.Marking.{Layout, Marking, opening_marking, puts, takes}
+use Rattle.gg_marking.specs.Steps.{Steps, StopsAt}
+use Rattle.gg_marking.proofs.CountLemmas.{puts-are, takes-are}
+use Rattle.gg_marking.proofs.OpeningLemmas.{opens-so}
+use Rattle.gg_marking.proofs.StepsLemmas.{all-done, steps-frame, stops-at}
+use Rattle.gg_sound.specs.Built.{AreBuilt, IsGiven, nameless, rows_of, wires_of_plan}
+use Rattle.gg_sound.proofs.LinkLemmas.{length-from}
+use Rattle.gg_sound.proofs.OpeningLemmas.{built-opening}
+use Rattle.gg_layout.specs.CutLayout.{IsLayoutOf}
+use Rattle.gg_layout.proofs.LayoutLemmas.{plan-layout}
+use Rattle.gg_steps.specs.Naming.{Naming}
+use Rattle.gg_steps.specs.Steps.{steps_of}
+use Rattle.gg_replay.specs.ReplayText.{channel_line}
+use Rattle.golden.specs.declared.endings.Ending.{Ending}
+use Rattle.golden.specs.declared.endings.Ending.TheVariants.{NoMemory}
+use Rattle.golden.specs.Endings.{EndedOn, Prints}
+use Rattle.golden.specs.Order.{CanBe, Write}
+use Rattle.golden.specs.Partition.{Cuts}
+use Rattle.golden.specs.Replay.{IsOnlyReplayText, IsReplayText, IsSetting, Setting, channel_told, naming_by, naming_of, port_names, replay_text, replayed, steps_file_for, steps_order}
+use Rattle.golden.specs.Replayed.{AreSet, IsToReplay, NetEnds, NetWent, NetStops, NetWants, Opened, ReplayEnds, Went, Stops, Wants, lists_along, name_in, net_line, net_text, plan_naming, runs_along_rows, setting_of, width_in}
+use Rattle.golden.specs.RunText.{FeedsOnly}
+use Rattle.golden.proofs.EndingLemmas.{printed-ends, refused-ends}
+use Rattle.golden.proofs.PartitionLemmas.{DesignsAgree}
+use Rattle.golden.proofs.ReadingLemmas.{IfRefused-map}
+use Rattle.golden.proofs.SettingLemmas.{designs-alike, layouts-same, leads-same, ok-same, requests-same, rows-same, texts-same}
+
+-- ---- lists by number
+
+-- what a function makes of the items of a list is what another makes of their numbers
+map-range : {A B : Type 0} (f : A → B) (g : ℕ → B) (xs : List A) (a : ℕ) → ((k : ℕ) (any : A) → k < length xs → f (slice_index_or xs k any) ≡ g (a + k))
+    → map f xs ≡ map g (range_with_len a (length xs))
+map-range f g [] a h = refl
+map-range f g (x ∷ xs) a h =
+    let head : f x ≡ g a = h 0 x (omega arith) ∙ ap g (let e : a + 0 ≡ a = omega arith in e) in
+    let rest : map f xs ≡ map g (range_with_len (a + 1) (length xs)) =
+    map-range f g xs (a + 1) (λ k any lt. h (suc k) any (omega (arith, lt)) ∙ ap g (let e : a + suc k ≡ a + 1 + k = omega arith in e)) in
+    cc
+
+map-numbers : {A B : Type 0} (f : A → B) (g : ℕ → B) (xs : List A) → ((k : ℕ) (any : A) → k < length xs → f (slice_index_or xs k any) ≡ g k) → map f xs ≡ map g (range_with_len 0 (length xs))
+map-numbers f g xs h = map-range f g xs 0 (λ k any lt. h k any lt ∙ ap g (let e : k ≡ 0 + k = omega arith in e))
+
+-- lines that are the same for each number
+lines-on : (f g : ℕ → List ℕ) (a n : ℕ) → ((k : ℕ) → a ≤ k → k < a + n → f k ≡ g k) → flat_map f (range_with_len a n) ≡ flat_map g (range_with_len a n)
+lines-on f g a zero h = refl
+lines-on f g a (suc n) h =
+    let head : f a ≡ g a = h a (omega arith) (omega arith) in
+    let rest = lines-on f g (a + 1) n (λ k le lt. h k (omega (arith, le)) (omega (arith, lt))) in
+    ap (λ l. l ++ flat_map f (range_with_len (a + 1) n)) head ∙ ap (λ l. g a ++ l) rest
+
+some-item : {A : Type 0} (xs : List A) (k : ℕ) → k < length xs → A
+some-item [] k lt = absurd (omega (arith, lt))
+some-item (x ∷ xs) k lt = x
+
+module _ (design : Ordered) (request : Request) (default : ℕ) (plan : Plan) (columns : List (List ℕ)) (n : ℕ) (rows : List (List ℕ)) (given : IsGiven design request default plan columns n rows) where
+  abbrev the_listed : Listed
+  the_listed = listed_of design.tree request
+
+  abbrev the_wires : List Wire
+  the_wires = wires_of design.circuit design.tree the_listed
+
+  abbrev lists : List (List ℕ)
+  lists = columns_of plan rows
+
+  abbrev runs : List (List (List ℕ))
+  runs = rows_of plan rows
+
+  abbrev path_of : ℕ → List ℕ
+  path_of = path_at (machine_names design request the_listed)
+
+  -- ---- names
+
+  channel-names : map (λ (channel : Channel). channel.name) plan.channels ≡ map (channel_name design.circuit the_wires) (range_with_len 0 (length the_wires))
+  channel-names =
+      map-numbers (λ (channel : Channel). channel.name) (channel_name design.circuit the_wires) plan.channels (λ k any lt. (given.planned.channel k any lt).name)
+      ∙ ap (λ count. map (channel_name design.circuit the_wires) (range_with_len 0 count)) given.planned.channel_total
+
+  machine-names : map (λ (machine : planned.Machine). machine.name) plan.machines ≡ map path_of (range_with_len 0 (machine_count design.circuit the_listed))
+  machine-names =
+      map-numbers (λ (machine : planned.Machine). machine.name) path_of plan.machines (λ k any lt. (given.planned.machine k any lt).name)
+      ∙ ap (λ count. map path_of (range_with_len 0 count)) given.planned.machine_total
+
+  naming-is : plan_naming plan design.tree the_listed ≡ naming_of design request
+  naming-is =
+      let ports : map (port_names design.tree the_listed) (range_with_len 0 (length plan.machines)) ≡ map (port_names design.tree the_listed) (range_with_len 0 (machine_count design.circuit the_listed)) =
+      ap (λ count. map (port_names design.tree the_listed) (range_with_len 0 count)) given.planned.machine_total in
+      let names = channel-names in
+      let machines = machine-names in
+      cc
+
+  -- ---- the text
+
+  module _ (layout : Layout) (net : Network) (has : HasLayout (frame_of net) layout) (count : length net.wires ≡ length plan.channels) where
+    abbrev the_setting : Setting
+    the_setting = setting_of design request n columns rows layout
+
+    line-is : (c : ℕ) → c < length plan.channels → net_line plan lists net c ≡ channel_told the_setting (marking_of net) the_wires c
+    line-is c lt =
+        let any = some-item plan.channels c lt in
+        let own = slice_index_or plan.channels c any in
+        let w = wire_at the_wires c in
+        let at : IsChannel design (capacity_of request.capacity default) plan.machines w own = given.planned.channel c any lt in
+        let known : c < length net.wires = omega (arith, lt, count) in
+        let name = channel_name design.circuit the_wires c in
+        let wide = (shape_at (signal_shapes design.circuit) w.signal).width in
+        let named : name_in plan c ≡ name = get_or-map (λ (channel : Channel). channel.name) plan.channels c any [] lt ∙ at.name in
+        let width : width_in plan c ≡ wide = get_or-map (λ (channel : Channel). channel.ty.width) plan.channels c any 0 lt ∙ ap (λ (z : Shape). z.width) at.type in
+        let put : network.puts net c ≡ puts layout (marking_of net) c = puts-are net layout has c known in
+        let took : network.takes net c ≡ takes layout (marking_of net) c = takes-are net layout has c known in
+        let carried : list_at lists c ≡ column rows w.signal = get_or-map (λ (channel : Channel). column rows channel.signal) plan.channels c any [] lt ∙ ap (column rows) at.signal in
+        ap (λ x. channel_line x (width_in plan c) (network.puts net c) (network.takes net c) (take (network.puts net c) (list_at lists c))) named
+        ∙ ap (λ x. channel_line name x (network.puts net c) (network.takes net c) (take (network.puts net c) (list_at lists c))) width
+        ∙ ap (λ x. channel_line name wide x (network.takes net c) (take x (list_at lists c))) put
+        ∙ ap (λ x. channel_line name wide (puts layout (marking_of net) c) x (take (puts layout (marking_of net) c) (list_at lists c))) took
+        ∙ ap (λ x. channel_line name wide (puts layout (marking_of net) c) (takes layout (marking_of net) c) (take (puts layout (marking_of net) c) x)) carried
+
+    text-is : net_text plan lists net ≡ replay_text the_setting (marking_of net)
+    text-is =
+        lines-on (net_line plan lists net) (channel_told the_setting (marking_of net) the_wires) 0 (length plan.channels) (λ c le lt. line-is c (omega (arith, lt)))
+        ∙ ap (λ k. flat_map (channel_told the_setting (marking_of net) the_wires) (range_with_len 0 k)) given.planned.channel_total
+
+  -- ---- the steps
+
+  module _ (machines : List Machine) (opened : Opened plan columns n lists runs machines) where
+    abbrev opening : Network
+    opening = opening_net machines (wires_of_plan plan) n
+
+    laid : (layout : Layout) × (IsLayoutOf design request default n layout × HasLayout (frame_of opening) layout)
+    laid = plan-layout design request default plan columns n rows machines given opened.built
+
+    opens : marking_of opening ≡ opening_marking laid.0
+    opens = opens-so machines (wires_of_plan plan) n (built-opening plan columns n machines opened.built) laid.0 laid.1.1
+
+    are-set : AreSet design request default n columns rows laid.0
+    are-set = record { run = given.run; laid = laid.1.0 }
+
+    frame-has : (events : List (Option Event)) (net : Network) → Steps opening events net → HasLayout (frame_of net) laid.0
+    frame-has events net steps = subst (λ (f : Frame). HasLayout f laid.0) (sym (steps-frame opening events net steps)) laid.1.1
+
+    wires-count : (events : List (Option Event)) (net : Network) → Steps opening events net → length net.wires ≡ length plan.channels
+    wires-count events net steps = ap (λ (f : Frame). length f.wires) (steps-frame opening events net steps) ∙ length-from plan 0 plan.channels
+
+    went : (events : List (Option Event)) (net : Network) → Steps opening events net → replayed_from laid.0 1 (opening_marking laid.0) events ≡ Ok (marking_of net)
+    went events net steps =
+        ap (λ m. replayed_from laid.0 1 m events) (sym opens) ∙ all-done lists runs laid.0 1 opening events net opened.kept laid.1.1 steps
+
+    stopped-so : (events : List (Option Event)) (net : Network) (stopped : Stopped) → StopsAt 1 opening events net stopped → replayed_from laid.0 1 (opening_marking laid.0) events ≡ Err stopped
+    stopped-so events net stopped stops =
+        ap (λ m. replayed_from laid.0 1 m events) (sym opens) ∙ stops-at lists runs laid.0 1 opening events net stopped opened.kept laid.1.1 stops
+
+  module _ (T : Type 0) (steps : List ℕ) (before now : Option (List ℕ)) (failed : Type 0) (r : Result T Ending) where
+    abbrev events_in : List (Option Event)
+    events_in = steps_of (naming_of design request) steps
+
+    net-ends : NetEnds plan columns n lists runs (naming_of design request) events_in before now failed r → ReplayEnds design request default n columns steps before now failed r
+    net-ends (NetWent machines opened net done prints) =
+        let layout = (laid machines opened).0 in
+        Went rows layout (are-set machines opened) (marking_of net) (went machines opened events_in net done)
+        (subst (λ (t : List ℕ). Prints before now failed t r) (text-is layout net (frame-has machines opened events_in net done) (wires-count machines opened events_in net done)) prints)
+    net-ends (NetStops machines opened net stopped stops ending ends says none) =
+        Stops rows (laid machines opened).0 (are-set machines opened) stopped (stopped-so machines opened events_in net stopped stops) ending ends says none
+    net-ends (NetWants ends none) = Wants ends none
+
+    pub request-ends : NetEnds plan columns n lists runs (plan_naming plan design.tree the_listed) (steps_of (plan_naming plan design.tree the_listed) steps) before now failed r
+        → ReplayEnds design request default n columns steps before now failed r
+    request-ends ended = net-ends (subst (λ (names : Naming). NetEnds plan columns n lists runs names (steps_of names steps) before now failed r) naming-is ended)
+
+-- ---- the run of a design's circuit, along its order
+
+module _ (design : Ordered) (request : Request) (default : ℕ) (plan : Plan) (columns : List (List ℕ)) (n : ℕ) (is : IsDesign design) (faultless : first_fault design request ≡ None) (planned : IsPlan design request default plan) (most : n ≤ cycle_limit) (fed : IsColumns design.circuit n columns) where
+  abbrev run_rows : List (List ℕ)
+  run_rows = rows_along design.circuit design.order columns n
+
+  given-of : IsGiven design request default plan columns n run_rows
+  given-of = record { design_is = is; faultless = faultless; planned = planned; most = most; given = fed; run = IsRun-along design.circuit design.order columns n is.formed is.ordered fed }
+
+  pub to-replay : IsToReplay design plan columns n
+  to-replay = record { design = design; request = request; default = default; rows = run_rows; given = given-of; carried = refl; done = refl }
+
+  pub along-ends : (T : Type 0) (listed : Listed) → listed ≡ listed_of design.tree request → (steps : List ℕ) (before now : Option (List ℕ)) (failed : Type 0) (r : Result T Ending)
+      → NetEnds plan columns n (lists_along design plan columns n) (runs_along_rows design plan columns n) (plan_naming plan design.tree listed) (steps_of (plan_naming plan design.tree listed) steps) before now failed r
+      → ReplayEnds design request default n columns steps before now failed r
+  along-ends T listed same steps before now failed r ended =
+      request-ends design request default plan columns n run_rows given-of T steps before now failed r
+      (subst (λ (l : Listed). NetEnds plan columns n (lists_along design plan columns n) (runs_along_rows design plan columns n) (plan_naming plan design.tree l) (steps_of (plan_naming plan design.tree l) steps) before now failed r) same ended)
+
+-- ---- the order of refusals
+
+module _ (agree : DesignsAgree)
+    (ins : (bytes : List ℕ) (one other : FlatCircuit) → Means bytes one → Means bytes other → in_ports one ≡ in_ports other)
+    (runs : (bytes : List ℕ) (one other : FlatCircuit) (columns : List (List ℕ)) (n : ℕ) (rows : List (List ℕ)) → Means bytes one → Means bytes other → IsRun one columns n rows → IsRun other columns n rows)
+    (once : (circuit : FlatCircuit) (order : List ℕ) (columns : List (List ℕ)) (n : ℕ) (rows others : List (List ℕ)) → IsOrder circuit order → IsRun circuit columns n rows → IsRun circuit columns n others → rows ≡ others)
+    (circuit partition trace : List ℕ) (capacity : ℕ) (design : Ordered) (request : Request) (n : ℕ) (columns : List (List ℕ))
+    (ordered : IsOrder design.circuit design.order) (means : MeansDesign circuit design) (cuts : Cuts design partition request) (feeds : FeedsOnly design.circuit trace n columns) where
+  own-setting : (rows : List (List ℕ)) (layout : Layout) → AreSet design request capacity n columns rows layout → IsSetting circuit partition trace capacity (setting_of design request n columns rows layout)
+  own-setting rows layout are = record { means = means; cuts = cuts; feeds = feeds.feeds; run = are.run; laid = are.laid }
+
+  -- the text of where the steps lead is the only one
+  only-replay-text : (rows : List (List ℕ)) (layout : Layout) (are : AreSet design request capacity n columns rows layout) (steps : List ℕ) (marking : Marking)
+      → replayed (setting_of design request n columns rows layout) steps ≡ Ok marking → (other : List ℕ) → IsReplayText circuit partition trace capacity steps other
+      → other ≡ replay_text (setting_of design request n columns rows layout) marking
+  only-replay-text rows layout are steps marking leads other (b, y, (another, led, is)) =
+      let a = setting_of design request n columns rows layout in
+      let x = own-setting rows layout are in
+      let same = ok-same (replayed b steps) (replayed a steps) another marking (leads-same agree circuit partition trace capacity b a y x steps) led leads in
+      is ∙ texts-same b a another marking (designs-alike agree circuit partition trace capacity b a y x) (requests-same agree circuit partition trace capacity b a y x)
+      (layouts-same agree circuit partition trace capacity b a y x)
+      (rows-same ins runs once circuit partition trace capacity design.circuit design.order ordered means.means n columns rows are.run feeds b y) same
+
+  module _ (files : List ℕ → Told) (lost cut unwritten : Type 0) (T : Type 0) (before now : Option (List ℕ)) (name bytes : List ℕ) (can : CanBe files (steps_file_for circuit partition trace capacity name) bytes) (r : Result T Ending) where
+    stays-ends : (other : Result T Ending) → r ≡ other → now ≡ before
+        → EndedOn files lost cut unwritten before before (steps_order circuit partition trace capacity name) other
+        → EndedOn files lost cut unwritten before now (steps_order circuit partition trace capacity name) r
+    stays-ends other e same ended =
+        subst (λ (w : Option (List ℕ)). EndedOn files lost cut unwritten before w (steps_order circuit partition trace capacity name) r) (sym same)
+        (subst (λ (q : Result T Ending). EndedOn files lost cut unwritten before before (steps_order circuit partition trace capacity name) q) (sym e) ended)
+
+    pub steps-ends : ReplayEnds design request capacity n columns bytes before now unwritten r
+        → EndedOn files lost cut unwritten before now (steps_order circuit partition trace capacity name) r
+    steps-ends (Went rows layout are marking leads prints) =
+        let a = setting_of design request n columns rows layout in
+        let x = own-setting rows layout are in
+        printed-ends files lost cut unwritten T before now (steps_order circuit partition trace capacity name) (replay_text a marking) r (
+          bytes,
+          can,
+          (a, x, (marking, leads)),
+          record { is = (a, x, (marking, leads, refl)); only = only-replay-text rows layout are bytes marking leads },
+        )
+        prints
+    steps-ends (Stops rows layout are stopped leads ending ends says none) =
+        let a = setting_of design request n columns rows layout in
+        let x = own-setting rows layout are in
+        stays-ends (Err ending) ends none
+        (refused-ends files lost cut unwritten T before (steps_file_for circuit partition trace capacity name) (λ s. Write (IsOnlyReplayText circuit partition trace capacity s)) ending
+        (IfRefused-map (λ said e. inr (bytes, can, (a, x, (stopped, leads, e)))) ending says))
+    steps-ends (Wants ends none) =
+        stays-ends (Err NoMemory) ends none
+        (refused-ends files lost cut unwritten T before (steps_file_for circuit partition trace capacity name) (λ s. Write (IsOnlyReplayText circuit partition trace capacity s)) NoMemory tt)

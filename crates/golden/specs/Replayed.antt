@@ -1,0 +1,103 @@
+-- How `replay` has ended: over the network of a plan, and over a design, a request and the columns of a trace.
+use Rattle.std.specs.Prelude.{◌≡◌, ℕ, ◌<◌, ◌^◌, List, [], Option, Result, Ok, Err, flat_map, length, map, take}
+use Rattle.std.specs.List.{range_with_len}
+use Rattle.gg_flat.specs.Along.{rows_along}
+use Rattle.gg_flat.specs.Line.{value_at}
+use Rattle.gg_flat.specs.Run.{IsRun}
+use Rattle.gg_flat.specs.Tree.{InstanceTree, path_at}
+use Rattle.gg_order.specs.Design.{Ordered}
+use Rattle.gg_partfile.specs.declared.request.Request.{Request}
+use Rattle.gg_cut.specs.Solves.{columns_of}
+use Rattle.gg_cut.specs.declared.listed.Listed.{Listed}
+use Rattle.gg_cut.specs.declared.plan.Plan.{Plan}
+use Rattle.gg_node.specs.Machine.{Machine}
+use Rattle.gg_net.specs.declared.event.Event.{Event}
+use Rattle.gg_net.specs.Kept.{Kept, list_at}
+use Rattle.gg_net.specs.Net.{opening_net}
+use Rattle.gg_net.specs.Network.{Network, puts, takes}
+use Rattle.gg_marking.specs.Goes.{Stopped}
+use Rattle.gg_marking.specs.Marking.{Layout, Marking}
+use Rattle.gg_marking.specs.Steps.{Steps, StopsAt}
+use Rattle.gg_sound.specs.Built.{AreBuilt, rows_of, wires_of_plan}
+use Rattle.gg_build.specs.Build.{IsToRun}
+use Rattle.gg_layout.specs.CutLayout.{IsLayoutOf}
+use Rattle.gg_steps.specs.Naming.{Naming}
+use Rattle.gg_replay.specs.ReplayText.{channel_line}
+use Rattle.golden.specs.declared.endings.Ending.{Ending}
+use Rattle.golden.specs.declared.endings.Ending.TheVariants.{NoMemory}
+use Rattle.golden.specs.Endings.{IfRefused, Prints}
+use Rattle.golden.specs.Replay.{Setting, port_names, replay_text, replayed, stopped_by, stopped_said}
+
+-- ---- names
+
+-- the names of a plan's channels, machines and ports
+abbrev pub plan_naming : Plan → InstanceTree → Listed → Naming
+plan_naming plan tree listed =
+    record {
+      channels = map (λ channel. channel.name) plan.channels;
+      machines = map (λ machine. machine.name) plan.machines;
+      ports = map (port_names tree listed) (range_with_len 0 (length plan.machines));
+    }
+
+-- These names are few enough for 32 bits.
+pub record AreFewNames (plan : Plan) (tree : InstanceTree) (listed : Listed) : Type 0 where
+  pub channels : length plan.channels < 2 ^ 32
+  pub machines : length plan.machines < 2 ^ 32
+  pub ports : (m : ℕ) → length (port_names tree listed m) < 2 ^ 32
+
+-- ---- the network of a plan
+
+-- the name and the width of channel c of a plan
+abbrev pub name_in : Plan → ℕ → List ℕ
+name_in plan c = path_at (map (λ channel. channel.name) plan.channels) c
+
+abbrev pub width_in : Plan → ℕ → ℕ
+width_in plan c = value_at (map (λ channel. channel.ty.width) plan.channels) c
+
+-- the line of channel c, where the channels carry these lists of values
+abbrev pub net_line : Plan → (lists : List (List ℕ)) → Network → ℕ → List ℕ
+net_line plan lists net c = channel_line (name_in plan c) (width_in plan c) (puts net c) (takes net c) (take (puts net c) (list_at lists c))
+
+-- and those of all channels
+abbrev pub net_text : Plan → (lists : List (List ℕ)) → Network → List ℕ
+net_text plan lists net = flat_map (net_line plan lists net) (range_with_len 0 (length plan.channels))
+
+-- What its channels carry and the rows of its machines, in the circuit's run on these columns, which is worked out along the design's order.
+abbrev pub lists_along : Ordered → Plan → List (List ℕ) → ℕ → List (List ℕ)
+lists_along design plan columns n = columns_of plan (rows_along design.circuit design.order columns n)
+
+abbrev pub runs_along_rows : Ordered → Plan → List (List ℕ) → ℕ → List (List (List ℕ))
+runs_along_rows design plan columns n = rows_of plan (rows_along design.circuit design.order columns n)
+
+-- the plan's network can be opened for them
+abbrev pub IsToReplay : Ordered → Plan → List (List ℕ) → ℕ → Type 0
+IsToReplay design plan columns n = IsToRun plan columns n (lists_along design plan columns n) (runs_along_rows design plan columns n)
+
+-- The network of a plan before its first cycle, with these machines.
+pub record Opened (plan : Plan) (columns : List (List ℕ)) (n : ℕ) (lists : List (List ℕ)) (runs : List (List (List ℕ))) (machines : List Machine) : Type 0 where
+  pub built : AreBuilt plan columns n machines
+  pub kept : Kept lists runs (opening_net machines (wires_of_plan plan) n)
+
+-- How these steps of a plan's network have ended: done, and the text of where they lead was put; or stopped at one, of which it is told;
+-- or memory ran out before anything was put.
+pub data NetEnds {T : Type 0} (plan : Plan) (columns : List (List ℕ)) (n : ℕ) (lists : List (List ℕ)) (runs : List (List (List ℕ))) (naming : Naming) (events : List (Option Event)) (before now : Option (List ℕ)) (failed : Type 0) (result : Result T Ending) : Type 0 where
+  NetWent : (machines : List Machine) (opened : Opened plan columns n lists runs machines) (net : Network) (steps : Steps (opening_net machines (wires_of_plan plan) n) events net) (prints : Prints before now failed (net_text plan lists net) result) → NetEnds plan columns n lists runs naming events before now failed result
+  NetStops : (machines : List Machine) (opened : Opened plan columns n lists runs machines) (net : Network) (stopped : Stopped) (stops : StopsAt 1 (opening_net machines (wires_of_plan plan) n) events net stopped) (ending : Ending) (ends : result ≡ Err ending) (says : IfRefused (λ said. said ≡ stopped_by naming events stopped) ending) (none : now ≡ before) → NetEnds plan columns n lists runs naming events before now failed result
+  NetWants : (ends : result ≡ Err NoMemory) (none : now ≡ before) → NetEnds plan columns n lists runs naming events before now failed result
+
+-- ---- a design, a request and the columns of a trace
+
+-- with a run and a layout they are a setting
+abbrev pub setting_of : Ordered → Request → ℕ → (columns rows : List (List ℕ)) → Layout → Setting
+setting_of design request n columns rows layout = record { design = design; request = request; cycles = n; columns = columns; rows = rows; layout = layout }
+
+-- The circuit's run, and the layout of the request's cut.
+pub record AreSet (design : Ordered) (request : Request) (default n : ℕ) (columns rows : List (List ℕ)) (layout : Layout) : Type 0 where
+  pub run : IsRun design.circuit columns n rows
+  pub laid : IsLayoutOf design request default n layout
+
+-- How `replay` of a steps file has ended there.
+pub data ReplayEnds {T : Type 0} (design : Ordered) (request : Request) (default n : ℕ) (columns : List (List ℕ)) (steps : List ℕ) (before now : Option (List ℕ)) (failed : Type 0) (result : Result T Ending) : Type 0 where
+  Went : (rows : List (List ℕ)) (layout : Layout) (are : AreSet design request default n columns rows layout) (marking : Marking) (leads : replayed (setting_of design request n columns rows layout) steps ≡ Ok marking) (prints : Prints before now failed (replay_text (setting_of design request n columns rows layout) marking) result) → ReplayEnds design request default n columns steps before now failed result
+  Stops : (rows : List (List ℕ)) (layout : Layout) (are : AreSet design request default n columns rows layout) (stopped : Stopped) (leads : replayed (setting_of design request n columns rows layout) steps ≡ Err stopped) (ending : Ending) (ends : result ≡ Err ending) (says : IfRefused (λ said. said ≡ stopped_said (setting_of design request n columns rows layout) steps stopped) ending) (none : now ≡ before) → ReplayEnds design request default n columns steps before now failed result
+  Wants : (ends : result ≡ Err NoMemory) (none : now ≡ before) → ReplayEnds design request default n columns steps before now failed result

@@ -1,0 +1,136 @@
+//! The network of a plan: its steps, and the line of each channel.
+ghost use Rattle.std.specs.Prelude.{◌≡◌, ◌-◌, ◌<◌, ◌^◌, ◌++◌, IfOk, None, codes, decimal, length, slice_index_or, string_bytes};
+ghost use Rattle.gg_build.specs.Build.{IsToRun};
+ghost use Rattle.gg_io.specs.Count.{Rose};
+ghost use Rattle.gg_replay.specs.Log.{AreFronts};
+ghost use Rattle.gg_steps.specs.Cause.{cause_text};
+ghost use Rattle.golden.specs.Endings.{IfRefused, Prints};
+ghost use Rattle.golden.specs.Replay.{stopped_by};
+ghost use Rattle.golden.specs.Replayed.{NetEnds, net_line, net_text};
+ghost use Rattle.golden.specs.WentOn.{SinkWentOn};
+
+use crate::endings::{Ending, end_with, make_refusal, text_with_number};
+use crate::writing::put;
+use gg_build::{Node, build};
+use gg_cut::Plan;
+use gg_io::Sink;
+use gg_net::{Event, Net, Refusal, Streams};
+use gg_order::Design;
+use gg_replay::{Log, Stop, channel_line, replay};
+use gg_steps::{StepNames, cause_text};
+use gg_trace::Trace;
+use std::alloc::{AllocError, Global};
+
+// Puts the line of a channel.
+fn print_channel<Z: Streams, K: Sink>(
+    alloc: Global,
+    plan: &Plan,
+    net: &Net<Node<'_>, Z>,
+    log: &Log,
+    channel: u32,
+    out: &mut K,
+) -> Result<(), Ending>
+    requires known { channel < length plan.now.channels }
+    requires wires { length net.now.wires ≡ length plan.now.channels }
+    requires logged { AreFronts Z.lists net.now log.now }
+    ensures prints { Prints (K.written out.old) (K.written out.new) (Rose (K.faults out.old) (K.faults out.new)) (net_line plan.now Z.lists net.now channel) result }
+    ensures out { SinkWentOn (K.faults out.old) (K.faults out.new) (K.refused out.old) (K.refused out.new) }
+{
+    let own = &plan.channels.as_slice()[channel as usize];
+    let line = channel_line(
+        alloc,
+        own.name.as_str(),
+        own.ty.width,
+        net.puts(channel),
+        net.takes(channel),
+        log.tokens(channel),
+    )?;
+    put(out, line.as_bytes())
+}
+
+// Puts the lines of all channels.
+fn print_net<Z: Streams, K: Sink>(
+    alloc: Global,
+    plan: &Plan,
+    net: &Net<Node<'_>, Z>,
+    log: &Log,
+    out: &mut K,
+) -> Result<(), Ending>
+    requires few { length plan.now.channels < 2 ^ 32 }
+    requires wires { length net.now.wires ≡ length plan.now.channels }
+    requires logged { AreFronts Z.lists net.now log.now }
+    ensures prints { Prints (K.written out.old) (K.written out.new) (Rose (K.faults out.old) (K.faults out.new)) (net_text plan.now Z.lists net.now) result }
+    ensures out { SinkWentOn (K.faults out.old) (K.faults out.new) (K.refused out.old) (K.refused out.new) }
+{
+    for channel in 0..plan.channels.as_slice().len() {
+        print_channel(alloc, plan, net, log, channel as u32, out)?;
+    }
+    Ok(())
+}
+
+// The front of a refused step's line, and the text of its cause.
+fn step_texts(
+    alloc: Global,
+    names: &StepNames<'_>,
+    event: Option<Event>,
+    step: u64,
+    cause: Refusal,
+) -> Result<(String, String), AllocError>
+    ensures { IfOk result (λ texts. (string_bytes texts.0 ≡ codes "golden: step " ++ decimal step) × (string_bytes texts.1 ≡ cause_text names.now event cause)) }
+{
+    let front = text_with_number(alloc, "golden: step ", step)?;
+    let text = cause_text(alloc, names, event, cause)?;
+    Ok((front, text))
+}
+
+// The step of this number, counted from 1.
+fn event_at(events: &[Option<Event>], step: u64) -> Option<Event>
+    ensures { result ≡ slice_index_or events.now (step - 1) None }
+{
+    match events.get(step.saturating_sub(1) as usize) {
+        Some(event) => *event,
+        None => None,
+    }
+}
+
+// The ending at a step that is refused.
+fn end_at_step(
+    alloc: Global,
+    names: &StepNames<'_>,
+    events: &[Option<Event>],
+    step: u64,
+    cause: Refusal,
+) -> Ending
+    ensures { IfRefused (λ said. said ≡ stopped_by names.now events.now (record { step = step; cause = cause })) result }
+{
+    match step_texts(alloc, names, event_at(events, step), step, cause) {
+        Ok((front, text)) => end_with(make_refusal(alloc, 9, front.as_str(), ": ", text.as_str())),
+        Err(_) => Ending::NoMemory,
+    }
+}
+
+/// Does these steps on the network of a plan, and prints a line for each channel.
+pub(crate) fn replay_net<Z: Streams, K: Sink>(
+    alloc: Global,
+    design: &Design,
+    plan: &Plan,
+    inputs: &Trace,
+    names: &StepNames<'_>,
+    events: &[Option<Event>],
+    out: &mut K,
+) -> Result<(), Ending>
+    requires few { length plan.now.channels < 2 ^ 32 }
+    requires run { IsToRun plan.now inputs.now.columns inputs.now.rows Z.lists Z.runs }
+    ensures ended { NetEnds plan.now inputs.now.columns inputs.now.rows Z.lists Z.runs names.now events.now (K.written out.old) (K.written out.new) (Rose (K.faults out.old) (K.faults out.new)) result }
+    ensures out { SinkWentOn (K.faults out.old) (K.faults out.new) (K.refused out.old) (K.refused out.new) }
+{
+    let _ = design;
+    let mut net = build::<Z>(alloc, plan, inputs)?;
+    net.kept();
+    let mut log = Log::new(alloc, net.channels())?;
+    match replay(&mut net, events, &mut log) {
+        Ok(()) => print_net(alloc, plan, &net, &log, out),
+        Err(Stop::Refused { step, cause }) => Err(end_at_step(alloc, names, events, step, cause)),
+        Err(Stop::NoMemory) => Err(Ending::NoMemory),
+    }
+}

@@ -1,0 +1,183 @@
+//! What `replay` prints, and the steps that it refuses.
+use super::{Answer, MEMORY, PAIR, TRACE, call, check, counter, files_of};
+use gg_io::{MemFiles, hold};
+use std::alloc::Global;
+use std::test::Fail;
+
+const REPLAY: &str = "golden replay k1.fir p.json k1.trace s.steps";
+
+const REPLAY_1: &str = "golden replay k1.fir p.json k1.trace s.steps --capacity 1";
+
+const UNITS: &str = "{\"units\":[\"a\",\"b\"]}";
+
+const PAIR_TRACE: &str = "cycle x\n0 0f\n1 81\n";
+
+const MEMORY_TRACE: &str = "cycle a v\n0 1 0f\n1 1 21\n2 3 55\n3 1 00\n";
+
+// Fourteen steps of the memory that is listed: both readers have their data.
+const READ: &str =
+    "fire a\nfire v\nlatch a\nlatch v\nfire m.r.addr\nfire m.r.en\nfire m.s.addr\nfire m.s.en\nlatch m.r.addr\nlatch m.r.en\nlatch m.s.addr\nlatch m.s.en\nfire m.r.data\nfire m.s.data\n";
+
+// A call on these files, with these steps.
+fn replay(alloc: Global, line: &str, mut files: MemFiles, steps: &[u8]) -> Result<Answer, Fail> {
+    hold(&mut files, alloc, "s.steps", steps)?;
+    call(
+        alloc,
+        line,
+        files,
+        Vec::new(alloc),
+        Vec::new(alloc),
+        Vec::new(alloc),
+    )
+}
+
+// The counter's files.
+fn counter_files(alloc: Global) -> Result<MemFiles, Fail> {
+    let circuit = counter(alloc, 11, 0, "")?;
+    files_of(alloc, circuit.as_bytes(), b"{}", TRACE.as_bytes())
+}
+
+// The files of two units that feed each other.
+fn pair_files(alloc: Global, trace: &str) -> Result<MemFiles, Fail> {
+    files_of(alloc, PAIR.as_bytes(), UNITS.as_bytes(), trace.as_bytes())
+}
+
+// The counter's output goes ahead of its input.
+#[test]
+fn tokens_of_the_counter(rt: HostRuntime) -> Result<(), Fail> {
+    let alloc = rt.alloc();
+    let answer = replay(
+        alloc,
+        REPLAY,
+        counter_files(alloc)?,
+        b"fire out\nlatch out\nfinish out:out\nfire reset\nlatch reset\nfinish hub:\nfire out\n",
+    )?;
+    check(&rt, &answer, 0, 4, "reset 1/1 1\nout 2/1 00 00\n", "");
+    let answer = replay(alloc, REPLAY, counter_files(alloc)?, b"")?;
+    check(&rt, &answer, 0, 4, "reset 0/0\nout 0/0\n", "");
+    Ok(())
+}
+
+// Two orders of the same steps, and none.
+static ORDERS: [(&str, &str); 3] = [
+    (
+        "fire x\nlatch x\nfire a.x\nfinish in:x\n",
+        "x 1/1 0f\na.x 1/0 0f\na.k 0/0\na.p 0/0\na.q 0/0\nb.m 0/0\nb.n 0/0\nq 0/0\n",
+    ),
+    (
+        "fire x\r\nfinish in:x\nlatch x\nfire a.x",
+        "x 1/1 0f\na.x 1/0 0f\na.k 0/0\na.p 0/0\na.q 0/0\nb.m 0/0\nb.n 0/0\nq 0/0\n",
+    ),
+    (
+        "",
+        "x 0/0\na.x 0/0\na.k 0/0\na.p 0/0\na.q 0/0\nb.m 0/0\nb.n 0/0\nq 0/0\n",
+    ),
+];
+
+#[test]
+fn orders_of_steps(rt: HostRuntime) -> Result<(), Fail> {
+    let alloc = rt.alloc();
+    for (steps, out) in &ORDERS {
+        let answer = replay(
+            alloc,
+            REPLAY_1,
+            pair_files(alloc, PAIR_TRACE)?,
+            steps.as_bytes(),
+        )?;
+        check(&rt, &answer, 0, 4, out, "");
+    }
+    Ok(())
+}
+
+// Steps of the two units of which the last is refused.
+static REFUSED: [(&str, &str); 9] = [
+    ("go x\n", "golden: step 1: Stranger\n"),
+    ("\n", "golden: step 1: Stranger\n"),
+    ("fire x\nfire  x\n", "golden: step 2: Stranger\n"),
+    ("fire b.n\n", "golden: step 1: NeedsInput b.m\n"),
+    ("latch x\n", "golden: step 1: NoToken x\n"),
+    ("fire x\nfire x\n", "golden: step 2: Fired\n"),
+    ("fire x\nlatch x\nlatch x\n", "golden: step 3: Latched\n"),
+    (
+        "fire x\nfinish in:x\nfire x\n",
+        "golden: step 3: Full x 1\n",
+    ),
+    ("finish hub:\n", "golden: step 1: Unfired a.x\n"),
+];
+
+#[test]
+fn refused_steps(rt: HostRuntime) -> Result<(), Fail> {
+    let alloc = rt.alloc();
+    for (steps, err) in &REFUSED {
+        let answer = replay(
+            alloc,
+            REPLAY_1,
+            pair_files(alloc, PAIR_TRACE)?,
+            steps.as_bytes(),
+        )?;
+        check(&rt, &answer, 9, 4, "", err);
+    }
+    let answer = replay(
+        alloc,
+        REPLAY_1,
+        pair_files(alloc, "cycle x\n")?,
+        b"fire x\n",
+    )?;
+    check(&rt, &answer, 9, 4, "", "golden: step 1: Ended\n");
+    Ok(())
+}
+
+// Steps of the listed memory behind its reads, of which the last is refused.
+static SERVED: [(&str, &str); 3] = [
+    ("finish m\n", "golden: step 15: Unserved w\n"),
+    ("serve m x\n", "golden: step 15: Order w\n"),
+    ("serve m w\n", "golden: step 15: NeedsInput m.w.addr\n"),
+];
+
+#[test]
+fn refused_steps_of_a_memory(rt: HostRuntime) -> Result<(), Fail> {
+    let alloc = rt.alloc();
+    for (last, err) in &SERVED {
+        let mut steps = String::from_str(alloc, READ)?;
+        steps.push_str(last)?;
+        let files = files_of(
+            alloc,
+            MEMORY.as_bytes(),
+            b"{\"memories\":[\"m\"]}",
+            MEMORY_TRACE.as_bytes(),
+        )?;
+        let answer = replay(alloc, REPLAY_1, files, steps.as_bytes())?;
+        check(&rt, &answer, 9, 4, "", err);
+    }
+    Ok(())
+}
+
+// A steps file that is missing, and one that is a byte too long; a trace that is refused before it.
+#[test]
+fn files_of_steps(rt: HostRuntime) -> Result<(), Fail> {
+    let alloc = rt.alloc();
+    let answer = call(
+        alloc,
+        REPLAY,
+        counter_files(alloc)?,
+        Vec::new(alloc),
+        Vec::new(alloc),
+        Vec::new(alloc),
+    )?;
+    check(&rt, &answer, 3, 4, "", "golden: cannot load s.steps\n");
+    let long = vec![in alloc; b' '; 67_108_865]?;
+    let answer = replay(alloc, REPLAY, counter_files(alloc)?, long.as_slice())?;
+    check(
+        &rt,
+        &answer,
+        8,
+        4,
+        "",
+        "golden: s.steps is over 67108864 bytes\n",
+    );
+    let circuit = counter(alloc, 11, 0, "")?;
+    let files = files_of(alloc, circuit.as_bytes(), b"{}", b"cycle out\n")?;
+    let answer = replay(alloc, REPLAY, files, b"go\n")?;
+    check(&rt, &answer, 7, 3, "", "golden: trace: T1 field 1\n");
+    Ok(())
+}
