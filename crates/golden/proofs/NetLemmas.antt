@@ -1,5 +1,5 @@
 -- How the steps of a plan's network have ended.
-use Rattle.std.proofs.Common.{◌≡◌, ℕ, ◌+◌, ◌<◌, ◌≤◌, List, [], ◌++◌, length, map, replicate, take, get_or, refl, sym, ap, ◌∙◌, subst, arith}
+use Rattle.std.proofs.Common.{◌≡◌, ℕ, ◌+◌, ◌<◌, ◌≤◌, List, [], ◌++◌, length, replicate, take, get_or, refl, sym, ap, ◌∙◌, subst, arith}
 use Rattle.std.specs.Prelude.{IfOk, MatchResult, Option, Result, Ok, Err, codes, decimal, flat_map}
 use Rattle.std.specs.List.{range_with_len}
 use Rattle.std.proofs.lemmas.List.{get_or-map, take_all}
@@ -10,7 +10,7 @@ use Rattle.gg_cut.specs.declared.plan.Plan.{Plan}
 use Rattle.gg_net.specs.declared.event.Event.{Event}
 use Rattle.gg_net.specs.Kept.{Kept, list_at}
 use Rattle.gg_net.specs.Net.{opening_net}
-use Rattle.gg_net.specs.Network.{Frame, Network, frame_of, puts, takes}
+use Rattle.gg_net.specs.Network.{Frame, Network, puts, takes}
 use Rattle.gg_marking.specs.Goes.{Stopped}
 use Rattle.gg_marking.specs.Steps.{Steps, StopsAt}
 use Rattle.gg_marking.proofs.StepsLemmas.{steps-frame}

@@ -1,6 +1,6 @@
 -- How `replay` has ended: from the network of a plan to the setting of its design, and from there to the order of refusals.
-use Rattle.std.proofs.Common.{◌≡◌, ℕ, zero, suc, ◌+◌, ◌<◌, ◌≤◌, ◌^◌, List, [], ◌∷◌, ◌++◌, length, map, get_or, refl, sym, ap, ◌∙◌, subst, inl, inr, arith}
-use Rattle.std.specs.Prelude.{Option, None, Some, Result, Ok, Err, flat_map, slice_index_or, take}
+use Rattle.std.proofs.Common.{◌≡◌, ℕ, zero, suc, ◌+◌, ◌<◌, ◌≤◌, List, [], ◌∷◌, ◌++◌, length, map, refl, sym, ap, ◌∙◌, subst, inr, arith}
+use Rattle.std.specs.Prelude.{Option, None, Result, Ok, Err, flat_map, slice_index_or, take}
 use Rattle.std.specs.List.{range_with_len}
 use Rattle.std.proofs.lemmas.List.{get_or-map}
 use Rattle.gg_bits.specs.Shape.{Shape}
@@ -40,7 +40,7 @@ use Rattle.gg_marking.specs.Steps.{Steps, StopsAt}
 use Rattle.gg_marking.proofs.CountLemmas.{puts-are, takes-are}
 use Rattle.gg_marking.proofs.OpeningLemmas.{opens-so}
 use Rattle.gg_marking.proofs.StepsLemmas.{all-done, steps-frame, stops-at}
-use Rattle.gg_sound.specs.Built.{AreBuilt, IsGiven, nameless, rows_of, wires_of_plan}
+use Rattle.gg_sound.specs.Built.{IsGiven, rows_of, wires_of_plan}
 use Rattle.gg_sound.proofs.LinkLemmas.{length-from}
 use Rattle.gg_sound.proofs.OpeningLemmas.{built-opening}
 use Rattle.gg_layout.specs.CutLayout.{IsLayoutOf}
@@ -53,7 +53,7 @@ use Rattle.golden.specs.declared.endings.Ending.TheVariants.{NoMemory}
 use Rattle.golden.specs.Endings.{EndedOn, Prints}
 use Rattle.golden.specs.Order.{CanBe, Write}
 use Rattle.golden.specs.Partition.{Cuts}
-use Rattle.golden.specs.Replay.{IsOnlyReplayText, IsReplayText, IsSetting, Setting, channel_told, naming_by, naming_of, port_names, replay_text, replayed, steps_file_for, steps_order}
+use Rattle.golden.specs.Replay.{IsOnlyReplayText, IsReplayText, IsSetting, Setting, channel_told, naming_of, port_names, replay_text, replayed, steps_file_for, steps_order}
 use Rattle.golden.specs.Replayed.{AreSet, IsToReplay, NetEnds, NetWent, NetStops, NetWants, Opened, ReplayEnds, Went, Stops, Wants, lists_along, name_in, net_line, net_text, plan_naming, runs_along_rows, setting_of, width_in}
 use Rattle.golden.specs.RunText.{FeedsOnly}
 use Rattle.golden.proofs.EndingLemmas.{printed-ends, refused-ends}

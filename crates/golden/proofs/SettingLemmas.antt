@@ -1,6 +1,6 @@
 -- Two settings of the same bytes: the same steps may be done, and the same is told of them.
-use Rattle.std.proofs.Common.{◌≡◌, ℕ, ◌+◌, ◌<◌, ◌-◌, List, [], ◌∷◌, ◌++◌, length, map, refl, sym, ap, ◌∙◌, subst, inl, inr}
-use Rattle.std.specs.Prelude.{Option, None, Some, Result, Ok, Err, codes, flat_map, slice_index_or, take}
+use Rattle.std.proofs.Common.{◌≡◌, ℕ, ◌+◌, ◌-◌, List, ◌∷◌, ◌++◌, length, map, refl, sym, ap, ◌∙◌, subst, inr}
+use Rattle.std.specs.Prelude.{Result, Ok, Err, codes, flat_map, take}
 use Rattle.std.specs.List.{range_with_len}
 use Rattle.gg_bits.specs.Shape.{Shape}
 use Rattle.gg_flat.specs.Circuit.{FlatCircuit, signal_shapes}
@@ -10,7 +10,7 @@ use Rattle.gg_flat.specs.Ports.{in_ports}
 use Rattle.gg_flat.specs.Run.{IsRun, column}
 use Rattle.gg_flat.specs.Tree.{InstanceTree, path_at}
 use Rattle.gg_flat.specs.declared.ports.Port.{Port}
-use Rattle.gg_front.specs.Meaning.{Means, MeansDesign}
+use Rattle.gg_front.specs.Meaning.{Means}
 use Rattle.gg_order.specs.Design.{Ordered}
 use Rattle.gg_partfile.proofs.OnceLemmas.{request-once}
 use Rattle.gg_partfile.specs.declared.request.Request.{Request}
@@ -20,7 +20,6 @@ use Rattle.gg_cut.specs.Plan.{wire_at}
 use Rattle.gg_cut.specs.declared.wires.Wire.{Wire}
 use Rattle.gg_check.specs.Alike.{AreAlike}
 use Rattle.gg_check.proofs.SameCutLemmas.{readers-same, writers-same, wires-same}
-use Rattle.gg_net.specs.declared.event.Event.{Event}
 use Rattle.gg_marking.specs.Marking.{Layout, Marking, opening_marking, puts, takes}
 use Rattle.gg_marking.specs.Goes.{Stopped, replayed_from}
 use Rattle.gg_layout.specs.CutLayout.{IsLayoutOf}

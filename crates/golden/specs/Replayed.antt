@@ -1,5 +1,5 @@
 -- How `replay` has ended: over the network of a plan, and over a design, a request and the columns of a trace.
-use Rattle.std.specs.Prelude.{◌≡◌, ℕ, ◌<◌, ◌^◌, List, [], Option, Result, Ok, Err, flat_map, length, map, take}
+use Rattle.std.specs.Prelude.{◌≡◌, ℕ, ◌<◌, ◌^◌, List, Option, Result, Ok, Err, flat_map, length, map, take}
 use Rattle.std.specs.List.{range_with_len}
 use Rattle.gg_flat.specs.Along.{rows_along}
 use Rattle.gg_flat.specs.Line.{value_at}

@@ -1,5 +1,5 @@
 //! The names by which the steps of a cut speak of its channels, machines and ports.
-ghost use Rattle.std.specs.Prelude.{◌≡◌, ◌+◌, ◌++◌, ◌<◌, ◌^◌, ℕ, [], IfOk, OnOk, length, map};
+ghost use Rattle.std.specs.Prelude.{◌≡◌, ◌+◌, ◌++◌, ◌<◌, ◌^◌, ℕ, IfOk, OnOk, length, map};
 ghost use Rattle.std.specs.List.{range_with_len};
 ghost use Rattle.golden.specs.Replay.{port_names};
 ghost use Rattle.golden.specs.Replayed.{AreFewNames, plan_naming};

@@ -1,8 +1,6 @@
 //! The command `replay`.
 ghost use Rattle.std.specs.Prelude.{◌≡◌, ◌<◌, ◌≤◌, ℕ, List, None};
 ghost use Rattle.gg_cut.specs.Fault.{IsSmall, first_fault};
-ghost use Rattle.gg_cut.specs.Plan.{IsPlan};
-ghost use Rattle.gg_cut.specs.Listed.{listed_of};
 ghost use Rattle.gg_flat.specs.Run.{IsColumns};
 ghost use Rattle.gg_front.specs.Meaning.{MeansDesign};
 ghost use Rattle.gg_io.specs.Count.{Rose};

@@ -1,4 +1,5 @@
 //! What `replay` prints, and the steps that it refuses.
+use super::partitions::TWO;
 use super::{Answer, MEMORY, PAIR, TRACE, call, check, counter, files_of};
 use gg_io::{MemFiles, hold};
 use std::alloc::Global;
@@ -13,6 +14,12 @@ const UNITS: &str = "{\"units\":[\"a\",\"b\"]}";
 const PAIR_TRACE: &str = "cycle x\n0 0f\n1 81\n";
 
 const MEMORY_TRACE: &str = "cycle a v\n0 1 0f\n1 1 21\n2 3 55\n3 1 00\n";
+
+const LISTED: &str = "{\"memories\":[\"m\"]}";
+
+const SHARED: &str = "{\"units\":[\"u\",\"v\"],\"share\":[[\"u\",\"v\"]]}";
+
+const TWO_TRACE: &str = "cycle x\n0 01\n1 10\n2 00\n";
 
 // Fourteen steps of the memory that is listed: both readers have their data.
 const READ: &str =
@@ -58,32 +65,64 @@ fn tokens_of_the_counter(rt: HostRuntime) -> Result<(), Fail> {
     Ok(())
 }
 
-// Two orders of the same steps, and none.
-static ORDERS: [(&str, &str); 3] = [
+// Two orders of the same steps, and none; a memory that is read, and then written at its first port; and two units of one host, of which
+// one goes ahead. Circuit, partition, trace, steps, and the text.
+static WORKED: [(&str, &str, &str, &str, &str); 6] = [
     (
+        PAIR,
+        UNITS,
+        PAIR_TRACE,
         "fire x\nlatch x\nfire a.x\nfinish in:x\n",
         "x 1/1 0f\na.x 1/0 0f\na.k 0/0\na.p 0/0\na.q 0/0\nb.m 0/0\nb.n 0/0\nq 0/0\n",
     ),
     (
+        PAIR,
+        UNITS,
+        PAIR_TRACE,
         "fire x\r\nfinish in:x\nlatch x\nfire a.x",
         "x 1/1 0f\na.x 1/0 0f\na.k 0/0\na.p 0/0\na.q 0/0\nb.m 0/0\nb.n 0/0\nq 0/0\n",
     ),
     (
+        PAIR,
+        UNITS,
+        PAIR_TRACE,
         "",
         "x 0/0\na.x 0/0\na.k 0/0\na.p 0/0\na.q 0/0\nb.m 0/0\nb.n 0/0\nq 0/0\n",
+    ),
+    (
+        MEMORY,
+        LISTED,
+        MEMORY_TRACE,
+        READ,
+        "a 1/1 1\nv 1/1 0f\nm.r.addr 1/1 1\nm.r.en 1/1 1\nm.r.data 1/0 00\nm.s.addr 1/1 1\nm.s.en 1/1 1\nm.s.data 1/0 00\nm.w.addr 0/0\nm.w.en 0/0\nm.w.data 0/0\nm.w.mask 0/0\nm.x.addr 0/0\nm.x.en 0/0\nm.x.data 0/0\nm.x.mask 0/0\no0 0/0\no1 0/0\n",
+    ),
+    (
+        MEMORY,
+        LISTED,
+        MEMORY_TRACE,
+        "fire v\nlatch v\nfire a\nlatch a\nfire m.w.mask\nfire m.w.data\nfire m.w.en\nfire m.w.addr\nlatch m.w.addr\nlatch m.w.en\nlatch m.w.data\nlatch m.w.mask\nfire m.x.data\n",
+        "a 1/1 1\nv 1/1 0f\nm.r.addr 0/0\nm.r.en 0/0\nm.r.data 0/0\nm.s.addr 0/0\nm.s.en 0/0\nm.s.data 0/0\nm.w.addr 1/1 1\nm.w.en 1/1 1\nm.w.data 1/1 0f\nm.w.mask 1/1 1\nm.x.addr 0/0\nm.x.en 0/0\nm.x.data 1/0 f0\nm.x.mask 0/0\no0 0/0\no1 0/0\n",
+    ),
+    (
+        TWO,
+        SHARED,
+        TWO_TRACE,
+        "fire u.s\nfire x\nlatch x\nfire u.a\nlatch u.a\nfinish u\nfire v.a\nfire v.s\n",
+        "x 1/1 01\nu.a 1/1 01\nu.s 1/0 00\nv.a 1/0 fe\nv.s 1/0 00\np 0/0\nq 0/0\n",
     ),
 ];
 
 #[test]
-fn orders_of_steps(rt: HostRuntime) -> Result<(), Fail> {
+fn steps_that_may_be_done(rt: HostRuntime) -> Result<(), Fail> {
     let alloc = rt.alloc();
-    for (steps, out) in &ORDERS {
-        let answer = replay(
+    for (circuit, partition, trace, steps, out) in &WORKED {
+        let files = files_of(
             alloc,
-            REPLAY_1,
-            pair_files(alloc, PAIR_TRACE)?,
-            steps.as_bytes(),
+            circuit.as_bytes(),
+            partition.as_bytes(),
+            trace.as_bytes(),
         )?;
+        let answer = replay(alloc, REPLAY_1, files, steps.as_bytes())?;
         check(&rt, &answer, 0, 4, out, "");
     }
     Ok(())
@@ -128,10 +167,19 @@ fn refused_steps(rt: HostRuntime) -> Result<(), Fail> {
 }
 
 // Steps of the listed memory behind its reads, of which the last is refused.
-static SERVED: [(&str, &str); 3] = [
+static SERVED: [(&str, &str); 6] = [
     ("finish m\n", "golden: step 15: Unserved w\n"),
     ("serve m x\n", "golden: step 15: Order w\n"),
     ("serve m w\n", "golden: step 15: NeedsInput m.w.addr\n"),
+    ("serve m z\n", "golden: step 15: Stranger\n"),
+    (
+        "fire m.w.mask\nfire m.w.data\nfire m.w.en\nfire m.w.addr\nlatch m.w.addr\nlatch m.w.en\nlatch m.w.data\nlatch m.w.mask\nserve m w\nserve m w\n",
+        "golden: step 24: Order x\n",
+    ),
+    (
+        "fire m.w.mask\nfire m.w.data\nfire m.w.en\nfire m.w.addr\nlatch m.w.addr\nlatch m.w.en\nlatch m.w.data\nlatch m.w.mask\nserve m w\nfinish m\n",
+        "golden: step 24: Unserved x\n",
+    ),
 ];
 
 #[test]
@@ -143,8 +191,30 @@ fn refused_steps_of_a_memory(rt: HostRuntime) -> Result<(), Fail> {
         let files = files_of(
             alloc,
             MEMORY.as_bytes(),
-            b"{\"memories\":[\"m\"]}",
+            LISTED.as_bytes(),
             MEMORY_TRACE.as_bytes(),
+        )?;
+        let answer = replay(alloc, REPLAY_1, files, steps.as_bytes())?;
+        check(&rt, &answer, 9, 4, "", err);
+    }
+    Ok(())
+}
+
+// One of two units of one host is refused, whatever the other did.
+#[test]
+fn refused_steps_of_a_shared_unit(rt: HostRuntime) -> Result<(), Fail> {
+    let alloc = rt.alloc();
+    for (steps, err) in [
+        ("fire v.s\nfinish u\n", "golden: step 2: Unfired u.s\n"),
+        ("fire u.s\nfinish u\n", "golden: step 2: NeedsInput u.a\n"),
+        ("fire u.s\nlatch v.s\n", "golden: step 2: NoToken v.s\n"),
+        ("fire v.s\nfire p\n", "golden: step 2: NeedsInput u.s\n"),
+    ] {
+        let files = files_of(
+            alloc,
+            TWO.as_bytes(),
+            SHARED.as_bytes(),
+            TWO_TRACE.as_bytes(),
         )?;
         let answer = replay(alloc, REPLAY_1, files, steps.as_bytes())?;
         check(&rt, &answer, 9, 4, "", err);
