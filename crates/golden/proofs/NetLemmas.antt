@@ -36,7 +36,7 @@ module _ (plan : Plan) (columns : List (List ℕ)) (n : ℕ) (lists : List (List
   opening-log log count same is =
       let machines = opens.machines in
       let opening = opening_net machines (wires_of_plan plan) n in
-      let fronts : AreFronts lists opening (replicate (length (wires_of_plan plan)) []) = empty-fronts machines (built-opening plan columns n machines opens.built) lists (wires_of_plan plan) n in
+      let fronts : AreFronts lists opening (replicate (length (wires_of_plan plan)) []) = empty-fronts lists machines (wires_of_plan plan) n (built-opening plan columns n machines opens.built) in
       let wires : count ≡ length (wires_of_plan plan) = same ∙ ap (λ (x : Network). length x.wires) opens.is in
       let given : log ≡ replicate (length (wires_of_plan plan)) [] = is ∙ ap (λ k. replicate k []) wires in
       subst (λ (x : Network). AreFronts lists x log) (sym opens.is) (subst (λ l. AreFronts lists opening l) (sym given) fronts)
