@@ -1,5 +1,5 @@
 -- The meaning of each operation, as a whole number, and the pattern of its result.
--- Source: FIRRTL Specification, "Primitive Operations". In an operation on two values the operands' numbers are used, so a
+-- Source: FIRRTL Specification, "Primitive Operations". An operation on two values uses the operands' numbers, so a
 -- shorter operand is extended by its kind. a and b are patterns, s and t their shapes.
 use Rattle.std.specs.Prelude.{ℕ, ◌+◌, ◌-◌, ◌*◌, ◌/◌, ◌%◌, ◌^◌, max, ℤ, pos, neg_ℤ, ◌+ℤ◌, ◌-ℤ◌, ◌*ℤ◌, Bool, true, false, not, ◌==◌, if◌then◌else◌, int_lt, int_le, int_div, int_rem, bit_and, bit_or, bit_xor, count_ones}
 use Rattle.std.specs.Int.{int_div_euclid}
@@ -16,7 +16,7 @@ use Rattle.gg_bits.specs.ResultType.{shape1, shape2, shape_const, shape_mux}
 
 -- ---- the parts of the meanings
 
--- the one bit of a test
+-- the one bit that stands for a truth value
 abbrev pub truth : Bool → ℤ
 truth true = pos 1
 truth false = pos 0
@@ -91,7 +91,7 @@ meaning_const Tail s a n m = pos (a % 2 ^ (s.width - n))
 abbrev pub value_const : OpN → Shape → ℕ → ℕ → ℕ → ℕ
 value_const op s a n m = pattern_of (shape_const op s n m).width (meaning_const op s a n m)
 
--- ---- the choice of a condition c
+-- ---- the choice by a condition c
 
 abbrev pub meaning_mux : ℕ → Shape → ℕ → Shape → ℕ → ℤ
 meaning_mux c s a t b = if c == 1 then number s a else number t b

@@ -1,7 +1,7 @@
--- The type of each operation's result, and what is wrong where there is none.
--- Source: FIRRTL Specification, "Primitive Operations": each definition goes by the table of the operation's section
--- there, but for one: the width of a `Shr` of a UInt is at least 1, as that of an SInt is, where the specification's newer
--- versions let it be 0. Where the specification leaves a width without bound, widths here are 1 to 128.
+-- The type of each operation's result, and what is wrong if there is none.
+-- Source: FIRRTL Specification, "Primitive Operations": each definition follows the table in the operation's section,
+-- with one exception. The width of a `Shr` of a UInt is at least 1, as that of an SInt is; newer versions of the
+-- specification let it be 0. The specification leaves some widths unbounded; here widths are 1 to 128.
 use Rattle.std.specs.Prelude.{ℕ, ◌+◌, ◌-◌, ◌^◌, min, max, Bool, true, false, ◌&&◌, ◌==◌, nat_le, nat_lt, if◌then◌else◌, Result, Ok, Err}
 use Rattle.gg_bits.specs.declared.types.Kind as kinds
 use Rattle.gg_bits.specs.declared.types.Kind.TheVariants.{UInt, SInt}
@@ -15,7 +15,7 @@ use Rattle.gg_bits.specs.declared.ops.OpN.{OpN}
 use Rattle.gg_bits.specs.declared.ops.OpN.TheVariants.{Pad, Shl, Shr, Bits, Head, Tail}
 use Rattle.gg_bits.specs.Shape.{Shape, of_kind, uint, sint}
 
--- ---- what operands are taken
+-- ---- which operands are allowed
 
 abbrev pub is_uint : kinds.Kind → Bool
 is_uint UInt = true
@@ -31,9 +31,9 @@ same_kind SInt SInt = true
 abbrev pub is_condition : Shape → Bool
 is_condition s = is_uint s.kind && (s.width == 1)
 
--- ---- the answer, by what holds: first the kinds, then the parameters, then the width
+-- ---- the answer, in this order: first the kinds, then the parameters, then the width
 
--- the shape, if its width is 1 to 128; else the width, or 4,294,967,295 where it is greater
+-- the shape, if its width is 1 to 128; otherwise the width, or 4,294,967,295 if it is greater
 abbrev pub within : Shape → Result Shape Bad
 within s = if nat_le 1 s.width && nat_le s.width 128 then Ok s else Err (Width (min s.width 4294967295))
 
@@ -42,7 +42,7 @@ answer false params s = Err Kind
 answer true false s = Err Param
 answer true true s = within s
 
--- ---- operations on one value: any kind is taken
+-- ---- operations on one value: any kind is allowed
 
 -- "Interpret as UInt", "Interpret as SInt", "Arithmetic Convert to Signed", "Negate", "Bitwise Complement",
 -- "AND/OR/XOR Reduce"
@@ -61,7 +61,7 @@ type1 op s = answer true true (shape1 op s)
 
 -- ---- operations on two values
 
--- which kinds go together: both the same, but for a shift's amount and a condition
+-- which kinds go together: both the same, except for a shift's amount and a condition
 abbrev pub kinds2 : Op2 → Shape → Shape → Bool
 kinds2 Add s t = same_kind s.kind t.kind
 kinds2 Sub s t = same_kind s.kind t.kind
@@ -107,9 +107,9 @@ shape2 Validif s t = t
 abbrev pub type2 : Op2 → Shape → Shape → Result Shape Bad
 type2 op s t = answer (kinds2 op s t) true (shape2 op s t)
 
--- ---- operations with parameters: any kind is taken
+-- ---- operations with parameters: any kind is allowed
 
--- the bits that are named are there
+-- the bits that the parameters name exist
 abbrev pub params_const : OpN → Shape → ℕ → ℕ → Bool
 params_const Pad s n m = true
 params_const Shl s n m = true
@@ -131,7 +131,7 @@ shape_const Tail s n m = uint (s.width - n)
 abbrev pub type_const : OpN → Shape → ℕ → ℕ → Result Shape Bad
 type_const op s n m = answer true (params_const op s n m) (shape_const op s n m)
 
--- ---- "Multiplexers": of a condition c and two values
+-- ---- "Multiplexers": a condition c and two values
 
 abbrev pub shape_mux : Shape → Shape → Shape
 shape_mux s t = of_kind s.kind (max s.width t.width)

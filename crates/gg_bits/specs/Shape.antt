@@ -1,4 +1,4 @@
--- A shape is a kind and any width: a ground type before its width is judged.
+-- A shape is a kind and any width: a ground type before its width is checked.
 use Rattle.std.specs.Prelude.{ℕ, ◌^◌, ◌<◌, ℤ, Result, Ok, Err}
 use Rattle.gg_bits.specs.declared.types.Kind.{Kind}
 use Rattle.gg_bits.specs.declared.types.Kind.TheVariants.{UInt, SInt}
@@ -23,7 +23,7 @@ sint w = of_kind SInt w
 abbrev pub shape : Ty → Shape
 shape ty = of_kind ty.kind ty.width
 
--- an answered type by its shape
+-- the shape of a type that an operation returned
 abbrev pub shape_of : Result Ty Bad → Result Shape Bad
 shape_of (Ok ty) = Ok (shape ty)
 shape_of (Err bad) = Err bad

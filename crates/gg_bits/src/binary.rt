@@ -18,8 +18,8 @@ use crate::types::{Bad, Kind, Ty, Val};
 ///
 /// # Errors
 ///
-/// `Kind`, where the kinds differ (of a shift: where the amount is signed; of `validif`: where the condition is not
-/// `UInt<1>`); else `Width`, where the result would have more than 128 bits.
+/// `Kind` if the kinds differ. For a shift: if the amount is signed. For `validif`: if the condition is not `UInt<1>`.
+/// Otherwise `Width` if the result would have more than 128 bits.
 pub fn result2(op: Op2, ta: Ty, tb: Ty) -> Result<Ty, Bad>
     ensures exact { shape_of result ≡ type2 op (shape ta) (shape tb) }
     ensures ok { IfOk result (λ ty. shape ty ≡ shape2 op (shape ta) (shape tb)) }
@@ -54,7 +54,7 @@ fn takes_kinds(op: Op2, ta: Ty, tb: Ty) -> bool
     }
 }
 
-/// The kind and the width of the result, before the width is judged; 4,294,967,295 stands for any greater width.
+/// The kind and the width of the result, before the width is checked. 4,294,967,295 stands for any greater width.
 fn kind_and_width2(op: Op2, ta: Ty, tb: Ty) -> (Kind, u32)
     ensures kind { result.0 ≡ (shape2 op (shape ta) (shape tb)).kind }
     ensures width { result.1 ≡ min (shape2 op (shape ta) (shape tb)).width 4294967295 }

@@ -8,11 +8,11 @@ use crate::judge::judge_width;
 use crate::patterns::extend;
 use crate::types::{Bad, Kind, Ty, Val};
 
-/// The type of `mux(c, a, b)`, where `c` is one unsigned bit and `a` and `b` are of one kind.
+/// The type of `mux(c, a, b)`, where `c` is one unsigned bit and `a` and `b` have the same kind.
 ///
 /// # Errors
 ///
-/// `Kind`, where `c` is not `UInt<1>` or the kinds of `a` and `b` differ.
+/// `Kind` if `c` is not `UInt<1>` or the kinds of `a` and `b` differ.
 pub fn result_mux(tc: Ty, ta: Ty, tb: Ty) -> Result<Ty, Bad>
     ensures exact { shape_of result ≡ type_mux (shape tc) (shape ta) (shape tb) }
     ensures ok { IfOk result (λ ty. shape ty ≡ shape_mux (shape ta) (shape tb)) }

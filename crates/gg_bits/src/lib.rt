@@ -1,10 +1,12 @@
 //! Values, types and operations of lowered FIRRTL, and the small types that every crate shares.
 //!
 //! A value is a bit pattern of at most 128 bits. It stands for a whole number, signed where its type is `SInt`
-//! (FIRRTL Specification, "Ground Types"). The crate promises, for each primitive operation of the specification,
-//! that the pattern it computes is the pattern of the operation's meaning over the whole numbers, and that the type
-//! it answers is the specification's, or the first thing that is wrong. No call of an operation takes memory. How each
-//! operation is written stands here too, both ways.
+//! (FIRRTL Specification, "Ground Types"). The crate promises, for each primitive operation of the specification:
+//!
+//! - the pattern that it computes is the pattern of the operation's meaning over the whole numbers;
+//! - the type that it returns is the specification's, and otherwise the first thing that is wrong.
+//!
+//! No call of an operation allocates. How each operation is written is here too, in both directions.
 #![tactic(auto)]
 
 mod arithmetic;

@@ -9,7 +9,7 @@ use std::marker::Model;
 
 /// A list. A contract sees it as the list of its items.
 ///
-/// It is made of a `Vec` and gives it back without taking memory.
+/// It is made from a `Vec` and returns it, without allocating.
 #[derive(Debug, Drop)]
 pub struct Items<T> {
     items: Vec<T>,
@@ -18,7 +18,7 @@ pub struct Items<T> {
 /// A list of names. A contract sees it as the list of their bytes.
 pub type Names = Items<Name>;
 
-/// A list of numbers that name things, as signals, ports or channels.
+/// A list of numbers that identify things such as signals, ports or channels.
 pub type Ids = Items<u32>;
 
 impl<T> Model for Items<T> {
@@ -40,7 +40,7 @@ impl<T> Items<T> {
         self.items.as_slice()
     }
 
-    /// Gives the `Vec` back.
+    /// Returns the `Vec`.
     pub fn into_vec(self) -> Vec<T>
         ensures { result.items ≡ self }
     {

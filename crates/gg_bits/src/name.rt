@@ -16,7 +16,7 @@ use std::marker::Model;
 
 /// A text: a name, a path or a line. A contract sees it as its bytes, so two names are equal where their bytes are.
 ///
-/// It is made of a `String` and gives it back without taking memory. Names are ordered by their bytes.
+/// It is made from a `String` and returns it, without allocating. Names are ordered by their bytes.
 #[derive(Drop)]
 pub struct Name {
     text: String,
@@ -31,11 +31,11 @@ impl Model for Name {
 }
 
 impl Name {
-    /// A name of its own with this text.
+    /// A new name with a copy of this text.
     ///
     /// # Errors
     ///
-    /// `AllocError` where memory is refused.
+    /// Returns `AllocError` if an allocation fails.
     pub fn from_str(alloc: Global, text: &str) -> Result<Name, AllocError>
         ensures { IfOk result (λ name. name ≡ text.now) }
     {
@@ -58,7 +58,7 @@ impl Name {
         self.text.as_bytes()
     }
 
-    /// Gives the `String` back.
+    /// Returns the `String`.
     pub fn into_string(self) -> String
         ensures { string_bytes result ≡ self }
     {

@@ -1,5 +1,5 @@
 //! The primitive operations (FIRRTL Specification, "Primitive Operations"), by how many values and parameters they
-//! take. Each variant is named as the specification's operation.
+//! take. Each variant is named after the specification's operation.
 
 /// An operation on one value.
 #[derive(Clone, Copy, Debug, PartialEq, Eq, Hash)]
@@ -12,7 +12,7 @@ pub enum Op1 {
     Cvt,
     /// `neg`: minus the number.
     Neg,
-    /// `not`: each bit turned.
+    /// `not`: each bit inverted.
     Not,
     /// `andr`: whether every bit is set.
     Andr,
@@ -47,9 +47,9 @@ pub enum Op2 {
     Eq,
     /// `neq`: not equal.
     Neq,
-    /// `dshl`: the first, times 2 to the second.
+    /// `dshl`: the first times 2 to the power of the second.
     Dshl,
-    /// `dshr`: the first by 2 to the second, rounded down.
+    /// `dshr`: the first divided by 2 to the power of the second, rounded down.
     Dshr,
     /// `and`: bit by bit.
     And,
@@ -68,9 +68,9 @@ pub enum Op2 {
 pub enum OpN {
     /// `pad`: the same number in at least `n` bits.
     Pad,
-    /// `shl`: times 2 to `n`.
+    /// `shl`: times 2 to the power of `n`.
     Shl,
-    /// `shr`: by 2 to `n`, rounded down.
+    /// `shr`: divided by 2 to the power of `n`, rounded down.
     Shr,
     /// `bits`: the bits from `n`, the high one, down to `m`, the low one.
     Bits,

@@ -11,12 +11,12 @@ use crate::patterns::{fit, wide};
 use crate::shifts::{shift_left, shift_right};
 use crate::types::{Bad, Kind, Ty, Val};
 
-/// The type of the operation's result. Values of both kinds are taken.
+/// The type of the operation's result. Operands of both kinds are allowed.
 ///
 /// # Errors
 ///
-/// `Param`, where `bits` names bits that are not there, or `head` or `tail` more bits than there are; else `Width`,
-/// where the result would have no bit or more than 128.
+/// `Param` if `bits` names bits that don't exist, or `head` or `tail` more bits than there are. Otherwise `Width` if the
+/// result would have no bit or more than 128.
 pub fn result_const(op: OpN, ty: Ty, n: u32, m: u32) -> Result<Ty, Bad>
     ensures exact { shape_of result ≡ type_const op (shape ty) n m }
     ensures ok { IfOk result (λ answer. shape answer ≡ shape_const op (shape ty) n m) }
@@ -39,7 +39,7 @@ pub fn apply_const(op: OpN, ty: Ty, v: Val, n: u32, m: u32) -> Val
     Val(fit(wide_const(op, ty, v, n, m), width))
 }
 
-/// Whether the bits that the parameters name are there.
+/// Whether the bits that the parameters name exist.
 fn has_params(op: OpN, ty: Ty, n: u32, m: u32) -> bool
     ensures { result ≡ params_const op (shape ty) n m }
 {
@@ -50,7 +50,7 @@ fn has_params(op: OpN, ty: Ty, n: u32, m: u32) -> bool
     }
 }
 
-/// The kind and the width of the result, before the width is judged; 4,294,967,295 stands for any greater width.
+/// The kind and the width of the result, before the width is checked. 4,294,967,295 stands for any greater width.
 fn kind_and_width_const(op: OpN, ty: Ty, n: u32, m: u32) -> (Kind, u32)
     requires { params_const op (shape ty) n m ≡ true }
     ensures kind { result.0 ≡ (shape_const op (shape ty) n m).kind }

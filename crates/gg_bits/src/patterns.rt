@@ -1,4 +1,4 @@
-//! Patterns of 128 bits: how a value's number is spread over them, and how a result's bits are taken from them.
+//! Patterns of 128 bits: the pattern of a value's number, and the bits of a result.
 ghost use Rattle.std.specs.Prelude.{◌≡◌, ℤ, ◌-◌, ◌%◌, ◌^◌, ◌<◌, ◌≤◌};
 ghost use Rattle.gg_bits.specs.Value.{number_of, pattern_of};
 ghost use Rattle.gg_bits.specs.Shape.{shape, number, Fits};
@@ -6,7 +6,7 @@ ghost use Rattle.gg_bits.specs.Meaning.{truth, extended};
 
 use crate::types::{Kind, Ty, Val};
 
-/// The pattern of `width` set bits.
+/// The pattern with the low `width` bits set.
 pub(crate) fn ones(width: u32) -> u128
     requires positive { 1 ≤ width }
     requires bounded { width ≤ 128 }
@@ -15,7 +15,7 @@ pub(crate) fn ones(width: u32) -> u128
     u128::MAX >> (128 - width)
 }
 
-/// The low `width` bits of `x`. So of the pattern of a number in 128 bits it gives the pattern in `width` bits.
+/// The low `width` bits of `x`. From the pattern of a number in 128 bits this gives its pattern in `width` bits.
 pub(crate) fn fit(x: u128, width: u32) -> u128
     requires positive { 1 ≤ width }
     requires bounded { width ≤ 128 }
@@ -51,7 +51,7 @@ fn sign_extend(x: u128, width: u32) -> u128
     }
 }
 
-/// The value of the same number in `width` bits: zeros are put above a `UInt`, the sign above an `SInt`.
+/// The value of the same number in `width` bits: a `UInt` is extended with zeros, an `SInt` with its sign.
 pub fn extend(v: Val, ty: Ty, width: u32) -> Val
     requires typed { Fits (shape ty) v.0 }
     requires longer { ty.width ≤ width }
@@ -71,7 +71,7 @@ pub(crate) fn signed_number(ty: Ty, v: Val) -> i128
     wide(ty, v).cast_signed()
 }
 
-/// The one bit of a test.
+/// The one bit that stands for a truth value.
 pub(crate) fn bit(holds: bool) -> u128
     ensures { result ≡ pattern_of 128 (truth holds) }
 {

@@ -29,13 +29,13 @@ pub struct Ty {
 #[derive(Clone, Copy, Debug, PartialEq, Eq, Hash)]
 pub struct Val(pub u128);
 
-/// The first thing that is wrong with an operation's operands. Their kinds come first, then the parameters, and the
-/// width of the result last.
+/// The first thing that is wrong with an operation's operands: first the kinds, then the parameters, then the width of
+/// the result.
 #[derive(Clone, Copy, Debug, PartialEq, Eq, Hash)]
 pub enum Bad {
-    /// The operands are of kinds that the operation does not take.
+    /// The operands have kinds that the operation does not take.
     Kind,
-    /// The result would have this width, which is 0 or above 128; 4,294,967,295 stands for any greater one.
+    /// The result would have this width, which is 0 or above 128. 4,294,967,295 stands for any greater width.
     Width(u32),
     /// A parameter is out of its range.
     Param,

@@ -10,11 +10,11 @@ use crate::ops::Op1;
 use crate::patterns::{bit, fit, ones, wide};
 use crate::types::{Bad, Kind, Ty, Val};
 
-/// The type of the operation's result. Values of both kinds are taken.
+/// The type of the operation's result. Operands of both kinds are allowed.
 ///
 /// # Errors
 ///
-/// `Width`, where the result would have more than 128 bits.
+/// `Width` if the result would have more than 128 bits.
 pub fn result1(op: Op1, ty: Ty) -> Result<Ty, Bad>
     ensures exact { shape_of result ≡ type1 op (shape ty) }
     ensures ok { IfOk result (λ answer. shape answer ≡ shape1 op (shape ty)) }
@@ -34,7 +34,7 @@ pub fn apply1(op: Op1, ty: Ty, v: Val) -> Val
     Val(fit(wide1(op, ty, v), width))
 }
 
-/// The kind and the width of the result, before the width is judged.
+/// The kind and the width of the result, before the width is checked.
 fn kind_and_width1(op: Op1, ty: Ty) -> (Kind, u32)
     ensures kind { result.0 ≡ (shape1 op (shape ty)).kind }
     ensures width { result.1 ≡ (shape1 op (shape ty)).width }
