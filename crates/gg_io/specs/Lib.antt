@@ -1,4 +1,4 @@
--- What the contracts of the outside speak of.
+-- The definitions of files, outputs and their faults that contracts name.
 pub mod Count
 pub mod LoadFail
 pub mod Memory

@@ -14,18 +14,18 @@ use std::rt::Files;
 /// How many bytes one read asks for at most.
 const PART: usize = 4096;
 
-/// The files of the system, by path. It tells nothing of their content.
+/// The files of the system, by path. Their contents are unknown to contracts.
 #[derive(Drop)]
 pub struct FileShelf<R: Files + Drop> {
     runtime: R,
-    // how many loads answered `Failed`
+    // how many loads returned `Failed`
     faults: u64,
-    // how many loads answered `TooLong`
+    // how many loads returned `TooLong`
     cuts: u64,
 }
 
 impl<R: Files + Drop> FileShelf<R> {
-    /// A shelf of the runtime's files, from which nothing was loaded yet.
+    /// A shelf of the runtime's files, with no loads yet.
     pub fn new(runtime: R) -> FileShelf<R>
         ensures faults { result.faults ≡ 0 }
         ensures cuts { result.cuts ≡ 0 }
@@ -38,7 +38,7 @@ impl<R: Files + Drop> FileShelf<R> {
     }
 }
 
-/// Reads a part of the file, at most `room` bytes, and adds it to `bytes`. 0 only at the file's end.
+/// Reads part of the file, at most `room` bytes, and appends it to `bytes`. Returns 0 only at the end of the file.
 fn read_part<F: Read>(file: &mut F, room: u64, bytes: &mut Vec<u8>) -> Result<usize, LoadFail>
     requires { 0 < room }
     ensures added { IfOk result (λ n. length bytes.new.items ≡ length bytes.old.items + n) }
@@ -56,7 +56,7 @@ fn read_part<F: Read>(file: &mut F, room: u64, bytes: &mut Vec<u8>) -> Result<us
     Ok(n)
 }
 
-/// Reads the file to its end, and at most one byte past the limit.
+/// Reads the file to its end, or one byte past the limit.
 fn read_within<F: Read>(alloc: Global, file: &mut F, limit: u64) -> Result<Vec<u8>, LoadFail>
     ensures within { IfOk result (λ bytes. length bytes.items ≤ limit) }
     ensures whole { IfOk result (λ bytes. IfSome (F.remaining file.old) (λ all. bytes.items ≡ all)) }
@@ -76,8 +76,8 @@ fn read_within<F: Read>(alloc: Global, file: &mut F, limit: u64) -> Result<Vec<u
     }
 }
 
-/// Opens the file and reads it. No clause can name the bytes of a file that is open only within: what was read is all of
-/// them by `read_within`'s clause `whole`.
+/// Opens the file and reads it. A clause here can't name the bytes of a file that is opened inside the function. That
+/// all of its bytes were read follows from the clause `whole` of `read_within`.
 fn load_from<R: Files>(
     runtime: &R,
     alloc: Global,
@@ -100,7 +100,7 @@ impl<R: Files + Drop> Shelf for FileShelf<R> {
 
     ghost cuts = { λ s. s.cuts };
 
-    /// Its faults rise at each `Failed`, and its cut loads at each `TooLong`.
+    /// The faults rise at each `Failed`, the cut loads at each `TooLong`.
     fn load(&mut self, alloc: Global, name: &str, limit: u64) -> Result<Vec<u8>, LoadFail>
         ensures within { IfOk result (λ file. length file.items ≤ limit) }
         ensures caused { IfErr result (HasLoadCause Untold limit
@@ -132,7 +132,7 @@ mod tests {
     use std::io;
     use std::test::Fail;
 
-    /// A file whose reads give the bytes that are left, three at a time, and then fail or are at the end.
+    /// A file whose reads give the remaining bytes, three at a time, and then fail or are at the end.
     #[derive(Drop)]
     struct Trickle {
         left: &'static [u8],
@@ -173,7 +173,7 @@ mod tests {
         Ok(())
     }
 
-    /// A file's bytes, whether it fails behind them, and why a load of at most eight bytes gives none of them.
+    /// A file's bytes, whether reads fail after them, and why a load of at most eight bytes fails, if it does.
     static READS: [(&[u8], bool, Option<LoadFail>); 6] = [
         (b"", false, None),
         (b"1234567", false, None),

@@ -7,19 +7,19 @@ ghost use Rattle.gg_io.specs.declared.files.LoadFail.TheVariants.{NoMemory};
 use std::alloc::{AllocError, Global};
 use thiserror::Error;
 
-/// Why a load gave no file.
+/// Why a load failed.
 #[derive(Clone, Copy, Debug, PartialEq, Eq, Error)]
 pub enum LoadFail {
     /// The file couldn't be read, or there is no such file.
     #[error("the file can't be read")]
     Failed,
-    /// The file is longer than the limit. `taken` bytes were read to see it: one more than the limit.
+    /// The file is longer than the limit. `taken` bytes were read to find out: one more than the limit.
     #[error("the file is longer than its limit: {taken} bytes were read")]
     TooLong {
         /// How many bytes were read.
         taken: u64,
     },
-    /// Memory was refused.
+    /// An allocation failed.
     #[error("out of memory")]
     NoMemory,
 }
@@ -34,7 +34,7 @@ impl From<AllocError> for LoadFail {
 
 /// Files by name.
 pub trait Shelf {
-    // What is told of the file under a name. The name is given by its bytes.
+    // What is known of the file of a name. The name is given by its bytes.
     ghost files: { Self → List ℕ → Told };
 
     // How many loads failed.
@@ -43,8 +43,8 @@ pub trait Shelf {
     // How many loads found a file longer than the limit.
     ghost cuts: { Self → ℕ };
 
-    /// The bytes of the file `name`, at most `limit` of them. A missing file is a fault. Whatever the answer, the
-    /// shelf's files stay as they are, and only its counts may have risen.
+    /// Returns the bytes of the file `name`, at most `limit` of them. A missing file is a fault. In every case the shelf's
+    /// files stay the same, and only its counts may rise.
     fn load(&mut self, alloc: Global, name: &str, limit: u64) -> Result<Vec<u8>, LoadFail>
         ensures within { IfOk result (λ file. length file.items ≤ limit) }
         ensures whole { IfOk result (λ file. CanHold (files self.old name.now) file.items) }

@@ -1,20 +1,20 @@
-//! The outside: where files come from, where text goes, and what workers pass at each turn.
+//! The outside: where files are loaded from, where text is written, and what workers pass at each turn.
 //!
-//! [`Shelf`], [`Sink`] and [`Gate`] are traits with a written meaning, so that an answer about a file or about
-//! output has a cause that the program can't make up. A shelf means its files by name, each told or not, and
-//! two counts: its faults and its cut loads. A sink means the bytes that were written to it, told or not, and
-//! two counts: its faults and its refused puts. Counts never fall.
+//! [`Shelf`], [`Sink`] and [`Gate`] are traits with a written meaning. So an answer about a file or an output has a cause
+//! that the program can't make up. The model of a shelf is its files by name, each of them known or unknown, and two
+//! counts: its faults and its cut loads. The model of an output is the bytes that were written to it, known or unknown,
+//! and two counts: its faults and its refused puts (those that returned `NoMemory`). Counts never fall.
 //!
-//! - A load answers `Failed` only where the faults rose, and `TooLong` only where the cut loads rose and, where
-//!   the file is told, it is longer than the limit. A load that succeeds is within the limit and, where the file
-//!   is told, gives all of it.
-//! - A put that succeeds adds its whole piece. `Failed` comes only where the faults rose, and leaves a front part
-//!   of the piece; `NoMemory` only where the refused puts rose, and leaves nothing of it.
+//! - A load returns `Failed` only if the faults rose. It returns `TooLong` only if the cut loads rose and the file, where
+//!   it is known, is longer than the limit. A load that succeeds is within the limit and, where the file is known, returns
+//!   all of it.
+//! - A put that succeeds writes all of its bytes. It returns `Failed` only if the faults rose; then the first of its bytes
+//!   may have been written. It returns `NoMemory` only if the refused puts rose; then nothing was written.
 //!
-//! [`MemShelf`] and [`MemSink`] are in memory: a shelf fails exactly where its list says or it holds no file of that
-//! name, a sink exactly where its list says. [`SureShelf`] and [`SureSink`] never fail. [`FileShelf`] and
-//! [`StreamSink`] are the real ones: they tell nothing of content, and are trusted in what the system gives and takes.
-//! Their counts can't be changed but by a load or a put.
+//! [`MemShelf`] and [`MemSink`] are in memory. Such a shelf fails exactly if its list says so or it has no file of that
+//! name, and such an output exactly if its list says so. [`SureShelf`] and [`SureSink`] never fail, except that an
+//! allocation may. [`FileShelf`] and [`StreamSink`] are the system's files and streams. Their contents are unknown, and
+//! what the system reads and writes is trusted. Only a load or a put can change their counts.
 #![tactic(auto)]
 
 mod counts;

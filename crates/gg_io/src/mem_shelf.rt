@@ -10,23 +10,23 @@ use crate::files::{LoadFail, Shelf};
 use crate::mem_files::MemFiles;
 use std::alloc::Global;
 
-/// A shelf in memory: its files by name, and the numbers of the loads that are to fail, counted from 0.
+/// A shelf in memory: its files by name, and the numbers of the loads that must fail, counted from 0.
 #[derive(Debug, Drop)]
 pub struct MemShelf {
     /// The files by name.
     pub files: MemFiles,
-    /// The numbers of the loads that are to fail.
+    /// The numbers of the loads that must fail.
     pub failing: Vec<u64>,
     /// The number of the next load.
     pub loads: u64,
-    /// How many loads answered `Failed`.
+    /// How many loads returned `Failed`.
     pub faults: u64,
-    /// How many loads answered `TooLong`.
+    /// How many loads returned `TooLong`.
     pub cuts: u64,
 }
 
 impl MemShelf {
-    /// A shelf of these files whose loads with these numbers are to fail, and nothing was loaded yet.
+    /// A shelf of these files, with no loads yet. The loads with these numbers must fail.
     pub fn new(files: MemFiles, failing: Vec<u64>) -> MemShelf
         ensures { result ≡ record { files = files; failing = failing; loads = 0; faults = 0; cuts = 0 } }
     {
@@ -40,7 +40,7 @@ impl MemShelf {
     }
 }
 
-/// A copy of the bytes, where they are within the limit; else the count of cut loads rises.
+/// A copy of the bytes, if they are within the limit; otherwise the count of cut loads rises.
 fn copy_within(alloc: Global, bytes: &[u8], limit: u64, cuts: &mut u64) -> Result<Vec<u8>, LoadFail>
     ensures within { IfOk result (λ file. length file.items ≤ limit) }
     ensures whole { IfOk result (λ file. file.items ≡ bytes.now) }
@@ -62,7 +62,7 @@ impl Shelf for MemShelf {
 
     ghost cuts = { λ s. s.cuts };
 
-    /// Fails exactly where the load's number is listed or there is no such file.
+    /// Fails exactly if the load's number is listed or there is no such file.
     fn load(&mut self, alloc: Global, name: &str, limit: u64) -> Result<Vec<u8>, LoadFail>
         ensures within { IfOk result (λ file. length file.items ≤ limit) }
         ensures whole { IfOk result (λ file. CanHold (told_of (bytes_under self.old.files name.now)) file.items) }
@@ -93,17 +93,17 @@ impl Shelf for MemShelf {
     }
 }
 
-/// A shelf in memory that never fails: every name is a file, empty where none is held.
+/// A shelf in memory that never fails: every name is a file, and it is empty if the shelf has none of that name.
 #[derive(Debug, Drop)]
 pub struct SureShelf {
     /// The files by name.
     pub files: MemFiles,
-    /// How many loads answered `TooLong`.
+    /// How many loads returned `TooLong`.
     pub cuts: u64,
 }
 
 impl SureShelf {
-    /// A shelf of these files, from which nothing was loaded yet.
+    /// A shelf of these files, with no loads yet.
     pub fn new(files: MemFiles) -> SureShelf
         ensures { result ≡ record { files = files; cuts = 0 } }
     {

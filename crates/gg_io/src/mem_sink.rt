@@ -1,4 +1,4 @@
-//! Sinks in memory.
+//! Outputs in memory.
 ghost use Rattle.std.specs.Prelude.{◌≡◌, [], ◌≤◌, ◌++◌, Some, OnOk, IfErr, IsErrOf, IsNone, IsSomeAnd, take};
 ghost use Rattle.std.specs.Io.KnownBytes.{append_known};
 ghost use Rattle.gg_io.specs.Count.{risen};
@@ -9,33 +9,33 @@ use crate::counts::raise;
 use crate::output::{PutFail, Sink};
 use std::alloc::Global;
 
-/// A put that is to fail: its number, counted from 0, and how many bytes of its piece are still taken.
+/// A put that must fail: its number, counted from 0, and how many of its bytes are written before it fails.
 #[derive(Clone, Copy, Debug, PartialEq, Eq)]
 pub struct FailingPut {
     /// The put's number, counted from 0.
     pub number: u64,
-    /// How many bytes of its piece are taken before it fails; all of them where the piece is no longer.
+    /// How many bytes are written before the put fails; all of them if it has no more.
     pub takes: u64,
 }
 
-/// A sink in memory: what was written, and the puts that are to fail. Of two entries with one number the first
-/// stands.
+/// An output in memory: what was written, and the puts that must fail. If two entries have the same number the first
+/// counts.
 #[derive(Debug, Drop)]
 pub struct MemSink {
     /// What was written.
     pub bytes: Vec<u8>,
-    /// The puts that are to fail.
+    /// The puts that must fail.
     pub failing: Vec<FailingPut>,
     /// The number of the next put.
     pub puts: u64,
-    /// How many puts answered `Failed`.
+    /// How many puts returned `Failed`.
     pub faults: u64,
-    /// How many puts answered `NoMemory`.
+    /// How many puts returned `NoMemory`.
     pub refused: u64,
 }
 
 impl MemSink {
-    /// An empty sink whose puts with these numbers are to fail.
+    /// An empty output. The puts with these numbers must fail.
     pub fn new(alloc: Global, failing: Vec<FailingPut>) -> MemSink
         ensures bytes { result.bytes.items ≡ [] }
         ensures failing { result.failing ≡ failing }
@@ -51,7 +51,7 @@ impl MemSink {
     }
 }
 
-/// How many bytes the put of this number still takes before it fails; None where it isn't to fail.
+/// How many bytes the put of this number writes before it fails; None if it isn't listed.
 fn taken_before_failure_of(failing: &[FailingPut], number: u64) -> Option<u64>
     ensures { result ≡ taken_before_failure failing.now number }
 {
@@ -59,7 +59,7 @@ fn taken_before_failure_of(failing: &[FailingPut], number: u64) -> Option<u64>
     Some(listed.takes)
 }
 
-/// Adds the bytes to what was written, or counts a refused put.
+/// Appends the bytes to what was written, or counts a refused put.
 fn append(written: &mut Vec<u8>, bytes: &[u8], refused: &mut u64) -> Result<(), PutFail>
     ensures whole { OnOk result (written.new.items ≡ written.old.items ++ bytes.now) }
     ensures none { IfErr result (λ e. (e ≡ PutFail.NoMemory) × (written.new.items ≡ written.old.items)) }
@@ -80,7 +80,7 @@ impl Sink for MemSink {
 
     ghost refused = { λ s. s.refused };
 
-    /// Fails exactly where the put's number is listed, after as many bytes as the list says, or the whole piece.
+    /// Fails exactly if the put's number is listed. Then it writes as many bytes as the list says, or all if there are fewer.
     fn put(&mut self, bytes: &[u8]) -> Result<(), PutFail>
         ensures whole { OnOk result (Some self.new.bytes.items ≡ append_known (Some self.old.bytes.items) bytes.now) }
         ensures caused { IfErr result (HasPutCause self.old.faults self.new.faults self.old.refused self.new.refused) }
@@ -110,17 +110,17 @@ impl Sink for MemSink {
     }
 }
 
-/// A sink in memory that never fails, but for want of memory.
+/// An output in memory that never fails, except that an allocation may.
 #[derive(Debug, Drop)]
 pub struct SureSink {
     /// What was written.
     pub bytes: Vec<u8>,
-    /// How many puts answered `NoMemory`.
+    /// How many puts returned `NoMemory`.
     pub refused: u64,
 }
 
 impl SureSink {
-    /// An empty sink.
+    /// An empty output.
     pub fn new(alloc: Global) -> SureSink
         ensures bytes { result.bytes.items ≡ [] }
         ensures refused { result.refused ≡ 0 }
@@ -156,7 +156,7 @@ mod tests {
     use super::*;
     use std::test::Fail;
 
-    /// The second put takes 3 bytes and fails, the third takes all of its 2 and fails.
+    /// The second put writes 3 bytes and fails, the third writes both of its bytes and fails.
     #[test]
     fn sink_fails_where_listed(rt: HostRuntime) -> Result<(), Fail> {
         let alloc = rt.alloc();

@@ -1,4 +1,4 @@
-//! Where text goes.
+//! Where text is written.
 ghost use Rattle.std.specs.Prelude.{◌≡◌, ℕ, ◌≤◌, List, Option, OnOk, IfErr};
 ghost use Rattle.std.specs.Io.KnownBytes.{append_known};
 ghost use Rattle.gg_io.specs.PutFail.{HasPutCause, LeavesFront};
@@ -7,13 +7,13 @@ ghost use Rattle.gg_io.specs.declared.output.PutFail.TheVariants.{NoMemory};
 use std::alloc::AllocError;
 use thiserror::Error;
 
-/// Why a put didn't write its piece.
+/// Why a put failed.
 #[derive(Clone, Copy, Debug, PartialEq, Eq, Error)]
 pub enum PutFail {
-    /// The piece couldn't be written to its end. A front part of it may have been.
+    /// Not all of the bytes could be written. The first of them may have been.
     #[error("can't write")]
     Failed,
-    /// Memory was refused, and nothing of the piece was written.
+    /// An allocation failed, and nothing was written.
     #[error("out of memory")]
     NoMemory,
 }
@@ -26,18 +26,18 @@ impl From<AllocError> for PutFail {
     }
 }
 
-/// Takes text, piece by piece.
+/// Writes text, put by put.
 pub trait Sink {
-    // What was written so far, where it is told.
+    // What was written so far, where it is known.
     ghost written: { Self → Option (List ℕ) };
 
     // How many puts failed.
     ghost faults: { Self → ℕ };
 
-    // How many puts were refused for want of memory.
+    // How many puts returned `NoMemory`.
     ghost refused: { Self → ℕ };
 
-    /// Writes the piece `bytes` after what was written before, which stays.
+    /// Writes `bytes` after what was written before, which stays.
     fn put(&mut self, bytes: &[u8]) -> Result<(), PutFail>
         ensures whole { OnOk result (written self.new ≡ append_known (written self.old) bytes.now) }
         ensures caused { IfErr result (HasPutCause

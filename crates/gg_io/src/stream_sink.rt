@@ -7,16 +7,16 @@ use crate::counts::raise;
 use crate::output::{PutFail, Sink};
 use std::io::Write;
 
-/// A stream of the system, as standard output. As a sink it tells nothing of what was written.
+/// A stream of the system, such as standard output. What was written to it is unknown to contracts.
 #[derive(Drop)]
 pub struct StreamSink<W: Write + Drop> {
     stream: W,
-    // how many puts answered `Failed`
+    // how many puts returned `Failed`
     faults: u64,
 }
 
 impl<W: Write + Drop> StreamSink<W> {
-    /// A sink to this stream, to which nothing was put yet.
+    /// An output to this stream, with no puts yet.
     pub fn new(stream: W) -> StreamSink<W>
         ensures { result ≡ record { stream = stream; faults = 0 } }
     {
@@ -24,7 +24,7 @@ impl<W: Write + Drop> StreamSink<W> {
     }
 }
 
-/// Writes all of the bytes, or a front part of them. A stream that takes nothing has failed.
+/// Writes all of the bytes, or fails after the first of them. A stream that takes no bytes has failed.
 fn write_whole<W: Write>(stream: &mut W, bytes: &[u8]) -> Result<(), PutFail>
     ensures whole { OnOk result (Appends (W.contents stream.old) (W.contents stream.new) bytes.now) }
     ensures failed { IfErr result (λ e. e ≡ PutFail.Failed) }
@@ -51,8 +51,8 @@ impl<W: Write + Drop> Sink for StreamSink<W> {
 
     ghost refused = { λ _. 0 };
 
-    /// Its faults rise at each `Failed`. It never answers `NoMemory`. Where the stream's own bytes are known, they
-    /// grow by the piece, or by a front part of it where the put failed.
+    /// The faults rise at each `Failed`. It never returns `NoMemory`. Where the stream's own bytes are known, they grow by
+    /// the bytes of the put, or by the first of these if it failed.
     fn put(&mut self, bytes: &[u8]) -> Result<(), PutFail>
         ensures caused { IfErr result (HasPutCause self.old.faults self.new.faults 0 0) }
         ensures faults_stay_or_rise { self.old.faults ≤ self.new.faults }
@@ -78,7 +78,7 @@ mod tests {
     use std::io;
     use std::test::Fail;
 
-    /// A stream that takes two bytes a write and keeps them, and, once its room is taken, takes nothing or fails.
+    /// A stream that takes two bytes a write and keeps them. Once its room is used, it takes nothing or fails.
     #[derive(Drop)]
     struct Narrow {
         taken: Vec<u8>,
@@ -102,7 +102,7 @@ mod tests {
         }
     }
 
-    /// How many bytes a stream takes, whether it fails then, and what a put of five bytes answers.
+    /// How many bytes a stream takes, whether it then fails, and what a put of five bytes returns.
     static PUTS: [(usize, bool, Result<(), PutFail>); 4] = [
         (5, true, Ok(())),
         (5, false, Ok(())),
@@ -129,7 +129,7 @@ mod tests {
         Ok(())
     }
 
-    /// What a `Vec` holds after two puts: where a stream's bytes are known, the clauses of `put` say all of them.
+    /// What a `Vec` has after two puts: where a stream's bytes are known, the contract of `put` determines all of them.
     fn put_twice(alloc: Global, one: &[u8], two: &[u8]) -> Result<Vec<u8>, PutFail>
         ensures { IfOk result (λ bytes. bytes.items ≡ one.now ++ two.now) }
     {
