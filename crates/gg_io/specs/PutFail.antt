@@ -10,8 +10,8 @@ abbrev pub HasPutCause : (faults_before faults_now refused_before refused_now : 
 HasPutCause faults_before faults_now refused_before refused_now Failed = Rose faults_before faults_now
 HasPutCause faults_before faults_now refused_before refused_now NoMemory = Rose refused_before refused_now
 
--- What was written of the put's bytes with this answer: the first of them after a failure, nothing after `NoMemory`. What
--- was written before stays, known or unknown as it was.
+-- What was written of the put's bytes with this answer: a first part of them after a failure, nothing after `NoMemory`.
+-- What was written before stays, known or unknown as it was.
 abbrev pub LeavesFront : (before now : Option (List ℕ)) (piece : List ℕ) → PutFail → Type 0
 LeavesFront before now piece Failed = (n : ℕ) × (n ≤ length piece) × (now ≡ append_known before (take n piece))
 LeavesFront before now piece NoMemory = now ≡ before

@@ -80,7 +80,7 @@ impl Sink for MemSink {
 
     ghost refused = { λ s. s.refused };
 
-    /// Fails exactly if the put's number is listed. Then it writes as many bytes as the list says, or all if there are fewer.
+    /// Fails exactly if the put's number is listed. It then writes as many bytes as the list says, or all if it has fewer.
     fn put(&mut self, bytes: &[u8]) -> Result<(), PutFail>
         ensures whole { OnOk result (Some self.new.bytes.items ≡ append_known (Some self.old.bytes.items) bytes.now) }
         ensures caused { IfErr result (HasPutCause self.old.faults self.new.faults self.old.refused self.new.refused) }
@@ -110,7 +110,7 @@ impl Sink for MemSink {
     }
 }
 
-/// An output in memory that never fails, except that an allocation may.
+/// An output in memory that never returns `Failed`.
 #[derive(Debug, Drop)]
 pub struct SureSink {
     /// What was written.

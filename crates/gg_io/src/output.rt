@@ -10,7 +10,7 @@ use thiserror::Error;
 /// Why a put failed.
 #[derive(Clone, Copy, Debug, PartialEq, Eq, Error)]
 pub enum PutFail {
-    /// Not all of the bytes could be written. The first of them may have been.
+    /// Not all of the bytes could be written. A first part of them may have been.
     #[error("can't write")]
     Failed,
     /// An allocation failed, and nothing was written.

@@ -24,7 +24,7 @@ impl<W: Write + Drop> StreamSink<W> {
     }
 }
 
-/// Writes all of the bytes, or fails after the first of them. A stream that takes no bytes has failed.
+/// Writes all of the bytes, or fails after a first part of them. A stream that takes no bytes has failed.
 fn write_whole<W: Write>(stream: &mut W, bytes: &[u8]) -> Result<(), PutFail>
     ensures whole { OnOk result (Appends (W.contents stream.old) (W.contents stream.new) bytes.now) }
     ensures failed { IfErr result (λ e. e ≡ PutFail.Failed) }
@@ -52,7 +52,7 @@ impl<W: Write + Drop> Sink for StreamSink<W> {
     ghost refused = { λ _. 0 };
 
     /// The faults rise at each `Failed`. It never returns `NoMemory`. Where the stream's own bytes are known, they grow by
-    /// the bytes of the put, or by the first of these if it failed.
+    /// the bytes of the put, or by a first part of these if it failed.
     fn put(&mut self, bytes: &[u8]) -> Result<(), PutFail>
         ensures caused { IfErr result (HasPutCause self.old.faults self.new.faults 0 0) }
         ensures faults_stay_or_rise { self.old.faults ≤ self.new.faults }
