@@ -5,8 +5,8 @@ use Rattle.std.specs.Char.{is_ascii_alphabetic, is_ascii_alphanumeric, is_ascii_
 use Rattle.gg_lex.specs.declared.bytes.Class.{Class}
 use Rattle.gg_lex.specs.declared.bytes.Class.TheVariants.{Blank, WordByte, TailByte, Digit}
 
--- The characters past letters and digits that classes, texts, comments and file information turn on, by their ASCII
--- codes.
+-- The characters, other than letters and digits, by which classes, texts, comments and file information are defined, with
+-- their ASCII codes.
 abbrev pub tab : ℕ
 tab = 9
 
@@ -44,23 +44,23 @@ underscore = 95
 abbrev pub is_blank : ℕ → Bool
 is_blank b = b == space || b == tab
 
--- a letter or `_`, with which a word begins
+-- a letter or `_`, with which a word may begin
 abbrev pub starts_word : ℕ → Bool
 starts_word b = is_ascii_alphabetic b || b == underscore
 
--- `-` or a digit, with which a number begins
+-- `-` or a digit, with which a number may begin
 abbrev pub begins_number : ℕ → Bool
 begins_number b = b == minus || is_ascii_digit b
 
--- a letter, a digit, `_` or `$`, which stand in a word
+-- a letter, a digit, `_` or `$`, which may be in a word
 abbrev pub is_word_byte : ℕ → Bool
 is_word_byte b = is_ascii_alphanumeric b || b == underscore || b == dollar
 
--- a letter or `-`, which stand in a word's tail, as in `read-under-write`
+-- a letter or `-`, which may be in a word's tail, as in `read-under-write`
 abbrev pub is_tail_byte : ℕ → Bool
 is_tail_byte b = is_ascii_alphabetic b || b == minus
 
--- what a run of bytes is made of, by its class
+-- the bytes of which a run is made, by its class
 abbrev pub is_in_class : Class → ℕ → Bool
 is_in_class Blank = is_blank
 is_in_class WordByte = is_word_byte

@@ -1,8 +1,8 @@
--- What the search for file information answers.
+-- What the search for file information finds.
 use Rattle.std.specs.Prelude.{ℕ, ◌<◌, ◌≤◌, List, length, Option, Some, None}
 use Rattle.gg_lex.specs.Lines.{ClosesBehind, IsInfo}
 
--- the first place from 1 on that a closing bracket stands behind; there is none
+-- the first place from 1 on that a closing bracket follows; there is none
 abbrev pub FindsBracket : List ℕ → Option ℕ → Type 0
 FindsBracket bs None = (k : ℕ) → 1 ≤ k → ClosesBehind bs k → ⊥
 FindsBracket bs (Some at) = (1 ≤ at) × ClosesBehind bs at × ((k : ℕ) → 1 ≤ k → k < at → ClosesBehind bs k → ⊥)

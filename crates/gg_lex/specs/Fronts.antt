@@ -1,4 +1,4 @@
--- The longest front of some bytes that has a property, as being a word.
+-- The longest front of some bytes that has a property, such as being a word.
 use Rattle.std.specs.Prelude.{◌≡◌, ◌≢◌, ◌<◌, ℕ, IsFalse, slice_index, ◌≤◌, List, length, take, slice_get, Option, Some, None}
 use Rattle.gg_lex.specs.Bytes.{quote, starts_word, begins_number}
 use Rattle.gg_lex.specs.Tokens.{IsFirst, BeginsNoToken, IsQuoted, spelling}
@@ -25,11 +25,11 @@ abbrev pub FindsToken : List ℕ → Option Front → Type 0
 FindsToken bs None = BeginsNoToken bs
 FindsToken bs (Some front) = IsFirst front.kind bs front.length
 
--- at this place stands a quote behind bytes that are quoted
+-- at this place is a quote, and the bytes before it are quoted
 abbrev pub EndsQuoted : List ℕ → ℕ → Type 0
 EndsQuoted bs n = (slice_get bs n ≡ Some quote) × IsQuoted (take n bs)
 
--- the only place of a quote that ends what is quoted; there is none
+-- the only place of a quote that ends the quoted bytes; there is none
 abbrev pub FindsQuote : List ℕ → Option ℕ → Type 0
 FindsQuote bs None = (n : ℕ) → EndsQuoted bs n → ⊥
 FindsQuote bs (Some n) = EndsQuoted bs n × ((m : ℕ) → EndsQuoted bs m → m ≡ n)
@@ -38,7 +38,7 @@ FindsQuote bs (Some n) = EndsQuoted bs n × ((m : ℕ) → EndsQuoted bs m → m
 abbrev pub IsFrontOfTwo : List ℕ → Symbol → Type 0
 IsFrontOfTwo bs symbol = (2 ≤ length bs) × (take 2 bs ≡ spelling symbol)
 
--- a byte is first with which no other token than a symbol may begin
+-- a first byte with which no other token than a symbol may begin
 pub record LeadsSymbol (bs : List ℕ) : Type 0 where
   pub nonempty : 0 < length bs
   pub no_word : IsFalse (starts_word (slice_index bs 0))

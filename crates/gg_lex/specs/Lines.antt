@@ -1,4 +1,4 @@
--- The tokens of a line, what may stand at its end, and the first place where a line begins no token (FIRRTL
+-- The tokens of a line, what may follow the last one, and the first place where a line begins no token (FIRRTL
 -- Specification, "Notes on Syntax", "Comments" and "Info").
 use Rattle.std.specs.Prelude.{◌≡◌, ◌≢◌, ℕ, zero, suc, ◌+◌, ◌<◌, ◌≤◌, List, [], ◌∷◌, length, drop, take, Option, Some, None, slice_get}
 use Rattle.std.specs.List.{prefix_len}
@@ -13,36 +13,36 @@ use Rattle.gg_lex.specs.declared.token.LexFault.TheVariants.{At, NoMemory}
 abbrev pub after_blanks : List ℕ → List ℕ
 after_blanks bs = drop (prefix_len is_blank bs) bs
 
--- file information opens here
+-- file information begins here
 abbrev pub OpensInfo : List ℕ → Type 0
 OpensInfo bs = (slice_get bs 0 ≡ Some at_sign) × (slice_get bs 1 ≡ Some open_bracket)
 
--- behind place k stands a `]`, and at k no backslash
+-- place k has no backslash and is followed by a `]`
 abbrev pub ClosesBehind : List ℕ → ℕ → Type 0
 ClosesBehind bs k = (slice_get bs (k + 1) ≡ Some close_bracket) × (slice_get bs k ≢ Some backslash)
 
--- the first n bytes are one file information: `@[` up to the first `]` that has no backslash before it
+-- the first n bytes are one file information: `@[` up to the first `]` without a backslash before it
 pub record IsInfo (bs : List ℕ) (n : ℕ) : Type 0 where
   pub opens : OpensInfo bs
   pub last : (k : ℕ) × (1 ≤ k) × (n ≡ k + 2) × ClosesBehind bs k
   pub first : (k : ℕ) → 1 ≤ k → k + 2 < n → ClosesBehind bs k → ⊥
 
--- nothing, or a comment, which `;` begins
+-- nothing, or a comment, which begins with `;`
 abbrev pub IsComment : List ℕ → Type 0
 IsComment [] = Unit {0}
 IsComment (b ∷ bs) = b ≡ semicolon
 
--- file information so many times, and then a comment or nothing; blanks may stand before each
+-- this many file informations, and then a comment or nothing; there may be blanks before each
 abbrev pub IsEndWith : ℕ → List ℕ → Type 0
 IsEndWith zero bs = IsComment (after_blanks bs)
 IsEndWith (suc infos) bs = (n : ℕ) × IsInfo (after_blanks bs) n × IsEndWith infos (drop n (after_blanks bs))
 
--- what may stand behind the last token of a line
+-- what may follow the last token of a line
 abbrev pub IsEnd : List ℕ → Type 0
 IsEnd bs = (infos : ℕ) × IsEndWith infos bs
 
--- the bytes begin with these tokens, each the first of what is left where it stands, blanks before it left out;
--- behind them is the rest
+-- The bytes begin with these tokens. Each is the first token of the bytes that are left after the blanks before it. After
+-- the last token `rest` is left.
 abbrev pub Begins : List Tok → List ℕ → List ℕ → Type 0
 Begins [] bs rest = rest ≡ bs
 Begins (t ∷ ts) bs rest =
@@ -54,7 +54,7 @@ pub record AreTokens (ts : List Tok) (line : List ℕ) : Type 0 where
   pub before : Begins ts line rest
   pub end : IsEnd rest
 
--- behind these tokens the line's byte at this place begins no token, and the line doesn't end there
+-- after these tokens the line's byte at this place begins no token, and the line doesn't end there
 pub record FailsAt (ts : List Tok) (line : List ℕ) (place : ℕ) : Type 0 where
   pub rest : List ℕ
   pub before : Begins ts line rest
@@ -62,17 +62,17 @@ pub record FailsAt (ts : List Tok) (line : List ℕ) (place : ℕ) : Type 0 wher
   pub no_end : IsEnd rest → ⊥
   pub there : place + length (after_blanks rest) ≡ length line
 
--- the tokens of a line with no bad place; else those up to its first bad place
+-- the tokens of a line without a bad place; otherwise those up to its first bad place
 abbrev pub Lexes : List ℕ → List Tok → Option ℕ → Type 0
 Lexes line ts None = AreTokens ts line
 Lexes line ts (Some place) = FailsAt ts line place
 
--- why a line has no tokens: it fails at the place that is answered. Want of memory has no cause in the line.
+-- why a line has no tokens: it fails at the place that is returned; `NoMemory` has no cause in the line
 abbrev pub HasCause : LexFault → List ℕ → Type 0
 HasCause (At place) line = (ts : List Tok) × FailsAt ts line place
 HasCause NoMemory line = Unit {0}
 
--- the fault is that the line fails at this place, or memory ran out
+-- the fault is that the line fails at this place, or an allocation failed
 abbrev pub IsFaultAt : LexFault → ℕ → Type 0
 IsFaultAt (At place) expected = place ≡ expected
 IsFaultAt NoMemory expected = Unit {0}

@@ -36,23 +36,23 @@ abbrev pub IsWord : List ℕ → Type 0
 IsWord bs =
     (first : ℕ) × (body : List ℕ) × (tail : List ℕ) × (bs ≡ first ∷ (body ++ tail)) × IsTrue (starts_word first) × AllPass is_word_byte body × AllPass is_tail_byte tail
 
--- decimal digits, at least one
+-- one or more decimal digits
 abbrev pub IsDigits : List ℕ → Type 0
 IsDigits bs = (0 < length bs) × AllPass is_ascii_digit bs
 
--- a number: `-` or nothing, then digits
+-- a number: digits, with or without a `-` before them
 abbrev pub IsNumber : List ℕ → Type 0
 IsNumber [] = ⊥
 IsNumber (b ∷ bs) = MatchBool (b == minus) (IsDigits bs) (IsDigits (b ∷ bs))
 
--- what stands between the quotes of a text: no quote but behind a backslash, which takes the next character with it
--- (the bytes behind the first of a character past ASCII are neither quotes nor backslashes)
+-- what is between the quotes of a text: no quote except after a backslash, which takes the next character with it (the
+-- bytes after the first of a non-ASCII character are neither quotes nor backslashes)
 abbrev pub IsQuoted : List ℕ → Type 0
 IsQuoted [] = Unit {0}
 IsQuoted (b ∷ []) = (b ≢ quote) × (b ≢ backslash)
 IsQuoted (b ∷ c ∷ bs) = MatchBool (b == backslash) (IsQuoted bs) ((b ≢ quote) × IsQuoted (c ∷ bs))
 
--- a text: a quote, what is quoted, a quote
+-- a text: a quote, quoted bytes, a quote
 abbrev pub IsText : List ℕ → Type 0
 IsText bs = (quoted : List ℕ) × (bs ≡ quote ∷ (quoted ++ quote ∷ [])) × IsQuoted quoted
 
@@ -63,7 +63,7 @@ IsToken kinds.Number bs = IsNumber bs
 IsToken kinds.Text bs = IsText bs
 IsToken (kinds.Symbol symbol) bs = bs ≡ spelling symbol
 
--- the token that bytes of this kind are: a text is kept without its quotes, its backslashes as they stand
+-- the token of bytes of this kind: a text is kept without its quotes, its backslashes as written
 abbrev pub token_of : TokenKind → List ℕ → Tok
 token_of kinds.Word bs = tok.Word bs
 token_of kinds.Number bs = tok.Number bs

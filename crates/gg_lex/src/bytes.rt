@@ -3,7 +3,7 @@ ghost use Rattle.std.specs.Prelude.{◌≡◌, ◌≤◌, length};
 ghost use Rattle.std.specs.List.{prefix_len};
 ghost use Rattle.gg_lex.specs.Bytes.{is_in_class, starts_word, begins_number};
 
-/// A class of bytes of which a run is made.
+/// A class of bytes. A run is made of bytes of one class.
 #[derive(Clone, Copy, Debug, PartialEq, Eq)]
 pub(crate) enum Class {
     /// A space or a tab.

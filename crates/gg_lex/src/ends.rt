@@ -1,11 +1,11 @@
-//! What may stand behind the last token of a line: file information, and a comment.
+//! What may follow the last token of a line: file information, and a comment.
 ghost use Rattle.std.specs.Prelude.{◌≡◌, ◌+◌, ◌<◌, ◌↔◌, length, IsTrue};
 ghost use Rattle.gg_lex.specs.Lines.{IsEnd, IsComment, OpensInfo, ClosesBehind, after_blanks};
 ghost use Rattle.gg_lex.specs.Ends.{FindsBracket, FindsInfo};
 
 use crate::bytes::{Class, run_len};
 
-/// Whether the line may end here: file information, any number of times, and a comment or nothing, with blanks before
+/// Whether the line may end here: any number of file informations, and then a comment or nothing, with blanks before
 /// each.
 pub(crate) fn is_end(bytes: &[u8]) -> bool
     ensures { IsTrue result ↔ IsEnd bytes.now }
@@ -34,7 +34,7 @@ fn skip_blanks(bytes: &[u8]) -> &[u8]
     &bytes[run_len(bytes, Class::Blank)..]
 }
 
-/// The length of the file information at the front, if there is one.
+/// The length of the file information at the front, if there is any.
 fn info_len(bytes: &[u8]) -> Option<usize>
     ensures { FindsInfo bytes.now result }
 {
@@ -47,14 +47,14 @@ fn info_len(bytes: &[u8]) -> Option<usize>
     }
 }
 
-/// Whether file information opens here.
+/// Whether file information begins here.
 fn opens_info(bytes: &[u8]) -> bool
     ensures { IsTrue result ↔ OpensInfo bytes.now }
 {
     bytes.len() >= 2 && bytes[0] == b'@' && bytes[1] == b'['
 }
 
-/// The first place from 1 on with a `]` behind it and no backslash at it.
+/// The first place from 1 on that has no backslash and is followed by a `]`.
 fn closing_bracket(bytes: &[u8]) -> Option<usize>
     ensures { FindsBracket bytes.now result }
 {
@@ -68,7 +68,7 @@ fn closing_bracket(bytes: &[u8]) -> Option<usize>
     None
 }
 
-/// Whether a `]` stands behind this place and no backslash at it.
+/// Whether this place has no backslash and is followed by a `]`.
 fn closes_behind(bytes: &[u8], at: usize) -> bool
     requires { at + 1 < length bytes.now }
     ensures { IsTrue result ↔ ClosesBehind bytes.now at }

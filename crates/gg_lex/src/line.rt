@@ -11,18 +11,18 @@ use crate::token::{LexFault, LexedLine, NextToken, Tok, TokenKind};
 use gg_bits::Name;
 use std::alloc::{AllocError, Global};
 
-/// The tokens of a line, the longest first (FIRRTL Specification, "Notes on Syntax", "Comments", "Info").
+/// The tokens of a line, each the longest possible (FIRRTL Specification, "Notes on Syntax", "Comments", "Info").
 ///
-/// File information and a comment at the line's end are no tokens.
+/// File information and a comment at the line's end are not tokens.
 ///
 /// # Errors
 ///
-/// `At` the first byte that begins no token, or `NoMemory`.
+/// Returns `At` with the first byte that begins no token. Returns `NoMemory` if an allocation fails.
 pub fn tokens(alloc: Global, line: &str) -> Result<Vec<Tok>, LexFault>
     ensures tokens { IfOk result (λ tokens. AreTokens tokens.items line.now) }
     ensures fault { IfErr result (λ fault. HasCause fault line.now) }
 
-    // a line with tokens has no other answer than these, nor one that fails another place
+    // a line with tokens has no other tokens and no bad place; a line that fails does so at one place only
     ensures only_tokens { (ts : List Tok) → AreTokens ts line.now → MatchResult result (λ tokens. tokens.items ≡ ts) (λ fault. fault ≡ LexFault.NoMemory) }
     ensures only_fault { (ts : List Tok) (place : ℕ) → FailsAt ts line.now place → MatchResult result (λ _. ⊥) (λ fault. IsFaultAt fault place) }
 {
@@ -38,12 +38,12 @@ pub fn tokens(alloc: Global, line: &str) -> Result<Vec<Tok>, LexFault>
     }
 }
 
-/// The tokens of a line, and the first byte that begins none: then the tokens before it (FIRRTL Specification, "Notes on
-/// Syntax", "Comments", "Info").
+/// The tokens of a line up to the first byte that begins none, and that byte's place, if there is one (FIRRTL
+/// Specification, "Notes on Syntax", "Comments", "Info").
 ///
 /// # Errors
 ///
-/// `AllocError` where memory is refused.
+/// Returns `AllocError` if an allocation fails.
 pub fn lex(alloc: Global, line: &str) -> Result<LexedLine, AllocError>
     ensures answer { IfOk result (λ lexed. Lexes line.now lexed.tokens.items lexed.bad) }
     ensures only { IfOk result (λ lexed. (ts : List Tok) (bad : Option ℕ) → Lexes line.now ts bad → (lexed.tokens.items ≡ ts) × (lexed.bad ≡ bad)) }
@@ -59,17 +59,17 @@ pub fn lex(alloc: Global, line: &str) -> Result<LexedLine, AllocError>
     Ok(LexedLine { tokens, bad })
 }
 
-/// A line is read in one way at most: it has one list of tokens, or fails at one place.
+/// A line is read in at most one way: it has one list of tokens, or fails at one place.
 pub fn one_reading()
     ensures { (line : List ℕ) (ts us : List Tok) (bad other : Option ℕ) → Lexes line ts bad → Lexes line us other → (ts ≡ us) × (bad ≡ other) }
 {}
 
-/// Each line has tokens, or fails at some place, whatever its bytes are.
+/// Each line has tokens or fails at some place, whatever its bytes are.
 pub fn every_line()
     ensures { (line : List ℕ) → (ts : List Tok) × (bad : Option ℕ) × Lexes line ts bad }
 {}
 
-/// The first token behind the blanks, if there is one.
+/// The first token after the blanks, if there is one.
 fn next_token<'a>(rest: &'a str) -> Option<NextToken<'a>>
     ensures { MatchOption result (BeginsNoToken (after_blanks rest.now)) (IsNextToken rest.now) }
 {
@@ -88,7 +88,7 @@ fn next_token<'a>(rest: &'a str) -> Option<NextToken<'a>>
     }
 }
 
-/// The token that a text of this kind is.
+/// The token of a text of this kind.
 fn make_token(alloc: Global, kind: TokenKind, text: &str) -> Result<Tok, AllocError>
     requires { IsToken kind text.now }
     ensures { IfOk result (λ token. token ≡ token_of kind text.now) }
@@ -101,7 +101,7 @@ fn make_token(alloc: Global, kind: TokenKind, text: &str) -> Result<Tok, AllocEr
     }
 }
 
-/// What stands between the quotes of a text.
+/// What is between the quotes of a text.
 fn between_quotes(text: &str) -> &str
     requires { IsText text.now }
     ensures { result.now ≡ take (length text.now - 2) (drop 1 text.now) }
@@ -111,7 +111,7 @@ fn between_quotes(text: &str) -> &str
     quoted
 }
 
-/// The place of the byte behind the blanks, unless the line may end where `rest` is left of it.
+/// The place of the byte after the blanks, unless the line may end where `rest` is left of it.
 fn bad_place(line: &str, rest: &str) -> Option<u64>
     requires { length rest.now ≤ length line.now }
     ensures { EndsOrFails line.now rest.now result }

@@ -6,7 +6,7 @@ ghost use Rattle.gg_lex.specs.Fronts.{IsLongest, FindsFront, FindsQuote};
 
 use crate::bytes::{Class, run_len};
 
-/// The length of the word at the front, where a word begins.
+/// The length of the word at the front. The bytes begin with one.
 pub(crate) fn word_len(bytes: &[u8]) -> usize
     requires nonempty { 0 < length bytes.now }
     requires begins { IsTrue (starts_word (slice_index bytes.now 0)) }
@@ -39,7 +39,7 @@ pub(crate) fn number_len(bytes: &[u8]) -> Option<usize>
     }
 }
 
-/// The place of the quote that ends what is quoted at the front, if there is one.
+/// The place of the quote that ends the quoted bytes at the front, if there is one.
 fn closing_quote(bytes: &[u8]) -> Option<usize>
     ensures { FindsQuote bytes.now result }
 {
@@ -54,7 +54,7 @@ fn closing_quote(bytes: &[u8]) -> Option<usize>
     None
 }
 
-/// The length of the text at the front, where a quote stands.
+/// The length of the text at the front. The bytes begin with a quote.
 pub(crate) fn text_len(bytes: &[u8]) -> Option<usize>
     requires nonempty { 0 < length bytes.now }
     requires begins { slice_index bytes.now 0 ≡ 34 }

@@ -3,7 +3,7 @@ use crate::{LexFault, Tok, lex, tokens};
 use std::alloc::{AllocError, Global};
 use std::test::Fail;
 
-/// Tokens as text: words and symbols as they stand, `#` before a number, quotes round a text, a blank behind each.
+/// Tokens as text: words and symbols as written, `#` before a number, quotes around a text, a blank after each.
 fn shown(alloc: Global, tokens: &[Tok]) -> Result<String, AllocError> {
     let mut out = String::new(alloc);
     for token in tokens {
@@ -21,7 +21,7 @@ fn shown(alloc: Global, tokens: &[Tok]) -> Result<String, AllocError> {
     Ok(out)
 }
 
-/// The tokens of a line up to its first bad place, and that place behind `!`.
+/// The tokens of a line up to its first bad place, and that place after `!`.
 fn read(alloc: Global, line: &str) -> Result<String, AllocError> {
     let lexed = lex(alloc, line)?;
     let before = shown(alloc, lexed.tokens.as_slice())?;

@@ -9,11 +9,11 @@ use std::fmt;
 pub enum Tok {
     /// A letter or `_`, then letters, digits, `_` and `$`, then dashes and letters.
     Word(Name),
-    /// `-` or nothing, then decimal digits.
+    /// Decimal digits, with or without a `-` before them.
     Number(Name),
-    /// What stands between two quotes, its backslashes included.
+    /// What is between two quotes, its backslashes included.
     Text(Name),
-    /// One of the symbols of the grammar, which are no words.
+    /// One of the symbols of the grammar, which are not words.
     Symbol(Symbol),
 }
 
@@ -75,7 +75,7 @@ pub(crate) struct Front {
     pub(crate) length: usize,
 }
 
-/// A token's bytes in a line, and what stands behind them.
+/// A token's bytes in a line, and what follows them.
 #[derive(Clone, Copy, Debug)]
 pub(crate) struct NextToken<'a> {
     pub(crate) kind: TokenKind,
@@ -83,7 +83,7 @@ pub(crate) struct NextToken<'a> {
     pub(crate) after: &'a str,
 }
 
-/// The tokens of a line, and the first byte that begins none, if there is one: the tokens are those before it.
+/// The tokens of a line up to the first byte that begins none, and that byte's place, if there is one.
 #[derive(Debug, Drop)]
 pub struct LexedLine {
     /// The tokens before that byte, or all of the line's, in its order.
@@ -97,7 +97,7 @@ pub struct LexedLine {
 pub enum LexFault {
     /// The first byte that begins no token, counted from 0 in the line.
     At(u64),
-    /// Memory ran out. The line says nothing of this.
+    /// An allocation failed. This has no cause in the line.
     NoMemory,
 }
 
