@@ -3,7 +3,7 @@ use Rattle.std.specs.Prelude.{ℕ, List, codes}
 use Rattle.gg_walk.specs.declared.fault.WalkFault.{WalkFault}
 use Rattle.gg_walk.specs.declared.fault.WalkFault.TheVariants.{Ring, NoMemory}
 
--- where it is a ring, a fact of the ring
+-- if the fault is a ring, this fact holds of the ring
 abbrev pub IfRing : (List ℕ → Type 0) → WalkFault → Type 0
 IfRing P (Ring ring) = P ring.items
 IfRing P NoMemory = Unit {0}

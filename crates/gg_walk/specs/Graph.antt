@@ -1,5 +1,5 @@
--- Orders and rings of a directed graph: its nodes are the numbers below `count`, and `Edge s t` says that from node s to node t
--- there is an edge. An order is a topological order of the graph with its edges turned round; a ring is a cycle.
+-- Orders and rings of a directed graph. Its nodes are the numbers below `count`, and `Edge s t` says that there is an edge
+-- from node s to node t. An order is a topological order of the graph with its edges reversed; a ring is a cycle.
 -- Source: Knuth, The Art of Computer Programming, volume 1, section 2.2.3, "Topological sorting".
 use Rattle.std.specs.Prelude.{◌≢◌, ℕ, ◌<◌, List, [], ◌∷◌, length, take, Contains, AllPairs, slice_index_or}
 
@@ -7,7 +7,7 @@ use Rattle.std.specs.Prelude.{◌≢◌, ℕ, ◌<◌, List, [], ◌∷◌, leng
 abbrev pub node_at : List ℕ → ℕ → ℕ
 node_at nodes i = slice_index_or nodes i 0
 
--- An order: each node once, behind all its targets.
+-- An order: each node once, after all its targets.
 pub record IsOrderOf (Edge : ℕ → ℕ → Type 0) (count : ℕ) (order : List ℕ) : Type 0 where
   pub nodes : (i : ℕ) → i < length order → node_at order i < count
   pub once : AllPairs (λ a b. a ≢ b) order

@@ -1,4 +1,4 @@
--- A graph given by a list of targets for each node. A number that is no node stands for a place without a target.
+-- A graph given by a list of targets for each node. A number that is not a node stands for a place without a target.
 use Rattle.std.proofs.Math.Nat.{not-suc-le-zero}
 use Rattle.std.specs.Prelude.{ℕ, ◌<◌, List, [], length, take, Contains, slice_index_or}
 
@@ -13,6 +13,6 @@ HasTarget lists s t = Contains (targets_of lists s) t × (t < length lists)
 abbrev pub HasTargetBelow : List (List ℕ) → ℕ → ℕ → ℕ → Type 0
 HasTargetBelow lists s k t = Contains (take k (targets_of lists s)) t × (t < length lists)
 
--- no target stands below the first place
+-- there is no target below the first place
 pub none_below_first : (lists : List (List ℕ)) (s t : ℕ) → HasTargetBelow lists s 0 t → ⊥
 none_below_first lists s t below = not-suc-le-zero below.0.1

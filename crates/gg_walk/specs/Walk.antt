@@ -1,4 +1,4 @@
--- A walk under way: what is known of its lists.
+-- The state of a walk: what is known of its lists.
 use Rattle.std.specs.Prelude.{◌≡◌, ◌≢◌, ℕ, ◌<◌, List, [], ◌∷◌, length, take, drop, Contains, AllPairs, slice_index_or}
 use Rattle.gg_walk.specs.Graph.{node_at}
 use Rattle.gg_walk.specs.declared.state.Stage.{Stage}
@@ -15,7 +15,7 @@ weight New = 2
 weight Open = 1
 weight Done = 0
 
--- a node that was met is met afterwards
+-- a node that was met before is also met now
 abbrev pub StaysMet : List Stage → List Stage → Type 0
 StaysMet before after = (s : ℕ) → stage_at before s ≢ New → stage_at after s ≢ New
 
@@ -25,11 +25,11 @@ IsChain Edge [] = Unit {0}
 IsChain Edge (a ∷ []) = Unit {0}
 IsChain Edge (a ∷ b ∷ rest) = Edge a b × IsChain Edge (b ∷ rest)
 
--- each node of a list stands behind all its targets
+-- each node of a list comes after all its targets
 abbrev pub StandsAfter : (ℕ → ℕ → Type 0) → List ℕ → Type 0
 StandsAfter Edge order = (i t : ℕ) → i < length order → Edge (node_at order i) t → Contains (take i order) t
 
--- A walk under way along a path, which ends at the node that the walk is at.
+-- The state of a walk along a path. The path ends at the node that the walk is at.
 pub record Walks (Edge : ℕ → ℕ → Type 0) (EdgeBelow : ℕ → ℕ → ℕ → Type 0) (count : ℕ) (path : List ℕ) (stages : List Stage) (places order : List ℕ) : Type 0 where
   pub stage_count : length stages ≡ count
   pub place_count : length places ≡ count
@@ -46,7 +46,7 @@ pub record Walks (Edge : ℕ → ℕ → Type 0) (EdgeBelow : ℕ → ℕ → �
 abbrev pub IsUnderWay : (ℕ → ℕ → Type 0) → (ℕ → ℕ → ℕ → Type 0) → ℕ → List ℕ → Progress → Type 0
 IsUnderWay Edge EdgeBelow count path walk = Walks Edge EdgeBelow count path walk.stages.items walk.places.items walk.order.items
 
--- the end of a path from a node on it
+-- the end of a path from one of its nodes on
 pub record IsEndFrom (path : List ℕ) (first : ℕ) (end : List ℕ) : Type 0 where
   pub start : ℕ
   pub within : start < length path

@@ -11,11 +11,11 @@ use crate::scan::next_candidate;
 use crate::state::{Progress, Stage, enter, leave, new_progress, ring_of};
 use std::alloc::Global;
 
-/// The order of a graph's nodes: each once, behind all its targets.
+/// The order of a graph's nodes: each once, after all its targets.
 ///
 /// # Errors
 ///
-/// `Ring`, with a ring of the graph, exactly where it has one. `NoMemory`, where memory is refused.
+/// Returns `Ring` with a ring of the graph, exactly if it has one. Returns `NoMemory` if an allocation fails.
 pub fn walk<G: Graph>(alloc: Global, graph: &G) -> Result<Vec<u32>, WalkFault>
     ensures order { IfOk result (λ order. IsOrderOf (G.edge graph.now) (G.nodes graph.now) order.items) }
     ensures free { IfOk result (λ order. (ring : List ℕ) → ¬ IsRing (G.edge graph.now) (G.nodes graph.now) ring) }
@@ -28,7 +28,7 @@ pub fn walk<G: Graph>(alloc: Global, graph: &G) -> Result<Vec<u32>, WalkFault>
     Ok(walk.order)
 }
 
-// Brings a node, and all that it leads to, into the order.
+// Adds a node, and all that it leads to, to the order.
 fn visit<G: Graph>(graph: &G, walk: &mut Progress, root: u32) -> Result<(), WalkFault>
     requires root { root < G.nodes graph.now }
     requires walks { IsUnderWay (G.edge graph.now) (G.edge_below graph.now) (G.nodes graph.now) [] walk.old }
@@ -46,7 +46,7 @@ fn visit<G: Graph>(graph: &G, walk: &mut Progress, root: u32) -> Result<(), Walk
     Ok(())
 }
 
-// Walks on from a node until the path is at its end.
+// Walks on from a node until the path has ended.
 fn descend<G: Graph>(graph: &G, walk: &mut Progress, root: u32) -> Result<(), WalkFault>
     requires walks { IsUnderWay (G.edge graph.now) (G.edge_below graph.now) (G.nodes graph.now) (walk.old.path.items ++ root ∷ []) walk.old }
     ensures walks { IfOk result (λ _. IsUnderWay (G.edge graph.now) (G.edge_below graph.now) (G.nodes graph.now) [] walk.new) }
@@ -63,7 +63,7 @@ fn descend<G: Graph>(graph: &G, walk: &mut Progress, root: u32) -> Result<(), Wa
     }
 }
 
-// One step from a node: to a target that is new, or back along the path where all targets are done.
+// One step from a node: to a target that is new, or back along the path if all targets are done.
 fn step<G: Graph>(graph: &G, walk: &mut Progress, node: u32) -> Result<Option<u32>, WalkFault>
     requires walks { IsUnderWay (G.edge graph.now) (G.edge_below graph.now) (G.nodes graph.now) (walk.old.path.items ++ node ∷ []) walk.old }
     ensures walks { IfOk result (λ next. IsUnderWay (G.edge graph.now) (G.edge_below graph.now) (G.nodes graph.now) (walk.new.path.items ++ option_to_list next) walk.new) }

@@ -6,12 +6,12 @@ use std::alloc::AllocError;
 use std::error::Error;
 use std::fmt;
 
-/// Why a walk gave no order.
+/// Why a walk found no order.
 #[derive(Debug, Drop)]
 pub enum WalkFault {
     /// A ring of the graph: distinct nodes, each with an edge to the next, the last to the first.
     Ring(Vec<u32>),
-    /// Memory was refused.
+    /// An allocation failed.
     NoMemory,
 }
 

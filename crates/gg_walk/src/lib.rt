@@ -1,13 +1,13 @@
 //! A depth-first walk over a directed graph: an order of its nodes, or a ring.
 //!
-//! An order has each node once, behind all its targets (`IsOrderOf`). A ring is a cycle: distinct nodes, each with an
-//! edge to the next, the last to the first (`IsRing`). The crate promises, of each graph (`Graph`):
+//! An order has each node once, after all its targets (`IsOrderOf`). A ring is a cycle of the graph: distinct nodes, each
+//! with an edge to the next, the last to the first (`IsRing`). The crate promises, of each graph (`Graph`):
 //!
-//! - `walk` gives an order exactly where the graph has no ring, and else a ring of it, or that memory was refused;
+//! - `walk` returns an order exactly if the graph has no ring, and otherwise one of its rings, or `NoMemory`;
 //! - a graph that has an order has no ring (`no_ring`).
 //!
 //! A walk asks for each target of a node at most twice, so its time is linear in nodes and targets. It keeps its path in a
-//! list, so a long chain of nodes takes no stack.
+//! list, so a long chain of nodes needs no stack.
 #![tactic(auto)]
 
 mod descent;

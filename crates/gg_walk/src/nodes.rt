@@ -1,33 +1,33 @@
-//! `Graph`: what a walk asks of a directed graph.
+//! `Graph`: what a walk needs to know of a directed graph.
 ghost use Rattle.std.specs.Prelude.{◌≡◌, ℕ, ◌<◌, List, IfSome, IfNone, ◌⊎◌};
 ghost use Rattle.gg_walk.specs.Graph.{IsOrderOf, IsRing};
 
-/// A target of a node, and the place behind it.
+/// A target of a node, and the place after it.
 #[derive(Clone, Copy, Debug, PartialEq, Eq)]
 pub struct Target {
     /// The target.
     pub node: u32,
-    /// The place behind it, from which to look for the next target.
+    /// The place after it, from which to look for the next target.
     pub next: usize,
 }
 
-/// A directed graph. Its nodes are the numbers below their count; each node has its targets at places, some of which may
-/// be without a target. A node may have one target at several places, and may be its own target.
+/// A directed graph. Its nodes are the numbers below their count. Each node has its targets at places, and some places may
+/// have no target. A node may have one target at several places, and may be its own target.
 pub trait Graph {
     // How many nodes there are.
     ghost nodes: { Self → ℕ };
 
-    // From the first node to the second there is an edge: the second is a target of the first.
+    // There is an edge from the first node to the second: the second is a target of the first.
     ghost edge: { Self → ℕ → ℕ → Type 0 };
 
-    // The node has, at a place below this one, this target.
+    // The node has this target at a place below this one.
     ghost edge_below: { Self → ℕ → ℕ → ℕ → Type 0 };
 
     /// How many nodes there are.
     fn node_count(&self) -> u32
         ensures { result ≡ nodes self.now };
 
-    /// The first target of a node at or behind a place, or none where no target is left.
+    /// The first target of a node at or after a place, or none if no target is left.
     fn target(&self, node: u32, place: usize) -> Option<Target>
         requires { node < nodes self.now }
         ensures edge { IfSome result (λ found. edge self.now node found.node) }
@@ -36,7 +36,7 @@ pub trait Graph {
         ensures first { IfSome result (λ found. (t : ℕ) → edge_below self.now node found.next t → edge_below self.now node place t ⊎ (t ≡ found.node)) }
         ensures none { IfNone result ((t : ℕ) → edge self.now node t → edge_below self.now node place t) };
 
-    // No target stands below the first place.
+    // There is no target below the first place.
     ghost none_below_first: { (graph : Self) (s t : ℕ) → edge_below graph s 0 t → ⊥ };
 }
 

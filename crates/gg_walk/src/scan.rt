@@ -6,14 +6,14 @@ ghost use Rattle.gg_walk.specs.declared.state.Stage.TheVariants.{Done};
 use crate::nodes::Graph;
 use crate::state::Stage;
 
-// A target that isn't done, and a place below which all targets are.
+// A target that isn't done, and a place: all targets at places below it are done.
 #[derive(Clone, Copy)]
 pub(crate) struct Candidate {
     pub(crate) node: u32,
     pub(crate) place: usize,
 }
 
-// The first target at or behind a place that isn't done, where all below it are.
+// The first target at or after a place that isn't done. All targets below the place are done.
 pub(crate) fn next_candidate<G: Graph>(
     graph: &G,
     stages: &[Stage],

@@ -7,7 +7,7 @@ use crate::nodes::Graph;
 use crate::scan::Candidate;
 use std::alloc::{AllocError, Global};
 
-// How far the walk is with a node: it hasn't come to it, the node is on its path, or it stands in the order.
+// How far the walk is with a node: it hasn't come to it, the node is on its path, or it is in the order.
 #[derive(Clone, Copy)]
 pub(crate) enum Stage {
     New,
@@ -15,8 +15,8 @@ pub(crate) enum Stage {
     Done,
 }
 
-// A walk under way: for each node its stage, and the place below which all its targets are done; the nodes on the path
-// above the one that the walk is at; the order so far.
+// The state of a walk. For each node its stage, and the place below which all its targets are done. The nodes of the path
+// above the one that the walk is at. The order so far.
 #[derive(Drop)]
 pub(crate) struct Progress {
     pub(crate) stages: Vec<Stage>,
@@ -39,7 +39,7 @@ pub(crate) fn new_progress<G: Graph>(alloc: Global, graph: &G) -> Result<Progres
     })
 }
 
-// The stages of nodes of which none was met.
+// The stages of nodes, none of which was met.
 fn all_new(alloc: Global, count: usize) -> Result<Vec<Stage>, AllocError>
     ensures { IfOk result (λ stages. stages.items ≡ replicate count New) }
 {
@@ -68,7 +68,7 @@ pub(crate) fn enter(walk: &mut Progress, node: u32, found: Candidate) -> Result<
     Ok(())
 }
 
-// Puts a node into the order, and goes back to the one above it.
+// Adds a node to the order, and goes back to the one above it.
 pub(crate) fn leave(walk: &mut Progress, node: u32) -> Result<Option<u32>, AllocError>
     requires { node < length walk.old.stages.items }
     ensures path { IfOk result (λ next. walk.old.path.items ≡ walk.new.path.items ++ option_to_list next) }
@@ -82,7 +82,7 @@ pub(crate) fn leave(walk: &mut Progress, node: u32) -> Result<Option<u32>, Alloc
     Ok(walk.path.pop())
 }
 
-// The end of a path, with the node that it leads to, from a node on it.
+// The end of a path, with the node that it leads to, from one of its nodes on.
 pub(crate) fn ring_of(path: &mut Vec<u32>, node: u32, first: u32) -> Result<Vec<u32>, AllocError>
     requires { Contains (path.old.items ++ node ∷ []) first }
     ensures { IfOk result (λ ring. IsEndFrom (path.old.items ++ node ∷ []) first ring.items) }

@@ -1,11 +1,11 @@
-//! What no clause says: that with ample memory there is an answer; and the order and the rings of small graphs.
+//! What no contract says: that there is an answer if there is enough memory. Also the order and the rings of small graphs.
 ghost use Rattle.std.specs.Prelude.{◌≡◌, ℕ, ◌<◌, ◌^◌, length, take, Contains, IfSome, IfNone, ◌⊎◌};
 ghost use Rattle.gg_walk.specs.Lists.{HasTarget, HasTargetBelow, none_below_first};
 
 use super::*;
 use std::test::Fail;
 
-// A graph whose nodes have three places each. A number that is no node stands for a place without a target.
+// A graph whose nodes have three places each. A number that is not a node stands for a place without a target.
 #[derive(Drop)]
 struct Table<'a> {
     targets: &'a [[u32; 3]],
@@ -30,7 +30,7 @@ impl<'a> Graph for Table<'a> {
     }
 }
 
-// The first number below a count at or behind a place.
+// The first number below a count at or after a place.
 fn first_below(count: usize, targets: &[u32], place: usize) -> Option<Target>
     ensures target { IfSome result (λ found. Contains targets.now found.node) }
     ensures within { IfSome result (λ found. found.node < count) }
