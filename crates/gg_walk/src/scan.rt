@@ -13,7 +13,7 @@ pub(crate) struct Candidate {
     pub(crate) place: usize,
 }
 
-// The first target at or after a place that isn't done. All targets below the place are done.
+// The first target that isn't done, at or after a place. All targets below that place are done.
 pub(crate) fn next_candidate<G: Graph>(
     graph: &G,
     stages: &[Stage],
