@@ -1,4 +1,4 @@
--- Names: words without a dash (FIRRTL Specification, "Notes on Syntax": identifiers). A dot or a dash stands in none.
+-- Names: words without a dash (FIRRTL Specification, "Notes on Syntax": identifiers). A name has no dot and no dash.
 use Rattle.std.specs.Prelude.{ℕ, Bool, false, ◌||◌, ◌&&◌, ◌==◌, IsTrue, List, [], ◌∷◌, IfSome}
 use Rattle.std.specs.Char.{is_ascii_alphabetic, is_ascii_alphanumeric}
 use Rattle.std.specs.List.{All, list_all}
@@ -21,7 +21,7 @@ use Rattle.gg_ast.specs.Tree.{ModuleTree, CircuitTree}
 abbrev pub begins_name : ℕ → Bool
 begins_name b = is_ascii_alphabetic b || b == 95
 
--- a letter, a digit, `_` or `$`, which stand in a name
+-- a letter, a digit, `_` or `$`, which may be in a name
 abbrev pub is_name_byte : ℕ → Bool
 is_name_byte b = is_ascii_alphanumeric b || b == 95 || b == 36
 
@@ -32,7 +32,7 @@ is_name (b ∷ bs) = begins_name b && list_all is_name_byte bs
 abbrev pub IsName : List ℕ → Type 0
 IsName text = IsTrue (is_name text)
 
--- What follows says of each part of a circuit that its names are names.
+-- The following definitions say, of each part of a circuit, that its names are names.
 
 abbrev pub AreNamesOfReference : Reference → Type 0
 AreNamesOfReference (Local a) = IsName a
@@ -63,7 +63,7 @@ AreNamesOfMemoryField (field.ReadUnderWrite word) = Unit {0}
 abbrev pub AreNamesOfField : Field → Type 0
 AreNamesOfField f = AreNamesOfMemoryField f.kind
 
--- a text may hold anything
+-- a text may have any bytes
 abbrev pub AreNamesOfArgument : Argument → Type 0
 AreNamesOfArgument (Value e) = AreNamesOfTerm e
 AreNamesOfArgument (Text t) = Unit {0}

@@ -6,7 +6,7 @@ use Rattle.std.specs.declared.alloc.Global.{Global}
 use Rattle.std.specs.declared.hash.FoldHasher.{FoldHasher}
 use Rattle.std.specs.declared.hash.BuildHasherDefault.{BuildHasherDefault}
 
--- `i` is the place of the first name in the list that is `name`
+-- `i` is the place of the first name in the list that equals `name`
 pub record IsFirstOf (names : List (List ℕ)) (name : List ℕ) (i : ℕ) : Type 0 where
   pub named : slice_get names i ≡ Some name
   pub first : (k : ℕ) → k < i → slice_get names k ≢ Some name
@@ -15,7 +15,7 @@ pub record IsFirstOf (names : List (List ℕ)) (name : List ℕ) (i : ℕ) : Typ
 abbrev pub Lacks : List (List ℕ) → List ℕ → Type 0
 Lacks names name = (k : ℕ) → slice_get names k ≢ Some name
 
--- the place of the first name that is `name`, or none
+-- the place of the first name that equals `name`, or none
 abbrev pub place_of : List ℕ → List (List ℕ) → Option ℕ
 place_of name [] = None
 place_of name (n ∷ ns) = if bytes_eq name n then Some 0 else option_map (λ i. i + 1) (place_of name ns)

@@ -1,4 +1,4 @@
--- What one line of a circuit's text holds: one constructor for each form of a line (FIRRTL Specification, "Grammar").
+-- What one line of a circuit's text says: one constructor for each form of a line (FIRRTL Specification, "Grammar").
 use Rattle.std.specs.Prelude.{ℕ, List, Option}
 use Rattle.gg_ast.specs.declared.expression.Reference.{Reference}
 use Rattle.gg_ast.specs.declared.module.Direction.{Direction}
@@ -41,9 +41,9 @@ pub data Row : Type 0 where
   InvalidRow : Reference → Row
   -- skip
   SkipRow : Row
-  -- stop ( CLOCK , CONDITION , CODE ), maybe with : NAME
+  -- stop ( CLOCK , CONDITION , CODE ), possibly with : NAME
   StopRow : Term → Term → ℕ → Option (List ℕ) → Row
-  -- printf, assert, assume or cover ( ARGUMENTS ), maybe with : NAME
+  -- printf, assert, assume or cover ( ARGUMENTS ), possibly with : NAME
   ReportRow : Report → List Argument → Option (List ℕ) → Row
 
 -- a row with its line, counted from 1

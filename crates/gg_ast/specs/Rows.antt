@@ -1,4 +1,4 @@
--- The rows of a circuit: what the lines of its text hold, in order, each with its line.
+-- The rows of a circuit: what the lines of its text say, in order, each with its line.
 use Rattle.std.specs.Prelude.{ℕ, List, [], ◌∷◌, ◌++◌, Option, None, Some, ◌==◌, if◌then◌else◌, map}
 use Rattle.gg_ast.specs.declared.module.GroundType.{GroundType}
 use Rattle.gg_ast.specs.declared.module.Port.{Port}
@@ -17,7 +17,7 @@ port_row port = numbered port.line (PortRow port.direction port.name port.ty)
 abbrev pub field_row : Field → Numbered
 field_row field = numbered field.line (FieldRow field.kind)
 
--- a register has one row, or two where its reset stands on a line of its own
+-- a register has one row, or two if its reset has a line of its own
 abbrev pub register_rows : ℕ → List ℕ → GroundType → Term → Option Reset → List Numbered
 register_rows line name ty clock None = numbered line (RegisterRow name ty clock) ∷ []
 register_rows line name ty clock (Some reset) =
@@ -25,7 +25,7 @@ register_rows line name ty clock (Some reset) =
     then numbered line (RegisterResetRow name ty clock reset.condition reset.init) ∷ []
     else numbered line (RegisterOpenRow name ty clock) ∷ (numbered reset.line (ResetRow reset.condition reset.init) ∷ [])
 
--- a memory has a row for each of its fields after its own; any other statement has one row
+-- a memory has its own row and then one for each of its fields; any other statement has one row
 abbrev pub kind_rows : ℕ → StmtKind → List Numbered
 kind_rows line (Wire name ty) = numbered line (WireRow name ty) ∷ []
 kind_rows line (Node name value) = numbered line (NodeRow name value) ∷ []
@@ -52,6 +52,6 @@ abbrev pub rows_of_modules : List ModuleTree → List Numbered
 rows_of_modules [] = []
 rows_of_modules (m ∷ ms) = module_rows m ++ rows_of_modules ms
 
--- the rows of a circuit: its header, then module by module the module's header, ports and statements
+-- the rows of a circuit: its header, then for each module its header, its ports and its statements
 abbrev pub rows_of : CircuitTree → List Numbered
 rows_of circuit = numbered circuit.line (CircuitRow circuit.name) ∷ rows_of_modules circuit.modules

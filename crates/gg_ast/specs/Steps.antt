@@ -1,4 +1,4 @@
--- How the logic stores a term: as the steps that put it together on a stack.
+-- How the logic stores a term: as steps that build it on a stack.
 use Rattle.std.specs.Prelude.{◌≡◌, ℕ, List, [], ◌∷◌, refl}
 use mathlib.Core.Path.{ap, ◌∙◌}
 use Rattle.gg_ast.specs.declared.expression.Literal.{Literal}
@@ -9,7 +9,7 @@ use Rattle.gg_bits.specs.declared.ops.Op2.{Op2}
 use Rattle.gg_bits.specs.declared.ops.OpN.{OpN}
 use Rattle.gg_ast.specs.Term.{Term, NamedTerm, ConstantTerm, UnaryTerm, BinaryTerm, FixedTerm, MuxTerm}
 
--- a leaf, or an operation on what the steps before it put on the stack
+-- a leaf, or an operation on what the earlier steps put on the stack
 pub data Step : Type 0 where
   NamedStep : Reference → Step
   ConstantStep : Literal → Step
@@ -18,7 +18,7 @@ pub data Step : Type 0 where
   FixedStep : OpN → ℕ → ℕ → Step
   MuxStep : Step
 
--- the steps of a term, and these behind them
+-- the steps of a term, followed by these
 abbrev pub steps_before : Term → List Step → List Step
 steps_before (NamedTerm r) rest = NamedStep r ∷ rest
 steps_before (ConstantTerm l) rest = ConstantStep l ∷ rest
@@ -30,7 +30,7 @@ steps_before (MuxTerm c a b) rest = steps_before c (steps_before a (steps_before
 abbrev pub steps_of : Term → List Step
 steps_of t = steps_before t []
 
--- the stack behind a step; where it lacks an operand it is empty
+-- the stack after a step; it is empty if the step lacks an operand
 abbrev pub stack_after : Step → List Term → List Term
 stack_after (NamedStep r) ts = NamedTerm r ∷ ts
 stack_after (ConstantStep l) ts = ConstantTerm l ∷ ts

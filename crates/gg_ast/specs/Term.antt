@@ -1,4 +1,4 @@
--- An expression without pointers, which is what clauses and definitions speak of (FIRRTL Specification, "Expressions",
+-- An expression without pointers. Clauses and definitions use it for expressions (FIRRTL Specification, "Expressions",
 -- "Primitive Operations").
 use Rattle.std.specs.Prelude.{ℕ, ◌+◌}
 use Rattle.gg_ast.specs.declared.expression.Literal.{Literal}
@@ -16,7 +16,7 @@ pub data Term : Type 0 where
   FixedTerm : OpN → Term → ℕ → ℕ → Term
   MuxTerm : Term → Term → Term → Term
 
--- how many operations and leaves a term has, which a recursion over it goes down by
+-- how many operations and leaves a term has; a recursion over the term decreases it
 abbrev pub size_of : Term → ℕ
 size_of (NamedTerm r) = 1
 size_of (ConstantTerm l) = 1

@@ -49,7 +49,7 @@ on_last f [] = []
 on_last f (m ∷ []) = f m ∷ []
 on_last f (m ∷ (n ∷ ms)) = m ∷ on_last f (n ∷ ms)
 
--- the list has a last element, and that is so
+-- the list has a last element, for which this holds
 abbrev pub EndsIn : {A : Type 0} → (A → Type 0) → List A → Type 0
 EndsIn P [] = ⊥
 EndsIn P (m ∷ []) = P m

@@ -15,8 +15,8 @@ use std::marker::Model;
 
 /// A circuit: its name and its modules in the order of the file. A contract sees it as a `CircuitTree`.
 ///
-/// It is built row by row, from the header on. Where a call that adds something is refused memory the circuit stays
-/// as it was.
+/// It is built row by row, beginning with the header. If an allocation fails in a call that adds something, the circuit
+/// stays as it was.
 #[derive(Debug, Drop)]
 pub struct Circuit {
     line: u64,
@@ -44,7 +44,7 @@ impl Model for Circuit {
 }
 
 impl Circuit {
-    /// A circuit without modules, whose header stands on this line, counted from 1: that is its only row.
+    /// A circuit without modules. Its header is on this line, counted from 1: that is its only row.
     pub fn new(alloc: Global, line: u64, name: Name) -> Circuit
         requires named { IsName name }
         ensures value { result ≡ empty_circuit line name }
@@ -79,15 +79,15 @@ impl Circuit {
         self.modules.as_slice()
     }
 
-    /// Nothing is done. What it ensures holds of each circuit: its names are names, each a letter or `_` and then letters,
-    /// digits, `_` and `$`. So no dot and no dash stands in one.
+    /// Does nothing. Its contract says of each circuit that its names are names: a letter or `_`, and then letters, digits, `_`
+    /// and `$`. So a name has no dot and no dash.
     pub fn names_are_words(&self)
         ensures { AreNamesOfCircuit self.now }
     {
         let _ = &self.line;
     }
 
-    /// The place of the first module of that name, or none exactly where no module has it.
+    /// The place of the first module of that name, or none exactly if no module has it.
     pub fn module(&self, name: &str) -> Option<u32>
         requires { length self.now.modules ≤ 2 ^ 32 }
         ensures value { result ≡ place_of name.now (module_names self.now) }
@@ -100,13 +100,13 @@ impl Circuit {
         }
     }
 
-    /// Adds a module without ports and statements behind the others, which begins on this line, counted from 1.
+    /// Adds a module without ports and statements as the last. It begins on this line, counted from 1.
     ///
-    /// The circuit has one row more then, the module's, and a port may follow (`IsOpenToPorts`).
+    /// The circuit then has one row more, the module's, and a port may follow (`IsOpenToPorts`).
     ///
     /// # Errors
     ///
-    /// `AllocError` where memory is refused: the circuit stays as it was.
+    /// Returns `AllocError` if an allocation fails. The circuit then stays as it was.
     pub fn push_module(&mut self, alloc: Global, line: u64, name: Name) -> Result<(), AllocError>
         requires named { IsName name }
         ensures value { self.new ≡ (if is_ok result then add_module self.old (empty_module line name) else self.old) }
@@ -120,14 +120,14 @@ impl Circuit {
         Ok(())
     }
 
-    /// Adds a port behind the others of the last module. There has to be a module.
+    /// Adds a port to the last module, as its last. There has to be a module.
     ///
-    /// Where that module has no statement yet, the circuit has one row more then, the port's. Behind a statement the port
-    /// still joins the module's ports, and its row is not the last.
+    /// If that module has no statement yet, the circuit then has one row more, the port's. If it has one, the port still joins
+    /// the module's ports, and its row is not the last.
     ///
     /// # Errors
     ///
-    /// `AllocError` where memory is refused: the circuit stays as it was.
+    /// Returns `AllocError` if an allocation fails. The circuit then stays as it was.
     pub fn push_port(&mut self, port: Port) -> Result<(), AllocError>
         requires some { 0 < length self.old.modules }
         requires named { IsPortNamed port }
@@ -140,14 +140,14 @@ impl Circuit {
         self.modules[last].push_port(port)
     }
 
-    /// Adds a statement behind the others of the last module. There has to be a module.
+    /// Adds a statement to the last module, as its last. There has to be a module.
     ///
-    /// The circuit has the rows of that statement more then: one, or for a memory, and a register whose reset has a line
-    /// of its own, several (`statement_rows`). Behind a memory a field may follow (`IsOpenToFields`).
+    /// The circuit then has the rows of that statement too: one, or several for a memory and for a register whose reset has a
+    /// line of its own (`statement_rows`). After a memory a field may follow (`IsOpenToFields`).
     ///
     /// # Errors
     ///
-    /// `AllocError` where memory is refused: the circuit stays as it was.
+    /// Returns `AllocError` if an allocation fails. The circuit then stays as it was.
     pub fn push_statement(&mut self, statement: Stmt) -> Result<(), AllocError>
         requires some { 0 < length self.old.modules }
         requires named { AreNamesOfStatement statement }
@@ -160,12 +160,12 @@ impl Circuit {
         self.modules[last].push_statement(statement)
     }
 
-    /// Adds a field behind the others of the last statement, which has to be a memory: the circuit has one row more then,
-    /// the field's, and another may follow.
+    /// Adds a field to the last statement, which has to be a memory, as its last. The circuit then has one row more, the
+    /// field's, and another may follow.
     ///
     /// # Errors
     ///
-    /// `AllocError` where memory is refused: the circuit stays as it was.
+    /// Returns `AllocError` if an allocation fails. The circuit then stays as it was.
     pub fn push_field(&mut self, field: Field) -> Result<(), AllocError>
         requires open { IsOpenToFields self.old.modules }
         requires named { AreNamesOfField field }
@@ -179,7 +179,7 @@ impl Circuit {
     }
 }
 
-/// Notes that the name stands at this place of a list, unless it stands at an earlier one.
+/// Records this place of a list as the name's, unless the name has an earlier one.
 fn note_place(
     places: &mut IndexMap<String, usize>,
     alloc: Global,

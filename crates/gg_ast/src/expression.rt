@@ -13,7 +13,7 @@ pub enum Reference {
     FieldOf(Name, Name, Name),
 }
 
-/// In which digits a literal is written.
+/// The radix of a literal's digits.
 #[derive(Clone, Copy, Debug, PartialEq, Eq)]
 pub enum Radix {
     /// A text that begins with `b`.
@@ -26,7 +26,7 @@ pub enum Radix {
     Hexadecimal,
 }
 
-/// A literal as it is written: `UInt<8>("h-3")` or `SInt<4>(-3)`. Whether its value fits is not judged here.
+/// A literal as it is written: `UInt<8>("h-3")` or `SInt<4>(-3)`. Whether its value fits is not checked here.
 #[derive(Debug, Drop)]
 pub struct Literal {
     /// Whether it is a `UInt` or an `SInt`.
@@ -41,8 +41,8 @@ pub struct Literal {
     pub digits: Name,
 }
 
-/// An expression. It stands on the line of its statement, or of the reset of which it is a part. A contract sees it as a
-/// `Term`, so two expressions are equal where their terms are.
+/// An expression. It is on the line of its statement, or of the reset that it belongs to. A contract sees it as a `Term`, so
+/// two expressions are equal where their terms are.
 #[cycle(expression)]
 #[derive(Debug, Drop)]
 pub struct Expr {

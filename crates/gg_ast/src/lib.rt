@@ -1,14 +1,17 @@
-//! A circuit in lowered FIRRTL as a tree: what its text holds, and nothing that is concluded from it.
+//! A circuit in lowered FIRRTL as a tree: what its text says, and nothing that is concluded from it.
 //!
-//! A circuit is a list of modules in the order of the file, a module a list of ports and a list of statements, each
-//! with the line on which it stands (FIRRTL Specification, "Circuits and Modules", "Statements", "Expressions").
-//! Nothing is checked here but that names are names (`is_name`): they may clash or be unknown, widths may be out of range
-//! and literals too large.
+//! A circuit is a list of modules in the order of the file. A module is a list of ports and a list of statements, each with
+//! its line (FIRRTL Specification, "Circuits and Modules", "Statements", "Expressions"). Only one thing is checked here:
+//! that names are names (`is_name`). They may clash or be unknown, widths may be out of range and literals too large.
 //!
-//! The crate promises that a circuit that is built row by row holds just these rows, in their order and on their
-//! lines (`rows_of`), that two circuits with the same rows are the same (`one_tree`), that no dot and no dash stands in a
-//! name (`Circuit::names_are_words`), and that `Circuit::module` answers the first module of a name. Contracts see
-//! expressions as terms, and lists as lists: no address stands in a value that they compare.
+//! The crate promises:
+//!
+//! - a circuit that is built row by row has just these rows, in their order and on their lines (`rows_of`);
+//! - two circuits with the same rows are the same (`one_tree`);
+//! - a name has no dot and no dash (`Circuit::names_are_words`);
+//! - `Circuit::module` returns the first module of a name.
+//!
+//! Contracts see expressions as terms, and lists as lists: the values that they compare have no addresses.
 #![tactic(auto)]
 
 mod circuit;

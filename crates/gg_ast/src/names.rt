@@ -15,7 +15,7 @@ pub fn is_name(text: &str) -> bool
     }
 }
 
-/// Whether each of the bytes may stand in a name.
+/// Whether each of the bytes may be in a name.
 fn are_name_bytes(bytes: &[u8]) -> bool
     ensures { result ≡ list_all is_name_byte bytes.now }
 {

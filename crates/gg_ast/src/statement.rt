@@ -18,7 +18,7 @@ pub struct Stmt {
 }
 
 impl Stmt {
-    /// Adds a field behind the others of a memory; any other statement stays as it is. Where memory is refused it stays too.
+    /// Adds a field to a memory, as its last; any other statement stays as it is. If an allocation fails it stays as it was.
     pub(crate) fn push_field(&mut self, field: Field) -> Result<(), AllocError>
         ensures { self.new ≡ (if is_ok result then statement_with_field field self.old else self.old) }
     {
@@ -42,7 +42,7 @@ pub enum StmtKind {
         name: Name,
         value: Expr,
     },
-    /// `reg NAME : TYPE, CLOCK`, maybe with a reset.
+    /// `reg NAME : TYPE, CLOCK`, possibly with a reset.
     Register {
         name: Name,
         ty: GroundType,
@@ -54,7 +54,7 @@ pub enum StmtKind {
         name: Name,
         module: Name,
     },
-    /// `mem NAME :` and its fields, one on each of the lines after it.
+    /// `mem NAME :` and its fields, each on a line of its own after it.
     Memory {
         name: Name,
         fields: Fields,
@@ -70,14 +70,14 @@ pub enum StmtKind {
     },
     /// `skip`.
     Skip,
-    /// `stop(CLOCK, CONDITION, CODE)`, maybe with a name, which is in no namespace.
+    /// `stop(CLOCK, CONDITION, CODE)`, possibly with a name, which is in no namespace.
     Stop {
         clock: Expr,
         condition: Expr,
         code: u32,
         label: Option<Name>,
     },
-    /// `printf(..)`, `assert(..)`, `assume(..)` or `cover(..)`, maybe with a name, which is in no namespace.
+    /// `printf(..)`, `assert(..)`, `assume(..)` or `cover(..)`, possibly with a name, which is in no namespace.
     Report {
         word: Report,
         arguments: Arguments,
@@ -85,10 +85,10 @@ pub enum StmtKind {
     },
 }
 
-/// A register's reset: where the condition is 1 the register takes the initial value.
+/// A register's reset: if the condition is 1 the register takes the initial value.
 #[derive(Debug, Drop)]
 pub struct Reset {
-    /// The line on which the reset stands: the register's own, or a later one where it has a line of its own.
+    /// The line of the reset: the register's own, or a later one if the reset has a line of its own.
     pub line: u64,
     /// The condition.
     pub condition: Expr,
@@ -99,7 +99,7 @@ pub struct Reset {
 /// A field of a memory, with its line.
 #[derive(Debug, Drop)]
 pub struct Field {
-    /// The line on which the field stands.
+    /// The line of the field.
     pub line: u64,
     /// What it says.
     pub kind: MemoryField,
@@ -124,14 +124,14 @@ pub enum MemoryField {
     ReadUnderWrite(ReadUnderWrite),
 }
 
-/// What a reader of latency 1 gives where a writer writes its word in the same cycle.
+/// What a reader of latency 1 gives if a writer writes the same word in the same cycle.
 #[derive(Clone, Copy, Debug, PartialEq, Eq)]
 pub enum ReadUnderWrite {
     /// The word before the write.
     Old,
     /// The word after the write.
     New,
-    /// Left open.
+    /// Undefined.
     Undefined,
 }
 
@@ -153,7 +153,7 @@ pub enum Report {
 pub enum Argument {
     /// An expression.
     Value(Expr),
-    /// A text, as it stands between its quotation marks.
+    /// A text, as it is between its quotation marks.
     Text(Name),
 }
 
@@ -193,7 +193,7 @@ impl Arguments {
         self.items.as_slice()
     }
 
-    /// Adds an argument behind the others. Where memory is refused they stay as they were.
+    /// Adds an argument as the last. If an allocation fails they stay as they were.
     pub fn push(&mut self, argument: Argument) -> Result<(), AllocError>
         ensures { self.new ≡ (if is_ok result then self.old ++ argument ∷ [] else self.old) }
     {
@@ -234,7 +234,7 @@ impl Fields {
         self.items.as_slice()
     }
 
-    /// Adds a field behind the others. Where memory is refused they stay as they were.
+    /// Adds a field as the last. If an allocation fails they stay as they were.
     pub fn push(&mut self, field: Field) -> Result<(), AllocError>
         ensures { self.new ≡ (if is_ok result then self.old ++ field ∷ [] else self.old) }
     {
