@@ -1,5 +1,5 @@
--- The forms of a line: which tokens spell which row (FIRRTL Specification, "Grammar"). Each definition goes by cases
--- on what is spelt. What may be followed by more is said of two lists: the tokens, and the rest behind it.
+-- The forms of a line: which tokens spell which row (FIRRTL Specification, "Grammar"). Each definition goes by cases on
+-- what is spelt. If more may follow, the definition is on two lists: the tokens, and the rest after it.
 use Rattle.std.specs.Prelude.{◌≡◌, ℕ, ◌^◌, Bool, true, false, ◌&&◌, IsTrue, List, [], ◌∷◌, Option, None, Some, ◌==◌, nat_lt, ◌||◌, codes}
 use Rattle.std.specs.List.{list_all}
 use Rattle.std.specs.Char.{is_ascii_digit, is_ascii_hexdigit}
@@ -33,12 +33,12 @@ is_digit_of Octal b = nat_lt 47 b && nat_lt b 56
 is_digit_of Decimal b = is_ascii_digit b
 is_digit_of Hexadecimal b = is_ascii_hexdigit b
 
--- at least one digit of the radix, and nothing else
+-- one or more digits of the radix, and nothing else
 abbrev pub are_digits : Radix → List ℕ → Bool
 are_digits radix [] = false
 are_digits radix (d ∷ ds) = list_all (is_digit_of radix) (d ∷ ds)
 
--- decimal digits without a sign, of a number of at most 4,294,967,295
+-- decimal digits without a sign, of a number that is at most 4,294,967,295
 abbrev pub is_natural : List ℕ → Bool
 is_natural digits = are_digits Decimal digits && nat_lt (digits_value 10 digits) (2 ^ 32)
 
@@ -61,12 +61,12 @@ SpellsType (plain_type.SInt width) ts rest =
     (digits : List ℕ) × IsNatural digits width × (ts ≡ Word (codes "SInt") ∷ (Symbol Less ∷ (Number digits ∷ (Symbol Greater ∷ rest))))
 SpellsType plain_type.Clock ts rest = ts ≡ Word (codes "Clock") ∷ rest
 
--- digits, maybe with a `-` before them
+-- digits, with or without a `-` before them
 abbrev pub signed : Bool → List ℕ → List ℕ
 signed true digits = 45 ∷ digits
 signed false digits = digits
 
--- a literal's number: a number, or a text that begins with its radix
+-- a literal's number: a number, or a text that begins with the letter of its radix
 abbrev pub number_token : Radix → List ℕ → Tok
 number_token Binary digits = Text (98 ∷ digits)
 number_token Octal digits = Text (111 ∷ digits)
@@ -79,7 +79,7 @@ SpellsLiteral l ts rest =
     (width : List ℕ) × IsNatural width l.width × IsTrue (are_digits l.radix l.digits)
     × (ts ≡ Word (kind_text l.kind) ∷ (Symbol Less ∷ (Number width ∷ (Symbol Greater ∷ (Symbol OpenParen ∷ (number_token l.radix (signed l.negative l.digits) ∷ (Symbol CloseParen ∷ rest)))))))
 
--- the parameters of an operation, and its closing bracket: two of `bits`, one of any other
+-- the parameters of an operation, and its closing bracket: two for `bits`, one for any other
 abbrev pub SpellsParameters : OpN → ℕ → ℕ → List Tok → List Tok → Type 0
 SpellsParameters Bits n m ts rest =
     (high : List ℕ) × (low : List ℕ) × IsNatural high n × IsNatural low m
@@ -120,13 +120,13 @@ abbrev pub SpellsArgument : Argument → List Tok → List Tok → Type 0
 SpellsArgument (given.Value e) ts rest = SpellsExpr e ts rest
 SpellsArgument (given.Text text) ts rest = ts ≡ Text text ∷ rest
 
--- one argument or more, commas between them, and the closing bracket
+-- one or more arguments, commas between them, and the closing bracket
 abbrev pub SpellsArguments : List Argument → List Tok → List Tok → Type 0
 SpellsArguments [] ts rest = ⊥
 SpellsArguments (a ∷ []) ts rest = SpellsArgument a ts (Symbol CloseParen ∷ rest)
 SpellsArguments (a ∷ (b ∷ more)) ts rest = (t : List Tok) × SpellsArgument a ts (Symbol Comma ∷ t) × SpellsArguments (b ∷ more) t rest
 
--- NAME : TYPE , CLOCK behind the word `reg`
+-- NAME : TYPE , CLOCK after the word `reg`
 abbrev pub SpellsRegister : List ℕ → GroundType → Term → List Tok → List Tok → Type 0
 SpellsRegister name ty clock ts rest =
     (t : List Tok) × (u : List Tok) × IsName name × (ts ≡ Word (codes "reg") ∷ (Word name ∷ (Symbol Colon ∷ t))) × SpellsType ty t (Symbol Comma ∷ u) × SpellsExpr clock u rest
@@ -136,7 +136,7 @@ abbrev pub SpellsMoreNames : List (List ℕ) → List Tok → Type 0
 SpellsMoreNames [] ts = ts ≡ []
 SpellsMoreNames (n ∷ more) ts = (t : List Tok) × IsName n × (ts ≡ Word n ∷ t) × SpellsMoreNames more t
 
--- one name or more, up to the end
+-- one or more names, up to the end
 abbrev pub SpellsNames : List (List ℕ) → List Tok → Type 0
 SpellsNames [] ts = ⊥
 SpellsNames (n ∷ more) ts = SpellsMoreNames (n ∷ more) ts

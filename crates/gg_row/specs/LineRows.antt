@@ -1,4 +1,4 @@
--- The row that a line which was read holds.
+-- The row of a line that was read.
 use Rattle.std.specs.Prelude.{◌≡◌, List, Option, None, Some, Result, Ok, Err, MatchOption}
 use Rattle.gg_lex.specs.declared.token.Tok.{Tok}
 use Rattle.gg_ast.specs.declared.statement.StmtKind.{StmtKind}
@@ -12,8 +12,8 @@ use Rattle.gg_row.specs.declared.cursor.Miss.TheVariants.{NoForm, NoMemory}
 use Rattle.gg_row.specs.Forms.{SpellsRow}
 use Rattle.gg_row.specs.Reading.{Misses}
 
--- The row of a statement that stands on one line. A register with a reset has none: its text is one line or two, which
--- `LineRow` tells apart by variants of their own. A memory has none: its lines are rows of variants of their own too.
+-- The row of a statement that is on one line. A register with a reset has none: its text is one line or two, and `LineRow`
+-- has separate variants for these. A memory has none: its lines are rows of separate variants too.
 abbrev pub statement_row : StmtKind → Option Row
 statement_row (statement.Wire name ty) = Some (WireRow name ty)
 statement_row (statement.Node name value) = Some (NodeRow name value)
@@ -27,7 +27,7 @@ statement_row statement.Skip = Some SkipRow
 statement_row (statement.Stop clock condition code label) = Some (StopRow clock condition code label)
 statement_row (statement.Report word arguments label) = Some (ReportRow word arguments label)
 
--- the row that a line holds, which is none only of such a statement
+-- the row of a line; only a line with such a statement has none
 abbrev pub row_of : LineRow → Option Row
 row_of (line.Version a b c) = Some (VersionRow a b c)
 row_of (line.Circuit name) = Some (CircuitRow name)
@@ -40,7 +40,7 @@ row_of (line.Reset condition init) = Some (ResetRow condition init)
 row_of (line.Memory name) = Some (MemoryRow name)
 row_of (line.Field f) = Some (FieldRow f)
 
--- the names of what a line holds are names
+-- the names in a line are names
 abbrev pub AreNamesOfLine : LineRow → Type 0
 AreNamesOfLine (line.Version a b c) = Unit {0}
 AreNamesOfLine (line.Circuit name) = IsName name
@@ -53,13 +53,13 @@ AreNamesOfLine (line.Reset condition init) = AreNamesOfTerm condition × AreName
 AreNamesOfLine (line.Memory name) = IsName name
 AreNamesOfLine (line.Field f) = AreNamesOfMemoryField f
 
--- a reader of a line found this: what it gives holds a row, and that is the row
+-- a reader of a line found this: what it returns has a row, and that is the row
 abbrev pub FindsRow : Result LineRow Miss → Option Row → Type 0
 FindsRow (Ok held) found = MatchOption (row_of held) ⊥ (λ row. found ≡ Some row)
 FindsRow (Err miss) found = Misses miss found
 
--- the answer for the tokens of a line: what holds the row that they spell, or that they spell none. Want of memory says
--- nothing.
+-- the answer for the tokens of a line: what has the row that they spell, or that they spell none; `NoMemory` says nothing
+-- of them
 abbrev pub TellsRow : List Tok → Result LineRow Miss → Type 0
 TellsRow ts (Ok held) = MatchOption (row_of held) ⊥ (λ row. SpellsRow row ts)
 TellsRow ts (Err NoForm) = (row : Row) → SpellsRow row ts → ⊥

@@ -1,5 +1,5 @@
--- What a reader of tokens finds: the row that they spell, or nothing, by trying the forms one after the other. The
--- contracts of the readers cite these functions; that they find just what is spelt is proved of them.
+-- What a reader of tokens finds, by trying the forms one after another: the row that they spell, or nothing. The contracts
+-- of the readers use these functions, and it is proved that these find just what is spelt.
 use Rattle.std.specs.Prelude.{◌≡◌, ℕ, zero, suc, Bool, true, false, ◌||◌, ◌++◌, List, [], ◌∷◌, Option, None, Some, Result, Ok, Err, length, is_some, codes, ◌==◌, if◌then◌else◌}
 use Rattle.std.specs.Str.{bytes_eq}
 use Rattle.std.specs.Str.Parse.{digits_value}
@@ -44,17 +44,17 @@ use Rattle.gg_ast.specs.declared.module.GroundType.{GroundType}
 use Rattle.gg_ast.specs.declared.module.GroundType.TheVariants as plain_type
 
 infixl 10 ◌>>=◌
--- goes on with what was found, if something was
+-- continues with what was found, if something was
 abbrev pub ◌>>=◌ : {A B : Type 0} → Option A → (A → Option B) → Option B
 None >>= next = None
 (Some x) >>= next = next x
 
--- nothing was read: there is nothing, or memory ran out, which says nothing
+-- nothing was read: there is nothing, or an allocation failed, which says nothing of the tokens
 abbrev pub Misses : {A : Type 0} → Miss → Option A → Type 0
 Misses NoForm found = found ≡ None
 Misses NoMemory found = Unit {0}
 
--- a reader that gives `result` and leaves the tokens `left` found this
+-- a reader that returns `result` and leaves the tokens `left` found this
 abbrev pub Reads : {A B : Type 0} → (A → B) → Result A Miss → List Tok → Option (B × List Tok) → Type 0
 Reads view (Ok value) left found = found ≡ Some (view value, left)
 Reads view (Err miss) left found = Misses miss found
@@ -100,12 +100,12 @@ abbrev pub end_at : List Tok → Option (List Tok)
 end_at [] = Some []
 end_at (t ∷ ts) = None
 
--- a reader of something that is not made of tokens found this
+-- a reader of something other than tokens found this
 abbrev pub Finds : {A B : Type 0} → (A → B) → Result A Miss → Option B → Type 0
 Finds view (Ok value) found = found ≡ Some (view value)
 Finds view (Err miss) found = Misses miss found
 
--- the first way where something was found, and else the other
+-- the first result if something was found, otherwise the other
 abbrev pub choose : {A B : Type 0} → Option A → (A → B) → B → B
 choose None first other = other
 choose (Some x) first other = first x
@@ -185,7 +185,7 @@ parameters_at Shr ts = one_parameter_at ts >>= λ n. Some ((n.0, 0), n.1)
 parameters_at Head ts = one_parameter_at ts >>= λ n. Some ((n.0, 0), n.1)
 parameters_at Tail ts = one_parameter_at ts >>= λ n. Some ((n.0, 0), n.1)
 
--- the token behind the first is this symbol
+-- the token after the next is this symbol
 abbrev pub is_second : Mark → List Tok → Bool
 is_second mark [] = false
 is_second mark (t ∷ ts) = is_some (symbol_at mark ts)
@@ -220,12 +220,12 @@ module _ (sub : List Tok → Option (Term × List Tok)) where
       if is_second OpenParen ts then call_at ts
       else (if is_second Less ts then (literal_at ts >>= λ l. Some (ConstantTerm l.0, l.1)) else (reference_at ts >>= λ r. Some (NamedTerm r.0, r.1)))
 
--- an expression with at most so many operations within each other
+-- an expression with operations nested at most so deep
 abbrev pub expr_at : ℕ → List Tok → Option (Term × List Tok)
 expr_at zero ts = None
 expr_at (suc depth) ts = form_at (expr_at depth) ts
 
--- an expression, however many operations within each other
+-- an expression, with operations nested to any depth
 abbrev pub expression_at : List Tok → Option (Term × List Tok)
 expression_at ts = expr_at (length ts) ts
 
@@ -233,7 +233,7 @@ expression_at ts = expr_at (length ts) ts
 abbrev pub last_expression_at : List Tok → Option Term
 last_expression_at ts = expression_at ts >>= λ e. end_at e.1 >>= λ u. Some e.0
 
--- what stands behind the first word of a line
+-- what follows the first word of a line
 abbrev pub version_at : List Tok → Option Row
 version_at ts =
     word_at (codes "version") ts >>= λ t. natural_at t >>= λ a. symbol_at Dot a.1 >>= λ u. natural_at u >>= λ b. symbol_at Dot b.1 >>= λ v. natural_at v >>= λ c. end_at c.1 >>= λ w.
@@ -262,7 +262,7 @@ reset_at ts =
 abbrev pub reset_row_at : List Tok → Option Row
 reset_row_at ts = reset_at ts >>= λ r. end_at r.1 >>= λ u. Some (ResetRow r.0.0 r.0.1)
 
--- ( reset => ( CONDITION , INIT ) ) behind `with :`
+-- ( reset => ( CONDITION , INIT ) ) after `with :`
 abbrev pub inline_reset_at : List ℕ → GroundType → Term → List Tok → Option Row
 inline_reset_at name ty clock ts =
     symbol_at OpenParen ts >>= λ t. word_at (codes "reset") t >>= λ u. reset_at u >>= λ r. symbol_at CloseParen r.1 >>= λ v. end_at v >>= λ w.
@@ -302,13 +302,13 @@ text_at (Symbol mark ∷ ts) = None
 abbrev pub argument_at : List Tok → Option (Argument × List Tok)
 argument_at ts = choose (text_at ts) (λ t. Some (given.Text t.0, t.1)) (expression_at ts >>= λ e. Some (given.Value e.0, e.1))
 
--- arguments behind those read so far, at most so many, and the closing bracket
+-- the arguments read so far, then at most so many more, and the closing bracket
 abbrev pub arguments_at : ℕ → List Argument → List Tok → Option (List Argument × List Tok)
 arguments_at zero before ts = None
 arguments_at (suc n) before ts =
     argument_at ts >>= λ a. choose (symbol_at Comma a.1) (λ t. arguments_at n (before ++ a.0 ∷ []) t) (symbol_at CloseParen a.1 >>= λ u. Some (before ++ a.0 ∷ [], u))
 
--- what one turn of reading arguments comes to: more are to follow, or these are all
+-- the result of one turn of reading arguments: more follow, or these are all
 abbrev pub TakesArgument : Result Bool Miss → List Argument → List Tok → List Argument → List Tok → Type 0
 TakesArgument (Ok true) before ts after left = (n : ℕ) → arguments_at (suc n) before ts ≡ arguments_at n after left
 TakesArgument (Ok false) before ts after left = (n : ℕ) → arguments_at (suc n) before ts ≡ Some (after, left)
@@ -317,7 +317,7 @@ TakesArgument (Err miss) before ts after left = (n : ℕ) → Misses miss (argum
 abbrev pub report_at : Report → List Tok → Option Row
 report_at word ts = symbol_at OpenParen ts >>= λ t. arguments_at (length t) [] t >>= λ a. label_at a.1 >>= λ l. Some (ReportRow word a.0 l)
 
--- names behind those read so far, up to the end
+-- the names read so far, then more up to the end
 abbrev pub more_names_at : List (List ℕ) → List Tok → Option (List (List ℕ))
 more_names_at before [] = Some before
 more_names_at before (Word w ∷ ts) = if is_name w then more_names_at (before ++ w ∷ []) ts else None
@@ -325,12 +325,12 @@ more_names_at before (Number w ∷ ts) = None
 more_names_at before (Text w ∷ ts) = None
 more_names_at before (Symbol mark ∷ ts) = None
 
--- one name or more, up to the end
+-- one or more names, up to the end
 abbrev pub names_at : List Tok → Option (List (List ℕ))
 names_at [] = None
 names_at (t ∷ ts) = more_names_at [] (t ∷ ts)
 
--- what one token comes to: a name, so that more may follow, or none
+-- the result of one token: a name, so that more may follow, or none
 abbrev pub TakesName : Result (Unit {0}) Miss → List (List ℕ) → Tok → List (List ℕ) → Type 0
 TakesName (Ok value) before t after = (ts : List Tok) → more_names_at before (t ∷ ts) ≡ more_names_at after ts
 TakesName (Err miss) before t after = (ts : List Tok) → Misses miss (more_names_at before (t ∷ ts))
@@ -349,7 +349,7 @@ read_under_write_at ts =
 abbrev pub last_read_under_write_at : List Tok → Option ReadUnderWrite
 last_read_under_write_at ts = read_under_write_at ts >>= λ w. end_at w.1 >>= λ u. Some w.0
 
--- what a memory's field says, behind its word and `=>`
+-- what a memory's field says, after its word and `=>`
 abbrev pub field_at : FieldWord → List Tok → Option MemoryField
 field_at field_word.DataType ts = last_type_at ts >>= λ ty. Some (field.DataType ty)
 field_at field_word.Depth ts = last_natural_at ts >>= λ n. Some (field.Depth n)
@@ -362,7 +362,7 @@ field_at field_word.ReadUnderWrite ts = last_read_under_write_at ts >>= λ w. So
 abbrev pub field_row_at : FieldWord → List Tok → Option Row
 field_row_at word ts = symbol_at Arrow ts >>= λ t. field_at word t >>= λ f. Some (FieldRow f)
 
--- the row whose first word is this keyword, by the tokens behind it
+-- the row whose first word is this keyword, by the tokens after it
 abbrev pub body_at : Keyword → List Tok → Option Row
 body_at keyword.Version ts = version_at ts
 body_at keyword.Circuit ts = header_at ts >>= λ name. Some (CircuitRow name)
@@ -396,12 +396,12 @@ driven_at sink ts = choose (symbol_at Connect ts) (λ t. last_expression_at t >>
 abbrev pub connection_at : List Tok → Option Row
 connection_at ts = reference_at ts >>= λ r. driven_at r.0 r.1
 
--- the two tokens behind the first are `is invalid`
+-- the two tokens after the next are `is invalid`
 abbrev pub is_invalid : List Tok → Bool
 is_invalid [] = false
 is_invalid (t ∷ ts) = is_some (word_at (codes "is") ts >>= λ u. word_at (codes "invalid") u)
 
--- the line is a connection, so that its first word is a name, even one with which a statement begins
+-- the line is a connection, so that its first word is a name, even if a statement may begin with that word
 abbrev pub is_connection : List Tok → Bool
 is_connection ts = (is_second Connect ts || is_second Dot ts) || is_invalid ts
 

@@ -1,5 +1,5 @@
 -- How the words of the grammar are written, and what each names (FIRRTL Specification, "Grammar"). How operations are
--- written is a definition of gg_bits.
+-- written is defined in gg_bits.
 use Rattle.std.specs.Prelude.{ℕ, List, [], ◌∷◌, Option, None, Some, codes, option_map, if◌then◌else◌}
 use Rattle.std.specs.Option.{option_or}
 use Rattle.std.specs.Str.{bytes_eq}
@@ -38,7 +38,7 @@ read_under_write_text under_write.Old = codes "old"
 read_under_write_text under_write.New = codes "new"
 read_under_write_text under_write.Undefined = codes "undefined"
 
--- the word with which a memory's field begins
+-- the first word of a memory's field
 abbrev pub field_text : FieldWord → List ℕ
 field_text field.DataType = codes "data-type"
 field_text field.Depth = codes "depth"
@@ -48,7 +48,7 @@ field_text field.Reader = codes "reader"
 field_text field.Writer = codes "writer"
 field_text field.ReadUnderWrite = codes "read-under-write"
 
--- what the first entry with this word holds
+-- what the first entry with this word has
 abbrev pub find_word : {A : Type 0} → List ℕ → List (List ℕ × A) → Option A
 find_word word [] = None
 find_word word (entry ∷ table) = if bytes_eq word entry.0 then Some entry.1 else find_word word table
@@ -60,7 +60,7 @@ operation_of word =
     (option_or (option_map Binary (named2 word))
     (option_or (option_map Fixed (named_const word)) (if bytes_eq word (codes "mux") then Some Mux else None)))
 
--- the words with which a line begins that is no connection
+-- the first words of lines that are not connections
 abbrev pub head_words : List (List ℕ × Keyword)
 head_words =
     (codes "FIRRTL", keyword.Version) ∷ ((codes "circuit", keyword.Circuit) ∷ ((codes "module", keyword.Module) ∷ ((codes "input", keyword.Port direction.Input)
@@ -71,7 +71,7 @@ tail_words =
     (codes "reset", keyword.Reset) ∷ ((codes "inst", keyword.Instance) ∷ ((codes "mem", keyword.Memory) ∷ ((codes "skip", keyword.Skip) ∷ ((codes "stop", keyword.Stop)
     ∷ ((codes "printf", keyword.Report report.Printf) ∷ ((codes "assert", keyword.Report report.Assert) ∷ ((codes "assume", keyword.Report report.Assume) ∷ ((codes "cover", keyword.Report report.Cover) ∷ []))))))))
 
--- those of a memory's fields
+-- the first words of a memory's fields
 abbrev pub field_words : List (List ℕ × Keyword)
 field_words =
     (codes "data-type", keyword.Field field.DataType) ∷ ((codes "depth", keyword.Field field.Depth) ∷ ((codes "read-latency", keyword.Field field.ReadLatency)

@@ -13,9 +13,9 @@ use std::marker::Model;
 /// Why nothing was read.
 #[derive(Clone, Copy, Debug, Drop)]
 pub enum Miss {
-    /// The tokens are not of the form that was asked for.
+    /// The tokens don't have the requested form.
     NoForm,
-    /// Memory ran out.
+    /// An allocation failed.
     NoMemory,
 }
 
@@ -45,14 +45,14 @@ impl<'a> Model for Cursor<'a> {
 }
 
 impl<'a> Cursor<'a> {
-    /// A cursor before the first of the tokens.
+    /// A cursor before the first token.
     pub(crate) fn new(tokens: &'a [Tok]) -> Cursor<'a>
         ensures { result ≡ tokens.now }
     {
         Cursor { rest: tokens }
     }
 
-    /// Passes over this symbol, if it is the next token, and tells whether it is.
+    /// Passes over this symbol if it is the next token, and returns whether it is.
     pub(crate) fn skip(&mut self, symbol: Symbol) -> bool
         ensures { MatchBool result (symbol_at symbol self.old ≡ Some self.new) ((symbol_at symbol self.old ≡ None) × (self.new ≡ self.old)) }
     {
@@ -65,7 +65,7 @@ impl<'a> Cursor<'a> {
         }
     }
 
-    /// Passes over this word, if it is the next token, and tells whether it is.
+    /// Passes over this word if it is the next token, and returns whether it is.
     pub(crate) fn skip_word(&mut self, word: &str) -> bool
         ensures { MatchBool result (word_at word.now self.old ≡ Some self.new) ((word_at word.now self.old ≡ None) × (self.new ≡ self.old)) }
     {
@@ -113,7 +113,7 @@ impl<'a> Cursor<'a> {
         }
     }
 
-    /// One name or more, up to the end.
+    /// One or more names, up to the end.
     pub(crate) fn names(&self, alloc: Global) -> Result<Names, Miss>
         ensures { Finds (λ names. names) result (names_at self.now) }
     {
@@ -123,7 +123,7 @@ impl<'a> Cursor<'a> {
         }
     }
 
-    /// A number without a sign, of at most 4,294,967,295.
+    /// A number without a sign, at most 4,294,967,295.
     pub(crate) fn natural(&mut self) -> Result<u32, Miss>
         ensures { Reads (λ n. n) result self.new (natural_at self.old) }
     {
@@ -139,7 +139,7 @@ impl<'a> Cursor<'a> {
         }
     }
 
-    /// The digits of a literal's number: a number, or a text that begins with its radix.
+    /// The digits of a literal's number: a number, or a text that begins with the letter of its radix.
     pub(crate) fn digits(&mut self, alloc: Global) -> Result<Digits, Miss>
         ensures { Reads (λ d. d) result self.new (digits_at self.old) }
     {
@@ -172,7 +172,7 @@ impl<'a> Cursor<'a> {
         }
     }
 
-    /// Whether the token behind the first is this symbol.
+    /// Whether the token after the next is this symbol.
     pub(crate) fn is_second(&self, symbol: Symbol) -> bool
         ensures { result ≡ is_second symbol self.now }
     {
@@ -209,7 +209,7 @@ impl<'a> Cursor<'a> {
         }
     }
 
-    /// A text, as it stands between its quotation marks.
+    /// A text, as it is between its quotation marks.
     pub(crate) fn text(&mut self) -> Result<Name, Miss>
         ensures { Reads (λ text. text) result self.new (text_at self.old) }
     {
@@ -222,7 +222,7 @@ impl<'a> Cursor<'a> {
         }
     }
 
-    /// A word with which a line begins that is no connection.
+    /// The first word of a line that is not a connection.
     pub(crate) fn keyword(&mut self) -> Result<Keyword, Miss>
         ensures { Reads (λ k. k) result self.new (keyword_at self.old) }
     {
@@ -238,7 +238,7 @@ impl<'a> Cursor<'a> {
         }
     }
 
-    /// Whether the two tokens behind the first are `is invalid`.
+    /// Whether the two tokens after the next are `is invalid`.
     fn is_invalid(&self) -> bool
         ensures { result ≡ is_invalid self.now }
     {
@@ -256,7 +256,7 @@ impl<'a> Cursor<'a> {
         self.is_second(Symbol::Connect) || self.is_second(Symbol::Dot) || self.is_invalid()
     }
 
-    /// Nothing is left.
+    /// Checks that no token is left.
     pub(crate) fn end(&mut self) -> Result<(), Miss>
         ensures { Passes result self.new (end_at self.old) }
     {
@@ -267,7 +267,7 @@ impl<'a> Cursor<'a> {
     }
 }
 
-/// The tokens, each of which has to be a name.
+/// The names that the tokens are; each token has to be one.
 fn all_names(alloc: Global, tokens: &[Tok]) -> Result<Names, Miss>
     ensures { Finds (λ names. names) result (more_names_at [] tokens.now) }
 {
@@ -278,7 +278,7 @@ fn all_names(alloc: Global, tokens: &[Tok]) -> Result<Names, Miss>
     Ok(Names::from(names))
 }
 
-/// Adds the name that a token is behind the others.
+/// Adds the name that a token is, as the last.
 fn add_name(names: &mut Vec<Name>, token: &Tok) -> Result<(), Miss>
     ensures { TakesName result names.old.items token.now names.new.items }
 {
@@ -288,7 +288,7 @@ fn add_name(names: &mut Vec<Name>, token: &Tok) -> Result<(), Miss>
     }
 }
 
-/// Adds a name behind the others.
+/// Adds a name as the last.
 fn push_name(names: &mut Vec<Name>, name: Name) -> Result<(), Miss>
     ensures { MatchResult result (λ _. names.new.items ≡ names.old.items ++ name ∷ []) (λ miss. miss ≡ Miss.NoMemory) }
 {

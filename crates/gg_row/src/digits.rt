@@ -1,4 +1,4 @@
-//! Digits: of a natural number, and of a literal's number.
+//! Digits of natural numbers and of literals.
 ghost use Rattle.std.specs.Prelude.{◌≡◌, IsTrue, OnOk};
 ghost use Rattle.std.specs.List.{list_all};
 ghost use Rattle.gg_row.specs.Forms.{is_digit_of, are_digits};
@@ -9,11 +9,11 @@ use gg_ast::Radix;
 use gg_bits::Name;
 use std::alloc::Global;
 
-/// The digits of a literal's number, as they are written.
+/// The digits of a literal's number, as written.
 #[derive(Drop)]
 pub(crate) struct Digits {
     pub(crate) radix: Radix,
-    /// Whether a `-` stands before them.
+    /// Whether there is a `-` before them.
     pub(crate) negative: bool,
     pub(crate) digits: Name,
 }
@@ -30,7 +30,7 @@ fn is_digit_of(radix: Radix, byte: u8) -> bool
     }
 }
 
-/// Whether the bytes are digits of the radix, at least one.
+/// Whether the bytes are one or more digits of the radix.
 fn are_digits(radix: Radix, bytes: &[u8]) -> bool
     ensures { result ≡ are_digits radix bytes.now }
 {
@@ -75,7 +75,7 @@ fn checked_digits(alloc: Global, radix: Radix, negative: bool, bytes: &[u8]) -> 
     })
 }
 
-/// The bytes as digits of the radix, maybe with a `-` before them.
+/// The bytes as digits of the radix, with or without a `-` before them.
 pub(crate) fn signed_digits(alloc: Global, radix: Radix, bytes: &[u8]) -> Result<Digits, Miss>
     ensures { Finds (λ d. d) result (signed_digits radix bytes.now) }
 {
@@ -85,7 +85,7 @@ pub(crate) fn signed_digits(alloc: Global, radix: Radix, bytes: &[u8]) -> Result
     }
 }
 
-/// The radix that a byte names.
+/// The radix whose letter this byte is.
 fn radix_of(byte: u8) -> Option<Radix>
     ensures { result ≡ radix_of byte }
 {
@@ -97,7 +97,7 @@ fn radix_of(byte: u8) -> Option<Radix>
     }
 }
 
-/// The bytes of a text as a literal's number: its radix, and then the digits.
+/// The bytes of a text as a literal's number: the letter of the radix, and then the digits.
 pub(crate) fn text_digits(alloc: Global, bytes: &[u8]) -> Result<Digits, Miss>
     ensures { Finds (λ d. d) result (text_digits bytes.now) }
 {

@@ -128,7 +128,7 @@ fn parameters(cursor: &mut Cursor, op: OpN) -> Result<(u32, u32), Miss>
     }
 }
 
-/// An expression with at most `depth` operations within each other.
+/// An expression with operations nested at most `depth` deep.
 #[cycle(expression)]
 pub(crate) fn expr(alloc: Global, cursor: &mut Cursor, depth: usize) -> Result<Expr, Miss>
     ensures { Reads (λ e. e) result cursor.new (expr_at depth cursor.old) }
@@ -187,7 +187,7 @@ fn operands(
     }
 }
 
-/// An operand, on the heap.
+/// An operand, in a `Box`.
 #[cycle(expression)]
 fn operand(alloc: Global, cursor: &mut Cursor, depth: usize) -> Result<Box<Expr>, Miss>
     ensures { Reads (λ operand. operand.value) result cursor.new (expr_at depth cursor.old) }
@@ -250,7 +250,7 @@ fn mux(alloc: Global, cursor: &mut Cursor, depth: usize) -> Result<Expr, Miss>
     })
 }
 
-/// The expression on the heap.
+/// The expression, in a `Box`.
 fn boxed(alloc: Global, expr: Expr) -> Result<Box<Expr>, Miss>
     ensures { MatchResult result (λ b. b.value ≡ expr) (λ miss. miss ≡ Miss.NoMemory) }
 {

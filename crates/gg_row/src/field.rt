@@ -7,7 +7,7 @@ use crate::words::FieldWord;
 use gg_ast::{GroundType, MemoryField, ReadUnderWrite};
 use std::alloc::Global;
 
-/// What a field says, behind its word and `=>`.
+/// What a field says, after its word and `=>`.
 pub(crate) fn field(
     alloc: Global,
     cursor: &mut Cursor,

@@ -1,4 +1,4 @@
-//! The row that a line holds: one function for each form.
+//! The row of a line: one function for each form.
 ghost use Rattle.std.specs.Prelude.{◌≡◌, ℕ, List, [], ◌∷◌, ◌++◌, length, map, IfOk, MatchResult};
 ghost use Rattle.gg_ast.specs.Row.{RegisterResetRow};
 ghost use Rattle.gg_ast.specs.Term.{Term};
@@ -16,7 +16,7 @@ use gg_bits::Name;
 use gg_lex::{Symbol, Tok};
 use std::alloc::Global;
 
-/// What a line holds.
+/// What a line says.
 #[derive(Drop)]
 pub enum LineRow {
     /// `FIRRTL version N.N.N`.
@@ -27,11 +27,11 @@ pub enum LineRow {
     Module(Name),
     /// `input NAME : TYPE` or `output NAME : TYPE`.
     Port(Direction, Name, GroundType),
-    /// A statement of one line, but for a register with a reset and a memory.
+    /// A statement of one line, other than a register with a reset or a memory.
     Statement(StmtKind),
     /// A register with its reset, the condition and the initial value, on the same line.
     RegisterReset(Name, GroundType, Expr, Expr, Expr),
-    /// The first line of a register whose reset stands on the next.
+    /// The first line of a register whose reset is on the next line.
     RegisterOpen(Name, GroundType, Expr),
     /// That next line: the condition and the initial value.
     Reset(Expr, Expr),
@@ -45,7 +45,7 @@ pub enum LineRow {
 ///
 /// # Errors
 ///
-/// `NoForm` exactly where they spell none. `NoMemory` where memory is refused.
+/// Returns `NoForm` exactly if they spell none. Returns `NoMemory` if an allocation fails.
 pub fn read_row(alloc: Global, tokens: &[Tok]) -> Result<LineRow, Miss>
     ensures row { TellsRow tokens.now result }
     ensures named { IfOk result AreNamesOfLine }
@@ -65,7 +65,7 @@ fn row(alloc: Global, tokens: &[Tok]) -> Result<LineRow, Miss>
     body(alloc, &mut cursor, keyword)
 }
 
-/// What stands behind the keyword of a line.
+/// What follows the keyword of a line.
 fn body(alloc: Global, cursor: &mut Cursor, keyword: Keyword) -> Result<LineRow, Miss>
     ensures { FindsRow result (body_at keyword cursor.old) }
 {
@@ -130,7 +130,7 @@ fn last_declared(cursor: &mut Cursor) -> Result<(Name, GroundType), Miss>
     Ok(declared)
 }
 
-/// A port, behind its direction.
+/// A port, after its direction.
 fn port(cursor: &mut Cursor, direction: Direction) -> Result<LineRow, Miss>
     ensures { FindsRow result (body_at (Keyword.Port direction) cursor.old) }
 {
@@ -138,7 +138,7 @@ fn port(cursor: &mut Cursor, direction: Direction) -> Result<LineRow, Miss>
     Ok(LineRow::Port(direction, name, ty))
 }
 
-/// A wire, behind its keyword.
+/// A wire, after its keyword.
 fn wire(cursor: &mut Cursor) -> Result<LineRow, Miss>
     ensures { FindsRow result (body_at Keyword.Wire cursor.old) }
 {
@@ -146,7 +146,7 @@ fn wire(cursor: &mut Cursor) -> Result<LineRow, Miss>
     Ok(LineRow::Statement(StmtKind::Wire { name, ty }))
 }
 
-/// An expression, however many operations within each other.
+/// An expression, with operations nested to any depth.
 fn expression(alloc: Global, cursor: &mut Cursor) -> Result<Expr, Miss>
     ensures { Reads (λ e. e) result cursor.new (expression_at cursor.old) }
 {
@@ -166,7 +166,7 @@ fn last_expression(alloc: Global, cursor: &mut Cursor) -> Result<Expr, Miss>
     Err(Miss::NoForm)
 }
 
-/// A node, behind its keyword.
+/// A node, after its keyword.
 fn node(alloc: Global, cursor: &mut Cursor) -> Result<LineRow, Miss>
     ensures { FindsRow result (node_at cursor.old) }
 {
@@ -176,7 +176,7 @@ fn node(alloc: Global, cursor: &mut Cursor) -> Result<LineRow, Miss>
     Ok(LineRow::Statement(StmtKind::Node { name, value }))
 }
 
-/// A register, behind its keyword.
+/// A register, after its keyword.
 fn register(alloc: Global, cursor: &mut Cursor) -> Result<LineRow, Miss>
     ensures { FindsRow result (register_at cursor.old) }
 {
@@ -207,7 +207,7 @@ fn clocked(
     reset_part(alloc, cursor, name, ty, clock)
 }
 
-/// `with :`, and a reset, on this line or on the next.
+/// `with :`, and a reset on this line or the next.
 fn reset_part(
     alloc: Global,
     cursor: &mut Cursor,
@@ -263,7 +263,7 @@ fn reset(alloc: Global, cursor: &mut Cursor) -> Result<(Expr, Expr), Miss>
     Ok((condition, init))
 }
 
-/// A reset on a line of its own, behind its keyword.
+/// A reset on a line of its own, after its keyword.
 fn reset_row(alloc: Global, cursor: &mut Cursor) -> Result<LineRow, Miss>
     ensures { FindsRow result (reset_row_at cursor.old) }
 {
@@ -276,7 +276,7 @@ fn reset_row(alloc: Global, cursor: &mut Cursor) -> Result<LineRow, Miss>
     Err(Miss::NoForm)
 }
 
-/// An instance, behind its keyword.
+/// An instance, after its keyword.
 fn instance(cursor: &mut Cursor) -> Result<LineRow, Miss>
     ensures { FindsRow result (instance_at cursor.old) }
 {
@@ -287,7 +287,7 @@ fn instance(cursor: &mut Cursor) -> Result<LineRow, Miss>
     Ok(LineRow::Statement(StmtKind::Instance { name, module }))
 }
 
-/// A field of a memory, behind its word.
+/// A field of a memory, after its word.
 fn field_row(alloc: Global, cursor: &mut Cursor, word: FieldWord) -> Result<LineRow, Miss>
     ensures { FindsRow result (field_row_at word cursor.old) }
 {
@@ -295,7 +295,7 @@ fn field_row(alloc: Global, cursor: &mut Cursor, word: FieldWord) -> Result<Line
     Ok(LineRow::Field(field(alloc, cursor, word)?))
 }
 
-/// `skip`, behind its keyword.
+/// `skip`, after its keyword.
 fn skip(cursor: &mut Cursor) -> Result<LineRow, Miss>
     ensures { FindsRow result (body_at Keyword.Skip cursor.old) }
 {
@@ -316,7 +316,7 @@ fn label(cursor: &mut Cursor) -> Result<Option<Name>, Miss>
     Ok(Some(name))
 }
 
-/// A stop, behind its keyword.
+/// A stop, after its keyword.
 fn stop(alloc: Global, cursor: &mut Cursor) -> Result<LineRow, Miss>
     ensures { FindsRow result (stop_at cursor.old) }
 {
@@ -345,7 +345,7 @@ fn argument(alloc: Global, cursor: &mut Cursor) -> Result<Argument, Miss>
     Ok(Argument::Value(value))
 }
 
-/// One argument or more, with commas between them, and the closing bracket.
+/// One or more arguments with commas between them, and the closing bracket.
 fn arguments(alloc: Global, cursor: &mut Cursor) -> Result<Arguments, Miss>
     ensures { Reads (λ v. v) result cursor.new (arguments_at (length cursor.old) [] cursor.old) }
 {
@@ -360,7 +360,7 @@ fn arguments(alloc: Global, cursor: &mut Cursor) -> Result<Arguments, Miss>
     Err(Miss::NoForm)
 }
 
-/// One argument, and what stands behind it: a comma, so that there are more, or the closing bracket.
+/// One argument, and what follows it: a comma if there are more, or the closing bracket.
 fn next_argument(
     alloc: Global,
     cursor: &mut Cursor,
@@ -377,7 +377,7 @@ fn next_argument(
     Ok(false)
 }
 
-/// Adds an argument behind the others.
+/// Adds an argument as the last.
 fn add_argument(arguments: &mut Arguments, next: Argument) -> Result<(), Miss>
     ensures { MatchResult result (λ _. arguments.new ≡ arguments.old ++ next ∷ []) (λ miss. miss ≡ Miss.NoMemory) }
 {
@@ -387,7 +387,7 @@ fn add_argument(arguments: &mut Arguments, next: Argument) -> Result<(), Miss>
     }
 }
 
-/// A statement without effect, behind its keyword.
+/// A statement without effect, after its keyword.
 fn report(alloc: Global, cursor: &mut Cursor, word: Report) -> Result<LineRow, Miss>
     ensures { FindsRow result (report_at word cursor.old) }
 {
@@ -401,7 +401,7 @@ fn report(alloc: Global, cursor: &mut Cursor, word: Report) -> Result<LineRow, M
     }))
 }
 
-/// A connection: a sink, and what drives it.
+/// A connection: a sink and its source.
 fn connection(alloc: Global, cursor: &mut Cursor) -> Result<LineRow, Miss>
     ensures { FindsRow result (connection_at cursor.old) }
 {

@@ -1,4 +1,4 @@
-//! The words of the grammar: operations, and the words with which lines begin.
+//! The words of the grammar: operations, and the first words of lines.
 ghost use Rattle.std.specs.Prelude.{◌≡◌};
 ghost use Rattle.gg_row.specs.Words.{find_word, operation_of, head_words, tail_words, field_words, keyword_of};
 
@@ -18,7 +18,7 @@ pub(crate) enum Operation {
     Mux,
 }
 
-/// The word with which a field of a memory begins.
+/// The first word of a memory's field.
 #[derive(Clone, Copy, Debug)]
 pub(crate) enum FieldWord {
     DataType,
@@ -30,7 +30,7 @@ pub(crate) enum FieldWord {
     ReadUnderWrite,
 }
 
-/// The form of a line that its first word tells.
+/// The form of a line, by its first word.
 #[derive(Clone, Copy, Debug)]
 pub(crate) enum Keyword {
     Version,
@@ -120,7 +120,7 @@ fn field_keyword(word: &str) -> Option<Keyword>
     }
 }
 
-/// The form of a line that its first word tells, where the line is no connection.
+/// The form of a line that is not a connection, by its first word.
 pub(crate) fn find_keyword(word: &str) -> Option<Keyword>
     ensures { result ≡ keyword_of word.now }
 {
