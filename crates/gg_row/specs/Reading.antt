@@ -105,7 +105,7 @@ abbrev pub Finds : {A B : Type 0} → (A → B) → Result A Miss → Option B �
 Finds view (Ok value) found = found ≡ Some (view value)
 Finds view (Err miss) found = Misses miss found
 
--- the first result if something was found, otherwise the other
+-- what `first` makes of what was found, if something was; otherwise the other
 abbrev pub choose : {A B : Type 0} → Option A → (A → B) → B → B
 choose None first other = other
 choose (Some x) first other = first x
