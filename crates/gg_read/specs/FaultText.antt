@@ -1,4 +1,4 @@
--- A fault of reading in words, as the program prints it. The word is the first of the line's that is left out of the
+-- A fault of reading in words, as the program prints it. The word is the first one of the line that is left out of the
 -- language.
 use Rattle.std.specs.Prelude.{ℕ, List, ◌++◌, codes, decimal}
 use Rattle.gg_read.specs.declared.text.ReadFault.{ReadFault}

@@ -1,4 +1,4 @@
--- What the stages of the reader stand for: the place of the next line, and the rows of the lines before it.
+-- What the stages of the reader stand for: the position of the next line, and the rows of the lines before it.
 use Rattle.std.specs.Prelude.{◌≡◌, ℕ, ◌+◌, ◌<◌, List, [], ◌∷◌, ◌++◌, length, Option, None, Some, Result, Ok, Err, Bool, true, false, MatchOption}
 use Rattle.gg_lex.specs.declared.token.LexedLine.{LexedLine}
 use Rattle.gg_lex.specs.declared.token.Tok.{Tok}
@@ -21,11 +21,11 @@ use Rattle.gg_row.specs.Forms.{SpellsRow}
 use Rattle.gg_row.specs.LineRows.{row_of}
 use Rattle.gg_read.specs.Text.{IsBlank, IsForm, IsAtFault, IsTooDeep, AreShallow, LinePlace, AtStart, AfterVersion, AfterCircuit, InPorts, InStatements, InFields, AwaitsReset, LineTokens, AreLineTokens, AreRows, IsEndPlace, without_version, after_version, after_circuit, after_module, after_port, after_statement, after_open, after_memory, after_field, after_reset}
 
--- what a line holds that was lexed
+-- the tokens and the bad place of a line
 abbrev pub line_of : LexedLine → LineTokens
 line_of lexed = record { tokens = lexed.tokens.items; bad = lexed.bad }
 
--- the place of the next line
+-- the position of the next line
 abbrev pub stage_place : Stage → LinePlace
 stage_place Start = AtStart
 stage_place Version = AfterVersion
@@ -57,8 +57,8 @@ IsBuilt (Open circuit register) rows = without_version rows ≡ rows_of circuit 
 abbrev pub AreNamesOfRegister : OpenRegister → Type 0
 AreNamesOfRegister register = IsName register.name × AreNamesOfTerm register.clock
 
--- what holds of a stage before the line of this number: there is a module where one is begun, its last statement is the
--- memory to which fields may come, and a register that awaits its reset stands before the line
+-- What holds of a stage before the line of this number. If a module has begun, the circuit has one. If a field may follow,
+-- the last statement is a memory. A register that awaits its reset is on an earlier line.
 abbrev pub IsStage : Stage → ℕ → Type 0
 IsStage Start n = Unit {0}
 IsStage Version n = Unit {0}
@@ -68,24 +68,24 @@ IsStage (Statements circuit) n = 0 < length circuit.modules
 IsStage (Fields circuit) n = (0 < length circuit.modules) × IsOpenToFields circuit.modules
 IsStage (Open circuit register) n = (0 < length circuit.modules) × (register.line < n) × AreNamesOfRegister register
 
--- the stage behind these rows, the last of which stands on line n
+-- the stage after these rows, the last of which is on line n
 pub record IsAfter (stage : Stage) (to : Option LinePlace) (n : ℕ) (rows : List Numbered) (next : Stage) : Type 0 where
   pub there : to ≡ Some (stage_place next)
   pub stays : IsStage next (n + 1)
   pub built : (before : List Numbered) → IsBuilt stage before → IsBuilt next (before ++ rows)
 
--- a step over rows, or none where they are no form of the stage's place
+-- a step over rows, or none if they are not valid at the stage's position
 abbrev pub Advances : Stage → Option LinePlace → ℕ → List Numbered → Result Stage Miss → Type 0
 Advances stage to n rows (Ok next) = IsAfter stage to n rows next
 Advances stage to n rows (Err NoForm) = to ≡ None
 Advances stage to n rows (Err NoMemory) = Unit {0}
 
--- a test tells whether nothing was read yet
+-- a test returns whether nothing was read yet
 abbrev pub TellsStart : Stage → Bool → Type 0
 TellsStart stage true = (after_version (stage_place stage) ≡ Some AfterVersion) × ((before : List Numbered) → IsBuilt stage before → before ≡ [])
 TellsStart stage false = after_version (stage_place stage) ≡ None
 
--- a test tells whether nothing was read yet but for the version's line
+-- a test returns whether nothing but the version's line was read yet
 abbrev pub TellsBare : Stage → Bool → Type 0
 TellsBare stage true = (after_circuit (stage_place stage) ≡ Some AfterCircuit) × ((before : List Numbered) → IsBuilt stage before → without_version before ≡ [])
 TellsBare stage false = after_circuit (stage_place stage) ≡ None
@@ -94,13 +94,13 @@ TellsBare stage false = after_circuit (stage_place stage) ≡ None
 abbrev pub Holds : Stage → CircuitTree → Type 0
 Holds stage circuit = (before : List Numbered) → IsBuilt stage before → without_version before ≡ rows_of circuit
 
--- the circuit of a stage behind which a module may begin
+-- the circuit of a stage after which a module may begin
 abbrev pub IsWhole : Stage → Result CircuitTree Miss → Type 0
 IsWhole stage (Ok circuit) = (after_module (stage_place stage) ≡ Some InPorts) × Holds stage circuit
 IsWhole stage (Err NoForm) = after_module (stage_place stage) ≡ None
 IsWhole stage (Err NoMemory) = ⊥
 
--- the circuit of a stage behind which a statement may stand
+-- the circuit of a stage after which a statement may follow
 abbrev pub IsBody : Stage → Result CircuitTree Miss → Type 0
 IsBody stage (Ok circuit) =
     (after_statement (stage_place stage) ≡ Some InStatements) × (after_open (stage_place stage) ≡ Some AwaitsReset) × (after_memory (stage_place stage) ≡ Some InFields) × (0 < length circuit.modules)
@@ -108,13 +108,13 @@ IsBody stage (Ok circuit) =
 IsBody stage (Err NoForm) = (after_statement (stage_place stage) ≡ None) × (after_open (stage_place stage) ≡ None) × (after_memory (stage_place stage) ≡ None)
 IsBody stage (Err NoMemory) = ⊥
 
--- the circuit of a stage behind which a port may stand
+-- the circuit of a stage after which a port may follow
 abbrev pub IsPortsOf : Stage → Result CircuitTree Miss → Type 0
 IsPortsOf stage (Ok circuit) = stage ≡ Ports circuit
 IsPortsOf stage (Err NoForm) = after_port (stage_place stage) ≡ None
 IsPortsOf stage (Err NoMemory) = ⊥
 
--- the circuit of a stage behind which a field may stand
+-- the circuit of a stage after which a field may follow
 abbrev pub IsMemoryOf : Stage → Result CircuitTree Miss → Type 0
 IsMemoryOf stage (Ok circuit) = stage ≡ Fields circuit
 IsMemoryOf stage (Err NoForm) = after_field (stage_place stage) ≡ None
@@ -126,7 +126,7 @@ IsOpened stage (Ok parts) = stage ≡ Open parts.0 parts.1
 IsOpened stage (Err NoForm) = after_reset (stage_place stage) ≡ None
 IsOpened stage (Err NoMemory) = ⊥
 
--- the circuit where the text may end, or else that the line behind the last is at fault
+-- the circuit, if the text may end; otherwise the line after the last is at fault
 abbrev pub Ends : Stage → ℕ → Result CircuitTree ReadFault → Type 0
 Ends stage n (Ok circuit) = IsEndPlace (stage_place stage) × Holds stage circuit
 Ends stage n (Err (because.Syntax m)) = (m ≡ n) × (IsEndPlace (stage_place stage) → ⊥)
@@ -144,7 +144,7 @@ pub record HasRead (ls : List (List ℕ)) (stage : Stage) : Type 0 where
   pub shallow : AreShallow held
   pub built : IsBuilt stage rows
 
--- a line is this row, whatever its place, and is not too deep
+-- a line is this row, whatever its position, and is not too deep
 pub record IsWholeRow (line : LineTokens) (row : Row) : Type 0 where
   pub whole : line.bad ≡ None
   pub shallow : IsTooDeep line.tokens → ⊥
@@ -156,7 +156,7 @@ IsRowOf line (Ok held) = MatchOption (row_of held) ⊥ (IsWholeRow line)
 IsRowOf line (Err NoForm) = (row : Row) → IsWholeRow line row → ⊥
 IsRowOf line (Err NoMemory) = Unit {0}
 
--- the stage behind a line that is a row of its place, and is not too deep
+-- the stage after a line that is a row, is valid at its position and is not too deep
 pub record IsRowStep (stage : Stage) (n : ℕ) (line : LineTokens) (next : Stage) : Type 0 where
   pub row : Row
   pub form : IsForm (stage_place stage) line row (stage_place next)
@@ -170,17 +170,17 @@ IsPlaced stage n line (Ok next) = IsRowStep stage n line next
 IsPlaced stage n line (Err NoForm) = (row : Row) (next : LinePlace) → IsForm (stage_place stage) line row next → (IsTooDeep line.tokens → ⊥) → ⊥
 IsPlaced stage n line (Err NoMemory) = Unit {0}
 
--- the answer for a line that is at fault
+-- the answer for a line that is at fault, or for an allocation that failed
 abbrev pub IsMissed : Miss → ℕ → List Tok → ReadFault → Type 0
 IsMissed NoForm n ts answer = IsFaultOf n ts answer
 IsMissed NoMemory n ts answer = answer ≡ because.NoMemory
 
--- a test tells whether a line holds nothing
+-- a test returns whether a line is blank
 abbrev pub TellsBlank : LineTokens → Bool → Type 0
 TellsBlank line true = IsBlank line
 TellsBlank line false = IsBlank line → ⊥
 
--- a line at fault, and what is answered for it
+-- a line at fault, and its fault
 pub record IsFaulty (stage : Stage) (n : ℕ) (l : List ℕ) (answer : ReadFault) : Type 0 where
   pub line : LineTokens
   pub lexed : Lexes l line.tokens line.bad

@@ -1,5 +1,5 @@
 -- Which circuit a text spells, and which line is at fault: cases on whole lines (FIRRTL Specification, "Grammar"). A
--- circuit is read from a text that spells it and of which no line is at fault.
+-- circuit is read from a text that spells it and has no line at fault.
 use Rattle.std.specs.Prelude.{◌≡◌, ℕ, ◌+◌, ◌<◌, ◌⊎◌, List, [], ◌∷◌, length, take, slice_get, Option, None, Some, Bool, true, false, codes, if◌then◌else◌}
 use Rattle.std.specs.Option.{option_or}
 use Rattle.std.specs.List.{list_any}
@@ -16,7 +16,7 @@ use Rattle.gg_read.specs.declared.text.ReadFault.{ReadFault}
 use Rattle.gg_read.specs.declared.text.ReadFault.TheVariants.{NotText, Syntax, Outside, TooDeep, NoMemory}
 use Rattle.gg_row.specs.Forms.{SpellsRow}
 
--- what a line holds: its tokens, up to the first byte that begins none, if there is one
+-- what a line has: its tokens, up to the first byte that begins none, and that byte's place if there is one
 pub record LineTokens : Type 0 where
   pub tokens : List Tok
   pub bad : Option ℕ
@@ -28,24 +28,24 @@ AreLineTokens [] (t ∷ ts) = ⊥
 AreLineTokens (l ∷ ls) [] = ⊥
 AreLineTokens (l ∷ ls) (t ∷ ts) = Lexes l t.tokens t.bad × AreLineTokens ls ts
 
--- the place of a line: what the lines before it were
+-- the position of a line: what came before it
 pub data LinePlace : Type 0 where
   -- the beginning of the text
   AtStart : LinePlace
-  -- behind the version line
+  -- after the version line
   AfterVersion : LinePlace
-  -- behind the circuit's line
+  -- after the circuit's line
   AfterCircuit : LinePlace
-  -- behind a module's line or a port
+  -- after a module's line or a port
   InPorts : LinePlace
-  -- behind a statement that is no memory
+  -- after a statement that is not a memory
   InStatements : LinePlace
-  -- behind a memory's line or a field of it
+  -- after a memory's line or one of its fields
   InFields : LinePlace
-  -- behind the first line of a register whose reset stands on the next
+  -- after the first line of a register whose reset is on the next
   AwaitsReset : LinePlace
 
--- the place behind a statement's line
+-- the position after a statement's line
 abbrev pub after_statement : LinePlace → Option LinePlace
 after_statement InPorts = Some InStatements
 after_statement InStatements = Some InStatements
@@ -55,7 +55,7 @@ after_statement AfterCircuit = None
 after_statement AwaitsReset = None
 after_statement InFields = Some InStatements
 
--- the place behind the first line of a register of two lines
+-- the position after the first line of a register of two lines
 abbrev pub after_open : LinePlace → Option LinePlace
 after_open InPorts = Some AwaitsReset
 after_open InStatements = Some AwaitsReset
@@ -65,7 +65,7 @@ after_open AfterCircuit = None
 after_open AwaitsReset = None
 after_open InFields = Some AwaitsReset
 
--- a module's line may stand behind the circuit's line, a module's, a port, a statement or a memory's field
+-- a module's line may follow the circuit's line, a module's, a port, a statement or a memory's field
 abbrev pub after_module : LinePlace → Option LinePlace
 after_module AfterCircuit = Some InPorts
 after_module InPorts = Some InPorts
@@ -111,7 +111,7 @@ after_reset InPorts = None
 after_reset InStatements = None
 after_reset InFields = None
 
--- a memory's line may stand where a statement may, and its fields behind it or behind another field
+-- a memory's line is valid where a statement is, and its fields after it or after another field
 abbrev pub after_memory : LinePlace → Option LinePlace
 after_memory InPorts = Some InFields
 after_memory InStatements = Some InFields
@@ -130,7 +130,7 @@ after_field InPorts = None
 after_field InStatements = None
 after_field AwaitsReset = None
 
--- the place behind a row, where the row is one of the forms of its place
+-- the position after a row, if the row is valid at its own position
 abbrev pub place_after : LinePlace → Row → Option LinePlace
 place_after place (VersionRow a b c) = after_version place
 place_after place (CircuitRow name) = after_circuit place
@@ -151,7 +151,7 @@ place_after place SkipRow = after_statement place
 place_after place (StopRow clock condition code label) = after_statement place
 place_after place (ReportRow word arguments label) = after_statement place
 
--- a text may end behind the circuit's line and behind whole modules
+-- a text may end after the circuit's line and after whole modules
 abbrev pub IsEndPlace : LinePlace → Type 0
 IsEndPlace AtStart = ⊥
 IsEndPlace AfterVersion = ⊥
@@ -172,22 +172,22 @@ closed [] = 0
 closed (Symbol mark.CloseParen ∷ ts) = 1 + closed ts
 closed (t ∷ ts) = closed ts
 
--- At some token the count of `(` from the line's beginning on, less that of `)`, is above 256. Nothing is said of the
--- tokens before: the difference may have been below 0, so a `)` and then 257 `(` are not too deep, and 258 are.
+-- At some token the count of `(` from the line's beginning up to it, less that of `)`, is above 256. Nothing is said of
+-- earlier tokens: the difference may be below 0 there, so a `)` and then 257 `(` are not too deep, and 258 are.
 abbrev pub IsTooDeep : List Tok → Type 0
 IsTooDeep ts = (k : ℕ) × (256 + closed (take k ts) < opened (take k ts))
 
--- a line holds nothing: it has no token, and no byte that begins none
+-- a line is blank: it has no token, and no byte that begins none
 abbrev pub IsBlank : LineTokens → Type 0
 IsBlank line = (line.tokens ≡ []) × (line.bad ≡ None)
 
--- a line is this row, and one of the forms of its place, however many brackets are open; the next line's place is `next`
+-- a line is this row and is valid at its position, however many brackets are open; the next line's position is `next`
 pub record IsForm (place : LinePlace) (line : LineTokens) (row : Row) (next : LinePlace) : Type 0 where
   pub whole : line.bad ≡ None
   pub spelt : SpellsRow row line.tokens
   pub there : place_after place row ≡ Some next
 
--- the lines, the first of which has this number, are these rows; the place moves from one to the other
+-- the lines, the first of which has this number, are these rows; the position goes from each to the next
 abbrev pub AreRows : LinePlace → ℕ → List LineTokens → List Numbered → LinePlace → Type 0
 AreRows place n [] rows last = (rows ≡ []) × (last ≡ place)
 AreRows place n (line ∷ more) rows last =
@@ -198,13 +198,13 @@ abbrev pub is_version : Row → Bool
 is_version (VersionRow a b c) = true
 is_version other = false
 
--- the rows without that of the version, which stands first
+-- the rows without the version's, which is the first
 abbrev pub without_version : List Numbered → List Numbered
 without_version [] = []
 without_version (r ∷ rows) = if is_version r.row then rows else r ∷ rows
 
--- The text spells the circuit by the grammar: it is UTF-8, and its lines are the circuit's rows, maybe below a version
--- line. A line of it may be too deep; then the text has a fault line too, and no circuit is read.
+-- The text spells the circuit by the grammar: it is UTF-8, and its lines are the circuit's rows, with or without a version
+-- line above them. If a line is too deep, the text has a fault line too, and no circuit is read.
 pub record Spells (text : List ℕ) (circuit : CircuitTree) : Type 0 where
   pub utf8 : IsUtf8 text
   pub held : List LineTokens
@@ -215,11 +215,11 @@ pub record Spells (text : List ℕ) (circuit : CircuitTree) : Type 0 where
   pub whole : IsEndPlace last
   pub circuit_rows : without_version rows ≡ rows_of circuit
 
--- a line is none of the forms of its place
+-- a line is not blank, and is not valid at its position
 abbrev pub IsNoForm : LinePlace → LineTokens → Type 0
 IsNoForm place line = (IsBlank line → ⊥) × ((row : Row) (next : LinePlace) → IsForm place line row next → ⊥)
 
--- a line is at fault at its place: it is too deep, even where its tokens spell a row, or it is none of the forms
+-- a line is at fault at its position: it is too deep, even if its tokens spell a row, or it is not valid there
 abbrev pub IsAtFault : LinePlace → LineTokens → Type 0
 IsAtFault place line = IsTooDeep line.tokens ⊎ IsNoForm place line
 
@@ -228,8 +228,8 @@ abbrev pub AreShallow : List LineTokens → Type 0
 AreShallow [] = Unit {0}
 AreShallow (line ∷ more) = (IsTooDeep line.tokens → ⊥) × AreShallow more
 
--- the fault line of a text: the first that is at fault at its place; else, where the text is incomplete, the one behind
--- the last, which holds nothing
+-- the fault line of a text: the first line that is at fault at its position; otherwise, if the text is incomplete, the
+-- line after the last, which is blank
 pub record IsFaultLine (text : List ℕ) (n : ℕ) (line : LineTokens) : Type 0 where
   pub before : List LineTokens
   pub tokens : AreLineTokens (take (length before) (lines text)) before
@@ -245,7 +245,7 @@ pub record IsFaultLine (text : List ℕ) (n : ℕ) (line : LineTokens) : Type 0 
 abbrev pub HasNoFaultLine : List ℕ → Type 0
 HasNoFaultLine text = (n : ℕ) (line : LineTokens) → IsFaultLine text n line → ⊥
 
--- the words and symbols of what is left out
+-- the words and symbols that are left out of the language
 abbrev pub is_outside_word : List ℕ → Bool
 is_outside_word w = list_any (bytes_eq w)
     (codes "when" ∷ codes "else" ∷ codes "extmodule" ∷ codes "intmodule" ∷ codes "cmem" ∷ codes "smem" ∷ codes "infer" ∷ codes "attach"
@@ -269,7 +269,7 @@ abbrev pub first_outside : List Tok → Option (List ℕ)
 first_outside [] = None
 first_outside (t ∷ ts) = option_or (outside_text t) (first_outside ts)
 
--- why no circuit is read. Want of memory has no cause in the text.
+-- why no circuit is read; `NoMemory` has no cause in the text
 abbrev pub HasReadFault : List ℕ → ReadFault → Type 0
 HasReadFault bytes NotText = IsUtf8 bytes → ⊥
 HasReadFault bytes (TooDeep n) = IsUtf8 bytes × ((line : LineTokens) × IsFaultLine bytes n line × IsTooDeep line.tokens)

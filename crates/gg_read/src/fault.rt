@@ -8,10 +8,10 @@ use gg_bits::Name;
 use gg_lex::{Symbol, Tok};
 use std::alloc::{AllocError, Global};
 
-/// By at most this many the `(` from a line's beginning up to a token are more than the `)`.
+/// The most by which the `(` from a line's beginning up to a token may outnumber the `)`.
 const DEEPEST: usize = 256;
 
-/// What is answered for the fault line of this number, which holds these tokens.
+/// The fault of the fault line with this number and these tokens.
 pub(crate) fn line_fault(alloc: Global, line: u64, tokens: &[Tok]) -> ReadFault
     ensures { IsFaultOf line tokens.now result }
 {
@@ -25,7 +25,7 @@ pub(crate) fn line_fault(alloc: Global, line: u64, tokens: &[Tok]) -> ReadFault
     }
 }
 
-/// Whether at some token the `(` from the line's beginning on are more than 256 more than the `)`.
+/// Whether at some token the `(` from the line's beginning up to it outnumber the `)` by more than 256.
 pub(crate) fn is_too_deep(tokens: &[Tok]) -> bool
     ensures { MatchBool result (IsTooDeep tokens.now) (IsTooDeep tokens.now → ⊥) }
 {
@@ -61,7 +61,7 @@ fn closes(token: &Tok) -> usize
     }
 }
 
-/// The first of the tokens that is a word or a symbol of what is left out, as it is written.
+/// The first of the tokens that is an outside word: a word or symbol that this part of the language leaves out.
 fn first_outside(alloc: Global, tokens: &[Tok]) -> Result<Option<Name>, AllocError>
     ensures { IfOk result (λ found. found ≡ first_outside tokens.now) }
 {
@@ -73,7 +73,7 @@ fn first_outside(alloc: Global, tokens: &[Tok]) -> Result<Option<Name>, AllocErr
     Ok(None)
 }
 
-/// The word or symbol of what is left out that a token is, as it is written.
+/// The outside word that a token is, as it is written.
 fn outside_text(alloc: Global, token: &Tok) -> Result<Option<Name>, AllocError>
     ensures { IfOk result (λ found. found ≡ outside_text token.now) }
 {
@@ -89,7 +89,7 @@ fn outside_text(alloc: Global, token: &Tok) -> Result<Option<Name>, AllocError>
     }
 }
 
-/// The symbol of what is left out, as it is written.
+/// The symbol as it is written, if it is left out of the language.
 fn outside_symbol(alloc: Global, symbol: Symbol) -> Result<Option<Name>, AllocError>
     ensures { IfOk result (λ found. found ≡ outside_text (Tok.Symbol symbol)) }
 {
@@ -102,7 +102,7 @@ fn outside_symbol(alloc: Global, symbol: Symbol) -> Result<Option<Name>, AllocEr
     }
 }
 
-/// A name of its own with this text.
+/// A new name with a copy of this text.
 fn some_name(alloc: Global, text: &str) -> Result<Option<Name>, AllocError>
     ensures { IfOk result (λ found. found ≡ Some text.now) }
 {
@@ -110,7 +110,7 @@ fn some_name(alloc: Global, text: &str) -> Result<Option<Name>, AllocError>
     Ok(Some(Name::from(owned)))
 }
 
-/// Whether a word is one of what is left out.
+/// Whether a word is left out of the language.
 fn is_outside_word(word: &str) -> bool
     ensures { result ≡ is_outside_word word.now }
 {

@@ -14,12 +14,12 @@ pub fn one_fault_line()
     ensures { (text : List ℕ) (n m : ℕ) (line other : LineTokens) → IsFaultLine text n line → IsFaultLine text m other → (n ≡ m) × (line ≡ other) }
 {}
 
-/// The fault line of a text that spells a circuit is too deep: each other fault spells nothing.
+/// If a text spells a circuit, its fault line is too deep: a text with any other fault spells none.
 pub fn spelt_but_too_deep()
     ensures { (text : List ℕ) (n : ℕ) (line : LineTokens) (circuit : CircuitTree) → Spells text circuit → IsFaultLine text n line → IsTooDeep line.tokens }
 {}
 
-/// Each text that is UTF-8 spells a circuit and no line of it is at fault, or it has a fault line.
+/// A text that is UTF-8 spells a circuit and has no fault line, or it has a fault line.
 pub fn every_text()
     ensures { (text : List ℕ) → IsUtf8 text → ((circuit : CircuitTree) × Spells text circuit × HasNoFaultLine text) ⊎ ((n : ℕ) × (line : LineTokens) × IsFaultLine text n line) }
 {}

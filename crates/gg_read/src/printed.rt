@@ -3,7 +3,7 @@ use crate::text::ReadFault;
 use std::error::Error;
 use std::fmt;
 
-/// The fault, as the program prints it behind `golden: circuit: `.
+/// The fault, as the program prints it after `golden: circuit: `.
 impl fmt::Display for ReadFault {
     ghost use Rattle.std.specs.Prelude.{Some};
     ghost use Rattle.gg_read.specs.FaultText.{fault_text};

@@ -1,4 +1,4 @@
-//! The circuit that is built, row by row, and the place that the rows have reached.
+//! The circuit that is built row by row, and the position after these rows.
 ghost use Rattle.std.specs.Prelude.{◌≡◌, ℕ, ◌∷◌, [], ◌<◌, length, IfSome};
 ghost use Rattle.gg_ast.specs.Names.{IsName, IsPortNamed, AreNamesOfTerm, AreNamesOfField, AreNamesOfReset, AreNamesOfStatement};
 ghost use Rattle.gg_ast.specs.Row.{numbered, VersionRow, CircuitRow, ModuleRow, MemoryRow, RegisterResetRow};
@@ -14,39 +14,39 @@ use gg_bits::Name;
 use gg_row::{LineRow, Miss};
 use std::alloc::Global;
 
-/// A register whose reset stands on the next line.
+/// A register whose reset is on the next line.
 #[derive(Drop)]
 pub(crate) struct OpenRegister {
-    /// The line on which the register stands.
+    /// The line of the register.
     pub(crate) line: u64,
     pub(crate) name: Name,
     pub(crate) ty: GroundType,
     pub(crate) clock: Expr,
 }
 
-/// The place of the next line, with the circuit that the lines before it make.
+/// The position of the next line, and the circuit of the lines before it.
 #[derive(Drop)]
 pub(crate) enum Stage {
     /// At the beginning of the text.
     Start,
-    /// Behind the version line.
+    /// After the version line.
     Version,
-    /// Behind the circuit's line.
+    /// After the circuit's line.
     Header(Circuit),
-    /// Behind a module's line or a port.
+    /// After a module's line or a port.
     Ports(Circuit),
-    /// Behind a statement that is no memory.
+    /// After a statement that is not a memory.
     Statements(Circuit),
-    /// Behind a memory's line or a field of it.
+    /// After a memory's line or one of its fields.
     Fields(Circuit),
-    /// Behind the first line of a register whose reset stands on the next.
+    /// After the first line of a register whose reset is on the next.
     Open(Circuit, OpenRegister),
 }
 
-/// The stage behind one more row, which stands on this line.
+/// The stage after one more row, which is on this line.
 ///
-/// `NoForm` exactly where the row is none of the forms of its place. Of a statement that is no row by itself, as a
-/// register with its reset, nothing is said: no reader of lines gives one.
+/// Returns `NoForm` exactly if the row is not valid at its position. Nothing is said of a statement that is no row by itself,
+/// such as a register with its reset: the reader of lines never returns one.
 pub(crate) fn advance(alloc: Global, stage: Stage, line: u64, row: LineRow) -> Result<Stage, Miss>
     requires stage { IsStage stage line }
     requires named { AreNamesOfLine row }
@@ -119,7 +119,7 @@ fn register(
     statement(stage, Stmt { line, kind })
 }
 
-/// The version line, which stands at the beginning.
+/// The version line, which is valid at the beginning.
 #[tactic(auto, using(crate::proofs::Builds::version_first))]
 fn version(stage: Stage) -> Result<Stage, Miss>
     ensures { (line a b c : ℕ) → Advances stage (after_version (stage_place stage)) line (numbered line (VersionRow a b c) ∷ []) result }
@@ -147,7 +147,7 @@ fn is_start(stage: &Stage) -> bool
     }
 }
 
-/// The circuit's line, which stands at the beginning or behind the version line.
+/// The circuit's line, which is valid at the beginning or after the version line.
 #[tactic(auto, using(crate::proofs::Builds::header_next))]
 fn header(alloc: Global, stage: Stage, line: u64, name: Name) -> Result<Stage, Miss>
     requires named { IsName name }
@@ -161,7 +161,7 @@ fn header(alloc: Global, stage: Stage, line: u64, name: Name) -> Result<Stage, M
     Err(Miss::NoForm)
 }
 
-/// Whether no circuit was begun yet.
+/// Whether no circuit has begun yet.
 #[tactic(auto, using(crate::proofs::Builds::nothing_first))]
 fn is_bare(stage: &Stage) -> bool
     ensures { TellsBare stage.now result }
@@ -187,7 +187,7 @@ fn module(alloc: Global, stage: Stage, line: u64, name: Name) -> Result<Stage, M
     Ok(Stage::Ports(circuit))
 }
 
-/// The circuit behind which a module may begin.
+/// The circuit, if a module may begin after it.
 fn whole(stage: Stage) -> Result<Circuit, Miss>
     ensures { IsWhole stage result }
 {
@@ -200,7 +200,7 @@ fn whole(stage: Stage) -> Result<Circuit, Miss>
     }
 }
 
-/// A port, which stands behind its module's line or another port.
+/// A port, which is valid after its module's line or another port.
 fn port(stage: Stage, port: Port) -> Result<Stage, Miss>
     requires named { IsPortNamed port }
     requires stage { (line : ℕ) × IsStage stage line }
@@ -215,7 +215,7 @@ fn port(stage: Stage, port: Port) -> Result<Stage, Miss>
     }
 }
 
-/// The circuit, to whose last module a port may be added.
+/// The circuit, if a port may be added to its last module.
 fn ports_of(stage: Stage) -> Result<Circuit, Miss>
     ensures { IsPortsOf stage result }
 {
@@ -230,7 +230,7 @@ fn ports_of(stage: Stage) -> Result<Circuit, Miss>
     }
 }
 
-/// A port behind the others of the last module.
+/// Adds a port to the last module, as its last.
 fn add_port(circuit: Circuit, port: Port) -> Result<Stage, Miss>
     requires some { 0 < length circuit.modules }
     requires ports { IsOpenToPorts circuit.modules }
@@ -242,7 +242,7 @@ fn add_port(circuit: Circuit, port: Port) -> Result<Stage, Miss>
     Ok(Stage::Ports(circuit))
 }
 
-/// The circuit behind which a statement may stand.
+/// The circuit, if a statement may follow.
 fn body(stage: Stage) -> Result<Circuit, Miss>
     requires { (line : ℕ) × IsStage stage line }
     ensures { IsBody stage result }
@@ -255,7 +255,7 @@ fn body(stage: Stage) -> Result<Circuit, Miss>
     }
 }
 
-/// A statement, which stands behind a port, a module's line or another statement.
+/// A statement, which is valid after a port, a module's line or another statement.
 fn statement(stage: Stage, statement: Stmt) -> Result<Stage, Miss>
     requires named { AreNamesOfStatement statement }
     requires stage { (line : ℕ) × IsStage stage line }
@@ -270,7 +270,7 @@ fn statement(stage: Stage, statement: Stmt) -> Result<Stage, Miss>
     }
 }
 
-/// A statement behind the others of the last module.
+/// Adds a statement to the last module, as its last.
 fn add_statement(circuit: Circuit, statement: Stmt) -> Result<Stage, Miss>
     requires named { AreNamesOfStatement statement }
     requires some { 0 < length circuit.modules }
@@ -281,7 +281,7 @@ fn add_statement(circuit: Circuit, statement: Stmt) -> Result<Stage, Miss>
     Ok(Stage::Statements(circuit))
 }
 
-/// The first line of a memory, which stands where a statement may.
+/// The first line of a memory, which is valid where a statement is.
 fn memory(alloc: Global, stage: Stage, line: u64, name: Name) -> Result<Stage, Miss>
     requires named { IsName name }
     requires stage { (at : ℕ) × IsStage stage at }
@@ -293,7 +293,7 @@ fn memory(alloc: Global, stage: Stage, line: u64, name: Name) -> Result<Stage, M
     add_memory(circuit, Stmt { line, kind })
 }
 
-/// A memory without fields behind the other statements of the last module.
+/// Adds a memory without fields to the last module, as its last statement.
 fn add_memory(circuit: Circuit, statement: Stmt) -> Result<Stage, Miss>
     requires named { AreNamesOfStatement statement }
     requires memory { IsMemory statement.kind }
@@ -305,7 +305,7 @@ fn add_memory(circuit: Circuit, statement: Stmt) -> Result<Stage, Miss>
     Ok(Stage::Fields(circuit))
 }
 
-/// A field, which stands behind its memory's line or another field.
+/// A field, which is valid after its memory's line or another field.
 fn field(stage: Stage, field: Field) -> Result<Stage, Miss>
     requires named { AreNamesOfField field }
     requires stage { (line : ℕ) × IsStage stage line }
@@ -320,7 +320,7 @@ fn field(stage: Stage, field: Field) -> Result<Stage, Miss>
     }
 }
 
-/// The circuit, to whose last memory a field may be added.
+/// The circuit, if a field may be added to its last memory.
 fn memory_of(stage: Stage) -> Result<Circuit, Miss>
     ensures { IsMemoryOf stage result }
 {
@@ -335,7 +335,7 @@ fn memory_of(stage: Stage) -> Result<Circuit, Miss>
     }
 }
 
-/// A field behind the others of the last memory.
+/// Adds a field to the last memory, as its last.
 fn add_field(circuit: Circuit, field: Field) -> Result<Stage, Miss>
     requires some { 0 < length circuit.modules }
     requires open { IsOpenToFields circuit.modules }
@@ -347,7 +347,7 @@ fn add_field(circuit: Circuit, field: Field) -> Result<Stage, Miss>
     Ok(Stage::Fields(circuit))
 }
 
-/// The first line of a register whose reset stands on the next.
+/// The first line of a register whose reset is on the next.
 fn open(stage: Stage, register: OpenRegister) -> Result<Stage, Miss>
     requires named { AreNamesOfRegister register }
     requires stage { (line : ℕ) × IsStage stage line }
@@ -357,7 +357,7 @@ fn open(stage: Stage, register: OpenRegister) -> Result<Stage, Miss>
     Ok(Stage::Open(circuit, register))
 }
 
-/// The line of a reset, which stands behind its register's.
+/// The line of a reset, which is valid after its register's.
 fn reset(stage: Stage, reset: Reset) -> Result<Stage, Miss>
     requires named { AreNamesOfReset reset }
     requires stage { IsStage stage reset.line }
@@ -387,7 +387,7 @@ fn opened(stage: Stage) -> Result<(Circuit, OpenRegister), Miss>
     }
 }
 
-/// The register that the reset closes, behind the other statements of the last module.
+/// Adds the register with this reset to the last module, as its last statement.
 #[tactic(auto, using(crate::proofs::Builds::rows_closed))]
 fn close(circuit: Circuit, register: OpenRegister, reset: Reset) -> Result<Stage, Miss>
     requires some { 0 < length circuit.modules }
@@ -412,7 +412,7 @@ fn close(circuit: Circuit, register: OpenRegister, reset: Reset) -> Result<Stage
     Ok(Stage::Statements(circuit))
 }
 
-/// The circuit, where the text may end here. `line` is the number of the line behind the last.
+/// The circuit, if the text may end here. `line` is the number of the line after the last.
 pub(crate) fn finish(stage: Stage, line: u64) -> Result<Circuit, ReadFault>
     ensures { Ends stage line result }
 {

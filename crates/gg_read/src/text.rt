@@ -20,35 +20,36 @@ use std::alloc::Global;
 pub enum ReadFault {
     /// The bytes are not UTF-8.
     NotText,
-    /// This line, counted from 1, is none of the forms of its place.
+    /// This line, counted from 1, is not valid at its position.
     Syntax { line: u64 },
-    /// The same, and this is its first word or symbol of what is left out of the language.
+    /// The same, and `word` is the first word or symbol of the line that is left out of the language.
     Outside { line: u64, word: Name },
-    /// At some token of this line the `(` from its beginning on are more than 256 more than the `)`. They may be fewer
-    /// before: a `)` and then 257 `(` are not too deep.
+    /// At some token of this line the `(` from its beginning up to the token outnumber the `)` by more than 256. They may be
+    /// fewer before: a `)` and then 257 `(` are not too deep.
     TooDeep { line: u64 },
-    /// Memory ran out. The text says nothing of this.
+    /// An allocation failed. This has no cause in the text.
     NoMemory,
 }
 
-/// The circuit that a text spells (FIRRTL Specification, "Grammar") where no line of it is at fault, or why none is read.
+/// The circuit that a text spells (FIRRTL Specification, "Grammar"), if no line of it is at fault.
 ///
-/// The bytes are fewer than 2 ^ 32, so that lines and modules can be counted. The text is passed over once.
+/// There must be fewer than 2 ^ 32 bytes, so that lines and modules can be counted. The text is read once.
 ///
 /// # Errors
 ///
-/// `NotText` exactly where the bytes are not UTF-8. Else the first line is at fault that is none of the forms of its place
-/// or too deep, even where it spells a row, or the one behind the last where the text is incomplete: `TooDeep` where at some token of it the count of `(`
-/// less that of `)` is above 256, else `Outside` with its first
-/// word of what is left out, else `Syntax`. `NoMemory` where memory is refused: the text says nothing of this.
+/// Returns `NotText` exactly if the bytes are not UTF-8. Otherwise the fault is that of the first line that is not valid at
+/// its position or is too deep, even if it spells a row. If there is none and the text is incomplete, the fault is that of
+/// the line after the last. The fault is `TooDeep` if at some token of the line the count of `(` less that of `)` is above
+/// 256. Otherwise it is `Outside` with the line's first word that is left out of the language, or `Syntax` if there is none.
+/// Returns `NoMemory` if an allocation fails; this has no cause in the text.
 pub fn read_circuit(alloc: Global, bytes: &[u8]) -> Result<Circuit, ReadFault>
     requires { length bytes.now < 2 ^ 32 }
     ensures circuit { IfOk result (Spells bytes.now) }
     ensures faultless { IfOk result (λ _. HasNoFaultLine bytes.now) }
     ensures fault { IfErr result (HasReadFault bytes.now) }
 
-    // a text that spells a circuit and has no fault line has no other answer, nor one with a fault line, nor bytes that
-    // are no text
+    // a text that spells a circuit without a fault line gives just that circuit, a text with a fault line just its fault, and
+    // bytes that are not UTF-8 just `NotText`; in the first two cases `NoMemory` may come too
     ensures only_circuit { (c : CircuitTree) → Spells bytes.now c → HasNoFaultLine bytes.now → MatchResult result (λ d. d ≡ c) (λ fault. fault ≡ ReadFault.NoMemory) }
     ensures only_fault { (n : ℕ) (line : LineTokens) → IsUtf8 bytes.now → IsFaultLine bytes.now n line → MatchResult result (λ _. ⊥) (IsFaultOf n line.tokens) }
     ensures only_not_text { (IsUtf8 bytes.now → ⊥) → result ≡ Err ReadFault.NotText }
@@ -75,7 +76,7 @@ fn read_text(alloc: Global, text: &str) -> Result<Circuit, ReadFault>
     finish(stage, number + 1)
 }
 
-/// The stage behind one more line, or why the line is at fault.
+/// The stage after one more line, or the line's fault.
 fn next_stage(alloc: Global, stage: Stage, number: u64, line: &str) -> Result<Stage, ReadFault>
     requires stage { IsStage stage number }
     ensures { IsStep stage number line.now result }
@@ -93,7 +94,7 @@ fn next_stage(alloc: Global, stage: Stage, number: u64, line: &str) -> Result<St
     }
 }
 
-/// What is answered for a line of this number that is at fault.
+/// The fault of a line with this number.
 fn missed(alloc: Global, number: u64, tokens: &[Tok], miss: Miss) -> ReadFault
     ensures { IsMissed miss number tokens.now result }
 {
@@ -103,14 +104,14 @@ fn missed(alloc: Global, number: u64, tokens: &[Tok], miss: Miss) -> ReadFault
     }
 }
 
-/// Whether a line holds nothing.
+/// Whether a line is blank.
 fn is_blank(lexed: &LexedLine) -> bool
     ensures { TellsBlank (line_of lexed.now) result }
 {
     lexed.tokens.is_empty() && lexed.bad.is_none()
 }
 
-/// The stage behind a line that is a row of its place, and is not too deep.
+/// The stage after a line that is a row, is valid at its position and is not too deep.
 fn placed(alloc: Global, stage: Stage, number: u64, lexed: &LexedLine) -> Result<Stage, Miss>
     requires stage { IsStage stage number }
     ensures { IsPlaced stage number (line_of lexed.now) result }
@@ -119,7 +120,7 @@ fn placed(alloc: Global, stage: Stage, number: u64, lexed: &LexedLine) -> Result
     advance(alloc, stage, number, row)
 }
 
-/// The row of a line, whatever its place: the whole line spells it, and nowhere are too many brackets open.
+/// The row of a line, whatever its position. The whole line spells it, and at no token are too many brackets open.
 fn whole_row(alloc: Global, lexed: &LexedLine) -> Result<LineRow, Miss>
     ensures row { IsRowOf (line_of lexed.now) result }
     ensures named { IfOk result AreNamesOfLine }
