@@ -45,8 +45,8 @@ pub(crate) enum Stage {
 
 /// The stage after one more row, which is on this line.
 ///
-/// Returns `NoForm` exactly if the row is not valid at its position. Nothing is said of a statement that is no row by itself,
-/// such as a register with its reset: the reader of lines never returns one.
+/// Returns `NoForm` exactly if the row is not valid at its position. Nothing is said of a statement that is no row by
+/// itself, such as a register with its reset: the reader of lines never returns one.
 pub(crate) fn advance(alloc: Global, stage: Stage, line: u64, row: LineRow) -> Result<Stage, Miss>
     requires stage { IsStage stage line }
     requires named { AreNamesOfLine row }
