@@ -1,7 +1,7 @@
 -- What is found along a list, in its order.
 use Rattle.std.specs.Prelude.{List, [], ◌∷◌, ◌++◌, Option, Some, None}
 
--- What is found at each element, where it rests on those before it: `at before x` is found at `x` after the elements `before`.
+-- What is found at each element, given those before it: `at before x` is found at `x` after the elements `before`.
 abbrev pub along_from : {A B : Type 0} → (List A → A → List B) → List A → List A → List B
 along_from at before [] = []
 along_from at before (x ∷ xs) = at before x ++ along_from at (before ++ x ∷ []) xs

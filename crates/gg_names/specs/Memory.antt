@@ -1,5 +1,5 @@
--- The ports of a memory and their fields (FIRRTL Specification, "Memories"). A reader has the fields addr, en, clk and data, a
--- writer these and mask. (Readwriters are not in lowered FIRRTL's part that is read here.)
+-- The ports of a memory and their fields (FIRRTL Specification, "Memories"). A reader has the fields addr, en, clk and
+-- data, a writer these and mask. (Readwriters are not in the part of lowered FIRRTL that is read here.)
 use Rattle.std.specs.Prelude.{ℕ, Bool, true, false, List, [], ◌∷◌, ◌++◌, Option, Some, None, map, flat_map, codes, if◌then◌else◌}
 use Rattle.std.specs.Str.{bytes_eq}
 use Rattle.gg_ast.specs.declared.statement.Field.{Field}
@@ -49,7 +49,7 @@ field_name Clk = codes "clk"
 field_name Data = codes "data"
 field_name Mask = codes "mask"
 
--- the data of a reader is what the memory answers; any other field is given to the memory
+-- the data of a reader is what the memory returns; any other field is given to the memory
 abbrev pub is_answer : PortKind → PortField → Bool
 is_answer Reader Data = true
 is_answer Reader Addr = false
@@ -58,7 +58,7 @@ is_answer Reader Clk = false
 is_answer Reader Mask = false
 is_answer Writer field = false
 
--- the field that is written so, among these
+-- the field with this text, among these
 abbrev pub field_of : List ℕ → List PortField → Option PortField
 field_of name [] = None
 field_of name (f ∷ fs) = if bytes_eq name (field_name f) then Some f else field_of name fs

@@ -1,5 +1,5 @@
--- Which modules hold which (FIRRTL Specification, "Instances": a module may not hold itself, directly or through others).
--- Modules go by their places in the circuit, counted from 0.
+-- Which modules have instances of which (FIRRTL Specification, "Instances": a module may not have an instance of itself,
+-- directly or through others). Modules are identified by their places in the circuit, counted from 0.
 use Rattle.std.proofs.Math.Nat.{not-suc-le-zero}
 use Rattle.std.specs.Prelude.{ℕ, List, [], Contains, flat_map, option_to_list, slice_index_or, take}
 use Rattle.gg_ast.specs.Places.{place_of}
@@ -8,7 +8,7 @@ use Rattle.gg_ast.specs.declared.statement.StmtKind as statements
 use Rattle.gg_ast.specs.declared.statement.StmtKind.TheVariants as kinds
 use Rattle.gg_ast.specs.Tree.{ModuleTree, empty_module, names_of}
 
--- the module at a place; past the end one without a name
+-- the module at a place; after the end one without a name
 abbrev pub module_at : List ModuleTree → ℕ → ModuleTree
 module_at modules k = slice_index_or modules k (empty_module 0 [])
 
@@ -32,10 +32,10 @@ held_by modules s = held_by_kind modules s.kind
 abbrev pub Holds : List ModuleTree → ℕ → ℕ → Type 0
 Holds modules k j = Contains (flat_map (held_by modules) (module_at modules k).statements) j
 
--- .. in one of its first n statements
+-- the same, in one of its first n statements
 abbrev pub HoldsBelow : List ModuleTree → ℕ → ℕ → ℕ → Type 0
 HoldsBelow modules k n j = Contains (flat_map (held_by modules) (take n (module_at modules k).statements)) j
 
--- no module holds one in none of its statements
+-- no module has an instance in its first 0 statements
 pub none_held : (modules : List ModuleTree) (k j : ℕ) → HoldsBelow modules k 0 j → ⊥
 none_held modules k j h = not-suc-le-zero h.1

@@ -35,7 +35,7 @@ abbrev pub role_of_instance_port : Direction → GroundType → Role
 role_of_instance_port Input ty = InstanceInput ty
 role_of_instance_port Output ty = InstanceOutput ty
 
--- what can be written of an instance: its name, and a dot and the name of a port of its module, if there is that module
+-- what can be written of an instance: its name, and a dot and the name of a port of its module, if that module exists
 abbrev pub instance_port : List ℕ → Port → Reference × Role
 instance_port instance port = (PortOf instance port.name, role_of_instance_port port.direction port.ty)
 
@@ -58,7 +58,7 @@ abbrev pub entry_by_port : Port → Reference × Role
 entry_by_port port = (Local port.name, role_of_port port.direction)
 
 -- A wire, a node, a register, an instance and a memory declare their names; no other statement declares one. These are the
--- references that can be written from then on, each with its role.
+-- references that can be written after the statement, each with its role.
 abbrev pub entries_by_kind : List ModuleTree → statements.StmtKind → List (Reference × Role)
 entries_by_kind modules (kinds.Wire name ty) = (Local name, Wire) ∷ []
 entries_by_kind modules (kinds.Node name value) = (Local name, Node) ∷ []
@@ -74,7 +74,7 @@ entries_by_kind modules (kinds.Report word arguments label) = []
 abbrev pub entries_by : List ModuleTree → Stmt → List (Reference × Role)
 entries_by modules s = entries_by_kind modules s.kind
 
--- the scope behind these ports and statements
+-- the scope after these ports and statements
 abbrev pub scope_after : List ModuleTree → List Port → List Stmt → List (Reference × Role)
 scope_after modules ports statements = map entry_by_port ports ++ flat_map (entries_by modules) statements
 
@@ -132,7 +132,7 @@ has_value (Some (MemoryPort kind field)) = true
 
 -- ---- connections
 
--- "Flows": a sink takes a connection. Seen from the module that holds it, an instance's input is a sink.
+-- "Flows": a sink may be connected. Seen from the module that has it, an instance's input is a sink.
 abbrev pub is_sink : Option Role → Bool
 is_sink None = false
 is_sink (Some InputPort) = false
@@ -146,7 +146,7 @@ is_sink (Some (InstanceInput ty)) = true
 is_sink (Some (InstanceOutput ty)) = false
 is_sink (Some (MemoryPort kind field)) = not (is_answer kind field)
 
--- a source has its value of its own
+-- a source has its own value
 abbrev pub is_source : Option Role → Bool
 is_source None = false
 is_source (Some InputPort) = true
@@ -160,7 +160,7 @@ is_source (Some (InstanceInput ty)) = false
 is_source (Some (InstanceOutput ty)) = true
 is_source (Some (MemoryPort kind field)) = is_answer kind field
 
--- a sink that must be connected: any but a register
+-- a sink that must be connected: any except a register
 abbrev pub needs_connection : Role → Bool
 needs_connection InputPort = false
 needs_connection OutputPort = true
@@ -173,7 +173,7 @@ needs_connection (InstanceInput ty) = true
 needs_connection (InstanceOutput ty) = false
 needs_connection (MemoryPort kind field) = not (is_answer kind field)
 
--- `<=` and `is invalid` are connections: what they connect
+-- `<=` and `is invalid` are connections: the references that they connect
 abbrev pub connected_by_kind : statements.StmtKind → Option Reference
 connected_by_kind (kinds.Wire name ty) = None
 connected_by_kind (kinds.Node name value) = None

@@ -1,5 +1,5 @@
--- Names that come twice: of modules, of what a module declares, of a memory's ports (FIRRTL Specification, "Namespaces"). Each
--- repetition stands at the later of the two.
+-- Names that come twice: of modules, of what a module declares, of a memory's ports (FIRRTL Specification, "Namespaces").
+-- Each repetition is reported at the later of the two.
 use Rattle.std.specs.Prelude.{◌≡◌, ℕ, Bool, true, false, List, [], ◌∷◌, ◌++◌, flat_map, Result, Ok, Err, Some}
 use Rattle.std.specs.List.{list_any}
 use Rattle.std.specs.Str.{bytes_eq}
@@ -17,12 +17,12 @@ use Rattle.gg_names.specs.declared.fault.NamesFault.TheVariants.{Repeated, NoMem
 use Rattle.gg_names.specs.Along.{along, first}
 use Rattle.gg_names.specs.Namespace.{names_after}
 
--- the repetition, where the test holds
+-- the repetition, if the test is true
 abbrev pub repetition_if : Bool → ℕ → List ℕ → List Repetition
 repetition_if true line name = record { line = line; name = name } ∷ []
 repetition_if false line name = []
 
--- a name on this line that stands among those before it
+-- a name on this line that is among those before it
 abbrev pub repeated_in : List (List ℕ) → ℕ → List ℕ → List Repetition
 repeated_in before line name = repetition_if (list_any (bytes_eq name) before) line name
 
@@ -49,7 +49,7 @@ repeated_in_field before f =
 abbrev pub repeated_port : List Port → Port → List Repetition
 repeated_port before port = repeated_in (names_after before []) port.line port.name
 
--- a statement behind the declarations of these names: first the name that it declares, then a memory's ports
+-- a statement after the declarations of these names: first the name that it declares, then a memory's ports
 abbrev pub repeated_by_kind : List (List ℕ) → ℕ → statements.StmtKind → List Repetition
 repeated_by_kind names line (kinds.Wire name ty) = repeated_in names line name
 repeated_by_kind names line (kinds.Node name value) = repeated_in names line name
@@ -79,12 +79,12 @@ repetitions circuit = along repeated_module circuit.modules
 
 -- ---- answers
 
--- a refusal names the first repetition; want of memory says nothing of them
+-- a fault is the first repetition; `NoMemory` says nothing of them
 abbrev pub Names : List Repetition → NamesFault → Type 0
 Names all (Repeated repetition) = first all ≡ Some repetition
 Names all NoMemory = Unit {0}
 
--- Ok exactly where no name comes twice, else the first that does
+-- Ok exactly if no name comes twice, otherwise the first that does
 abbrev pub Tells : {A : Type 0} → List Repetition → Result A NamesFault → Type 0
 Tells all (Ok _) = all ≡ []
 Tells all (Err fault) = Names all fault

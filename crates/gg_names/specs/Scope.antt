@@ -16,7 +16,7 @@ same_reference (FieldOf a b c) (Local x) = false
 same_reference (FieldOf a b c) (PortOf x y) = false
 same_reference (FieldOf a b c) (FieldOf x y z) = bytes_eq a x && (bytes_eq b y && bytes_eq c z)
 
--- what stands behind the first entry of a reference
+-- what the first entry of a reference has with it
 abbrev pub entry_of : {A : Type 0} → Reference → List (Reference × A) → Option A
 entry_of r [] = None
 entry_of r (e ∷ es) = if same_reference r e.0 then Some e.1 else entry_of r es
@@ -27,7 +27,7 @@ written (Local a) = a
 written (PortOf a b) = a ++ 46 ∷ b
 written (FieldOf a b c) = a ++ 46 ∷ (b ++ 46 ∷ c)
 
--- the first of its names, which the module has to declare
+-- the first of its names, which must be declared in the module
 abbrev pub first_name : Reference → List ℕ
 first_name (Local a) = a
 first_name (PortOf a b) = a

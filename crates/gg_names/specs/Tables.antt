@@ -1,4 +1,4 @@
--- What the tables of a namespace tell of the modules.
+-- What the tables of a namespace say of the modules.
 use Rattle.std.specs.Prelude.{◌≡◌, ℕ, ◌<◌, ◌^◌, ◌||◌, List, [], ◌∷◌, Option, Some, None, map, flat_map, length, take, slice_index_or, if◌then◌else◌}
 use Rattle.std.specs.List.{list_any}
 use Rattle.std.specs.Str.{bytes_eq}
@@ -42,9 +42,9 @@ pub record HavePorts (fields : List Field) (readers writers : List (List ℕ)) :
   pub reads : HaveSame readers (readers_of fields)
   pub writes : HaveSame writers (writers_of fields)
 
--- ---- a table: the names that a module declares, each with what it is declared as
+-- ---- a table: the names that a module declares, each with its declaration
 
--- what stands behind the first entry of a name
+-- what the first entry of a name has with it
 abbrev pub value_of : {A : Type 0} → List ℕ → List (List ℕ × A) → Option A
 value_of name [] = None
 value_of name (e ∷ es) = if bytes_eq name e.0 then Some e.1 else value_of name es
@@ -57,12 +57,12 @@ own_role (Plain role) = role
 own_role (Instance k) = roles.Instance
 own_role (Memory readers writers) = roles.Memory
 
--- the first port of that name, as an instance of its module shows it
+-- the first port of that name, with its role as a port of an instance
 abbrev pub role_of_port_named : List ℕ → List Port → Option Role
 role_of_port_named name [] = None
 role_of_port_named name (p ∷ ps) = if bytes_eq name p.name then Some (role_of_instance_port p.direction p.ty) else role_of_port_named name ps
 
--- the port's field that is written so
+-- the port's field with this text
 abbrev pub field_role : PortKind → Option PortField → Option Role
 field_role kind None = None
 field_role kind (Some field) = Some (roles.MemoryPort kind field)
@@ -77,7 +77,7 @@ role_of_field readers writers port field =
     or_else (if list_any (bytes_eq port) readers then field_role Reader (field_of field (port_fields Reader)) else None)
     (if list_any (bytes_eq port) writers then field_role Writer (field_of field (port_fields Writer)) else None)
 
--- a reference whose first name is declared so
+-- what a reference names whose first name has this declaration
 abbrev pub through : List ModuleTree → Declared → Reference → Option Role
 through modules declared (Local name) = Some (own_role declared)
 through modules (Instance (Some k)) (PortOf instance port) = role_of_port_named port (module_at modules k).ports
@@ -92,11 +92,11 @@ abbrev pub through_found : List ModuleTree → Option Declared → Reference →
 through_found modules None r = None
 through_found modules (Some declared) r = through modules declared r
 
--- what a table tells of a reference
+-- what a table says of a reference
 abbrev pub found : List ModuleTree → List (List ℕ × Declared) → Reference → Option Role
 found modules table r = through_found modules (value_of (first_name r) table) r
 
--- the place of an instance's module is that of a module
+-- the place of an instance's module is the place of a module
 abbrev pub IsPlaced : List ModuleTree → Declared → Type 0
 IsPlaced modules (Instance (Some k)) = k < length modules
 IsPlaced modules (Instance None) = Unit {0}
@@ -107,8 +107,8 @@ abbrev pub ArePlaced : List ModuleTree → List (List ℕ × Declared) → Type 
 ArePlaced modules [] = Unit {0}
 ArePlaced modules (e ∷ es) = IsPlaced modules e.1 × ArePlaced modules es
 
--- The table has the names that the ports and the statements declare, in the order of the file, and its first entries tell what
--- the scope behind the first statements says.
+-- The table has the names that the ports and the statements declare, in the order of the file. Its first entries say what
+-- the scope after the first statements says.
 pub record TellsScope (modules : List ModuleTree) (ports : List Port) (statements : List Stmt) (table : List (List ℕ × Declared)) : Type 0 where
   pub names_are : names_told table ≡ names_after ports statements
   pub placed : ArePlaced modules table
@@ -117,7 +117,7 @@ pub record TellsScope (modules : List ModuleTree) (ports : List Port) (statement
 abbrev pub TellsModule : List ModuleTree → ModuleTree → List (List ℕ × Declared) → Type 0
 TellsModule modules m table = TellsScope modules m.ports m.statements table
 
--- the first tables tell of the first modules
+-- the first tables are those of the first modules
 pub record AreTold (modules : List ModuleTree) (count : ℕ) (tables : List (List (List ℕ × Declared))) : Type 0 where
   pub one_each : length tables ≡ count
   pub tell : (k : ℕ) → k < count → TellsModule modules (module_at modules k) (slice_index_or tables k [])

@@ -16,7 +16,7 @@ pub struct Repetition {
 pub enum NamesFault {
     /// The first name that comes twice, in the order of the text.
     Repeated(Repetition),
-    /// Memory was refused, or the circuit has 4,294,967,296 modules or more.
+    /// An allocation failed, or the circuit has 4,294,967,296 modules or more.
     NoMemory,
 }
 

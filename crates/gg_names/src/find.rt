@@ -1,4 +1,4 @@
-//! What references name, by the tables.
+//! What references name, found in the tables.
 ghost use Rattle.std.specs.Prelude.{◌≡◌, ◌<◌, List, ℕ, length, take, slice_get, option_map};
 ghost use Rattle.gg_ast.specs.declared.expression.Reference.TheVariants.{PortOf as APort, FieldOf as AField};
 ghost use Rattle.gg_ast.specs.Tree.{ModuleTree};
@@ -30,7 +30,7 @@ pub fn role_in(
     }
 }
 
-/// What a reference names where only the first `count` names of the module are declared.
+/// What a reference names if only the first `count` names of the module are declared.
 pub fn role_before_in(
     modules: &[Module],
     tables: &[Table],
@@ -54,7 +54,7 @@ pub fn role_before_in(
     }
 }
 
-// What a reference names whose first name is declared so.
+// What a reference names whose first name has this declaration.
 fn role_through(
     modules: &[Module],
     tables: &[Table],
@@ -72,7 +72,7 @@ fn role_through(
     }
 }
 
-// The role of a port of what is declared so, if that is an instance of a module that is there.
+// The role of a port of this declaration, if it is an instance of a module that exists.
 fn port_of(modules: &[Module], tables: &[Table], declared: &Declared, port: &Name) -> Option<Role>
     requires tables { AreTold modules.now (length modules.now) tables.now }
     requires placed { IsPlaced modules.now declared.now }
@@ -87,7 +87,7 @@ fn port_of(modules: &[Module], tables: &[Table], declared: &Declared, port: &Nam
     }
 }
 
-// The role of a port of this module, in the modules that hold instances of it.
+// The role of a port of this module, seen from the modules that have instances of it.
 fn port_in(this: &Module, table: &Table, port: &Name) -> Option<Role>
     requires { names_told table.now ≡ names_in this.now }
     ensures { result ≡ role_of_port_named port.now this.now.ports }
@@ -98,7 +98,7 @@ fn port_in(this: &Module, table: &Table, port: &Name) -> Option<Role>
     }
 }
 
-// The role of the port at this place, or none past the last.
+// The role of the port at this place, or none after the last.
 fn role_at(ports: &[Port], place: usize) -> Option<Role>
     ensures { result ≡ option_map (λ port. role_of_instance_port port.direction port.ty) (slice_get ports.now place) }
 {
@@ -110,7 +110,7 @@ fn role_at(ports: &[Port], place: usize) -> Option<Role>
     }
 }
 
-// The role of a field of a port of what is declared so, if that is a memory.
+// The role of a field of a port of this declaration, if it is a memory.
 fn field_of(declared: &Declared, port: &Name, field: &Name) -> Option<Role>
     ensures { (modules : List ModuleTree) (memory : List ℕ) → result ≡ through modules declared.now (AField memory port.now field.now) }
 {

@@ -6,8 +6,8 @@ use crate::namespace::Namespace;
 use gg_ast::{Circuit, Stmt, StmtKind};
 use gg_walk::{Graph, Target};
 
-/// The nodes are the modules, by their places; each has an edge to each module that it has an instance of. (FIRRTL
-/// Specification, "Instances".)
+/// The nodes are the modules, by their places. Each has an edge to each module that it has an instance of (FIRRTL
+/// Specification, "Instances").
 impl<'a> Graph for Namespace<'a> {
     ghost use Rattle.std.specs.Prelude.{length};
     ghost use Rattle.gg_names.specs.Modules.{Holds, HoldsBelow, none_held};
@@ -29,7 +29,7 @@ impl<'a> Graph for Namespace<'a> {
     }
 }
 
-// The first module that a module's statement at or behind a place makes an instance of.
+// The first module that a statement of a module, at or after a place, makes an instance of.
 fn held_from(circuit: &Circuit, node: u32, place: usize) -> Option<Target>
     requires few { length circuit.now.modules < 2 ^ 32 }
     requires node { node < length circuit.now.modules }
@@ -46,7 +46,7 @@ fn held_from(circuit: &Circuit, node: u32, place: usize) -> Option<Target>
     )
 }
 
-// The first module of the circuit that a statement at or behind a place makes an instance of.
+// The first module of the circuit that a statement at or after a place makes an instance of.
 fn next_held(circuit: &Circuit, statements: &[Stmt], place: usize) -> Option<Target>
     requires few { length circuit.now.modules < 2 ^ 32 }
     ensures held { IfSome result (λ found. Contains (flat_map (held_by circuit.now.modules) statements.now) found.node) }
@@ -63,7 +63,7 @@ fn next_held(circuit: &Circuit, statements: &[Stmt], place: usize) -> Option<Tar
     None
 }
 
-// The place of the module that a statement makes an instance of, if there is that module.
+// The place of the module that a statement makes an instance of, if that module exists.
 fn held(circuit: &Circuit, statement: &Stmt) -> Option<u32>
     requires few { length circuit.now.modules < 2 ^ 32 }
     ensures held { option_to_list result ≡ held_by circuit.now.modules statement.now }

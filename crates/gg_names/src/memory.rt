@@ -23,7 +23,7 @@ pub struct Ports<'a> {
     pub writers: Words<'a>,
 }
 
-/// The ports that the fields of a memory name; refused at the first that comes twice.
+/// The ports that the fields of a memory name; fails at the first that comes twice.
 pub fn memory_ports<'a>(alloc: Global, fields: &'a [Field]) -> Result<Ports<'a>, NamesFault>
     ensures tells { Tells (along repeated_in_field fields.now) result }
     ensures ports { IfOk result (λ ports. HavePorts fields.now ports.readers ports.writers) }
@@ -64,7 +64,7 @@ fn add_ports<'a>(ports: &mut Ports<'a>, field: &'a Field) -> Result<(), NamesFau
     }
 }
 
-// Adds the names of a line to `words`; refused at the first that is one of them, or one of the others.
+// Adds the names of a line to `words`; fails at the first that is already one of them, or one of the others.
 fn add_words<'a>(
     words: &mut Words<'a>,
     others: &Words<'a>,
@@ -81,7 +81,7 @@ fn add_words<'a>(
     Ok(())
 }
 
-// Refuses a name that is one of the words or one of the others.
+// Fails if a name is one of the words or one of the others.
 fn fresh(words: &Words, others: &Words, line: u64, name: &Name) -> Result<(), NamesFault>
     ensures { (earlier : List (List ℕ)) → IsEither earlier words.now others.now → Tells (repeated_in earlier line name.now) result }
 {
@@ -94,7 +94,7 @@ fn fresh(words: &Words, others: &Words, line: u64, name: &Name) -> Result<(), Na
     Ok(())
 }
 
-/// The field of a port that is written so, or none where ports of this kind have no such field.
+/// The field of a port with this text, or none if ports of this kind have no such field.
 pub fn field_of(kind: PortKind, name: &Name) -> Option<PortField>
     ensures { result ≡ field_written name.now (port_fields kind) }
 {
@@ -105,7 +105,7 @@ pub fn field_of(kind: PortKind, name: &Name) -> Option<PortField>
     }
 }
 
-// The field that is written so.
+// The field with this text.
 fn field_named(name: &str) -> Option<PortField>
     ensures { result ≡ field_written name.now (port_fields AWriter) }
 {
@@ -119,8 +119,8 @@ fn field_named(name: &str) -> Option<PortField>
     }
 }
 
-/// The role of the field of a port that are written so, by the memory's readers and writers, or none where there is no such
-/// port or field.
+/// The role of the field of a port with these texts, by the memory's readers and writers, or none if there is no such port
+/// or field.
 pub fn field_role(readers: &Words, writers: &Words, port: &Name, field: &Name) -> Option<Role>
     ensures { result ≡ role_of_field readers.now writers.now port.now field.now }
 {

@@ -16,7 +16,7 @@ use gg_ast::{Circuit, Field, Module, Port, Stmt, StmtKind};
 use gg_bits::Name;
 use std::alloc::Global;
 
-/// What a module of the circuit declares; refused at the first name that comes twice in it.
+/// What a module of the circuit declares; fails at the first name that comes twice in it.
 pub fn module_table<'a>(
     alloc: Global,
     circuit: &'a Circuit,
@@ -49,7 +49,7 @@ fn declare_ports<'a>(
     Ok(())
 }
 
-// Declares the names of statements, behind those of the ports.
+// Declares the names of statements, after those of the ports.
 fn declare_statements<'a>(
     alloc: Global,
     table: &mut Table<'a>,
@@ -103,7 +103,7 @@ fn declare_statement<'a>(
     }
 }
 
-// Declares a memory; refused where its name is declared already, or a port comes twice.
+// Declares a memory; fails if its name is already declared, or a port comes twice.
 fn declare_memory<'a>(
     alloc: Global,
     table: &mut Table<'a>,
@@ -120,7 +120,7 @@ fn declare_memory<'a>(
     Ok(())
 }
 
-// Declares a name on this line; refused where it is declared already.
+// Declares a name on this line; fails if it is already declared.
 fn declare<'a>(
     table: &mut Table<'a>,
     line: u64,
@@ -135,7 +135,7 @@ fn declare<'a>(
     Ok(())
 }
 
-// Refuses a name that is declared already.
+// Fails if a name is already declared.
 fn fresh(table: &Table, line: u64, name: &Name) -> Result<(), NamesFault>
     ensures { Tells (repeated_in (names_told table.now) line name.now) result }
 {

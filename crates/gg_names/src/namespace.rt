@@ -21,14 +21,14 @@ use gg_bits::Name;
 use std::alloc::{AllocError, Global};
 use std::marker::Model;
 
-/// The names of a circuit in which no name comes twice. It borrows the circuit, and a contract sees that: what is said of a
-/// module's names is said of the circuit's tree.
+/// The names of a circuit in which no name comes twice. It borrows the circuit, and its model is the circuit's tree: what
+/// contracts say of a module's names, they say of that tree.
 ///
-/// Modules go by their places, counted from 0; there are fewer than 4,294,967,296.
+/// Modules are identified by their places, counted from 0; there are fewer than 4,294,967,296.
 #[derive(Drop)]
 pub struct Namespace<'a> {
     circuit: &'a Circuit,
-    // For each module what it declares.
+    // What each module declares.
     tables: Vec<Table<'a>>,
 }
 
@@ -53,8 +53,8 @@ impl<'a> Namespace<'a> {
     ///
     /// # Errors
     ///
-    /// `Repeated` with the first name that comes twice, exactly where one does; `NoMemory` where memory is refused, or the
-    /// circuit has 4,294,967,296 modules or more.
+    /// Returns `Repeated` with the first name that comes twice, exactly if one does. Returns `NoMemory` if an allocation
+    /// fails or the circuit has 4,294,967,296 modules or more.
     pub fn of(alloc: Global, circuit: &'a Circuit) -> Result<Namespace<'a>, NamesFault>
         ensures tells { Tells (repetitions circuit.now) result }
         ensures names { IfOk result (λ names. names ≡ circuit.now) }
@@ -98,7 +98,7 @@ impl<'a> Namespace<'a> {
         self.tables[number as usize].place(name)
     }
 
-    /// What a reference in a module names, or none where it names nothing.
+    /// What a reference in a module names, or none if it names nothing.
     pub fn role(&self, number: u32, reference: &Reference) -> Option<Role>
         requires { number < length self.now.modules }
         ensures { result ≡ meaning_of (scope_of self.now.modules (module_at self.now.modules number)) reference.now }
@@ -111,7 +111,7 @@ impl<'a> Namespace<'a> {
         )
     }
 
-    /// What a reference names where only the first `count` names of the module are declared.
+    /// What a reference names if only the first `count` names of the module are declared.
     pub fn role_before(&self, number: u32, count: usize, reference: &Reference) -> Option<Role>
         requires { number < length self.now.modules }
         ensures { (n : ℕ) → count ≡ length (names_after (module_at self.now.modules number).ports (take n (module_at self.now.modules number).statements)) → result ≡ meaning_of (scope_after self.now.modules (module_at self.now.modules number).ports (take n (module_at self.now.modules number).statements)) reference.now }
@@ -126,7 +126,7 @@ impl<'a> Namespace<'a> {
     }
 }
 
-// The tables of all modules; refused at the first name that comes twice.
+// The tables of all modules; fails at the first name that comes twice.
 fn tables_of<'a>(alloc: Global, circuit: &'a Circuit) -> Result<Vec<Table<'a>>, NamesFault>
     requires few { length circuit.now.modules < 2 ^ 32 }
     ensures tells { Tells (repetitions circuit.now) result }
@@ -143,7 +143,7 @@ fn tables_of<'a>(alloc: Global, circuit: &'a Circuit) -> Result<Vec<Table<'a>>, 
     Ok(tables)
 }
 
-// Refuses the module at this place where an earlier one has its name.
+// Fails if an earlier module has the name of the module at this place.
 fn module_is_new(circuit: &Circuit, place: usize, this: &Module) -> Result<(), NamesFault>
     requires few { length circuit.now.modules < 2 ^ 32 }
     requires within { place < length circuit.now.modules }

@@ -11,7 +11,7 @@ use std::alloc::{AllocError, Global};
 ///
 /// # Errors
 ///
-/// `AllocError` where memory is refused.
+/// Returns `AllocError` if an allocation fails.
 pub fn written(alloc: Global, reference: &Reference) -> Result<Name, AllocError>
     ensures { IfOk result (λ name. name ≡ written_text reference.now) }
 {
@@ -34,7 +34,7 @@ pub fn written(alloc: Global, reference: &Reference) -> Result<Name, AllocError>
     }
 }
 
-/// The first name of a reference, which the module has to declare.
+/// The first name of a reference, which must be declared in the module.
 pub fn first_name(reference: &Reference) -> &Name
     ensures { result.now ≡ first_of reference.now }
 {
@@ -45,7 +45,7 @@ pub fn first_name(reference: &Reference) -> &Name
     }
 }
 
-/// What a statement connects, if it is a connection.
+/// The reference that a statement connects, if it is a connection.
 pub fn connection(statement: &Stmt) -> Option<&Reference>
     ensures { option_copied result ≡ connected_by statement.now }
 {

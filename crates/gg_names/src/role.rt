@@ -5,7 +5,7 @@ ghost use Rattle.gg_names.specs.Namespace.{role_of_port, role_of_instance_port, 
 
 use gg_ast::{Direction, GroundType};
 
-/// What a written name of a module stands for (FIRRTL Specification, "Namespaces", "Flows").
+/// What a name that is written in a module stands for (FIRRTL Specification, "Namespaces", "Flows").
 #[derive(Clone, Copy, Debug, PartialEq, Eq)]
 pub enum Role {
     /// An input port: a source.
@@ -26,7 +26,7 @@ pub enum Role {
     InstanceInput(GroundType),
     /// `i.p`, an output port of an instance's module, with its type: a source.
     InstanceOutput(GroundType),
-    /// `m.r.f`, a field of a memory's port: a source where it is the data of a reader, else a sink.
+    /// `m.r.f`, a field of a memory's port: a source if it is the data of a reader, otherwise a sink.
     MemoryPort(PortKind, PortField),
 }
 
@@ -64,7 +64,7 @@ pub fn port_role(direction: Direction) -> Role
     }
 }
 
-/// The role of a port of an instance's module, in the module that has the instance.
+/// The role of a port of an instance's module, seen from the module that has the instance.
 pub fn instance_port_role(direction: Direction, ty: GroundType) -> Role
     ensures { result ≡ role_of_instance_port direction ty }
 {
@@ -74,7 +74,7 @@ pub fn instance_port_role(direction: Direction, ty: GroundType) -> Role
     }
 }
 
-/// Whether a field is what the memory answers: the data of a reader.
+/// Whether a field is what the memory returns: the data of a reader.
 pub fn is_answer(kind: PortKind, field: PortField) -> bool
     ensures { result ≡ answers kind field }
 {
@@ -103,7 +103,7 @@ pub fn has_value(role: Option<Role>) -> bool
     }
 }
 
-/// Whether what is named takes a connection.
+/// Whether what is named may be connected.
 pub fn is_sink(role: Option<Role>) -> bool
     ensures { result ≡ takes_connection role }
 {
@@ -117,7 +117,7 @@ pub fn is_sink(role: Option<Role>) -> bool
     }
 }
 
-/// Whether what is named has its value of its own, so that nothing may be connected to it.
+/// Whether what is named has its own value, so that it must not be connected.
 pub fn is_source(role: Option<Role>) -> bool
     ensures { result ≡ has_own_value role }
 {
@@ -136,7 +136,7 @@ pub fn is_source(role: Option<Role>) -> bool
     }
 }
 
-/// Whether a sink of this role must be connected: any but a register.
+/// Whether a sink of this role must be connected: any except a register.
 pub fn needs_connection(role: Role) -> bool
     ensures { result ≡ must_be_connected role }
 {
@@ -152,7 +152,7 @@ pub fn needs_connection(role: Role) -> bool
     }
 }
 
-/// The fields of a port, in the order in which they are told.
+/// The fields of a port, in the order in which they are listed.
 pub fn port_fields(kind: PortKind) -> &'static [PortField]
     ensures { result.now ≡ fields_of kind }
 {

@@ -11,18 +11,18 @@ use indexmap::{IndexMap, IndexSet};
 use std::alloc::{AllocError, Global};
 use std::marker::Model;
 
-/// What a name is declared as.
+/// The declaration of a name.
 #[derive(Drop)]
 pub enum Declared<'a> {
-    /// A port, a wire, a register or a node: nothing is reached through it.
+    /// A port, a wire, a register or a node: nothing can be named through it.
     Plain(Role),
-    /// An instance of the module at this place, if there is that module.
+    /// An instance of the module at this place, if that module exists.
     Instance(Option<u32>),
     /// A memory with these readers and these writers.
     Memory(Words<'a>, Words<'a>),
 }
 
-/// Distinct names. A contract sees their list.
+/// Distinct names. A contract sees them as their list.
 #[derive(Drop)]
 pub struct Words<'a> {
     items: IndexSet<&'a str>,
@@ -53,11 +53,11 @@ impl<'a> Words<'a> {
         self.items.contains(name.as_str())
     }
 
-    /// Adds a name; where it is there they stay the same.
+    /// Adds a name. If it is already one of them they stay the same.
     ///
     /// # Errors
     ///
-    /// `AllocError` where memory is refused.
+    /// Returns `AllocError` if an allocation fails.
     pub fn add(&mut self, name: &'a Name) -> Result<(), AllocError>
         ensures { OnOk result ((q : List ℕ) → list_any (bytes_eq q) self.new ≡ list_any (bytes_eq q) (self.old ++ name.now ∷ [])) }
     {
@@ -68,9 +68,9 @@ impl<'a> Words<'a> {
     }
 }
 
-/// The distinct names that a module declares, in the order of the file, each with what it is declared as.
+/// The distinct names that a module declares, in the order of the file, each with its declaration.
 ///
-/// A contract sees the list of pairs of a name's bytes and that.
+/// A contract sees the list of pairs of a name's bytes and its declaration.
 #[derive(Drop)]
 pub struct Table<'a> {
     items: IndexMap<&'a str, Declared<'a>>,
@@ -113,7 +113,7 @@ impl<'a> Table<'a> {
     ///
     /// # Errors
     ///
-    /// `AllocError` where memory is refused; the table is as it was.
+    /// Returns `AllocError` if an allocation fails. The table then stays as it was.
     pub fn declare(&mut self, name: &'a Name, kind: Declared<'a>) -> Result<(), AllocError>
         requires { list_any (bytes_eq name.now) (names_told self.old) ≡ false }
         ensures names { OnOk result (self.new ≡ self.old ++ (name.now, kind.entry) ∷ []) }
@@ -133,7 +133,7 @@ impl<'a> Table<'a> {
         self.items.get_index_of(name.as_str())
     }
 
-    /// What a name is declared as.
+    /// The declaration of a name.
     pub fn get(&self, name: &Name) -> Option<&Declared<'a>>
         ensures { option_copied result ≡ value_of name.now self.now }
     {
@@ -141,7 +141,7 @@ impl<'a> Table<'a> {
     }
 }
 
-/// The role of a name itself.
+/// The role of the declared name itself.
 pub fn own_role(declared: &Declared) -> Role
     ensures { result ≡ role_told declared.now }
 {
