@@ -1,4 +1,4 @@
--- How often numbers are given, as the check of memories counts.
+-- How often a key comes, as the check of memories counts.
 use Rattle.std.specs.Prelude.{ℕ, List, [], ◌∷◌}
 use Rattle.gg_shape.specs.declared.memories.Given.{Given}
 use Rattle.gg_shape.specs.declared.memories.Given.TheVariants.{Never, Once, Often}
@@ -8,7 +8,7 @@ count_of [] = Never
 count_of (n ∷ []) = Once n
 count_of (n ∷ m ∷ ns) = Often
 
--- one number more at most
+-- the same with at most one number more
 abbrev pub with_value : Given → List ℕ → Given
 with_value given [] = given
 with_value Never (n ∷ _) = Once n

@@ -1,6 +1,6 @@
--- A fault of a circuit in words, as the program prints it: its code, and what it carries, a blank between each two.
--- Operations and statements are named by the words that they are written with (FIRRTL Specification, "Primitive
--- Operations", "Statements").
+-- A fault of a circuit in words, as the program prints it: its code and its data, separated by blanks. Operations and
+-- statements are named by the words that they are written with (FIRRTL Specification, "Primitive Operations",
+-- "Statements").
 use Rattle.std.specs.Prelude.{ℕ, List, ◌∷◌, ◌++◌, codes, decimal}
 use Rattle.std.specs.List.{flat_map}
 use Rattle.gg_bits.specs.Spelling.{text1, text2, text_const}
@@ -33,7 +33,7 @@ word_name (words.Report report.Assert) = codes "assert"
 word_name (words.Report report.Assume) = codes "assume"
 word_name (words.Report report.Cover) = codes "cover"
 
--- a field of a memory by the word that it begins with
+-- a field of a memory by its first word
 abbrev pub key_name : MemoryKey → List ℕ
 key_name keys.DataType = codes "data-type"
 key_name keys.Depth = codes "depth"
@@ -51,7 +51,7 @@ limit_name limits.Instances = codes "instances"
 
 -- ---- faults
 
--- a code, and the line that it stands on in decimal
+-- a code, and a line in decimal
 abbrev pub on_line : List ℕ → ℕ → List ℕ
 on_line code line = code ++ codes " line " ++ decimal line
 
@@ -77,7 +77,7 @@ fault_text (WrongClock line name) = on_line (codes "F14") line ++ 32 ∷ name
 fault_text (OverLimit limit count) = codes "F15 " ++ limit_name limit ++ 32 ∷ decimal count
 fault_text (Loop paths) = codes "F16" ++ behind_blanks paths
 
--- what a check answers in place of Ok
+-- what a check returns in place of Ok
 abbrev pub refusal_text : Refusal → List ℕ
 refusal_text (refusals.F fault) = fault_text fault
 refusal_text refusals.NoMemory = codes "out of memory"

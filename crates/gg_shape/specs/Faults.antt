@@ -1,21 +1,21 @@
--- What a check answers of faults in the order of the text.
+-- What a check returns, given the faults in the order of the text.
 pub use Rattle.gg_names.specs.Along.{along, along_from, first}
 use Rattle.std.specs.Prelude.{◌≡◌, Bool, true, false, List, [], ◌∷◌, Some, Result, Ok, Err}
 use Rattle.gg_shape.specs.declared.fault.Fault.{Fault}
 use Rattle.gg_shape.specs.declared.fault.Refusal.{Refusal}
 use Rattle.gg_shape.specs.declared.fault.Refusal.TheVariants.{F, NoMemory}
 
--- the fault, where the test holds
+-- the fault, if the test is true
 abbrev pub fault_if : Bool → Fault → List Fault
 fault_if true fault = fault ∷ []
 fault_if false fault = []
 
--- a refusal names the first fault; want of memory says nothing of the faults
+-- a refusal is the first fault; `NoMemory` says nothing of the faults
 abbrev pub Refuses : List Fault → Refusal → Type 0
 Refuses faults (F fault) = first faults ≡ Some fault
 Refuses faults NoMemory = Unit {0}
 
--- what a check answers: Ok exactly where there is no fault, else the first
+-- what a check returns: Ok exactly if there is no fault, otherwise the first
 abbrev pub Answers : {A : Type 0} → List Fault → Result A Refusal → Type 0
 Answers faults (Ok _) = faults ≡ []
 Answers faults (Err refusal) = Refuses faults refusal

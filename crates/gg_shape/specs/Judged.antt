@@ -1,5 +1,5 @@
--- What is told of a circuit's shape: Ok exactly where it has none of the faults F1 to F8, and else a fault of the least number,
--- of F1 to F6 and F8 the first in the text, of F7 any.
+-- What the check of a circuit's shape returns: Ok exactly if the circuit has none of the faults F1 to F8, and otherwise a
+-- fault of the least number: for F1 to F6 and F8 the first in the text, for F7 any.
 use Rattle.std.specs.Prelude.{◌≡◌, List, [], ◌++◌, Some, Result, Ok, Err, ◌⊎◌}
 use Rattle.gg_ast.specs.Tree.{CircuitTree}
 use Rattle.gg_shape.specs.declared.fault.Fault.{Fault}
@@ -31,7 +31,7 @@ pub record IsOfMemory (faults : List Fault) (circuit : CircuitTree) (fault : Fau
   pub ringless : HasNoRing circuit
   pub told : first (memory_faults circuit) ≡ Some fault
 
--- the first of the list, else a ring, else the first wrong memory; want of memory says nothing of the faults
+-- the first of the list, otherwise a ring, otherwise the first wrong memory; `NoMemory` says nothing of the faults
 abbrev pub RefusesFrom : List Fault → CircuitTree → Refusal → Type 0
 RefusesFrom faults circuit (F fault) = (first faults ≡ Some fault) ⊎ (IsInRing faults circuit fault ⊎ IsOfMemory faults circuit fault)
 RefusesFrom faults circuit NoMemory = Unit {0}
@@ -52,7 +52,7 @@ reference_faults circuit =
     ++ (in_modules unconnected_sinks circuit
     ++ in_modules connected_sources circuit))
 
--- F7 alone: Ok exactly where there is no ring, else a ring of the circuit
+-- F7 alone: Ok exactly if there is no ring, otherwise a ring of the circuit
 abbrev pub RefusesRing : CircuitTree → Refusal → Type 0
 RefusesRing circuit (F fault) = TellsRing circuit fault
 RefusesRing circuit NoMemory = Unit {0}

@@ -1,6 +1,6 @@
 -- The faults of memories' fields, F8, in the order of the text.
--- Source: FIRRTL Specification, "Memories": a memory has a data type, a depth above 0, latencies and a read-under-write flag; here
--- the read latency is 0 or 1 and the write latency 1, and a missing read-under-write is undefined.
+-- Source: FIRRTL Specification, "Memories": a memory has a data type, a depth above 0, latencies and a read-under-write
+-- flag. Here the read latency is 0 or 1 and the write latency 1, and a missing read-under-write is undefined.
 use Rattle.std.specs.Prelude.{ℕ, Bool, true, false, not, List, [], ◌∷◌, ◌++◌, flat_map, nat_lt, nat_le, nat_eq}
 use Rattle.gg_ast.specs.declared.statement.Field.{Field}
 use Rattle.gg_ast.specs.declared.statement.MemoryField as fields
@@ -15,7 +15,7 @@ use Rattle.gg_shape.specs.declared.fault.MemoryKey.{MemoryKey}
 use Rattle.gg_shape.specs.declared.fault.MemoryKey.TheVariants.{DataType, Depth, ReadLatency, WriteLatency, ReadUnderWrite}
 use Rattle.gg_shape.specs.Faults.{fault_if}
 
--- what a field gives for a key: its number; a type and a word have none, 0 stands for them
+-- the number of a field, if it has this key; a type and a word have none, 0 stands for them
 abbrev pub given_by : MemoryKey → fields.MemoryField → List ℕ
 given_by DataType (field.DataType ty) = 0 ∷ []
 given_by Depth (field.Depth n) = n ∷ []
@@ -24,11 +24,11 @@ given_by WriteLatency (field.WriteLatency n) = n ∷ []
 given_by ReadUnderWrite (field.ReadUnderWrite word) = 0 ∷ []
 given_by key other = []
 
--- all that the fields of a memory give for a key
+-- all the numbers that the fields of a memory have for a key
 abbrev pub given : MemoryKey → List Field → List ℕ
 given key fs = flat_map (λ (f : Field). given_by key f.kind) fs
 
--- just one, which passes the test
+-- just one number, which passes the test
 abbrev pub is_one : (ℕ → Bool) → List ℕ → Bool
 is_one test [] = false
 is_one test (n ∷ []) = test n
@@ -39,7 +39,7 @@ is_one_at_most [] = true
 is_one_at_most (n ∷ []) = true
 is_one_at_most (n ∷ m ∷ ns) = false
 
--- what is given for a key is right
+-- the key comes as often as it should, with a valid number
 abbrev pub is_right : MemoryKey → List ℕ → Bool
 is_right DataType ns = is_one (λ n. true) ns
 is_right Depth ns = is_one (λ n. nat_lt 0 n) ns
@@ -50,7 +50,7 @@ is_right ReadUnderWrite ns = is_one_at_most ns
 abbrev pub wrong_field : ℕ → List Field → MemoryKey → List Fault
 wrong_field line fs key = fault_if (not (is_right key (given key fs))) (MemoryField line key)
 
--- the fields in this order: data-type, depth, read-latency, write-latency, read-under-write
+-- the fields in this order: data-type and depth (in `wrong_fields`), read-latency, write-latency, read-under-write
 abbrev pub wrong_times : ℕ → List Field → List Fault
 wrong_times line fs = wrong_field line fs ReadLatency ++ (wrong_field line fs WriteLatency ++ wrong_field line fs ReadUnderWrite)
 

@@ -1,5 +1,5 @@
--- Rings of modules, F7: modules that hold each other through their instances.
--- Source: FIRRTL Specification, "Instances": a module may not hold an instance of itself, directly or through others.
+-- Rings of modules, F7: modules that have instances of each other in a ring.
+-- Source: FIRRTL Specification, "Instances": a module may not have an instance of itself, directly or through others.
 use Rattle.std.specs.Prelude.{◌≡◌, ℕ, List, [], ◌∷◌, ◌++◌, length, map}
 use Rattle.gg_ast.specs.Tree.{CircuitTree}
 use Rattle.gg_names.specs.Modules.{Holds, module_at}
@@ -7,7 +7,7 @@ use Rattle.gg_shape.specs.declared.fault.Fault.{Fault}
 use Rattle.gg_shape.specs.declared.fault.Fault.TheVariants.{ModuleRing}
 use Rattle.gg_walk.specs.Graph.{IsRing}
 
--- distinct modules, by their places, each of which holds the next, the last the first
+-- distinct modules, by their places, each of which has an instance of the next, the last of the first
 abbrev pub IsRingOf : CircuitTree → List ℕ → Type 0
 IsRingOf circuit ring = IsRing (Holds circuit.modules) (length circuit.modules) ring
 
@@ -21,11 +21,11 @@ front (name ∷ _) = name ∷ []
 abbrev pub closed : List (List ℕ) → List (List ℕ)
 closed names = names ++ front names
 
--- the modules' names, the first again at the end
+-- the modules' names, the first repeated at the end
 abbrev pub ring_names : CircuitTree → List ℕ → List (List ℕ)
 ring_names circuit ring = closed (map (λ k. (module_at circuit.modules k).name) ring)
 
--- any one ring of the circuit may be told
+-- the fault reports a ring of the circuit; any one ring may be reported
 pub record TellsRing (circuit : CircuitTree) (fault : Fault) : Type 0 where
   pub ring : List ℕ
   pub is_ring : IsRingOf circuit ring

@@ -1,6 +1,6 @@
--- The faults of names and connections, F1 to F6: for each number the list of the faults of that number, in the order of the text.
--- Sources: FIRRTL Specification, "Circuits and Modules" (F1), "Namespaces" (F2, F3), "Instances" (F3), "Connects" and "Flows" (F4
--- to F6).
+-- The faults of names and connections, F1 to F6: for each number the list of its faults, in the order of the text.
+-- Sources: FIRRTL Specification, "Circuits and Modules" (F1), "Namespaces" (F2, F3), "Instances" (F3), "Connects" and
+-- "Flows" (F4 to F6).
 use Rattle.std.specs.Prelude.{ℕ, Bool, not, ◌&&◌, List, [], ◌∷◌, ◌++◌, Option, Some, None, is_some, map, flat_map}
 use Rattle.std.specs.List.{list_any}
 use Rattle.std.specs.Str.{bytes_eq}
@@ -46,7 +46,7 @@ repeated_names circuit = map repeated_name (repetitions circuit)
 abbrev pub unknown_reference : List (Reference × Role) → ℕ → Reference → List Fault
 unknown_reference scope line r = fault_if (not (has_value (meaning_of scope r))) (UnknownName line (written r))
 
--- an instance's module that isn't there
+-- a module of an instance that doesn't exist
 abbrev pub unknown_module : List ModuleTree → ℕ → List ℕ → List Fault
 unknown_module modules line name = fault_if (not (is_some (module_named name modules))) (UnknownName line name)
 
@@ -69,7 +69,7 @@ unknown_in_reset scope None = []
 unknown_in_reset scope (Some reset) =
     unknown_in scope reset.line reset.condition ++ unknown_in scope reset.line reset.init
 
--- A statement's references, from left to right, in the scope of what is declared before it; in its own reset a register is
+-- A statement's references, from left to right, in the scope of what is declared before it. In its own reset a register is
 -- declared too.
 abbrev pub unknown_in_kind : List ModuleTree → List (Reference × Role) → ℕ → statements.StmtKind → List Fault
 unknown_in_kind modules scope line (Wire name ty) = []
@@ -88,7 +88,7 @@ unknown_in_kind modules scope line (Report word arguments label) = unknown_in_ar
 abbrev pub unknown_by : List ModuleTree → List Port → List Stmt → Stmt → List Fault
 unknown_by modules ports before s = unknown_in_kind modules (scope_after modules ports before) s.line s.kind
 
--- at each reference that names nothing that has a value, and each module of an instance that isn't there
+-- at each reference that names nothing that has a value, and at each instance of a module that doesn't exist
 abbrev pub unknown_names : List ModuleTree → ModuleTree → List Fault
 unknown_names modules m = along (unknown_by modules m.ports) m.statements
 
@@ -112,15 +112,15 @@ second_connections modules m = along (second_by (scope_of modules m)) m.statemen
 
 -- ---- F5
 
--- what can be written from a line on and needs a connection, but isn't connected
+-- a name that must be connected, but isn't; it is reported at this line
 abbrev pub unconnected_entry : (Reference → Bool) → ℕ → Reference × Role → List Fault
 unconnected_entry connected line e = fault_if (needs_connection e.1 && not (connected e.0)) (Unconnected line (written e.0))
 
 abbrev pub unconnected_port : (Reference → Bool) → Port → List Fault
 unconnected_port connected port = unconnected_entry connected port.line (entry_by_port port)
 
--- of one statement in the order in which it brings them: an instance's inputs as its module's ports stand, a memory's fields by
--- readers, then writers
+-- the names of one statement in the order in which it declares them: an instance's inputs in the order of its module's
+-- ports, a memory's fields by readers, then writers
 abbrev pub unconnected_by : List ModuleTree → (Reference → Bool) → Stmt → List Fault
 unconnected_by modules connected s = flat_map (unconnected_entry connected s.line) (entries_by modules s)
 
@@ -147,7 +147,7 @@ connected_sources modules m = flat_map (source_by (scope_of modules m)) m.statem
 
 -- ---- all of them
 
--- the faults of one number, module by module; modules that the top doesn't reach are judged too
+-- the faults of one number, module by module; modules that the top doesn't reach are checked too
 abbrev pub in_modules : (List ModuleTree → ModuleTree → List Fault) → CircuitTree → List Fault
 in_modules faults circuit = flat_map (faults circuit.modules) circuit.modules
 

@@ -37,7 +37,7 @@ statements_before circuit before = take before.statements (module_of circuit bef
 abbrev pub scope_before : CircuitTree → Before → List (Reference × Role)
 scope_before circuit before = scope_after circuit.modules (module_of circuit before.number).ports (statements_before circuit before)
 
--- the module is there, and just so many names are declared
+-- the module exists, and just this many names are declared
 pub record IsBefore (circuit : CircuitTree) (before : Before) : Type 0 where
   pub within : before.number < length circuit.modules
   pub counted : before.names ≡ length (names_after (module_of circuit before.number).ports (statements_before circuit before))

@@ -1,4 +1,4 @@
-//! `shape`: a fault of a circuit's shape.
+//! `shape`: finds a fault of a circuit's shape.
 ghost use Rattle.std.specs.Prelude.{◌≡◌, ◌++◌, IfOk};
 ghost use Rattle.std.specs.List.{list_any};
 ghost use Rattle.std.specs.Str.{bytes_eq};
@@ -16,16 +16,16 @@ use gg_ast::Circuit;
 use gg_names::{NamesFault, Namespace};
 use std::alloc::Global;
 
-/// What `shape` answers in place of Ok.
+/// What `shape` returns in place of Ok.
 pub type ShapeFault = Refusal;
 
-/// Refuses a fault of F1 to F8 of the least number, of F1 to F6 and F8 the first in the order of the text, of F7 any ring; Ok
-/// exactly where a circuit has none of them.
+/// Checks a circuit for the faults F1 to F8. Returns Ok exactly if it has none of them.
 ///
 /// # Errors
 ///
-/// `Refusal::F` with that fault; `Refusal::NoMemory` where memory was refused, or the circuit has 4,294,967,296 modules or
-/// more.
+/// Returns `Refusal::F` with a fault of the least number that the circuit has: for F1 to F6 and F8 the first in the order of
+/// the text, for F7 any ring. Returns `Refusal::NoMemory` if an allocation fails or the circuit has 4,294,967,296 modules
+/// or more.
 pub fn shape(alloc: Global, circuit: &Circuit) -> Result<(), ShapeFault>
     ensures { AnswersShape circuit.now result }
 {
@@ -35,11 +35,11 @@ pub fn shape(alloc: Global, circuit: &Circuit) -> Result<(), ShapeFault>
     }
 }
 
-/// As `shape`; where the circuit has none of these faults it answers the namespace.
+/// The same as `shape`. If the circuit has none of these faults, the namespace is returned.
 ///
 /// # Errors
 ///
-/// Those of `shape`.
+/// The same as those of `shape`.
 pub fn shaped<'a>(alloc: Global, circuit: &'a Circuit) -> Result<Namespace<'a>, ShapeFault>
     ensures answers { AnswersShape circuit.now result }
     ensures names { IfOk result (λ names. names ≡ circuit.now) }
@@ -52,7 +52,7 @@ pub fn shaped<'a>(alloc: Global, circuit: &'a Circuit) -> Result<Namespace<'a>, 
     }
 }
 
-// Refuses a circuit none of whose modules has its name.
+// Refuses a circuit if none of its modules has its name.
 fn check_top(circuit: &Circuit) -> Result<(), Refusal>
     ensures { Answers (missing_top circuit.now) result }
 {
@@ -76,7 +76,7 @@ fn has_top(circuit: &Circuit) -> bool
     false
 }
 
-// The names of the circuit; refused at the first that comes twice.
+// The names of the circuit; fails at the first that comes twice.
 fn namespace_of<'a>(alloc: Global, circuit: &'a Circuit) -> Result<Namespace<'a>, Refusal>
     ensures answers { Answers (repeated_names circuit.now) result }
     ensures names { IfOk result (λ names. names ≡ circuit.now) }
@@ -91,7 +91,7 @@ fn namespace_of<'a>(alloc: Global, circuit: &'a Circuit) -> Result<Namespace<'a>
     }
 }
 
-// Refuses a fault of F3 to F8.
+// Refuses a circuit with a fault of F3 to F8.
 fn check_names(alloc: Global, names: &Namespace) -> Result<(), Refusal>
     ensures { AnswersFrom (reference_faults names.now) names.now result }
 {
@@ -101,7 +101,7 @@ fn check_names(alloc: Global, names: &Namespace) -> Result<(), Refusal>
     check_memories(names.circuit())
 }
 
-// Refuses the first of F4 to F6.
+// Refuses a circuit with a fault of F4 to F6.
 fn check_connections(alloc: Global, names: &Namespace) -> Result<(), Refusal>
     ensures { Answers (in_modules second_connections names.now ++ (in_modules unconnected_sinks names.now ++ in_modules connected_sources names.now)) result }
 {

@@ -36,7 +36,7 @@ pub fn key_of(reference: &Reference) -> Key
 ///
 /// # Errors
 ///
-/// `AllocError` where memory is refused.
+/// Returns `AllocError` if an allocation fails.
 pub fn text_of(alloc: Global, key: Key) -> Result<Name, AllocError>
     ensures { IfOk result (λ name. name ≡ written (reference_of key.entry)) }
 {
@@ -94,11 +94,11 @@ impl<'a> Connected<'a> {
         self.keys.contains(&key)
     }
 
-    /// Adds a reference; where it is there they stay the same.
+    /// Adds a reference. If it is already one of them they stay the same.
     ///
     /// # Errors
     ///
-    /// `AllocError` where memory is refused.
+    /// Returns `AllocError` if an allocation fails.
     pub fn add(&mut self, key: Key<'a>) -> Result<(), AllocError>
         ensures { OnOk result ((r : References) → is_among self.new r ≡ is_among (self.old ++ reference_of key.entry ∷ []) r) }
     {

@@ -12,8 +12,8 @@ use gg_ast::Stmt;
 use gg_names::{Namespace, connection, is_sink, is_source, written};
 use std::alloc::{AllocError, Global};
 
-/// Refuses the first connection of the circuit whose sink is connected already; else tells for each module what is
-/// connected in it.
+/// Refuses the first connection of the circuit whose sink is already connected. If there is none, returns what is connected
+/// in each module.
 pub fn check_second<'a>(alloc: Global, names: &Namespace<'a>) -> Result<Vec<Connected<'a>>, Refusal>
     ensures answers { Answers (in_modules second_connections names.now) result }
     ensures connected { IfOk result (λ all. TellsFirst names.now.modules (length names.now.modules) all.items) }
@@ -28,7 +28,7 @@ pub fn check_second<'a>(alloc: Global, names: &Namespace<'a>) -> Result<Vec<Conn
     Ok(all)
 }
 
-// Refuses the first second connection of a module; else tells what is connected in it.
+// Refuses the first second connection of a module. If there is none, returns what is connected in the module.
 fn connected_in<'a>(
     alloc: Global,
     names: &Namespace<'a>,
@@ -61,7 +61,7 @@ fn connected_by<'a>(
     Ok(connected)
 }
 
-// Refuses the connection of a sink that is connected by the statements before.
+// Refuses the connection of a sink that an earlier statement connects.
 fn connected_once(
     alloc: Global,
     names: &Namespace,
@@ -84,7 +84,7 @@ fn connected_once(
     Ok(())
 }
 
-// Notes what the statement connects.
+// Records what the statement connects.
 fn mark<'a>(connected: &mut Connected<'a>, statement: &'a Stmt) -> Result<(), AllocError>
     ensures { (before : List AStatement) → TellsConnected before connected.old → OnOk result (TellsConnected (before ++ statement.now ∷ []) connected.new) }
 {
@@ -104,7 +104,7 @@ pub fn check_sources(alloc: Global, names: &Namespace) -> Result<(), Refusal>
     Ok(())
 }
 
-// Refuses the first of a module.
+// Refuses the first connection of a module to a source.
 fn sources_in(alloc: Global, names: &Namespace, number: u32) -> Result<(), Refusal>
     requires { number < length names.now.modules }
     ensures { Answers (connected_sources names.now.modules (module_of names.now number)) result }
@@ -113,7 +113,7 @@ fn sources_in(alloc: Global, names: &Namespace, number: u32) -> Result<(), Refus
     sources_by(alloc, names, number, this.statements())
 }
 
-// Refuses the first of these statements of a module.
+// Refuses the first connection to a source among these statements of a module.
 fn sources_by(
     alloc: Global,
     names: &Namespace,

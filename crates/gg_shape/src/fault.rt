@@ -2,7 +2,7 @@
 use gg_ast::Report;
 use gg_bits::{Name, Names, Op1, Op2, OpN};
 
-/// A fault of a circuit. Lines are counted from 1; each text begins with the code that is given here.
+/// A fault of a circuit. Lines are counted from 1. The text of each fault begins with the code that is given here.
 #[derive(Debug, Drop)]
 pub enum Fault {
     /// F1: no module has the circuit's name.
@@ -31,9 +31,9 @@ pub enum Fault {
         /// The sink, as written.
         name: Name,
     },
-    /// F5: a sink that isn't a register has no connection.
+    /// F5: a sink that is not a register has no connection.
     Unconnected {
-        /// The line on which the sink is declared.
+        /// The line of the sink's declaration.
         line: u64,
         /// The sink.
         name: Name,
@@ -45,31 +45,31 @@ pub enum Fault {
         /// The source, as written.
         name: Name,
     },
-    /// F7: modules hold each other in a ring.
+    /// F7: modules have instances of each other in a ring.
     ModuleRing {
-        /// The modules, each of which holds the next; the first stands again at the end.
+        /// The modules, each of which has an instance of the next; the first is repeated at the end.
         modules: Names,
     },
-    /// F8: a field of a memory is missing, stands twice or is out of range.
+    /// F8: a field of a memory is missing, comes twice or is out of range.
     MemoryField {
-        /// The line on which the memory is declared.
+        /// The line of the memory's declaration.
         line: u64,
         /// The field.
         key: MemoryKey,
     },
-    /// F9: an operand or what is connected has the wrong kind or is a Clock, a condition isn't `UInt<1>`, a clock's place
-    /// holds no reference of type Clock, or a register is a Clock.
+    /// F9: an operand or a connected value has the wrong kind or is a Clock, a condition is not `UInt<1>`, an expression in a
+    /// clock position is not a reference of type Clock, or a register is a Clock.
     WrongKind {
-        /// The line of what is wrong.
+        /// The line of the fault.
         line: u64,
-        /// The operation or the statement that it stands in.
+        /// The operation or the statement with the fault.
         word: Word,
     },
     /// F10: the width of a type or a result is 0 or above 128.
     WrongWidth {
         /// The line of the type or the operation.
         line: u64,
-        /// The width in bits; 4,294,967,295 stands for any greater one.
+        /// The width in bits. 4,294,967,295 stands for any greater width.
         width: u32,
     },
     /// F11: a parameter of an operation is out of range.
@@ -93,8 +93,8 @@ pub enum Fault {
         /// The sink's width in bits.
         sink: u32,
     },
-    /// F14: a Clock that is read leads to no input port, a Clock is invalid, an output port is a Clock, or an input port is
-    /// the second Clock of the top.
+    /// F14: a Clock that is read does not lead to an input port, a Clock is invalid, an output port is a Clock, or an input port
+    /// is the second Clock of the top.
     WrongClock {
         /// The line of the reference, the statement or the port.
         line: u64,
@@ -105,7 +105,7 @@ pub enum Fault {
     OverLimit {
         /// What is counted.
         limit: Limit,
-        /// The count; 18,446,744,073,709,551,615 stands for any greater one.
+        /// The count. 18,446,744,073,709,551,615 stands for any greater count.
         count: u64,
     },
     /// F16: signals read each other in a ring.
@@ -115,7 +115,7 @@ pub enum Fault {
     },
 }
 
-/// A field of a memory, by the word that it begins with.
+/// A field of a memory, by its first word.
 #[derive(Clone, Copy, Debug, PartialEq, Eq)]
 pub enum MemoryKey {
     /// `data-type`.
@@ -130,7 +130,7 @@ pub enum MemoryKey {
     ReadUnderWrite,
 }
 
-/// Where a value of the wrong kind stands: in an operation, a connection, or a statement that begins with a word.
+/// Where a value of the wrong kind is: in an operation, a connection, or a statement with this first word.
 #[derive(Clone, Copy, Debug, PartialEq, Eq)]
 pub enum Word {
     /// An operation on one value.
@@ -156,7 +156,7 @@ pub enum Word {
 /// A count that has a limit.
 #[derive(Clone, Copy, Debug, PartialEq, Eq)]
 pub enum Limit {
-    /// `depth`: how deep instances lie in one another.
+    /// `depth`: how deep instances are nested.
     Depth,
     /// `signals`: the signals of the flat circuit.
     Signals,
@@ -168,12 +168,12 @@ pub enum Limit {
     Instances,
 }
 
-/// What a check answers in place of Ok.
+/// What a check returns in place of Ok.
 #[derive(Debug, Drop)]
 pub enum Refusal {
     /// The first fault of the circuit.
     F(Fault),
-    /// Memory was refused.
+    /// An allocation failed.
     NoMemory,
 }
 

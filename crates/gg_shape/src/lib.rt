@@ -1,11 +1,11 @@
-//! The static faults of a circuit's shape: names, references, connections, module rings, memories' fields (FIRRTL
+//! The static faults of a circuit's shape: names, references, connections, rings of modules, memories' fields (FIRRTL
 //! Specification, "Circuits and Modules", "Statements", "Namespaces", "Flows", "Instances", "Memories").
 //!
-//! `shape` answers Ok exactly where a circuit has no fault of F1 to F8, and else one of the least number: of F1 to F6 and F8
-//! the first in the order of the text, of F7 any ring (`AnswersShape`). Modules that the top doesn't reach are judged too.
-//! `shaped` answers the namespace that it made, so that names are collected once.
+//! `shape` returns Ok exactly if a circuit has no fault of F1 to F8, and otherwise one of the least number: for F1 to F6 and
+//! F8 the first in the order of the text, for F7 any ring (`AnswersShape`). Modules that the top doesn't reach are checked
+//! too. `shaped` also returns the namespace that it made, so that names are collected only once.
 //!
-//! A fault prints as its text: its code, and what it carries. The faults F9 to F16 of the crates above stand here too.
+//! A fault prints as its text: its code and its data. The faults F9 to F16, of higher crates, are declared here too.
 //!
 //! Time and memory are linear in the circuit.
 #![tactic(auto)]

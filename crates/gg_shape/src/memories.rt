@@ -1,4 +1,4 @@
-//! F8: memories' fields that are missing, stand twice or are out of range.
+//! F8: memories' fields that are missing, come twice or are out of range.
 ghost use Rattle.std.specs.Prelude.{◌≡◌, ℕ, List, flat_map, option_to_list};
 ghost use Rattle.gg_shape.specs.Faults.{Answers};
 ghost use Rattle.gg_shape.specs.Memories.{given_by, given, is_right as stands_right, wrong_field, wrong_fields, wrong_times, wrong_by, wrong_in_module, memory_faults};
@@ -14,7 +14,7 @@ pub fn check_memories(circuit: &Circuit) -> Result<(), Refusal>
     check_modules(circuit.modules())
 }
 
-// Refuses the first of these modules.
+// Refuses the first wrong field of these modules' memories.
 fn check_modules(modules: &[Module]) -> Result<(), Refusal>
     ensures { Answers (flat_map wrong_in_module modules.now) result }
 {
@@ -24,14 +24,14 @@ fn check_modules(modules: &[Module]) -> Result<(), Refusal>
     Ok(())
 }
 
-// Refuses the first of a module.
+// Refuses the first wrong field of a module's memories.
 fn check_module(this: &Module) -> Result<(), Refusal>
     ensures { Answers (wrong_in_module this.now) result }
 {
     check_statements(this.statements())
 }
 
-// Refuses the first of these statements.
+// Refuses the first wrong field of the memories among these statements.
 fn check_statements(statements: &[Stmt]) -> Result<(), Refusal>
     ensures { Answers (flat_map wrong_by statements.now) result }
 {
@@ -41,7 +41,7 @@ fn check_statements(statements: &[Stmt]) -> Result<(), Refusal>
     Ok(())
 }
 
-// Refuses the first of a statement, if it is a memory.
+// Refuses the first wrong field of a statement, if it is a memory.
 fn check_statement(statement: &Stmt) -> Result<(), Refusal>
     ensures { Answers (wrong_by statement.now) result }
 {
@@ -68,7 +68,7 @@ fn check_fields(line: u64, fields: &[Field]) -> Result<(), Refusal>
     check_times(line, fields)
 }
 
-// Refuses the first wrong latency, then a wrong read-under-write.
+// Refuses the first wrong latency, and then a wrong read-under-write.
 fn check_times(line: u64, fields: &[Field]) -> Result<(), Refusal>
     ensures { Answers (wrong_times line fields.now) result }
 {
@@ -77,7 +77,7 @@ fn check_times(line: u64, fields: &[Field]) -> Result<(), Refusal>
     check_key(line, fields, MemoryKey::ReadUnderWrite)
 }
 
-// Refuses a memory in which what this key gives is wrong.
+// Refuses a memory if its fields for this key are wrong.
 fn check_key(line: u64, fields: &[Field], key: MemoryKey) -> Result<(), Refusal>
     ensures { Answers (wrong_field line fields.now key) result }
 {
@@ -88,7 +88,7 @@ fn check_key(line: u64, fields: &[Field], key: MemoryKey) -> Result<(), Refusal>
     }
 }
 
-/// How often a key is given, and with which number.
+/// How often a key comes, and with which number.
 #[derive(Clone, Copy)]
 pub enum Given {
     /// Not at all.
@@ -99,7 +99,7 @@ pub enum Given {
     Often,
 }
 
-// What the fields of a memory give for a key.
+// How often the fields of a memory have a key.
 fn given_for(key: MemoryKey, fields: &[Field]) -> Given
     ensures { result ≡ count_of (given key fields.now) }
 {
@@ -110,7 +110,7 @@ fn given_for(key: MemoryKey, fields: &[Field]) -> Given
     found
 }
 
-// What is given once one more field is read.
+// The same after one more field.
 fn with(found: Given, number: Option<u32>) -> Given
     ensures { result ≡ with_value found (option_to_list number) }
 {
@@ -121,7 +121,7 @@ fn with(found: Given, number: Option<u32>) -> Given
     }
 }
 
-// What a field gives for a key: its number, or 0 for a type and a word.
+// The number of a field, if it has this key: 0 for a type and a word.
 fn number_for(key: MemoryKey, field: &MemoryField) -> Option<u32>
     ensures { option_to_list result ≡ given_by key field.now }
 {
@@ -135,7 +135,7 @@ fn number_for(key: MemoryKey, field: &MemoryField) -> Option<u32>
     }
 }
 
-// Whether what is given for a key is right.
+// Whether a key comes as often as it should, with a valid number.
 fn is_right(key: MemoryKey, found: Given) -> bool
     ensures { (numbers : List ℕ) → found ≡ count_of numbers → result ≡ stands_right key numbers }
 {

@@ -1,4 +1,4 @@
-//! F3: references that name nothing that has a value, and modules that aren't there.
+//! F3: references that name nothing that has a value, and instances of modules that don't exist.
 ghost use Rattle.std.specs.Prelude.{◌≡◌, ◌++◌, ◌<◌, length};
 ghost use Rattle.gg_names.specs.Namespace.{entries_by, name_by};
 ghost use Rattle.gg_shape.specs.Faults.{Answers};
@@ -11,19 +11,19 @@ use gg_bits::Name;
 use gg_names::{Namespace, declared_name, has_value, written};
 use std::alloc::Global;
 
-/// A place in a module: what is declared there.
+/// A position in a module: what is declared before it.
 #[derive(Clone, Copy)]
 pub struct Before {
     /// The module.
     pub number: u32,
-    /// How many statements stand before this place.
+    /// How many statements are before this position.
     pub statements: usize,
     /// How many names are declared by the ports and those statements.
     pub names: usize,
 }
 
-/// Refuses the first reference of the circuit that names nothing that has a value, and the first module of an instance that
-/// isn't there.
+/// Refuses the first reference of the circuit that names nothing that has a value, or the first instance of a module that
+/// doesn't exist, whichever comes first.
 pub fn check_references(alloc: Global, names: &Namespace) -> Result<(), Refusal>
     ensures { Answers (in_modules unknown_names names.now) result }
 {
@@ -33,7 +33,7 @@ pub fn check_references(alloc: Global, names: &Namespace) -> Result<(), Refusal>
     Ok(())
 }
 
-// Refuses the first of a module.
+// Refuses the first unknown name of a module.
 fn check_module(alloc: Global, names: &Namespace, number: u32) -> Result<(), Refusal>
     requires { number < length names.now.modules }
     ensures { Answers (unknown_names names.now.modules (module_of names.now number)) result }
@@ -42,7 +42,7 @@ fn check_module(alloc: Global, names: &Namespace, number: u32) -> Result<(), Ref
     check_statements(alloc, names, number, this.ports().len(), this.statements())
 }
 
-// Refuses the first of a module's statements.
+// Refuses the first unknown name of a module's statements.
 fn check_statements(
     alloc: Global,
     names: &Namespace,
@@ -87,7 +87,7 @@ fn declared_count(statement: &Stmt) -> usize
     }
 }
 
-// Refuses the first of a statement; a register's reset stands behind its name.
+// Refuses the first unknown name of a statement. In its own reset a register's name is known.
 fn known_by(
     alloc: Global,
     names: &Namespace,
@@ -128,7 +128,7 @@ fn known_by(
     }
 }
 
-// Refuses the module of an instance that isn't there.
+// Refuses an instance of a module that doesn't exist.
 fn known_module(names: &Namespace, line: u64, name: &Name) -> Result<(), Refusal>
     ensures { Answers (unknown_module names.now.modules line name.now) result }
 {

@@ -1,4 +1,4 @@
-//! F7: modules that hold each other in a ring.
+//! F7: modules that have instances of each other in a ring.
 ghost use Rattle.std.specs.Prelude.{◌≡◌, ◌<◌, ◌∷◌, ℕ, List, length, map, slice_index, IfOk};
 ghost use Rattle.gg_names.specs.Modules.{module_at};
 ghost use Rattle.gg_shape.specs.Rings.{HasNoRing, IsRingOf, TellsRing, ring_names};
@@ -11,7 +11,7 @@ use gg_names::Namespace;
 use gg_walk::{WalkFault, walk};
 use std::alloc::{AllocError, Global};
 
-/// Refuses a ring of modules; any one of the circuit may be told.
+/// Refuses a circuit with a ring of modules; any one ring may be reported.
 pub fn check_rings(alloc: Global, names: &Namespace) -> Result<(), Refusal>
     ensures { AnswersRing names.now result }
 {
@@ -32,7 +32,7 @@ fn ring_fault(alloc: Global, circuit: &Circuit, ring: &[u32]) -> Result<(), Refu
     }))
 }
 
-// The names of the modules of a ring, the first again at the end.
+// The names of the modules of a ring, the first repeated at the end.
 fn names_of(alloc: Global, circuit: &Circuit, ring: &[u32]) -> Result<Names, AllocError>
     requires { (i : ℕ) → i < length ring.now → slice_index ring.now i < length circuit.now.modules }
     ensures { IfOk result (λ names. names ≡ ring_names circuit.now ring.now) }

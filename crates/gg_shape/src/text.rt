@@ -7,7 +7,7 @@ use gg_ast::Report;
 use std::error::Error;
 use std::fmt;
 
-/// The fault's code, and what it carries, as the program prints it behind `golden: circuit: `.
+/// The fault's code and its data, as the program prints them after `golden: circuit: `.
 impl fmt::Display for Fault {
     ghost use Rattle.std.specs.Prelude.{Some};
     ghost use Rattle.gg_shape.specs.FaultText.{fault_text};
@@ -52,7 +52,7 @@ impl fmt::Display for Fault {
 
 impl Error for Fault {}
 
-/// The fault's text, or that memory ran out.
+/// The fault's text, or that an allocation failed.
 impl fmt::Display for Refusal {
     ghost use Rattle.std.specs.Prelude.{Some};
     ghost use Rattle.gg_shape.specs.FaultText.{refusal_text};
@@ -69,7 +69,7 @@ impl fmt::Display for Refusal {
 
 impl Error for Refusal {}
 
-// The word that a field of a memory begins with.
+// The first word of a field of a memory.
 fn key_text(key: MemoryKey) -> &'static str
     ensures { result.now ≡ key_name key }
 {

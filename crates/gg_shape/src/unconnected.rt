@@ -32,7 +32,7 @@ impl<'a> Model for Inputs<'a> {
 }
 
 impl<'a> Inputs<'a> {
-    /// Those of a module.
+    /// The input ports of a module.
     pub fn of(alloc: Global, this: &'a Module) -> Result<Inputs<'a>, AllocError>
         ensures { IfOk result (λ inputs. inputs ≡ inputs_of this.now) }
     {
@@ -62,7 +62,7 @@ fn is_input(direction: Direction) -> bool
     }
 }
 
-/// Refuses the first sink of the circuit, other than a register, that is not connected, by what is connected in each module.
+/// Refuses the first sink of the circuit that is not a register and not connected, given what is connected in each module.
 pub fn check_unconnected(alloc: Global, names: &Namespace, all: &[Connected]) -> Result<(), Refusal>
     requires { TellsFirst names.now.modules (length names.now.modules) all.now }
     ensures { Answers (in_modules unconnected_sinks names.now) result }
@@ -71,7 +71,7 @@ pub fn check_unconnected(alloc: Global, names: &Namespace, all: &[Connected]) ->
     check_modules(alloc, names, inputs.as_slice(), all)
 }
 
-// The input ports of all modules. An instance's outputs are so passed over: a module may have many.
+// The input ports of all modules. They are listed apart, because a module may have many outputs.
 fn all_inputs<'a>(alloc: Global, circuit: &'a Circuit) -> Result<Vec<Inputs<'a>>, AllocError>
     ensures { IfOk result (λ all. all.items ≡ map inputs_of circuit.now.modules) }
 {
@@ -85,7 +85,7 @@ fn all_inputs<'a>(alloc: Global, circuit: &'a Circuit) -> Result<Vec<Inputs<'a>>
     Ok(all)
 }
 
-// Refuses the first of all modules.
+// Refuses the first unconnected sink of all modules.
 fn check_modules(
     alloc: Global,
     names: &Namespace,
@@ -103,7 +103,7 @@ fn check_modules(
     Ok(())
 }
 
-// Refuses the first of a module.
+// Refuses the first unconnected sink of a module.
 fn check_module(
     alloc: Global,
     names: &Namespace,
@@ -136,7 +136,7 @@ fn check_own(alloc: Global, connected: &Connected, port: &Port) -> Result<(), Re
     connected_or_free(alloc, connected, port.line, key, port_role(port.direction))
 }
 
-// Refuses the first of the statements.
+// Refuses the first unconnected sink that the statements declare.
 fn check_statements(
     alloc: Global,
     names: &Namespace,
@@ -153,7 +153,7 @@ fn check_statements(
     Ok(())
 }
 
-// Refuses the first of what a statement declares.
+// Refuses the first unconnected sink that a statement declares.
 fn check_statement(
     alloc: Global,
     names: &Namespace,
@@ -216,7 +216,7 @@ fn check_instance(
     }
 }
 
-// Refuses the first of these ports of an instance that is an input and is not connected.
+// Refuses the first of these ports of an instance that is an input and not connected.
 fn check_inputs(
     alloc: Global,
     connected: &Connected,
@@ -232,7 +232,7 @@ fn check_inputs(
     Ok(())
 }
 
-// Refuses a port of an instance that is an input and is not connected.
+// Refuses a port of an instance if it is an input and not connected.
 fn check_input(
     alloc: Global,
     connected: &Connected,
@@ -247,7 +247,7 @@ fn check_input(
     connected_or_free(alloc, connected, line, key, role)
 }
 
-// Refuses the first field of a memory that is not connected: of the readers, then of the writers.
+// Refuses the first field of a memory that is not connected: first of the readers, then of the writers.
 fn check_memory(
     alloc: Global,
     connected: &Connected,
@@ -261,7 +261,7 @@ fn check_memory(
     check_kind(alloc, connected, line, memory, PortKind::Writer, fields)
 }
 
-// Refuses the first of the ports of one kind.
+// Refuses the first field that is not connected of the ports of one kind.
 fn check_kind(
     alloc: Global,
     connected: &Connected,
@@ -278,7 +278,7 @@ fn check_kind(
     Ok(())
 }
 
-// Refuses the first of the ports of one kind that a field names.
+// Refuses the first field that is not connected of the ports of one kind in a memory's field.
 fn check_field(
     alloc: Global,
     connected: &Connected,
@@ -299,7 +299,7 @@ fn check_field(
     )
 }
 
-// The ports of one kind that a field names.
+// The ports of one kind that a memory's field names.
 fn names_as(kind: PortKind, field: &MemoryField) -> &[Name]
     ensures { result.now ≡ names_of_kind kind field.now }
 {
@@ -310,7 +310,7 @@ fn names_as(kind: PortKind, field: &MemoryField) -> &[Name]
     }
 }
 
-// Refuses the first of the ports of these names.
+// Refuses the first field that is not connected of the ports with these names.
 fn check_names(
     alloc: Global,
     connected: &Connected,
@@ -349,7 +349,7 @@ fn check_port(
     )
 }
 
-// Refuses the first of these fields of a port.
+// Refuses the first of these fields of a port that is not connected.
 fn check_port_fields(
     alloc: Global,
     connected: &Connected,
@@ -367,7 +367,7 @@ fn check_port_fields(
     Ok(())
 }
 
-// Refuses a field of a port that needs a connection and has none.
+// Refuses a field of a port that must be connected and isn't.
 fn check_port_field(
     alloc: Global,
     connected: &Connected,
@@ -383,7 +383,7 @@ fn check_port_field(
     connected_or_free(alloc, connected, line, key, Role::MemoryPort(kind, field))
 }
 
-// Refuses what needs a connection and has none.
+// Refuses a sink that must be connected and isn't.
 fn connected_or_free(
     alloc: Global,
     connected: &Connected,
