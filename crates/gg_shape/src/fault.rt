@@ -57,8 +57,8 @@ pub enum Fault {
         /// The field.
         key: MemoryKey,
     },
-    /// F9: an operand or a connected value has the wrong kind or is a Clock, a condition is not `UInt<1>`, an expression in a
-    /// clock position is not a reference of type Clock, or a register is a Clock.
+    /// F9: an operand or a connected value has the wrong kind or is a Clock, a condition is not `UInt<1>`, an expression
+    /// in a clock position is not a reference of type Clock, or a register is a Clock.
     WrongKind {
         /// The line of the fault.
         line: u64,
@@ -93,8 +93,8 @@ pub enum Fault {
         /// The sink's width in bits.
         sink: u32,
     },
-    /// F14: a Clock that is read does not lead to an input port, a Clock is invalid, an output port is a Clock, or an input port
-    /// is the second Clock of the top.
+    /// F14: a Clock that is read does not lead to an input port, a Clock is invalid, an output port is a Clock, or an
+    /// input port is the second Clock of the top.
     WrongClock {
         /// The line of the reference, the statement or the port.
         line: u64,

@@ -71,7 +71,7 @@ pub fn check_unconnected(alloc: Global, names: &Namespace, all: &[Connected]) ->
     check_modules(alloc, names, inputs.as_slice(), all)
 }
 
-// The input ports of all modules. They are listed apart, because a module may have many outputs.
+// The input ports of all modules. So the check of an instance skips its outputs, which may be many.
 fn all_inputs<'a>(alloc: Global, circuit: &'a Circuit) -> Result<Vec<Inputs<'a>>, AllocError>
     ensures { IfOk result (λ all. all.items ≡ map inputs_of circuit.now.modules) }
 {
