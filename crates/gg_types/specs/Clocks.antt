@@ -15,9 +15,9 @@ use Rattle.gg_types.specs.Named.{find_named}
 use Rattle.gg_types.specs.declared.clocks.Way.{Way}
 use Rattle.gg_types.specs.declared.clocks.Way.TheVariants.{FromOutside, FromDriver, Nowhere}
 
--- ---- the ways in which a Clock comes to the names of a module
+-- ---- where the names of a module get a Clock from
 
--- an input port has it from outside
+-- an input port gets it from outside
 abbrev pub way_of_port : Direction → Way
 way_of_port directions.Input = FromOutside
 way_of_port directions.Output = Nowhere
@@ -25,7 +25,7 @@ way_of_port directions.Output = Nowhere
 abbrev pub port_way : Port → List ℕ × Way
 port_way port = (port.name, way_of_port port.direction)
 
--- a wire and a node have it from their driver; a register, an instance and a memory have it in no way that is followed
+-- a wire and a node get it from their driver; a register, an instance and a memory from nowhere that is followed
 abbrev pub ways_by : statements.StmtKind → List (List ℕ × Way)
 ways_by (kinds.Wire name ty) = (name, FromDriver) ∷ []
 ways_by (kinds.Node name value) = (name, FromDriver) ∷ []
@@ -55,8 +55,8 @@ is_followed (Some Nowhere) = false
 
 -- ---- drivers
 
--- The name that a driver leads to: only a bare reference leads on, and a port of an instance and a field of a memory are no name
--- of the module.
+-- The name that a driver leads to. Only a bare reference leads on. A port of an instance and a field of a memory are not
+-- names of the module.
 abbrev pub bare_reference : Reference → Option (List ℕ)
 bare_reference (references.Local name) = Some name
 bare_reference (references.PortOf instance port) = None
@@ -70,8 +70,8 @@ bare (BinaryTerm o a b) = None
 bare (FixedTerm o a n m) = None
 bare (MuxTerm c a b) = None
 
--- what a statement drives, if it is a name: a node by its expression, the sink of a connection by its source, and what is
--- invalid by nothing that leads on
+-- The name that a statement drives, if it drives one, and where it leads. A node leads where its expression does, the sink
+-- of a connection where its source does. An invalid sink leads nowhere.
 abbrev pub driven_reference : Reference → Option (List ℕ) → Option (List ℕ × Option (List ℕ))
 driven_reference (references.Local name) lead = Some (name, lead)
 driven_reference (references.PortOf instance port) lead = None
@@ -104,11 +104,11 @@ lead_of name statements = lead_from name None statements
 
 -- ---- following them
 
--- the name to which a name is followed
+-- the next name after a name that is followed
 abbrev pub next_of : List (List ℕ × Way) → List Stmt → List ℕ → Option (List ℕ)
 next_of ways statements name = if is_followed (find_named name ways) then lead_of name statements else None
 
--- the name that n steps lead to; where no step leads on, the name stays
+-- the name that n steps lead to; if a name has no next one, it stays the same
 abbrev pub stay_or : List ℕ → Option (List ℕ) → List ℕ
 stay_or name None = name
 stay_or name (Some other) = other
@@ -117,8 +117,8 @@ abbrev pub followed : List (List ℕ × Way) → List Stmt → ℕ → List ℕ 
 followed ways statements zero name = name
 followed ways statements (suc n) name = followed ways statements n (stay_or name (next_of ways statements name))
 
--- A name leads to an input port where as many steps as there are names lead there: a longer way would pass a name twice, and so
--- be a ring.
+-- A name leads to an input port if as many steps as there are names lead to one. A longer way would pass a name twice, and
+-- so be a ring.
 abbrev pub leads : List (List ℕ × Way) → List Stmt → List ℕ → Bool
 leads ways statements name = is_outside (find_named (followed ways statements (length ways) name) ways)
 

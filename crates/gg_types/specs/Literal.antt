@@ -16,17 +16,17 @@ base Octal = 8
 base Decimal = 10
 base Hexadecimal = 16
 
--- how many stand before the first that is this one; all, where none is
+-- how many are before the first that equals this one; all of them if none does
 abbrev pub count_before : ℕ → List ℕ → ℕ
 count_before c [] = zero
 count_before c (d ∷ ds) = if c == d then zero else suc (count_before c ds)
 
--- What a digit is worth: its place among the digits, where letters are of either case. A character that is no digit stands in
--- no literal that is read; it counts as 16.
+-- The value of a digit: its place among the digits; letters may be of either case. A byte that is not a digit counts as 16;
+-- no literal that is read has one.
 unfoldable pub digit : ℕ → ℕ
 digit c = count_before (to_ascii_lowercase c) (codes "0123456789abcdef")
 
--- the number that digits spell in a radix, the first the highest
+-- the number that digits spell in a radix, the highest digit first
 abbrev pub digits_number : ℕ → List ℕ → ℕ
 digits_number radix digits = fold (λ n c. n * radix + digit c) 0 digits
 
@@ -42,11 +42,11 @@ literal_number l = signed_number l.negative (digits_number (base l.radix) l.digi
 abbrev pub literal_value : Literal → ℕ
 literal_value l = pattern_of l.width (literal_number l)
 
--- Whether a pattern of this kind and width stands for the number. No other than the number modulo 2 ^ w can, so it is the one
--- that is asked.
+-- Whether a pattern of this kind and width stands for the number. If one does, it is the number modulo 2 ^ w, so only that
+-- one is tested.
 abbrev pub is_number_of : Kind → ℕ → ℤ → Bool
 is_number_of kind w z = int_eq (number_of kind w (pattern_of w z)) z
 
--- a literal fits its type where a pattern of the type stands for its number
+-- a literal fits its type if a pattern of the type stands for its number
 abbrev pub literal_fits : Literal → Bool
 literal_fits l = is_number_of l.kind l.width (literal_number l)

@@ -1,15 +1,15 @@
--- Lists of names, each with what stands behind it.
+-- Lists of names, each with a value.
 use Rattle.std.specs.Prelude.{◌≡◌, ℕ, ◌+◌, Bool, false, List, [], ◌∷◌, ◌++◌, Option, Some, None, length, take, slice_index_or, if◌then◌else◌}
 use Rattle.std.specs.Str.{bytes_eq}
 use Rattle.gg_ast.specs.Places.{place_of}
 use Rattle.gg_types.specs.declared.sort.Own.{Own}
 
--- what stands behind the first entry of a name
+-- the value of the first entry of a name
 abbrev pub find_named : {A : Type 0} → List ℕ → List (List ℕ × A) → Option A
 find_named name [] = None
 find_named name (e ∷ es) = if bytes_eq name e.0 then Some e.1 else find_named name es
 
--- names, each with what it has of its own, as far as that goes
+-- names, each with its type data, as far as that list goes
 abbrev pub owned : List (List ℕ) → List Own → List (List ℕ × Option Own)
 owned [] os = []
 owned (name ∷ names) [] = []

@@ -1,5 +1,5 @@
--- The type of what a reference names. A port, a wire, a register and a node have the type that they are declared with, or that
--- of their expression; a port of an instance has the type that its module gives it; a field of a memory has its own.
+-- The type of what a reference names. A port, a wire and a register have the type that they are declared with, a node that
+-- of its expression. A port of an instance has the type that its module gives it. A field of a memory has its own.
 -- Sources: FIRRTL Specification, "Ground Types", "Instances", "Memories".
 use Rattle.std.specs.Prelude.{ℕ, List, [], ◌∷◌, Option, Some, None, option_map}
 use Rattle.gg_bits.specs.Shape.{uint}
@@ -25,7 +25,7 @@ use Rattle.gg_types.specs.Sorts.{sort_of, bits}
 
 -- ---- memories
 
--- what a field says counts before what later ones say
+-- what an earlier field says counts before what later ones say
 abbrev pub word_type_by : MemoryField → Option GroundType → Option GroundType
 word_type_by (field.DataType ty) later = Some ty
 word_type_by (field.Depth n) later = later
@@ -54,7 +54,7 @@ abbrev pub depth_of : List Field → Option ℕ
 depth_of [] = None
 depth_of (f ∷ fs) = depth_by f.kind (depth_of fs)
 
--- an address names each word; `en` and `mask` are one bit, `clk` is a Clock, `data` is a word
+-- an address can name each word; `en` and `mask` are one bit, `clk` is a Clock, `data` is a word
 abbrev pub field_sort : Option GroundType → Option ℕ → PortField → Option Sort
 field_sort word depth Addr = option_map (λ n. bits (uint (address_width n))) depth
 field_sort word depth En = Some (bits (uint 1))
@@ -62,7 +62,7 @@ field_sort word depth Clk = Some Clock
 field_sort word depth Data = option_map sort_of word
 field_sort word depth Mask = Some (bits (uint 1))
 
--- ---- what a declared name has of its own
+-- ---- the type data of a declared name
 
 -- a port
 abbrev pub port_own : Port → List ℕ × Option Own
@@ -84,7 +84,7 @@ field_of (own.Memory word depth) field = field_sort word depth field
 
 -- ---- references
 
--- the type of what has this role, by what the first name of its reference has of its own
+-- the type of what has this role, given the type data of the first name of its reference
 abbrev pub typed_by : Own → Role → Option Sort
 typed_by o roles.InputPort = single o
 typed_by o roles.OutputPort = single o
@@ -103,12 +103,12 @@ typed (Some None) role = Some None
 typed (Some (Some o)) None = None
 typed (Some (Some o)) (Some role) = option_map (λ s. Some s) (typed_by o role)
 
--- What a reference names, by the roles of all that can be written in the module and by what the names that are declared so far
--- have of their own: nothing, or something with a type, or a node whose expression has a fault and which has none.
+-- What a reference names, by the roles of all that can be written in the module and by the type data of the names that are
+-- declared so far: nothing, something with a type, or a node that has no type because its expression has a fault.
 abbrev pub known_entry : List (Reference × Role) → List (List ℕ × Option Own) → Reference → Option (Option Sort)
 known_entry roles known r = typed (find_named (first_name r) known) (meaning_of roles r)
 
--- the type, where there is one
+-- the type, if there is one
 abbrev pub known_sort : Option (Option Sort) → Option Sort
 known_sort None = None
 known_sort (Some s) = s

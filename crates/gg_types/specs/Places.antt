@@ -10,7 +10,7 @@ use Rattle.gg_types.specs.Clocks.{is_followed, lead_of}
 abbrev pub place_in : List ℕ → List (List ℕ × Way) → Option ℕ
 place_in name ways = place_of name (map (λ w. w.0) ways)
 
--- the place that a name at a place leads to; where it leads to no declared name, its own
+-- the place that a name at a place leads to; the same place if it leads to no declared name
 abbrev pub next_at : List (List ℕ × Way) → ℕ → Option (List ℕ) → ℕ
 next_at ways place None = place
 next_at ways place (Some name) = unwrap_or (place_in name ways) place
@@ -24,7 +24,7 @@ pub record ArePlaces (n : ℕ) (places : List ℕ) : Type 0 where
   pub length_is : length places ≡ n
   pub within : (k : ℕ) → k < n → slice_index places k < n
 
--- the places tell, at the place of a name, where its driver leads by these statements
+-- the list has, at the place of a name, where its driver leads by these statements
 pub record TellsNext (ways : List (List ℕ × Way)) (statements : List Stmt) (next : List ℕ) : Type 0 where
   pub places : ArePlaces (length ways) next
   pub told : (name : List ℕ) (place : ℕ) → place_in name ways ≡ Some place → slice_index next place ≡ next_place ways statements name place
@@ -34,7 +34,7 @@ set_next ways next d None = next
 set_next ways next d (Some place) =
     if is_followed (find_named d.0 ways) then slice_set next place (next_at ways place d.1) else next
 
--- the places after a statement has been read that drives a name
+-- the places after a statement that may drive a name
 abbrev pub with_driven : List (List ℕ × Way) → List ℕ → Option (List ℕ × Option (List ℕ)) → List ℕ
 with_driven ways next None = next
 with_driven ways next (Some d) = set_next ways next d (place_in d.0 ways)

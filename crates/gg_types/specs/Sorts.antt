@@ -6,7 +6,7 @@ use Rattle.gg_ast.specs.declared.module.GroundType.TheVariants as types
 use Rattle.gg_types.specs.declared.sort.Sort.{Sort}
 use Rattle.gg_types.specs.declared.sort.Sort.TheVariants.{Bits, Clock}
 
--- A written type, whatever its width: a port of a module further down the file is used before its own line is judged.
+-- A written type, whatever its width: a port of a module may be used in the file before its own line is checked.
 abbrev pub sort_of : GroundType → Sort
 sort_of (types.UInt w) = Bits kind.UInt w
 sort_of (types.SInt w) = Bits kind.SInt w

@@ -1,4 +1,4 @@
--- What `types` answers: a circuit without faults, with the order of its modules.
+-- What `types` returns: a circuit without faults, with an order of its modules.
 -- Sources: FIRRTL Specification, "Ground Types", "Instances".
 use Rattle.std.specs.Prelude.{◌≡◌, ℕ, ◌<◌, List, [], length, slice_index_or}
 use Rattle.gg_bits.specs.Shape.{shape}
@@ -26,18 +26,18 @@ abbrev pub sort : Typing → Sort
 sort (Ground ty) = bits (shape ty)
 sort Clock = sorts.Clock
 
--- the list has for each declared name of a module what it has of its own
+-- the list has the type data of each declared name of a module
 pub record TellsOwn (modules : List ModuleTree) (m : ModuleTree) (own : List Own) : Type 0 where
   pub one_each : length own ≡ length (names_in m)
   pub told : owned (names_in m) own ≡ known_in modules m
 
--- .. for each of the first n modules
+-- the same, for each of the first n modules
 pub record TellModules (modules : List ModuleTree) (n : ℕ) (lists : List (List Own)) : Type 0 where
   pub count : length lists ≡ n
   pub each : (k : ℕ) → k < n → TellsOwn modules (module_at modules k) (slice_index_or lists k [])
 
--- The circuit has none of the faults F1 to F14; its modules stand in the order each behind all that it holds; the lists tell what its names
--- have of their own.
+-- The circuit has none of the faults F1 to F14. The order has each of its modules after all that it has instances of. The
+-- lists have the type data of its names.
 pub record IsTyped (circuit : CircuitTree) (order : List ℕ) (lists : List (List Own)) : Type 0 where
   pub shaped : IsShaped circuit
   pub faultless : type_faults circuit ≡ []

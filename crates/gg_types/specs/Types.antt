@@ -48,25 +48,25 @@ use Rattle.gg_types.specs.Sorts.{sort_of, bits}
 
 -- ---- references
 
--- A name that is not declared is no fault of types: it is F3, which is answered before them. It stands here so that the list
--- of faults is right for every circuit.
+-- A name that is not declared is not a fault of types: it is F3, which is checked before. It is here so that the list of
+-- faults is right for every circuit.
 abbrev pub undeclared : List (Reference × Role) → List (List ℕ × Option Own) → ℕ → Reference → List Fault
 undeclared roles known line r = fault_if (not (is_some (known_entry roles known r))) (UnknownName line (written r))
 
--- Whether a reference leads to an input port through the drivers of wires and nodes, by what holds of names. A port of an
--- instance and a field of a memory are no end.
+-- Whether a reference leads to an input port through the drivers of wires and nodes, by a test of names. A port of an
+-- instance and a field of a memory lead to none.
 abbrev pub is_traced : (List ℕ → Bool) → Reference → Bool
 is_traced traced (references.Local name) = traced name
 is_traced traced (references.PortOf instance port) = false
 is_traced traced (references.FieldOf memory port field) = false
 
--- a Clock that is read leads to an input port, else F14
+-- a Clock that is read leads to an input port, otherwise F14
 abbrev pub clock_faults : (List ℕ → Bool) → ℕ → Reference → Option Sort → List Fault
 clock_faults traced line r None = []
 clock_faults traced line r (Some (Bits k w)) = []
 clock_faults traced line r (Some Clock) = fault_if (not (is_traced traced r)) (WrongClock line (written r))
 
--- a Clock that doesn't has no type
+-- a Clock that doesn't lead to one has no type
 abbrev pub read_sort : (List ℕ → Bool) → Reference → Option Sort → Option Sort
 read_sort traced r None = None
 read_sort traced r (Some (Bits k w)) = Some (Bits k w)
@@ -74,7 +74,7 @@ read_sort traced r (Some Clock) = if is_traced traced r then Some Clock else Non
 
 -- ---- operations
 
--- What an operation makes of its operands' types: nothing where an operand has no type; no operation takes a Clock.
+-- What an operation makes of its operands' types: nothing if an operand has no type. No operation takes a Clock.
 abbrev pub result1 : (Shape → Result Shape Bad) → Option Sort → Option (Result Shape Bad)
 result1 op None = None
 result1 op (Some (Bits k w)) = Some (op (of_kind k w))
@@ -98,7 +98,7 @@ bad_faults line word bads.Kind = WrongKind line word ∷ []
 bad_faults line word (bads.Width w) = WrongWidth line w ∷ []
 bad_faults line word bads.Param = WrongParameter line word ∷ []
 
--- what is wrong with a result, and the type of one that is right
+-- what is wrong with a result, and the type of a valid one
 abbrev pub result_faults : ℕ → Word → Option (Result Shape Bad) → List Fault
 result_faults line word None = []
 result_faults line word (Some (Ok s)) = []
@@ -130,9 +130,9 @@ width_faults line (types.UInt w) = fault_if (not (is_width w)) (WrongWidth line 
 width_faults line (types.SInt w) = fault_if (not (is_width w)) (WrongWidth line w)
 width_faults line types.Clock = []
 
--- ---- places with a rule of their own
+-- ---- positions with a rule of their own
 
--- in a clock position stands a reference of type Clock; only a reference has that type
+-- in a clock position there is a reference of type Clock; only a reference has that type
 abbrev pub clock_position : ℕ → Word → Option Sort → List Fault
 clock_position line word None = []
 clock_position line word (Some (Bits k w)) = WrongKind line word ∷ []
@@ -159,13 +159,13 @@ connected line word (Some (Bits k w)) (Some Clock) = WrongKind line word ∷ []
 connected line word (Some Clock) (Some (Bits k w)) = WrongKind line word ∷ []
 connected line word (Some Clock) (Some Clock) = []
 
--- a register (the word `reg`) and the words of a memory (`mem`) are no Clocks
+-- a register (the word `reg`) and the words of a memory (`mem`) are not Clocks
 abbrev pub stored_type_faults : ℕ → Word → GroundType → List Fault
 stored_type_faults line word (types.UInt w) = width_faults line (types.UInt w)
 stored_type_faults line word (types.SInt w) = width_faults line (types.SInt w)
 stored_type_faults line word types.Clock = WrongKind line word ∷ []
 
--- a memory's type is judged on the line of its field; no other field has a type
+-- a memory's type is checked on the line of its field; no other field has a type
 abbrev pub field_faults : ℕ → MemoryField → List Fault
 field_faults line (field.DataType ty) = stored_type_faults line words.Memory ty
 field_faults line (field.Depth n) = []
@@ -178,7 +178,7 @@ field_faults line (field.ReadUnderWrite word) = []
 abbrev pub memory_type_faults : List Field → List Fault
 memory_type_faults fields = flat_map (λ f. field_faults f.line f.kind) fields
 
--- a Clock is not `is invalid`
+-- the sink of `is invalid` is not a Clock
 abbrev pub invalid_faults : ℕ → Reference → Option Sort → List Fault
 invalid_faults line r None = []
 invalid_faults line r (Some (Bits k w)) = []
@@ -186,8 +186,8 @@ invalid_faults line r (Some Clock) = WrongClock line (written r) ∷ []
 
 -- ---- expressions
 
--- In a module whose names have these roles, and where it holds of these names that they lead to an input port. What is known of
--- names is what those that are declared so far have of their own.
+-- The module's names have these roles, and a test says which of them lead to an input port. What is known of names is the
+-- type data of those that are declared so far.
 module _ (roles : List (Reference × Role)) (traced : List ℕ → Bool) where
   -- the type of an expression, if it and its parts have no fault
   abbrev pub sort_in : List (List ℕ × Option Own) → Term → Option Sort
@@ -224,7 +224,7 @@ module _ (roles : List (Reference × Role)) (traced : List ℕ → Bool) where
 
   -- ---- statements
 
-  -- a reset's condition, and its initial value as it is connected to the register
+  -- a reset's condition, and its initial value as connected to the register
   abbrev pub reset_faults : List (List ℕ × Option Own) → Option Sort → Option Reset → List Fault
   reset_faults known register None = []
   reset_faults known register (Some reset) =
@@ -232,34 +232,34 @@ module _ (roles : List (Reference × Role)) (traced : List ℕ → Bool) where
       ++ (faults_in known reset.line reset.init
       ++ connected reset.line words.Register register (sort_in known reset.init))
 
-  -- a register's type, its clock, and its reset, in which it is declared
+  -- a register's type, its clock, and its reset, for which it is already declared
   abbrev pub register_faults : List (List ℕ × Option Own) → ℕ → List ℕ → GroundType → Term → Option Reset → List Fault
   register_faults known line name ty clock reset =
       stored_type_faults line words.Register ty
       ++ (clock_faults_in known line words.Register clock
       ++ reset_faults (known ++ (name, Some (own.Single (sort_of ty))) ∷ []) (Some (sort_of ty)) reset)
 
-  -- what is connected, and then whether it may be
+  -- the two sides of a connection, and then whether they may be connected
   abbrev pub connection_faults : List (List ℕ × Option Own) → ℕ → Reference → Term → List Fault
   connection_faults known line sink source =
       undeclared roles known line sink
       ++ (faults_in known line source
       ++ connected line words.Connect (sort_of_reference roles known sink) (sort_in known source))
 
-  -- all arguments but the first are only typed
+  -- all arguments but the first need only have a type
   abbrev pub argument_faults : List (List ℕ × Option Own) → ℕ → List Argument → List Fault
   argument_faults known line [] = []
   argument_faults known line (Value e ∷ rest) = faults_in known line e ++ argument_faults known line rest
   argument_faults known line (Text t ∷ rest) = argument_faults known line rest
 
-  -- the first argument stands in a clock position
+  -- the first argument is in a clock position
   abbrev pub report_faults : List (List ℕ × Option Own) → ℕ → Word → List Argument → List Fault
   report_faults known line word [] = []
   report_faults known line word (Value e ∷ rest) =
       clock_faults_in known line word e ++ argument_faults known line rest
   report_faults known line word (Text t ∷ rest) = WrongKind line word ∷ argument_faults known line rest
 
-  -- the faults of a statement, where this is known of what is declared before it
+  -- the faults of a statement, given what is known of the names that are declared before it
   abbrev pub faults_of_kind : List (List ℕ × Option Own) → ℕ → statements.StmtKind → List Fault
   faults_of_kind known line (kinds.Wire name ty) = width_faults line ty
   faults_of_kind known line (kinds.Node name value) = faults_in known line value
@@ -310,7 +310,7 @@ is_input Output = false
 abbrev pub is_clock_input : Port → Bool
 is_clock_input port = is_clock port.ty && is_input port.direction
 
--- a port of type Clock is an input, and none where the top has one already (F14); a width is 1 to 128 (F10)
+-- a port of type Clock is an input, and the first one if its module is the top (F14); a width is 1 to 128 (F10)
 abbrev pub port_judged : Bool → Port → List Fault
 port_judged is_taken port =
     if is_clock port.ty
@@ -326,23 +326,23 @@ abbrev pub module_type_faults : Bool → List (Reference × Role) → (List ℕ 
 module_type_faults is_top roles traced m =
     along (port_faults is_top) m.ports ++ along (faults_of roles traced (map port_own m.ports)) m.statements
 
--- those of a module among these; the top is the module of the circuit's name
+-- those of one of these modules; the top is the module with the circuit's name
 abbrev pub faults_of_module : CircuitTree → ModuleTree → List Fault
 faults_of_module circuit m =
     module_type_faults (bytes_eq circuit.name m.name) (scope_of circuit.modules m) (leads_to_input m) m
 
--- The faults of F9 to F14 in the order of the text, module by module, whether the top reaches them or not; and F3 where a
--- name is not declared, which a circuit without faults of shape doesn't have.
+-- The faults of F9 to F14 in the order of the text, module by module, whether the top reaches them or not. Also F3 for a
+-- name that is not declared; a circuit without faults of shape has none.
 abbrev pub type_faults : CircuitTree → List Fault
 type_faults circuit = flat_map (faults_of_module circuit) circuit.modules
 
 -- ---- types of a whole module
 
--- what all declared names of a module have of their own, in the order of the file
+-- the type data of all declared names of a module, in the order of the file
 abbrev pub known_in : List ModuleTree → ModuleTree → List (List ℕ × Option Own)
 known_in modules m = known_after (scope_of modules m) (leads_to_input m) (map port_own m.ports) m.statements
 
--- the type of what a reference names in a module, a Clock whether it leads to an input port or not
+-- the type of what a reference names in a module; for a Clock, whether it leads to an input port or not
 abbrev pub sort_named : List ModuleTree → ModuleTree → Reference → Option Sort
 sort_named modules m r = sort_of_reference (scope_of modules m) (known_in modules m) r
 

@@ -14,13 +14,13 @@ use gg_bits::{Items, Ty};
 use gg_names::Namespace;
 use std::marker::Model;
 
-/// A circuit with none of the faults F1 to F14: its names, what they have of their own, and the order of its modules.
+/// A circuit with none of the faults F1 to F14: its names, their type data (`Own`), and an order of its modules.
 ///
 /// A contract sees the circuit, and the modules' places in that order.
 #[derive(Drop)]
 pub struct Typed<'a> {
     pub(crate) names: Namespace<'a>,
-    // For each module, by its place.
+    // For each module, by its place, the type data of its names.
     pub(crate) own: Vec<Items<Own>>,
     pub(crate) order: Vec<u32>,
 }
@@ -40,7 +40,7 @@ impl<'a> Model for Typed<'a> {
 }
 
 impl<'a> Typed<'a> {
-    /// The names of the circuit, and the circuit itself. It has none of the faults F1 to F14.
+    /// The names of the circuit, and the circuit itself. The circuit has none of the faults F1 to F14.
     pub fn names(&self) -> &Namespace<'a>
         ensures names { result.now ≡ self.now.circuit }
         ensures shaped { IsShaped self.now.circuit }
@@ -49,7 +49,7 @@ impl<'a> Typed<'a> {
         &self.names
     }
 
-    /// The places of the circuit's modules in an order in which each stands behind all that it holds.
+    /// The places of the circuit's modules, in an order in which each comes after all that it has instances of.
     pub fn order(&self) -> &[u32]
         ensures order { result.now ≡ self.now.order }
         ensures ordered { IsOrderOf (Holds self.now.circuit.modules) (length self.now.circuit.modules) self.now.order }
@@ -57,7 +57,7 @@ impl<'a> Typed<'a> {
         self.order.as_slice()
     }
 
-    /// The type of what a reference names in the module at this place, or none where it names nothing that has a value.
+    /// The type of what a reference names in the module at this place, or none if it names nothing that has a value.
     pub fn typing(&self, number: u32, reference: &Reference) -> Option<Typing>
         requires there { number < length self.now.circuit.modules }
         ensures { option_map sort result ≡ sort_named self.now.circuit.modules (module_at self.now.circuit.modules number) reference.now }

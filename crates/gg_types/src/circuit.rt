@@ -1,4 +1,4 @@
-//! `types`: the first fault of a circuit's types, or the circuit that has none.
+//! `types`: the first fault of a circuit's types, or the circuit with its names' types.
 ghost use Rattle.std.specs.Prelude.{◌≡◌, ◌<◌, ◌++◌, ◌∷◌, ℕ, List, [], IfOk, length, flat_map, take};
 ghost use Rattle.std.specs.Str.{bytes_eq};
 ghost use Rattle.std.specs.List.{All};
@@ -24,15 +24,16 @@ use gg_shape::Refusal;
 use gg_walk::{Graph, WalkFault, walk};
 use std::alloc::{AllocError, Global};
 
-/// What `types` answers in place of Ok.
+/// What `types` returns in place of Ok.
 pub type TypeFault = Refusal;
 
-/// Refuses the first of F9 to F14 in the order of the text; else answers the circuit with its names' types. It may have none
-/// of F1 to F8, which `gg_shape::shape` tells before.
+/// Checks a circuit for the faults F9 to F14, and returns it with its names' types. The circuit must have none of the
+/// faults F1 to F8: `gg_shape::shape` checks these before.
 ///
 /// # Errors
 ///
-/// `Refusal::F` with that fault; `Refusal::NoMemory` where memory ran out.
+/// Returns `Refusal::F` with the first of F9 to F14 in the order of the text. Returns `Refusal::NoMemory` if an allocation
+/// fails.
 pub fn types<'a>(alloc: Global, circuit: &'a Circuit) -> Result<Typed<'a>, TypeFault>
     requires shaped { IsShaped circuit.now }
     ensures answers { Answers (type_faults circuit.now) result }
@@ -45,11 +46,12 @@ pub fn types<'a>(alloc: Global, circuit: &'a Circuit) -> Result<Typed<'a>, TypeF
     }
 }
 
-/// The same of a circuit whose names are collected.
+/// The same as `types`, for a circuit whose names are already collected.
 ///
 /// # Errors
 ///
-/// `Refusal::F` with the first of F9 to F14; `Refusal::NoMemory` where memory ran out.
+/// Returns `Refusal::F` with the first of F9 to F14 in the order of the text. Returns `Refusal::NoMemory` if an allocation
+/// fails.
 pub fn typed<'a>(alloc: Global, names: Namespace<'a>) -> Result<Typed<'a>, TypeFault>
     requires shaped { IsShaped names }
     ensures answers { Answers (type_faults names.entry) result }
@@ -60,7 +62,7 @@ pub fn typed<'a>(alloc: Global, names: Namespace<'a>) -> Result<Typed<'a>, TypeF
     Ok(Typed { names, own, order })
 }
 
-// The order of the modules, each behind all that it holds.
+// The order of the modules, each after all that it has instances of.
 fn module_order(alloc: Global, names: &Namespace) -> Result<Vec<u32>, Refusal>
     requires free { HasNoRing names.now }
     ensures order { IfOk result (λ order. IsOrderOf (Holds names.now.modules) (length names.now.modules) order.items) }
@@ -73,7 +75,7 @@ fn module_order(alloc: Global, names: &Namespace) -> Result<Vec<u32>, Refusal>
     }
 }
 
-// Refuses the first fault of the modules in their order, or answers what their names have of their own.
+// Returns the type data of the modules' names, or fails with the first fault in the order of the modules.
 fn judge_modules(alloc: Global, names: &Namespace) -> Result<Vec<Items<Own>>, Refusal>
     ensures answers { Answers (type_faults names.now) result }
     ensures own { IfOk result (λ lists. TellModules names.now.modules (length names.now.modules) lists.items) }
@@ -86,7 +88,7 @@ fn judge_modules(alloc: Global, names: &Namespace) -> Result<Vec<Items<Own>>, Re
     Ok(lists)
 }
 
-// Adds a list behind the others.
+// Adds a list as the last.
 fn add_list(lists: &mut Vec<Items<Own>>, own: Vec<Own>) -> Result<(), AllocError>
     ensures { IfOk result (λ _. lists.new.items ≡ lists.old.items ++ own.items ∷ []) }
 {
@@ -94,7 +96,7 @@ fn add_list(lists: &mut Vec<Items<Own>>, own: Vec<Own>) -> Result<(), AllocError
     Ok(())
 }
 
-// Refuses the first fault of a module, or answers what its names have of their own.
+// Returns the type data of a module's names, or fails with its first fault.
 fn judge_module(alloc: Global, names: &Namespace, number: u32) -> Result<Vec<Own>, Refusal>
     requires { number < length names.now.modules }
     ensures answers { Answers (faults_of_module names.now (module_at names.now.modules number)) result }

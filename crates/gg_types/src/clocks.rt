@@ -14,18 +14,18 @@ use gg_names::Namespace;
 use std::alloc::{AllocError, Global};
 use std::marker::Model;
 
-/// How a Clock comes to a declared name of a module.
+/// Where a declared name of a module gets a Clock from.
 #[derive(Clone, Copy, Debug, PartialEq, Eq)]
 pub enum Way {
     /// From outside the module: an input port.
     FromOutside,
-    /// From its driver: a wire, a node.
+    /// From its driver: a wire or a node.
     FromDriver,
-    /// In no way that is followed.
+    /// From nowhere that is followed.
     Nowhere,
 }
 
-/// The declared names of a module, each with the way in which a Clock comes to it. A contract sees it as their list.
+/// The declared names of a module, each with where it gets a Clock from. A contract sees it as their list.
 #[derive(Drop)]
 pub struct Ways<'b, 'a> {
     names: &'b Namespace<'a>,
@@ -166,7 +166,7 @@ pub fn trace(alloc: Global, names: &Namespace, number: u32) -> Result<Vec<bool>,
     Ok(flags)
 }
 
-// The place that each name's driver leads to.
+// The place that the driver of each name leads to.
 fn next_places(alloc: Global, ways: &Ways, statements: &[Stmt]) -> Result<Vec<usize>, AllocError>
     ensures { IfOk result (λ next. TellsNext ways.now statements.now next.items) }
 {
@@ -177,7 +177,7 @@ fn next_places(alloc: Global, ways: &Ways, statements: &[Stmt]) -> Result<Vec<us
     Ok(next)
 }
 
-// Each place below n, at itself.
+// Each place below n leads to itself.
 fn own_places(alloc: Global, n: usize) -> Result<Vec<usize>, AllocError>
     ensures len { IfOk result (λ places. length places.items ≡ n) }
     ensures own { IfOk result (λ places. (k : ℕ) → k < n → slice_index places.items k ≡ k) }
@@ -189,7 +189,7 @@ fn own_places(alloc: Global, n: usize) -> Result<Vec<usize>, AllocError>
     Ok(places)
 }
 
-// Notes where the statement makes a name lead.
+// Records where the statement makes a name lead.
 fn follow(ways: &Ways, next: &mut Vec<usize>, statement: &Stmt)
     requires { length next.old.items ≡ length ways.now }
     ensures { next.new.items ≡ with_driven ways.now next.old.items (driven_by statement.now.kind) }
@@ -231,7 +231,7 @@ fn bare(value: &Expr) -> Option<&Name>
     }
 }
 
-// Notes that a name, if it is followed, leads to another, or to itself where there is none.
+// Records that a name, if it is followed, leads to another, or to itself if there is no other.
 fn lead(ways: &Ways, next: &mut Vec<usize>, name: &Name, to: Option<&Name>)
     requires { length next.old.items ≡ length ways.now }
     ensures { next.new.items ≡ with_driven ways.now next.old.items (Some (name.now, option_copied to.entry)) }
@@ -244,7 +244,7 @@ fn lead(ways: &Ways, next: &mut Vec<usize>, name: &Name, to: Option<&Name>)
     }
 }
 
-// The place of a name; this one where there is none.
+// The place of a name, or this place if there is no name or it has none.
 fn place_or(ways: &Ways, place: usize, to: Option<&Name>) -> usize
     ensures { result ≡ next_at ways.now place (option_copied to.entry) }
 {
@@ -264,7 +264,7 @@ fn is_followed(way: Option<Way>) -> bool
     }
 }
 
-// Where each place leads in so many steps, by squaring.
+// Where each place leads in this many steps, by squaring.
 fn after_steps(alloc: Global, next: Vec<usize>, steps: usize) -> Result<Vec<usize>, AllocError>
     requires { ArePlaces (length next.items) next.items }
     ensures { IfOk result (λ reached. Reaches steps next.items reached.items) }
@@ -280,7 +280,7 @@ fn after_steps(alloc: Global, next: Vec<usize>, steps: usize) -> Result<Vec<usiz
     Ok(reached)
 }
 
-// The same as `through` where the number of steps is odd, else the first list.
+// The same as `through` if the number of steps is odd, otherwise the first list.
 fn through_if(
     alloc: Global,
     is_odd: bool,
@@ -297,7 +297,7 @@ fn through_if(
     }
 }
 
-// For each place of the first list the place that the second gives it.
+// For each place of the first list, the place that the second has there.
 fn through(alloc: Global, first: &Vec<usize>, second: &Vec<usize>) -> Result<Vec<usize>, AllocError>
     requires { (k : ℕ) → k < length first.now.items → slice_index first.now.items k < length second.now.items }
     ensures { IfOk result (λ places. places.items ≡ map (slice_index second.now.items) first.now.items) }

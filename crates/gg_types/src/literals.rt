@@ -9,8 +9,8 @@ use crate::places::is_width;
 use gg_ast::{Literal, Radix};
 use gg_bits::{Kind, Ty, Val};
 
-/// A literal's type and the pattern of its number, or none where its width is 0 or above 128 or where no pattern of its
-/// type stands for its number.
+/// A literal's type and the pattern of its number. None if its width is 0 or above 128, or if no pattern of its type stands
+/// for its number.
 pub fn literal(constant: &Literal) -> Option<(Ty, Val)>
     ensures none { IfNone result (literal_shape constant.now ≡ None) }
     ensures some { IfSome result (λ r. literal_shape constant.now ≡ Some (shape r.0)) }
@@ -46,7 +46,7 @@ fn radix_base(radix: Radix) -> u128
     }
 }
 
-// What a digit is worth; 16 for a byte that is none.
+// The value of a digit; 16 for a byte that is not a digit.
 fn digit_value(byte: u8) -> u128
     ensures { result ≡ digit byte }
 {
@@ -56,7 +56,7 @@ fn digit_value(byte: u8) -> u128
     }
 }
 
-// The number that the digits spell, or none where it is 2 to 128 or more.
+// The number that the digits spell, or none if it is 2 to the power of 128 or more.
 fn digits_number(radix: u128, digits: &[u8]) -> Option<u128>
     requires some { 2 ≤ radix }
     requires few { radix ≤ 16 }
@@ -73,7 +73,7 @@ fn digits_number(radix: u128, digits: &[u8]) -> Option<u128>
     Some(number)
 }
 
-// The number with one more digit, or none where it is 2 to 128 or more.
+// The number with one more digit, or none if it is 2 to the power of 128 or more.
 fn with_digit(number: u128, radix: u128, digit: u128) -> Option<u128>
     ensures some { IfSome result (λ n. n ≡ number * radix + digit) }
     ensures none { IfNone result (2 ^ 128 ≤ number * radix + digit) }
@@ -84,8 +84,8 @@ fn with_digit(number: u128, radix: u128, digit: u128) -> Option<u128>
     }
 }
 
-// Whether a pattern of this kind and width stands for the number of this sign and size: of a UInt of w bits 0 to 2^w - 1, of
-// an SInt -2^(w-1) to 2^(w-1) - 1.
+// Whether a pattern of this kind and width stands for the number with this sign and size. A UInt of w bits has the numbers
+// 0 to 2^w - 1, an SInt -2^(w-1) to 2^(w-1) - 1.
 fn is_number_of(kind: Kind, width: u32, negative: bool, size: u128) -> bool
     requires positive { 1 ≤ width }
     requires bounded { width ≤ 128 }
@@ -100,7 +100,7 @@ fn is_number_of(kind: Kind, width: u32, negative: bool, size: u128) -> bool
     }
 }
 
-// The pattern of the number of this sign and size.
+// The pattern of the number with this sign and size.
 fn pattern(width: u32, negative: bool, size: u128) -> u128
     requires positive { 1 ≤ width }
     requires bounded { width ≤ 128 }

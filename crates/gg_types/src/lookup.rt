@@ -14,7 +14,7 @@ use gg_bits::Name;
 use gg_names::{Namespace, PortField, Role, first_name};
 
 impl<'b, 'a> Known<'b, 'a> {
-    /// The type of what a reference names, if its first name is among those that are known.
+    /// The type of what a reference names, if the type data of its first name is known.
     pub fn sort(&self, reference: &Reference) -> Option<Sort>
         ensures { option_map (λ s. Some s) result ≡ known_entry (roles_seen self.now) (owned_seen self.now) reference.now }
     {
@@ -32,7 +32,7 @@ impl<'b, 'a> Known<'b, 'a> {
     }
 }
 
-/// The type of what a reference names in a module, by what the first of its declared names have of their own.
+/// The type of what a reference names in a module, given the type data of the first of its declared names.
 pub fn sort_of_name(
     names: &Namespace,
     number: u32,
@@ -47,7 +47,7 @@ pub fn sort_of_name(
     typed_by(first, role)
 }
 
-// What a declared name has of its own, if it is among those that are known.
+// The type data of a declared name, if it is known.
 fn own_of(names: &Namespace, number: u32, own: &[Own], name: &Name) -> Option<Own>
     requires there { number < length names.now.modules }
     ensures { option_map (λ o. Some o) result ≡ find_named name.now (owned (names_in (module_at names.now.modules number)) own.now) }
@@ -60,7 +60,7 @@ fn own_of(names: &Namespace, number: u32, own: &[Own], name: &Name) -> Option<Ow
     }
 }
 
-// The type of what has this role, by what the first name of its reference has of its own.
+// The type of what has this role, given the type data of the first name of its reference.
 fn typed_by(own: Own, role: Role) -> Option<Sort>
     ensures { result ≡ typed_by own role }
 {
@@ -74,7 +74,7 @@ fn typed_by(own: Own, role: Role) -> Option<Sort>
     }
 }
 
-// The type that a name has of its own.
+// The type in a name's type data.
 fn single(own: Own) -> Option<Sort>
     ensures { result ≡ single own }
 {

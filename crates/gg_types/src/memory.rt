@@ -8,7 +8,7 @@ use crate::places::stored_type;
 use gg_ast::{Field, GroundType, MemoryField};
 use gg_shape::{Refusal, Word};
 
-/// Refuses the first type among a memory's fields that is a Clock, or whose width is 0 or above 128.
+/// Fails at the first type among a memory's fields that is a Clock, or whose width is 0 or above 128.
 pub fn judge_fields(fields: &[Field]) -> Result<(), Refusal>
     ensures { Answers (memory_type_faults fields.now) result }
 {
@@ -18,7 +18,7 @@ pub fn judge_fields(fields: &[Field]) -> Result<(), Refusal>
     Ok(())
 }
 
-// Refuses a type in a field.
+// Fails if the type in a field is a Clock, or its width is 0 or above 128.
 fn judge_field(line: u64, kind: &MemoryField) -> Result<(), Refusal>
     ensures { Answers (field_faults line kind.now) result }
 {
@@ -33,7 +33,7 @@ fn judge_field(line: u64, kind: &MemoryField) -> Result<(), Refusal>
     }
 }
 
-/// The type of a memory's words, where a field gives it.
+/// The type of a memory's words, if a field has it.
 pub fn word_type(fields: &[Field]) -> Option<GroundType>
     ensures { result ≡ word_type fields.now }
 {
@@ -45,7 +45,7 @@ pub fn word_type(fields: &[Field]) -> Option<GroundType>
     None
 }
 
-/// How many words a memory has, where a field says it.
+/// How many words a memory has, if a field says so.
 pub fn depth_of(fields: &[Field]) -> Option<u32>
     ensures { result ≡ depth_of fields.now }
 {

@@ -15,7 +15,7 @@ use gg_ast::{Direction, GroundType, Port, Stmt};
 use gg_shape::{Fault, Refusal};
 use std::alloc::Global;
 
-/// Refuses the first fault of a module's types, or adds what all its names have of their own.
+/// Adds the type data of all names of a module, or fails with the module's first fault.
 pub fn judge_all(
     alloc: Global,
     known: &mut Known,
@@ -35,7 +35,7 @@ pub fn judge_all(
     judge_statements(alloc, known, ports, statements)
 }
 
-// Refuses the first fault of a module's ports, or adds their types.
+// Adds the types of a module's ports, or fails with their first fault.
 fn judge_ports(
     known: &mut Known,
     is_top: bool,
@@ -61,7 +61,7 @@ fn judge_ports(
     Ok(())
 }
 
-// Refuses a port, after those that have a clock or not.
+// Fails with the first fault of a port, given whether an earlier port is a Clock.
 fn judge_port(is_top: bool, has_clock: bool, port: &Port) -> Result<(), Refusal>
     ensures { Answers (port_judged (is_top && has_clock) port.now) result }
 {
@@ -76,7 +76,7 @@ fn judge_port(is_top: bool, has_clock: bool, port: &Port) -> Result<(), Refusal>
     declared_type(port.line, port.ty)
 }
 
-// Whether an input port of type Clock is among the ports up to this one.
+// Whether one of the ports up to this one is an input of type Clock.
 fn has_clock_after(has_clock: bool, port: &Port) -> bool
     ensures { result ≡ has_clock || takes_clock port.now }
 {
@@ -87,7 +87,7 @@ fn has_clock_after(has_clock: bool, port: &Port) -> bool
     }
 }
 
-// Refuses the first fault of a module's statements, or adds what they declare.
+// Adds the type data of what a module's statements declare, or fails with their first fault.
 fn judge_statements(
     alloc: Global,
     known: &mut Known,

@@ -1,4 +1,4 @@
-//! Declared types, and places with a rule of their own: clocks, conditions, connections.
+//! Declared types, and positions with a rule of their own: clocks, conditions, connections.
 ghost use Rattle.std.specs.Prelude.{◌≡◌, ◌≤◌, ◌<◌, ◌++◌, true, not, Some, length};
 ghost use Rattle.gg_shape.specs.Faults.{Answers, fault_if};
 ghost use Rattle.gg_shape.specs.declared.fault.Fault.TheVariants.{WrongWidth};
@@ -51,7 +51,7 @@ fn judged_width(line: u64, width: u32) -> Result<(), Refusal>
     Ok(())
 }
 
-/// Refuses an expression in a clock position that is no reference of type Clock.
+/// Refuses an expression in a clock position that is not a reference of type Clock.
 pub fn clock(
     alloc: Global,
     known: &Known,
@@ -65,7 +65,7 @@ pub fn clock(
     only_clock(line, word, sort)
 }
 
-// Refuses a type in a clock position that isn't Clock.
+// Refuses the type of an expression in a clock position if it isn't Clock.
 fn only_clock(line: u64, word: Word, sort: Sort) -> Result<(), Refusal>
     ensures { Answers (clock_position line word (Some sort)) result }
 {
@@ -89,7 +89,7 @@ pub fn condition(
     only_condition(line, word, sort)
 }
 
-// Refuses the type of a condition that isn't `UInt<1>`.
+// Refuses the type of a condition if it isn't `UInt<1>`.
 fn only_condition(line: u64, word: Word, sort: Sort) -> Result<(), Refusal>
     ensures { Answers (condition_position line word (Some sort)) result }
 {
@@ -99,7 +99,7 @@ fn only_condition(line: u64, word: Word, sort: Sort) -> Result<(), Refusal>
     }
 }
 
-/// Refuses the first fault of a clock and the condition after it.
+/// Fails with the first fault of a clock and of the condition after it.
 pub fn clocked(
     alloc: Global,
     known: &Known,
@@ -114,7 +114,7 @@ pub fn clocked(
     condition(alloc, known, line, word, test)
 }
 
-/// Refuses a value of a type that may not be connected to a sink.
+/// Refuses a value whose type can't be connected to a sink.
 pub fn connected(line: u64, word: Word, sink: Sort, source: Sort) -> Result<(), Refusal>
     ensures { Answers (connected_faults line word (Some sink) (Some source)) result }
 {
@@ -127,7 +127,7 @@ pub fn connected(line: u64, word: Word, sink: Sort, source: Sort) -> Result<(), 
     }
 }
 
-// Refuses a ground type that may not be connected to a sink of another.
+// Refuses a ground type that can't be connected to a sink of another.
 fn connected_bits(
     line: u64,
     word: Word,

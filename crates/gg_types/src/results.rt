@@ -56,7 +56,7 @@ fn takes_kinds(op: Op2, ka: Kind, a: u32, kb: Kind) -> bool
     }
 }
 
-// The width after a shift to the left by an amount of `amount` bits; 4,294,967,295 stands for any greater one.
+// The width after a shift to the left by an amount of `amount` bits. 4,294,967,295 stands for any greater width.
 fn shifted_width(width: u32, amount: u32) -> u32
     ensures { result ≡ min (width + 2 ^ amount - 1) 4294967295 }
 {
@@ -92,7 +92,7 @@ pub fn result_mux(kc: Kind, c: u32, ka: Kind, a: u32, kb: Kind, b: u32) -> Resul
     judged(ka, a.max(b))
 }
 
-// The type of this kind and width, where the width is 1 to 128. A width above 4,294,967,295 comes in as that number.
+// The type of this kind and width, if the width is 1 to 128. A width above 4,294,967,295 is passed as that number.
 fn judged(kind: Kind, width: u32) -> Result<Ty, Bad>
     ensures { (w : ℕ) → width ≡ min w 4294967295 → shape_of result ≡ within (of_kind kind w) }
 {

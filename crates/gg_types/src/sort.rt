@@ -1,4 +1,4 @@
-//! Types as they are written, and what the names of a module have of their own.
+//! Types as they are written, and the type data of names.
 ghost use Rattle.std.specs.Prelude.{◌≡◌};
 ghost use Rattle.gg_types.specs.Owned.{field_sort};
 ghost use Rattle.gg_types.specs.Sorts.{sort_of};
@@ -8,10 +8,10 @@ use gg_bits::{Kind, Ty};
 use gg_flat::address_width;
 use gg_names::PortField;
 
-/// A type as it is written, or that of an expression of such types.
+/// A type as it is written, or that of an expression with such types.
 #[derive(Clone, Copy, Debug, PartialEq, Eq)]
 pub enum Sort {
-    /// A UInt or an SInt of so many bits, be it 0 or more than 128.
+    /// A UInt or an SInt of this many bits, which may be 0 or more than 128.
     Bits(Kind, u32),
     /// A clock. Only a reference has this type.
     Clock,
@@ -26,18 +26,18 @@ pub enum Typing {
     Clock,
 }
 
-/// What a declared name has of its own.
+/// The type data of a declared name.
 #[derive(Clone, Copy, Debug, PartialEq, Eq)]
 pub enum Own {
     /// A port, a wire, a register or a node: its type.
     Single(Sort),
     /// An instance: nothing.
     Instance,
-    /// A memory: the type and the number of its words, none where they aren't given.
+    /// A memory: the type and the number of its words, each none if it isn't given.
     Memory(Option<GroundType>, Option<u32>),
 }
 
-/// The type that is written so.
+/// The type that is written like this.
 pub fn sort_of(ty: GroundType) -> Sort
     ensures { result ≡ sort_of ty }
 {

@@ -20,7 +20,7 @@ use gg_names::written;
 use gg_shape::{Fault, Refusal, Word};
 use std::alloc::Global;
 
-/// Refuses the first fault of a statement's types, or adds the type of what it declares.
+/// Adds the type data of what a statement declares, or fails with the first fault of the statement's types.
 pub fn judge(alloc: Global, known: &mut Known, statement: &Stmt) -> Result<(), Refusal>
     requires next { AreNext (names_seen known.old) (length known.old.own.items) (name_by statement.now) }
     ensures answers { Answers (faults_of_kind (roles_seen known.old) (traced_seen known.old) (owned_seen known.old) statement.now.line statement.now.kind) result }
@@ -58,7 +58,7 @@ pub fn judge(alloc: Global, known: &mut Known, statement: &Stmt) -> Result<(), R
     }
 }
 
-/// The next of the declared names has this of its own.
+/// Adds the type data of the next of the declared names.
 pub fn declare(known: &mut Known, own: Own) -> Result<(), Refusal>
     ensures answers { Answers [] result }
     ensures own { (name : List ℕ) → AreNext (names_seen known.old) (length known.old.own.items) (name ∷ []) → OnOk result (owned_seen known.new ≡ owned_seen known.old ++ (name, Some own) ∷ []) }
@@ -73,7 +73,7 @@ pub fn declare(known: &mut Known, own: Own) -> Result<(), Refusal>
     }
 }
 
-// Refuses the type of a wire, or adds it.
+// Adds the type of a wire, or fails if its width is 0 or above 128.
 fn judge_wire(known: &mut Known, line: u64, ty: GroundType) -> Result<(), Refusal>
     ensures answers { Answers (width_faults line ty) result }
     ensures own { (name : List ℕ) → AreNext (names_seen known.old) (length known.old.own.items) (name ∷ []) → OnOk result (owned_seen known.new ≡ owned_seen known.old ++ (name, Some (Single (sort_of ty))) ∷ []) }
@@ -86,7 +86,7 @@ fn judge_wire(known: &mut Known, line: u64, ty: GroundType) -> Result<(), Refusa
     declare(known, Own::Single(sort_of(ty)))
 }
 
-// Refuses the first fault of a node's expression, or adds its type.
+// Adds the type of a node, or fails with the first fault of its expression.
 fn judge_node(alloc: Global, known: &mut Known, line: u64, value: &Expr) -> Result<(), Refusal>
     ensures answers { Answers (faults_in (roles_seen known.old) (traced_seen known.old) (owned_seen known.old) line value.now) result }
     ensures own { (name : List ℕ) → AreNext (names_seen known.old) (length known.old.own.items) (name ∷ []) → OnOk result (owned_seen known.new ≡ owned_seen known.old ++ (name, option_map Single (sort_in (roles_seen known.old) (traced_seen known.old) (owned_seen known.old) value.now)) ∷ []) }
@@ -99,7 +99,7 @@ fn judge_node(alloc: Global, known: &mut Known, line: u64, value: &Expr) -> Resu
     declare(known, Own::Single(sort))
 }
 
-// Refuses the first fault of a memory's fields, or adds the type and the number of its words.
+// Adds the type and the number of a memory's words, or fails with the first fault of its fields.
 fn judge_memory(known: &mut Known, fields: &[Field]) -> Result<(), Refusal>
     ensures answers { Answers (memory_type_faults fields.now) result }
     ensures own { (name : List ℕ) → AreNext (names_seen known.old) (length known.old.own.items) (name ∷ []) → OnOk result (owned_seen known.new ≡ owned_seen known.old ++ (name, Some (memory_own fields.now)) ∷ []) }
@@ -112,7 +112,7 @@ fn judge_memory(known: &mut Known, fields: &[Field]) -> Result<(), Refusal>
     declare(known, Own::Memory(word_type(fields), depth_of(fields)))
 }
 
-// Refuses the first fault of a register, or adds its type.
+// Adds the type of a register, or fails with its first fault.
 fn judge_register(
     alloc: Global,
     known: &mut Known,
@@ -135,7 +135,7 @@ fn judge_register(
     judge_reset(alloc, known, sort, reset)
 }
 
-// Refuses the first fault of a reset of a register of this type.
+// Fails with the first fault of a reset of a register of this type.
 fn judge_reset(
     alloc: Global,
     known: &Known,
@@ -154,7 +154,7 @@ fn judge_reset(
     }
 }
 
-// Refuses the first fault of a connection.
+// Fails with the first fault of a connection.
 #[tactic(auto, using(crate::proofs::FaultLemmas::refused_first))]
 fn judge_connection(
     alloc: Global,
@@ -184,7 +184,7 @@ fn judge_invalid(alloc: Global, known: &Known, line: u64, sink: &Reference) -> R
     }
 }
 
-// Refuses the first fault of the arguments of `printf` and its like, of which the first is a clock.
+// Fails with the first fault of the arguments of `printf`, `assert`, `assume` or `cover`. The first argument is a clock.
 #[tactic(auto, using(crate::proofs::FaultLemmas::refused_first))]
 fn judge_report(
     alloc: Global,
@@ -206,7 +206,7 @@ fn judge_report(
     }
 }
 
-// Refuses the first fault of arguments that are only typed.
+// Fails with the first fault of arguments that need only have a type.
 fn judge_arguments(
     alloc: Global,
     known: &Known,
