@@ -310,7 +310,7 @@ is_input Output = false
 abbrev pub is_clock_input : Port → Bool
 is_clock_input port = is_clock port.ty && is_input port.direction
 
--- a port of type Clock is an input, and the first one if its module is the top (F14); a width is 1 to 128 (F10)
+-- a port of type Clock is an input, and in the top no earlier port is such an input (F14); a width is 1 to 128 (F10)
 abbrev pub port_judged : Bool → Port → List Fault
 port_judged is_taken port =
     if is_clock port.ty

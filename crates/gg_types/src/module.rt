@@ -61,7 +61,7 @@ fn judge_ports(
     Ok(())
 }
 
-// Fails with the first fault of a port, given whether an earlier port is a Clock.
+// Fails with the first fault of a port, given whether an earlier port is an input of type Clock.
 fn judge_port(is_top: bool, has_clock: bool, port: &Port) -> Result<(), Refusal>
     ensures { Answers (port_judged (is_top && has_clock) port.now) result }
 {
