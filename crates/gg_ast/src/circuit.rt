@@ -79,8 +79,8 @@ impl Circuit {
         self.modules.as_slice()
     }
 
-    /// Does nothing. Its contract says of each circuit that its names are names: a letter or `_`, and then letters, digits,
-    /// `_` and `$`. So a name has no dot and no dash.
+    /// Does nothing. Its contract says of each circuit that its names are names: a letter or `_`, and then letters,
+    /// digits, `_` and `$`. So a name has no dot and no dash.
     pub fn names_are_words(&self)
         ensures { AreNamesOfCircuit self.now }
     {
@@ -122,8 +122,8 @@ impl Circuit {
 
     /// Adds a port to the last module, as its last. There has to be a module.
     ///
-    /// If that module has no statement yet, the circuit then has one row more, the port's. If it has one, the port still
-    /// joins the module's ports, and its row is not the last.
+    /// If that module has no statement yet, the circuit then has one row more, the port's. If it has one, the port
+    /// still joins the module's ports, and its row is not the last.
     ///
     /// # Errors
     ///
@@ -160,8 +160,8 @@ impl Circuit {
         self.modules[last].push_statement(statement)
     }
 
-    /// Adds a field to the last statement, which has to be a memory, as its last. The circuit then has one row more, the
-    /// field's, and another may follow.
+    /// Adds a field to the last statement, which has to be a memory, as its last. The circuit then has one row more,
+    /// the field's, and another may follow.
     ///
     /// # Errors
     ///

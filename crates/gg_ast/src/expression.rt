@@ -41,8 +41,8 @@ pub struct Literal {
     pub digits: Name,
 }
 
-/// An expression. It is on the line of its statement, or of the reset that it belongs to. A contract sees it as a `Term`,
-/// so two expressions are equal where their terms are.
+/// An expression. It is on the line of its statement, or of the reset that it belongs to. A contract sees it as a
+/// `Term`, so two expressions are equal where their terms are.
 #[cycle(expression)]
 #[derive(Debug, Drop)]
 pub struct Expr {

@@ -1,8 +1,9 @@
 //! A circuit in lowered FIRRTL as a tree: what its text says, and nothing that is concluded from it.
 //!
-//! A circuit is a list of modules in the order of the file. A module is a list of ports and a list of statements, each with
-//! its line (FIRRTL Specification, "Circuits and Modules", "Statements", "Expressions"). Only one thing is checked here:
-//! that names are names (`is_name`). They may clash or be unknown, widths may be out of range and literals too large.
+//! A circuit is a list of modules in the order of the file. A module is a list of ports and a list of statements, each
+//! with its line (FIRRTL Specification, "Circuits and Modules", "Statements", "Expressions"). Only one thing is checked
+//! here: that names are names (`is_name`). They may clash or be unknown, widths may be out of range and literals too
+//! large.
 //!
 //! The crate promises:
 //!

@@ -118,8 +118,8 @@ impl Module {
         Ok(())
     }
 
-    /// Adds a field to the last statement, if that is a memory, as its last. There has to be a statement. If an allocation
-    /// fails the module stays as it was.
+    /// Adds a field to the last statement, if that is a memory, as its last. There has to be a statement. If an
+    /// allocation fails the module stays as it was.
     pub(crate) fn push_field(&mut self, field: Field) -> Result<(), AllocError>
         requires { 0 < length self.old.statements }
         ensures { self.new ≡ (if is_ok result then module_with_field field self.old else self.old) }

@@ -18,8 +18,8 @@ pub struct Stmt {
 }
 
 impl Stmt {
-    /// Adds a field to a memory, as its last. Any other statement stays as it is. If an allocation fails the memory stays
-    /// as it was.
+    /// Adds a field to a memory, as its last. Any other statement stays as it is. If an allocation fails the memory
+    /// stays as it was.
     pub(crate) fn push_field(&mut self, field: Field) -> Result<(), AllocError>
         ensures { self.new ≡ (if is_ok result then statement_with_field field self.old else self.old) }
     {

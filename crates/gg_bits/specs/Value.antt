@@ -5,8 +5,8 @@ use Rattle.std.specs.Int.{int_rem_euclid}
 use Rattle.gg_bits.specs.declared.types.Kind.{Kind}
 use Rattle.gg_bits.specs.declared.types.Kind.TheVariants.{UInt, SInt}
 
--- The number that a pattern of w bits stands for. For a UInt it is the pattern. For an SInt it is the pattern if that is
--- below half of 2 ^ w, and otherwise the pattern less 2 ^ w: two's complement.
+-- The number that a pattern of w bits stands for. For a UInt it is the pattern. For an SInt it is the pattern if that
+-- is below half of 2 ^ w, and otherwise the pattern less 2 ^ w: two's complement.
 abbrev pub number_of : Kind → ℕ → ℕ → ℤ
 number_of UInt w p = pos p
 number_of SInt w p = if nat_lt p (2 ^ (w - 1)) then pos p else (pos p -ℤ pos (2 ^ w))

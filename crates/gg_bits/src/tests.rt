@@ -1,5 +1,5 @@
-//! What no contract says: the definitions against independent values (whole-number arithmetic of Python), and that a name
-//! is copied when there is enough memory.
+//! What no contract says: the definitions against independent values (whole-number arithmetic of Python), and that a
+//! name is copied when there is enough memory.
 ghost use Rattle.std.specs.Prelude.{IsTrue, ◌↔◌};
 ghost use Rattle.gg_bits.specs.Shape.{shape, Fits};
 

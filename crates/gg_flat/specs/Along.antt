@@ -1,5 +1,5 @@
--- The plain program, as functions: the settled row and the rows of a run, worked out along an order. The laws say that
--- what they make is settled, and a run.
+-- The settled row and the rows of a run, computed along an order: a plain program, written as functions. The laws say
+-- that what they compute is settled, and a run.
 use Rattle.std.specs.Prelude.{ℕ, zero, suc, List, [], ◌∷◌, ◌++◌, length, fold, replicate, slice_set}
 use Rattle.gg_flat.specs.Line.{shape_at}
 use Rattle.gg_flat.specs.Circuit.{FlatCircuit, signal_shapes, driver_at}
@@ -7,11 +7,11 @@ use Rattle.gg_flat.specs.State.{State}
 use Rattle.gg_flat.specs.Settled.{driver_value}
 use Rattle.gg_flat.specs.Run.{Start, later, opening_start, state_at, inputs_at}
 
--- the values with that of signal s put in its place
+-- the values, with that of signal s replaced by its driver's value
 abbrev pub with_signal : FlatCircuit → State → List ℕ → List ℕ → ℕ → List ℕ
 with_signal circuit state inputs signals s = slice_set signals s (driver_value state inputs signals (shape_at (signal_shapes circuit) s) (driver_at circuit s))
 
--- the values of all signals: zeros at first, and then each signal of the order in turn gets its driver's value
+-- the values of all signals: zeros at first, then each signal of the order in turn gets its driver's value
 abbrev pub settled_along : FlatCircuit → List ℕ → State → List ℕ → List ℕ
 settled_along circuit order state inputs = fold (with_signal circuit state inputs) (replicate (length circuit.signals) 0) order
 

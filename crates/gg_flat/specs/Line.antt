@@ -10,7 +10,7 @@ use Rattle.gg_flat.specs.declared.line.Op.TheVariants.{Ref, Literal, One, Two, F
 
 -- ---- the nodes by their places
 
--- the shape at a place; past the end one that no value has
+-- the shape at a place; past the end a shape with a width of 0
 abbrev pub shape_at : List Shape → ℕ → Shape
 shape_at shapes i = slice_index_or shapes i (uint 0)
 
@@ -28,8 +28,8 @@ op_at nodes i = slice_index_or (map (λ node. node.op) nodes) i (Ref 0)
 
 -- ---- types
 
--- An operation has the shape `to`. Named says of a signal and a shape that a reference to the signal has that shape. A
--- literal fits; an operation on nodes before place k, which have the shapes `shapes`, has its result type.
+-- An operation has the shape `to`. `Named` says which signal has which shape, for references. A literal has a value
+-- that fits. An operation on nodes has its result type; the nodes are before place k and have the shapes `shapes`.
 abbrev pub HasShape : (ℕ → Shape → Type 0) → List Shape → ℕ → Shape → Op → Type 0
 HasShape Named shapes k to (Ref s) = Named s to
 HasShape Named shapes k to (Literal value) = Fits to value.0
@@ -43,15 +43,15 @@ pub record IsLine (Named : ℕ → Shape → Type 0) (nodes : List Node) : Type 
   pub some : 0 < length nodes
   pub typed : (k : ℕ) → k < length nodes → HasShape Named (shapes_of nodes) k (shape_at (shapes_of nodes) k) (op_at nodes k)
 
--- signal s is one of these, of the shape `to`
+-- signal s is one of these, and has the shape `to`
 abbrev pub HasType : List Shape → ℕ → Shape → Type 0
 HasType signals s to = (s < length signals) × (shape_at signals s ≡ to)
 
--- signal s has a value among these, of the shape `to`
+-- signal s has a value among these, and it is of the shape `to`
 abbrev pub HasValue : List ℕ → ℕ → Shape → Type 0
 HasValue signals s to = (s < length signals) × Fits to (value_at signals s)
 
--- There is a value for each of the shapes, and it is of that shape.
+-- There is a value for each of the shapes, and it has that shape.
 pub record AreTyped (shapes : List Shape) (values : List ℕ) : Type 0 where
   pub count : length values ≡ length shapes
   pub fits : (i : ℕ) → i < length shapes → Fits (shape_at shapes i) (value_at values i)
@@ -73,7 +73,7 @@ pub record IsCondition (Named : ℕ → Shape → Type 0) (nodes : List Node) : 
 
 -- ---- values
 
--- The value of an operation, where the signals have the values `signals`, and the nodes before it the values `before`.
+-- The value of an operation, if the signals have the values `signals` and the earlier nodes the values `before`.
 abbrev pub op_value : List ℕ → List Shape → List ℕ → Op → ℕ
 op_value signals shapes before (Ref s) = value_at signals s
 op_value signals shapes before (Literal value) = value.0
@@ -86,7 +86,7 @@ op_value signals shapes before (Mux c i j) = value_mux (value_at before c) (shap
 abbrev pub with_node : List ℕ → List Shape → List ℕ → Node → List ℕ
 with_node signals shapes before node = before ++ op_value signals shapes before node.op ∷ []
 
--- The values of the nodes, in order, each from those before it. `shapes` are the shapes of the whole line.
+-- The values of the nodes, in order, each given those before it. `shapes` are the shapes of the whole line.
 abbrev pub node_values : List ℕ → List Shape → List Node → List ℕ
 node_values signals shapes nodes = fold (with_node signals shapes) [] nodes
 

@@ -1,7 +1,8 @@
 -- Memories: the width of their addresses, and what their words and read registers become in a cycle.
--- Source: FIRRTL Specification, "Memories" (ports, latencies, read under write). Words and read registers start at 0. A
--- read past the depth, or by a reader that isn't enabled, gives 0; a write past the depth is dropped; of two writers of
--- one word the later in the file wins; an undefined read gives the old word: this program's profile.
+-- Source: FIRRTL Specification, "Memories" (ports, latencies, read under write). The rest is this program's profile.
+-- Words and read registers start at 0. A read past the depth, or by a reader that isn't enabled, gives 0. A write past
+-- the depth is dropped. If two writers write the same word the later in the file wins. An undefined read gives the old
+-- word.
 use Rattle.std.specs.Prelude.{◌≡◌, ℕ, zero, suc, ◌^◌, List, [], ◌∷◌, length, map, replicate, slice_index_or, Bool, ◌==◌, ◌&&◌, if◌then◌else◌, nat_le, ◌<◌}
 use Rattle.gg_bits.specs.Shape.{Shape, shape, Fits}
 use Rattle.gg_flat.specs.declared.memory.UnderWrite.{UnderWrite}
@@ -15,12 +16,12 @@ use Rattle.gg_flat.specs.Line.{value_at}
 
 -- ---- addresses
 
--- the first of the widths from w on by which each of `depth` words has an address; after `more` widths the next
+-- the first width, from w on, with an address for each of `depth` words; after `more` widths the next
 abbrev pub first_width : ℕ → ℕ → ℕ → ℕ
 first_width zero w depth = w
 first_width (suc more) w depth = if nat_le depth (2 ^ w) then w else first_width more (suc w) depth
 
--- the width of an address: at least one bit, and as few as name each word of a memory of at most 2 ^ 32
+-- the width of an address: at least one bit, and as few as can name each word of a memory of at most 2 ^ 32
 abbrev pub address_width : ℕ → ℕ
 address_width depth = first_width 31 1 depth
 
@@ -31,11 +32,11 @@ pub record Bank : Type 0 where
   pub words : List ℕ
   pub reads : List ℕ
 
--- the word at an address, where the reader is enabled; 0 where it isn't, and past the depth
+-- the word at an address, if the reader is enabled; 0 if it isn't, and past the depth
 abbrev pub read_word : List ℕ → ℕ → ℕ → ℕ
 read_word words addr en = if en == 1 then value_at words addr else 0
 
--- what a reader finds among these words, where the signals have the values `signals`
+-- what a reader finds among these words, if the signals have the values `signals`
 abbrev pub found_word : List ℕ → List ℕ → Reader → ℕ
 found_word signals words reader = read_word words (value_at signals reader.addr) (value_at signals reader.en)
 
@@ -43,7 +44,7 @@ found_word signals words reader = read_word words (value_at signals reader.addr)
 abbrev pub hits : List ℕ → Writer → ℕ → Bool
 hits signals writer a = (value_at signals writer.en == 1) && (value_at signals writer.mask == 1) && (value_at signals writer.addr == a)
 
--- The word at address a after the writes: what the last writer gives that writes it, else what it was.
+-- The word at address a after the writes: that of the last writer that writes it, otherwise what it was before.
 abbrev pub next_word : List ℕ → List Writer → ℕ → ℕ → ℕ
 next_word signals [] a own = own
 next_word signals (writer ∷ writers) a own = next_word signals writers a (if hits signals writer a then value_at signals writer.word else own)
@@ -57,13 +58,13 @@ next_words_from signals writers a (own ∷ words) = next_word signals writers a 
 abbrev pub next_words : List ℕ → List Writer → List ℕ → List ℕ
 next_words signals writers words = next_words_from signals writers 0 words
 
--- the words that a late reader reads, of those before and those after the writes
+-- the words from which a late reader reads: those before or those after the writes
 abbrev pub words_read : UnderWrite → List ℕ → List ℕ → List ℕ
 words_read Old before after = before
 words_read Undefined before after = before
 words_read New before after = after
 
--- the read registers after the cycle, from the words before and after the writes
+-- the read registers after the cycle, given the words before and after the writes
 abbrev pub next_reads : List ℕ → Latency → List Reader → List ℕ → List ℕ → List ℕ
 next_reads signals Zero readers before after = []
 next_reads signals (One under) readers before after = map (found_word signals (words_read under before after)) readers
@@ -85,7 +86,7 @@ read_count (One under) readers = length readers
 abbrev pub opening_bank : Memory → Bank
 opening_bank memory = record { words = replicate memory.depth 0; reads = replicate (read_count memory.latency memory.readers) 0 }
 
--- So many values, each of this shape. Past the end the value is 0, which is of each shape.
+-- This many values, each of this shape. Past the end the value is 0, which is of each shape.
 pub record AreWords (word : Shape) (n : ℕ) (values : List ℕ) : Type 0 where
   pub count : length values ≡ n
   pub fits : (i : ℕ) → Fits word (value_at values i)
@@ -95,7 +96,7 @@ pub record IsBank (memory : Memory) (bank : Bank) : Type 0 where
   pub words : AreWords (shape memory.word) memory.depth bank.words
   pub reads : AreWords (shape memory.word) (read_count memory.latency memory.readers) bank.reads
 
--- the fields that a reader looks at are among n signals
+-- the fields that a reader reads are among n signals
 abbrev pub LooksAmong : ℕ → Reader → Type 0
 LooksAmong n reader = (reader.addr < n) × (reader.en < n)
 

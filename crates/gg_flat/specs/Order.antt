@@ -1,4 +1,4 @@
--- An order of evaluation: every signal once, each after all that it reads. No definition of a cycle or a run rests on it.
+-- An order of evaluation: every signal once, after all that it reads. No definition of a cycle or a run depends on it.
 use Rattle.std.specs.Prelude.{◌≢◌, ℕ, ◌<◌, List, length, take, Contains, AllPairs}
 use Rattle.gg_flat.specs.Line.{value_at}
 use Rattle.gg_flat.specs.Circuit.{FlatCircuit}

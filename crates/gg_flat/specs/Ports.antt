@@ -1,5 +1,5 @@
 -- The ports of a flat circuit: the paths and types of the signals that it gets from outside and gives to the outside.
--- Source: FIRRTL Specification, "Modules" (the ports of the top); the clock is no signal of a flat circuit.
+-- Source: FIRRTL Specification, "Modules" (the ports of the top); the clock is not a signal of a flat circuit.
 use Rattle.std.specs.Prelude.{ℕ, List, Option, Some, None, slice_get}
 use Rattle.std.specs.List.{filter_map}
 use Rattle.gg_flat.specs.declared.piece.Signal.{Signal}

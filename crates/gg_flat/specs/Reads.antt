@@ -13,8 +13,8 @@ use Rattle.gg_flat.specs.Circuit.{FlatCircuit, driver_at}
 abbrev pub Names : List Node → ℕ → Type 0
 Names nodes s = Contains (map (λ node. node.op) nodes) (Ref s)
 
--- A driver names a signal: a line those that it refers to, a read of latency 0 its address and its enable. An in-signal,
--- a register's signal and a read register name none.
+-- A driver names a signal: a line those that it refers to, a read of latency 0 its address and its enable. The drivers
+-- of an in-signal, a register's signal and a read register name none.
 abbrev pub NamesSignal : Driver → ℕ → Type 0
 NamesSignal (Input place) s = ⊥
 NamesSignal (Held register) s = ⊥

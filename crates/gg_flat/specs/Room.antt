@@ -1,4 +1,4 @@
--- How much scratch space the lines of a circuit want: a place for each node of the longest.
+-- How much scratch space the lines of a circuit need: a place for each node of the longest.
 use Rattle.std.specs.Prelude.{ℕ, ◌≤◌, max, List, Option, Some, None, length, All}
 use Rattle.gg_flat.specs.declared.line.Node.{Node}
 use Rattle.gg_flat.specs.declared.piece.Register.{Register}
@@ -29,7 +29,7 @@ reset_length (Some reset) = max (length reset.condition) (length reset.init)
 abbrev pub register_length : Register → ℕ
 register_length register = max (reset_length register.reset) (next_length register.next)
 
--- this many places are room for each line of the circuit
+-- this many places are enough for each line of the circuit
 pub record HasRoom (circuit : FlatCircuit) (places : ℕ) : Type 0 where
   pub drivers : All (λ signal. line_length signal.driver ≤ places) circuit.signals
   pub registers : All (λ register. register_length register ≤ places) circuit.registers

@@ -33,12 +33,12 @@ abbrev pub state_at : FlatCircuit → Start → List (List ℕ) → ℕ → Stat
 state_at circuit start rows zero = start.state
 state_at circuit start rows (suc t) = next_state circuit (state_at circuit start rows t) (row_at rows t)
 
--- where the run goes on after t cycles
+-- the start from which the run goes on after t cycles
 abbrev pub after_rows : FlatCircuit → Start → List (List ℕ) → ℕ → Start
 after_rows circuit start rows t = record { cycle = later start.cycle t; state = state_at circuit start rows t }
 
--- A run of n cycles from a start: n rows, each settled in the state that the rows before it lead to, with the inputs of
--- its cycle.
+-- A run of n cycles from a start: n rows. Each is settled, in the state that the rows before it lead to and with the
+-- inputs of its cycle.
 pub record IsRunFrom (circuit : FlatCircuit) (start : Start) (columns : List (List ℕ)) (n : ℕ) (rows : List (List ℕ)) : Type 0 where
   pub count : length rows ≡ n
   pub settled : (t : ℕ) → t < n → Settled circuit (state_at circuit start rows t) (inputs_at columns (later start.cycle t)) (row_at rows t)
@@ -51,7 +51,8 @@ IsRun circuit columns n rows = IsRunFrom circuit (opening_start circuit) columns
 abbrev pub column : List (List ℕ) → ℕ → List ℕ
 column rows s = map (λ row. value_at row s) rows
 
--- Columns that the circuit can get for n cycles: one for each in-signal, each of n values, which are inputs in each cycle.
+-- Columns that the circuit can get for n cycles: one for each in-signal, each with n values, which are inputs in each
+-- cycle.
 pub record IsColumns (circuit : FlatCircuit) (n : ℕ) (columns : List (List ℕ)) : Type 0 where
   pub count : length columns ≡ length circuit.ins
   pub height : All (λ column. length column ≡ n) columns

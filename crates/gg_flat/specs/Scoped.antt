@@ -1,6 +1,6 @@
 -- Scoping: which signals the driver of a signal, a register and a memory can name, and how signals are named in the tree.
--- Source: FIRRTL Specification, "Namespaces" (the names of one module are distinct, and those of its declarations and
--- of its instances' ports are the ones that it sees), "Instances", "Memories" (the fields of a port), "Connects".
+-- Source: FIRRTL Specification, "Namespaces" (the names of one module are distinct, and it sees those of its
+-- declarations and of its instances' ports), "Instances", "Memories" (the fields of a port), "Connects".
 use Rattle.std.specs.Prelude.{◌≡◌, ◌≢◌, ◌⊎◌, ℕ, ◌<◌, List, [], ◌∷◌, ◌++◌, true, not, Some, length, map, flat_map, filter, slice_get, slice_index_or, Contains, AllPairs}
 use Rattle.gg_flat.specs.declared.tree.InstancePort.{InstancePort}
 use Rattle.gg_flat.specs.declared.tree.Instance.{Instance}
@@ -59,55 +59,55 @@ pub record IsInputOf (tree : InstanceTree) (i s : ℕ) : Type 0 where
   pub is : port.signal ≡ s
   pub input : port.is_input ≡ true
 
--- Signal s is an input of an instance that the one at place k holds.
+-- Signal s is an input of an instance whose parent is at place k.
 pub record IsChildsInput (tree : InstanceTree) (k s : ℕ) : Type 0 where
   pub child : ℕ
   pub parent : (instance_at tree child).parent ≡ Some k
   pub input : IsInputOf tree child s
 
--- Signal s is a port of an instance that the one at place k holds.
+-- Signal s is a port of an instance whose parent is at place k.
 pub record IsChildsPort (tree : InstanceTree) (k s : ℕ) : Type 0 where
   pub child : ℕ
   pub parent : (instance_at tree child).parent ≡ Some k
   pub port : IsPort tree child s
 
--- Signal s is the own signal of the instance at place k, and no input of it.
+-- Signal s is an own signal of the instance at place k, and not an input of it.
 pub record IsOwnSink (tree : InstanceTree) (k s : ℕ) : Type 0 where
   pub own : IsInnermost tree k s
   pub inner : ¬ IsInputOf tree k s
 
--- The driver of signal s is written in the instance at place k: an input of an instance is connected where the instance is
--- held, every other signal where it is declared. The inputs of the top are connected nowhere.
+-- The driver of signal s is written in the instance at place k. An input of an instance is connected in the parent,
+-- every other signal where it is declared. The inputs of the top are not connected anywhere.
 abbrev pub IsWritten : InstanceTree → ℕ → ℕ → Type 0
 IsWritten tree k s = IsOwnSink tree k s ⊎ IsChildsInput tree k s
 
--- In the instance at place k signal s can be named: it is its own, or a port of an instance that it holds.
+-- Signal s can be named in the instance at place k: it is its own, or a port of an instance whose parent it is.
 abbrev pub IsVisible : InstanceTree → ℕ → ℕ → Type 0
 IsVisible tree k s = IsInnermost tree k s ⊎ IsChildsPort tree k s
 
 -- ---- how signals are named
 
--- Signal s is a field of a memory that the instance at place k holds.
+-- Signal s is a field of a memory of the instance at place k.
 pub record IsMemoryField (circuit : FlatCircuit) (tree : InstanceTree) (k s : ℕ) : Type 0 where
   pub place : ℕ
   pub known : place < length tree.memories
   pub holder : (memory_at tree place).instance ≡ k
   pub field : IsFieldOf circuit tree place s
 
--- A port is the instance's own signal, with a path just below the instance's.
+-- A port is the instance's own signal, and its path is just below the instance's.
 pub record IsOwnPort (circuit : FlatCircuit) (tree : InstanceTree) (k s : ℕ) : Type 0 where
   pub own : IsInnermost tree k s
   pub path : IsJustBelow (path_at tree.paths k) (path_at circuit.paths s)
 
--- A field of the memory at place j is the own signal of the instance that holds the memory, with a path below the memory's.
+-- A field of the memory at place j is an own signal of the memory's instance, and its path is below the memory's.
 pub record IsOwnField (circuit : FlatCircuit) (tree : InstanceTree) (j s : ℕ) : Type 0 where
   pub own : IsInnermost tree (memory_at tree j).instance s
   pub path : IsWithin (path_at tree.memory_paths j) (path_at circuit.paths s)
 
 -- A circuit keeps to the scopes of its tree. The circuit's in-signals and out-signals are the top's inputs and outputs, in
--- port order. An instance's ports are its own signals, distinct; so are a memory's fields. An instance's own signals but these
--- fields have a path just below the instance's, and no memory has an instance's path. What a driver names, and what the register of a
--- signal names, is visible where the driver is written.
+-- port order. An instance's ports are its own signals, and are distinct; so are a memory's fields. The path of an own
+-- signal is just below the instance's, unless it is such a field. No memory has an instance's path. The signals that a
+-- driver names, and those that the register of a signal names, are visible where the driver is written.
 pub record IsScoped (circuit : FlatCircuit) (tree : InstanceTree) : Type 0 where
   pub ins : input_signals (instance_at tree 0).ports ≡ circuit.ins
   pub outs : output_signals (instance_at tree 0).ports ≡ circuit.outs

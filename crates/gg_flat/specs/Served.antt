@@ -1,6 +1,6 @@
--- A memory that is served one port after another: what it holds after the first of its accesses.
--- Source: FIRRTL Specification, "Memories"; that late readers of old words come before the writers, and those of new words
--- after them, is what "Memories" says of a read under a write.
+-- A memory that serves one port after another: what it holds after the first of its accesses.
+-- Source: FIRRTL Specification, "Memories". Late readers of old words come before the writers, and those of new words
+-- after them: this is what "Memories" says of a read under a write.
 use Rattle.std.specs.Prelude.{◌≡◌, ◌⊎◌, ℕ, suc, List, [], ◌∷◌, ◌++◌, fold, take, slice_set, ⊤, ◌==◌, ◌&&◌, if◌then◌else◌}
 use Rattle.gg_flat.specs.declared.memory.UnderWrite.TheVariants.{Old, New, Undefined}
 use Rattle.gg_flat.specs.declared.memory.Latency.{Latency}
@@ -52,11 +52,11 @@ SomeNames (access ∷ accesses) s = AccessNames access s ⊎ SomeNames accesses 
 abbrev pub MemoryNames : Memory → ℕ → Type 0
 MemoryNames memory s = SomeNames (due_list memory) s
 
--- the words after one writer; a write past the depth leaves them
+-- the words after one writer; a write past the depth doesn't change them
 abbrev pub written : List ℕ → List ℕ → Writer → List ℕ
 written signals words writer = if (value_at signals writer.en == 1) && (value_at signals writer.mask == 1) then slice_set words (value_at signals writer.addr) (value_at signals writer.word) else words
 
--- what a memory holds after an access, where the fields have the values `signals`
+-- what a memory holds after an access, if the fields have the values `signals`
 abbrev pub after_access : List ℕ → Bank → Access → Bank
 after_access signals bank (ByReader r reader) = record { words = bank.words; reads = slice_set bank.reads r (found_word signals bank.words reader) }
 after_access signals bank (ByWriter w writer) = record { words = written signals bank.words writer; reads = bank.reads }
@@ -65,7 +65,7 @@ after_access signals bank (ByWriter w writer) = record { words = written signals
 abbrev pub after_accesses : List ℕ → Memory → Bank → ℕ → Bank
 after_accesses signals memory bank j = fold (after_access signals) bank (take j (due_list memory))
 
--- what an access brings into a memory whose words have this shape is of that shape
+-- what an access writes into a memory whose words have this shape has that shape
 abbrev pub Brings : List ℕ → Shape → Access → Type 0
 Brings signals word (ByReader r reader) = ⊤
 Brings signals word (ByWriter w writer) = HasValue signals writer.word word

@@ -1,6 +1,6 @@
--- A settled cycle: what values the signals have together.
--- Source: FIRRTL Specification, "Connects", "Nodes", "Wires", "Registers", "Memories"; the meaning of a cycle without a combinational
--- loop. It is a relation on whole assignments, with no order of evaluation.
+-- A settled cycle: which values the signals have together.
+-- Source: FIRRTL Specification, "Connects", "Nodes", "Wires", "Registers", "Memories"; the meaning of a cycle without a
+-- combinational loop. It is a relation on whole assignments, with no order of evaluation.
 use Rattle.std.specs.Prelude.{◌≡◌, ℕ, ◌<◌, List, length, map}
 use Rattle.gg_bits.specs.Shape.{Shape, Fits}
 use Rattle.gg_flat.specs.declared.piece.Driver.{Driver}
@@ -10,9 +10,9 @@ use Rattle.gg_flat.specs.Circuit.{FlatCircuit, signal_shapes, driver_at}
 use Rattle.gg_flat.specs.Memory.{read_word, bank_at}
 use Rattle.gg_flat.specs.State.{State}
 
--- The meaning of a signal's driver, where the signals have the values `signals` and the signal itself this shape: an
+-- The meaning of a signal's driver, if the signals have the values `signals` and the signal itself this shape. An
 -- in-signal has its input, a register's signal its state, a reader's data the word at its address or its read register,
--- else the line's result.
+-- and any other signal the line's result.
 abbrev pub driver_value : State → List ℕ → List ℕ → Shape → Driver → ℕ
 driver_value state inputs signals sink (Input place) = value_at inputs place
 driver_value state inputs signals sink (Held register) = value_at state.registers register
@@ -20,7 +20,7 @@ driver_value state inputs signals sink (MemoryWord memory reader addr en) = read
 driver_value state inputs signals sink (ReadRegister memory reader) = value_at (bank_at state.banks memory).reads reader
 driver_value state inputs signals sink (Computed line) = connected_value signals sink line
 
--- The values `signals` are settled: there is one for each signal, of its type, and it is its driver's.
+-- The values `signals` are settled: there is one for each signal, it is of the signal's type, and it is its driver's.
 pub record Settled (circuit : FlatCircuit) (state : State) (inputs signals : List ℕ) : Type 0 where
   pub typed : AreTyped (signal_shapes circuit) signals
   pub driven : (s : ℕ) → s < length circuit.signals → value_at signals s ≡ driver_value state inputs signals (shape_at (signal_shapes circuit) s) (driver_at circuit s)
@@ -33,7 +33,7 @@ in_shapes circuit = map (shape_at (signal_shapes circuit)) circuit.ins
 abbrev pub IsInputs : FlatCircuit → List ℕ → Type 0
 IsInputs circuit inputs = AreTyped (in_shapes circuit) inputs
 
--- A driver can be evaluated: its input, register, memory or line is there, and of a type that the signal takes.
+-- A driver can be evaluated: its input, register, memory or line exists, and has a type that the signal takes.
 abbrev pub HasSource : State → List ℕ → List ℕ → Shape → Driver → Type 0
 HasSource state inputs signals sink (Input place) = (place < length inputs) × Fits sink (value_at inputs place)
 HasSource state inputs signals sink (Held register) = (register < length state.registers) × Fits sink (value_at state.registers register)

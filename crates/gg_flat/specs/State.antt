@@ -1,6 +1,6 @@
 -- The state of a flat circuit, and the state after a cycle.
--- Source: FIRRTL Specification, "Registers" and "Memories". Registers and words start at 0; a register that is never
--- connected keeps its value: this program's profile.
+-- Source: FIRRTL Specification, "Registers" and "Memories". Registers and words start at 0, and a register that is
+-- never connected keeps its value: this is the program's profile.
 use Rattle.std.specs.Prelude.{ℕ, List, [], ◌∷◌, Option, Some, None, length, map, replicate, ◌==◌, if◌then◌else◌}
 use Rattle.gg_bits.specs.Shape.{Shape, shape}
 use Rattle.gg_flat.specs.declared.line.Node.{Node}
@@ -20,17 +20,18 @@ abbrev pub opening : FlatCircuit → State
 opening circuit =
     record { registers = replicate (length circuit.registers) 0; banks = map (λ memory. opening_bank memory) circuit.memories }
 
--- a register's connected value, or its own where it has no connection
+-- a register's connected value, or its own if it has no connection
 abbrev pub connected_or : List ℕ → Shape → Option (List Node) → ℕ → ℕ
 connected_or signals sink None own = own
 connected_or signals sink (Some line) own = connected_value signals sink line
 
--- the init of a reset whose condition is 1, else the other value
+-- the init of a reset whose condition is 1, otherwise the other value
 abbrev pub reset_or : List ℕ → Shape → Option Reset → ℕ → ℕ
 reset_or signals sink None other = other
 reset_or signals sink (Some reset) other = if line_value signals reset.condition == 1 then connected_value signals sink reset.init else other
 
--- A register after the cycle: its init where its reset condition is 1, else its connected value, else its own.
+-- A register after the cycle: its init if its reset condition is 1, otherwise its connected value, or its own without
+-- one.
 abbrev pub next_register : List ℕ → Register → ℕ → ℕ
 next_register signals register own = reset_or signals (shape register.ty) register.reset (connected_or signals (shape register.ty) register.next own)
 

@@ -1,12 +1,12 @@
 -- The instances of a flat circuit.
--- Source: FIRRTL Specification, "Instances": the top and, below it, the instances that each module holds.
+-- Source: FIRRTL Specification, "Instances": the top and, below it, the instances of each module.
 use Rattle.std.specs.Prelude.{◌≡◌, ◌≢◌, ◌⊎◌, ℕ, ◌<◌, ◌≤◌, ◌+◌, List, [], ◌∷◌, ◌++◌, Option, Some, None, length, map, slice_index_or, Contains, All, AllPairs}
 use Rattle.gg_flat.specs.declared.tree.Instance.{Instance}
 use Rattle.gg_flat.specs.declared.tree.MemoryInstance.{MemoryInstance}
 use Rattle.gg_flat.specs.Circuit.{FlatCircuit}
 
 -- The instances in the order of the tree: the top first, and each followed by all that are below it. `paths` has their
--- paths, as bytes; the top's is empty. `memories` are the circuit's memories in that order, and `memory_paths` their paths.
+-- paths, as bytes; the top's is empty. `memories` are the circuit's memories in that order, `memory_paths` their paths.
 pub record InstanceTree : Type 0 where
   pub paths : List (List ℕ)
   pub instances : List Instance
@@ -23,17 +23,17 @@ no_tree = record { paths = []; instances = []; memory_paths = []; memories = [] 
 abbrev pub path_at : List (List ℕ) → ℕ → List ℕ
 path_at paths k = slice_index_or paths k []
 
--- a name behind a path: a dot stands between them, where the path isn't empty
+-- a path followed by a name; a dot is between them if the path isn't empty
 abbrev pub joined : List ℕ → List ℕ → List ℕ
 joined [] name = name
 joined (byte ∷ outer) name = (byte ∷ outer) ++ 46 ∷ name
 
--- A path that begins with another: that one, and behind it a rest.
+-- A path that begins with another: that one, followed by a rest.
 pub record IsWithin (outer path : List ℕ) : Type 0 where
   pub rest : List ℕ
   pub is : path ≡ joined outer rest
 
--- A path that is just below another: that one, and behind it a name without a dot.
+-- A path that is just below another: that one, followed by a name without a dot.
 pub record IsJustBelow (outer path : List ℕ) : Type 0 where
   pub name : List ℕ
   pub plain : ¬ Contains name 46
@@ -52,11 +52,11 @@ abbrev pub parent_place : Option ℕ → ℕ
 parent_place None = 0
 parent_place (Some parent) = parent
 
--- a signal is one of an instance's, or of one below it
+-- a signal is one of an instance, or of one below it
 abbrev pub Holds : Instance → ℕ → Type 0
 Holds instance s = (instance.first ≤ s) × (s < instance.end)
 
--- the innermost instance that holds signal s is at place k: none that it is the parent of holds it
+-- the innermost instance that holds signal s is at place k: no instance whose parent it is holds the signal
 pub record IsInnermost (tree : InstanceTree) (k s : ℕ) : Type 0 where
   pub known : k < length tree.instances
   pub holds : Holds (instance_at tree k) s
@@ -76,8 +76,8 @@ pub record IsTop (circuit : FlatCircuit) (tree : InstanceTree) : Type 0 where
   pub first : (instance_at tree 0).first ≡ 0
   pub all : (instance_at tree 0).end ≡ length circuit.signals
 
--- The instance at place k is below another: that one is before it, with none between but such as are below that one too; the
--- path is just below that one's; and the signals are among that one's.
+-- The instance at place k is below another, its parent. The parent is before it, and each instance between them is
+-- below the parent too. The path is just below the parent's, and the signals are among the parent's.
 pub record IsBelow (tree : InstanceTree) (k : ℕ) : Type 0 where
   pub above : ℕ
   pub parent : (instance_at tree k).parent ≡ Some above
@@ -94,17 +94,17 @@ pub record IsInstance (circuit : FlatCircuit) (instance : Instance) : Type 0 whe
   pub ports : All (λ port. Holds instance port.signal) instance.ports
   pub memories : All (λ m. m < length circuit.memories) instance.memories
 
--- The memory at place k of the tree is its instance's own, with a path just below the instance's, and has a name for each
--- of its ports.
+-- The memory at place k of the tree is one of its instance's own. Its path is just below the instance's, and it has a
+-- name for each of its ports.
 pub record IsHeld (circuit : FlatCircuit) (tree : InstanceTree) (k : ℕ) : Type 0 where
   pub instance : (memory_at tree k).instance < length tree.instances
   pub own : Contains (instance_at tree (memory_at tree k).instance).memories (memory_at tree k).memory
   pub path : IsJustBelow (path_at tree.paths (memory_at tree k).instance) (path_at tree.memory_paths k)
   pub ports : length (memory_at tree k).ports ≡ port_count circuit (memory_at tree k).memory
 
--- The tree of a circuit: the top, and each other instance below an earlier one; no two have the same path; two of one
--- parent have no signal in common; a signal's path begins with the path of the innermost instance that holds it; and each
--- memory of the circuit is listed once, in the order of the tree.
+-- The tree of a circuit: the top, and each other instance below an earlier one. No two instances have the same path.
+-- Two with the same parent have no signal in common. A signal's path begins with the path of the innermost instance
+-- that holds it. Each memory of the circuit is listed once, in the order of the tree.
 pub record IsTree (circuit : FlatCircuit) (tree : InstanceTree) : Type 0 where
   pub top : IsTop circuit tree
   pub below : (k : ℕ) → 0 < k → k < length tree.instances → IsBelow tree k

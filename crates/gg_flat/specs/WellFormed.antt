@@ -19,9 +19,8 @@ use Rattle.gg_flat.specs.Memory.{address_width}
 abbrev pub IsDataOf : FlatCircuit → ℕ → ℕ → ℕ → Type 0
 IsDataOf circuit m r s = (r < length (readers_at circuit m)) × ((reader_at (readers_at circuit m) r).word ≡ s)
 
--- The driver of signal s is one that it may have: an in-signal names its own place in the list of in-signals, a
--- register's signal a register of its type, a reader's data the reader that it is the data of, and a line may be connected
--- to it.
+-- The driver of signal s is allowed. That of an in-signal names the signal's place in the list of in-signals, that of a
+-- register's signal a register of its type, that of a reader's data this reader. A line may be connected to the signal.
 abbrev pub MayDrive : FlatCircuit → ℕ → Driver → Type 0
 MayDrive circuit s (Input place) = (place < length circuit.ins) × (value_at circuit.ins place ≡ s)
 MayDrive circuit s (Held register) = (register < length circuit.registers) × (shape_at (register_shapes circuit) register ≡ shape_at (signal_shapes circuit) s)
@@ -39,20 +38,20 @@ pub record IsRegister (Named : ℕ → Shape → Type 0) (register : Register) :
   pub reset : MatchOption register.reset ⊤ (IsReset Named (shape register.ty))
   pub next : MatchOption register.next ⊤ (IsSource Named (shape register.ty))
 
--- the fields of a reader are signals of their types
+-- the fields of a reader are signals of the right types
 pub record IsReader (Named : ℕ → Shape → Type 0) (word : Shape) (depth : ℕ) (reader : Reader) : Type 0 where
   pub address : Named reader.addr (uint (address_width depth))
   pub enable : Named reader.en (uint 1)
   pub output : Named reader.word word
 
--- the fields of a writer are signals of their types
+-- the fields of a writer are signals of the right types
 pub record IsWriter (Named : ℕ → Shape → Type 0) (word : Shape) (depth : ℕ) (writer : Writer) : Type 0 where
   pub address : Named writer.addr (uint (address_width depth))
   pub enable : Named writer.en (uint 1)
   pub input : Named writer.word word
   pub masked : Named writer.mask (uint 1)
 
--- A memory has a word, and the fields of its ports are signals of their types.
+-- A memory has a word, and the fields of its ports are signals of the right types.
 pub record IsMemory (Named : ℕ → Shape → Type 0) (memory : Memory) : Type 0 where
   pub some : 0 < memory.depth
   pub readers : All (IsReader Named (shape memory.word) memory.depth) memory.readers
@@ -63,13 +62,13 @@ abbrev pub reader_driver : Latency → ℕ → ℕ → Reader → Driver
 reader_driver Zero m r reader = MemoryWord m r reader.addr reader.en
 reader_driver (One under) m r reader = ReadRegister m r
 
--- the data of each of a memory's readers has just the driver that it must have
+-- the data of each of a memory's readers has exactly the driver that it must have
 abbrev pub AreDriven : (ℕ → Driver) → ℕ → Latency → List Reader → Type 0
 AreDriven driver m latency readers = (r : ℕ) → r < length readers → driver (reader_at readers r).word ≡ reader_driver latency m r (reader_at readers r)
 
--- A flat circuit is well formed: each signal has a path, and no two have the same; the in-signals are just the signals
--- without a driver of their own, each listed once; the data of readers are just the signals that memories drive, each the
--- data of one; every name is one of the circuit's; types agree.
+-- A flat circuit is well formed. Each signal has a path, and no two have the same. The in-signals are just the signals
+-- without a driver of their own, each listed once. The data of readers are just the signals that memories drive, each
+-- of one reader. Every name is one of the circuit's. Types agree.
 pub record IsWellFormed (circuit : FlatCircuit) : Type 0 where
   pub named : length circuit.paths ≡ length circuit.signals
   pub distinct : AllPairs (λ a b. a ≢ b) circuit.paths

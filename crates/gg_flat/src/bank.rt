@@ -12,7 +12,7 @@ use crate::state::zeros;
 use std::alloc::{AllocError, Global};
 use std::marker::Model;
 
-/// What a memory holds before a cycle: its words, and a read register for each reader of a late memory.
+/// What a memory holds before a cycle: its words, and a read register for each reader if the read latency is 1.
 #[derive(Debug, Drop)]
 pub struct Bank {
     words: Vec<u128>,
@@ -44,7 +44,7 @@ impl Bank {
     ///
     /// # Errors
     ///
-    /// Where memory is refused.
+    /// Returns `AllocError` if an allocation fails.
     pub fn new(alloc: Global, memory: &Memory) -> Result<Bank, AllocError>
         ensures { IfOk result (λ bank. bank ≡ opening_bank memory.now) }
     {
@@ -53,7 +53,7 @@ impl Bank {
         Ok(Bank { words, reads })
     }
 
-    /// What a memory holds that has these words and read registers. Takes no memory.
+    /// The bank with these words and read registers. Does not allocate.
     pub fn of(words: Vec<u128>, reads: Vec<u128>) -> Bank
         ensures { result ≡ record { words = words.items; reads = reads.items } }
     {
@@ -74,17 +74,18 @@ impl Bank {
         self.reads.as_slice()
     }
 
-    /// What a reader finds at this address, where its enable has this value: 0 where that isn't 1, and past the depth.
+    /// What a reader finds at this address if its enable has this value. It is 0 if the enable isn't 1, and past the
+    /// depth.
     pub fn word(&self, addr: u128, en: u128) -> u128
         ensures { result ≡ read_word self.now.words addr en }
     {
         find_word(self.words(), addr, en)
     }
 
-    /// Goes to what the memory holds after a cycle in which the signals have these values. Only the words that its writers
-    /// name are touched.
+    /// Advances to what the memory holds after a cycle in which the signals have these values. Only the words that its
+    /// writers name are written.
     ///
-    /// The memory is of these signals, and the bank is one of the memory.
+    /// The memory's fields are among these signals, and the bank is one of this memory.
     pub fn advance(&mut self, memory: &Memory, signals: &[u128])
         requires memory { IsMemory (HasValue signals.now) memory.now }
         requires bank { IsBank memory.now self.old }
@@ -105,9 +106,9 @@ impl Bank {
         }
     }
 
-    /// Goes to what the memory holds after one access, by the late reader at this place, where the signals have these
-    /// values: its read register takes the word that it finds. The order of the accesses of a cycle is the memory's due
-    /// list (`one_served`, `all_served`).
+    /// Advances to what the memory holds after one access by the late reader at this place, if the signals have these
+    /// values. The reader's register takes the word that it finds. The order of the accesses of a cycle is the memory's
+    /// due list (`one_served`, `all_served`).
     pub fn serve_reader(&mut self, place: usize, reader: &Reader, signals: &[u128])
         requires fields { LooksAmong (length signals.now) reader.now }
         requires place { place < length self.old.reads }
@@ -119,8 +120,8 @@ impl Bank {
         self.reads[place] = found;
     }
 
-    /// Goes to what the memory holds after one access, by a writer, where the signals have these values. The place of the
-    /// writer among the memory's writers makes no difference.
+    /// Advances to what the memory holds after one access by a writer, if the signals have these values. The writer's
+    /// place among the memory's writers makes no difference.
     pub fn serve_writer(&mut self, writer: &Writer, signals: &[u128])
         requires { WritesAmong (length signals.now) writer.now }
         ensures served { (place : ℕ) → self.new ≡ after_access signals.now self.old (ByWriter place writer.now) }
@@ -141,7 +142,7 @@ fn find_word(words: &[u128], addr: u128, en: u128) -> u128
     }
 }
 
-// Each writer in turn writes its word.
+// Lets each writer in turn write its word.
 fn write_words(words: &mut [u128], writers: &[Writer], signals: &[u128])
     requires { All (WritesAmong (length signals.now)) writers.now }
     ensures { words.new ≡ next_words signals.now writers.now words.old }
@@ -151,7 +152,7 @@ fn write_words(words: &mut [u128], writers: &[Writer], signals: &[u128])
     }
 }
 
-// A writer writes its word, where it is enabled and the address is below the depth.
+// Lets a writer write its word, if it is enabled and the address is below the depth.
 fn write_word(words: &mut [u128], writer: &Writer, signals: &[u128])
     requires { WritesAmong (length signals.now) writer.now }
     ensures { words.new ≡ written signals.now words.old writer.now }
@@ -163,7 +164,7 @@ fn write_word(words: &mut [u128], writer: &Writer, signals: &[u128])
     }
 }
 
-// Each reader's register takes what it finds among the words.
+// Lets each reader's register take what the reader finds among the words.
 fn read_words(reads: &mut [u128], readers: &[Reader], words: &[u128], signals: &[u128])
     requires readers { All (LooksAmong (length signals.now)) readers.now }
     requires count { length reads.old ≡ length readers.now }

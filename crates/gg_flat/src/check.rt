@@ -1,4 +1,4 @@
-//! `Piece::check`: whether a piece is well formed. It takes no memory.
+//! `Piece::check`: whether a piece is well formed. It does not allocate.
 ghost use Rattle.std.specs.Prelude.{◌≡◌, ℕ, ◌<◌, ◌↔◌, Ok, length, map, slice_index_or, All, IsTrue};
 ghost use Rattle.gg_bits.specs.Shape.{shape, shape_of, Fits};
 ghost use Rattle.gg_flat.specs.Line.{shape_at, value_at, shapes_of, op_at, line_shape, HasShape, HasType, IsLine, IsSource, IsCondition};
@@ -36,7 +36,7 @@ fn results_in(found: Result<Ty, Bad>, ty: Ty) -> bool
     }
 }
 
-// Whether a signal is one of these, of a type.
+// Whether a signal is one of these and has this type.
 pub(crate) fn is_typed(signals: &[Signal], signal: u32, ty: Ty) -> bool
     ensures { IsTrue result ↔ HasType (map (λ s. shape s.ty) signals.now) signal (shape ty) }
 {
@@ -46,7 +46,7 @@ pub(crate) fn is_typed(signals: &[Signal], signal: u32, ty: Ty) -> bool
     same_type(signals[signal as usize].ty, ty)
 }
 
-// Whether a node has the type that it says.
+// Whether a node has its declared type.
 fn is_node(signals: &[Signal], nodes: &[Node], k: usize) -> bool
     requires { k < length nodes.now }
     ensures { IsTrue result ↔ HasShape (HasType (map (λ s. shape s.ty) signals.now)) (shapes_of nodes.now) k (shape_at (shapes_of nodes.now) k) (op_at nodes.now k) }
@@ -187,7 +187,7 @@ impl Piece {
         true
     }
 
-    // Whether every in-signal is a signal that names its place among the in-signals.
+    // Whether every in-signal is a signal whose driver names its place among the in-signals.
     fn are_ins(&self) -> bool
         ensures { IsTrue result ↔ ((place : ℕ) → place < length self.now.ins → (value_at self.now.ins place < length self.now.signals) × (driver_at self.now (value_at self.now.ins place) ≡ Input place)) }
     {
@@ -215,7 +215,7 @@ impl Piece {
     pub fn check(&self) -> bool
         ensures { IsTrue result ↔ IsWellFormed self.now }
     {
-        // for what holds of every piece: each signal has a path of its own
+        // for a fact about every piece: each signal has its own path
         let _ = self.signal_count();
         if !self.are_ins() {
             return false;
@@ -236,7 +236,7 @@ impl Piece {
     }
 }
 
-// Whether a signal is one of these, driven by the input at this place.
+// Whether a signal is one of these and is driven by the input at this place.
 fn is_input(signals: &[Signal], signal: u32, place: usize) -> bool
     ensures { IsTrue result ↔ ((signal < length signals.now) × (slice_index_or (map (λ s. s.driver) signals.now) signal (Input 0) ≡ Input place)) }
 {

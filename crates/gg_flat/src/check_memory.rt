@@ -12,7 +12,7 @@ use crate::memory::{Latency, Memory, Reader, Writer, address_width};
 use crate::piece::{Driver, Piece, Signal};
 use gg_bits::{Kind, Ty};
 
-// Whether the fields of a reader are signals of their types.
+// Whether the fields of a reader are signals of the right types.
 fn is_reader(signals: &[Signal], memory: &Memory, reader: &Reader) -> bool
     ensures { IsTrue result ↔ IsReader (HasType (map (λ s. shape s.ty) signals.now)) (shape memory.now.word) memory.now.depth reader.now }
 {
@@ -23,7 +23,7 @@ fn is_reader(signals: &[Signal], memory: &Memory, reader: &Reader) -> bool
         && is_typed(signals, reader.word, memory.word)
 }
 
-// Whether the fields of a writer are signals of their types.
+// Whether the fields of a writer are signals of the right types.
 fn is_writer(signals: &[Signal], memory: &Memory, writer: &Writer) -> bool
     ensures { IsTrue result ↔ IsWriter (HasType (map (λ s. shape s.ty) signals.now)) (shape memory.now.word) memory.now.depth writer.now }
 {
@@ -35,7 +35,7 @@ fn is_writer(signals: &[Signal], memory: &Memory, writer: &Writer) -> bool
         && is_typed(signals, writer.mask, bit)
 }
 
-// Whether the fields of all readers are signals of their types.
+// Whether the fields of all readers are signals of the right types.
 fn are_readers(signals: &[Signal], memory: &Memory) -> bool
     ensures { IsTrue result ↔ All (IsReader (HasType (map (λ s. shape s.ty) signals.now)) (shape memory.now.word) memory.now.depth) memory.now.readers }
 {
@@ -47,7 +47,7 @@ fn are_readers(signals: &[Signal], memory: &Memory) -> bool
     true
 }
 
-// Whether the fields of all writers are signals of their types.
+// Whether the fields of all writers are signals of the right types.
 fn are_writers(signals: &[Signal], memory: &Memory) -> bool
     ensures { IsTrue result ↔ All (IsWriter (HasType (map (λ s. shape s.ty) signals.now)) (shape memory.now.word) memory.now.depth) memory.now.writers }
 {
@@ -59,7 +59,7 @@ fn are_writers(signals: &[Signal], memory: &Memory) -> bool
     true
 }
 
-// Whether a memory has a word, and ports of its types.
+// Whether a memory has a word, and the fields of its ports have the right types.
 fn is_memory(signals: &[Signal], memory: &Memory) -> bool
     ensures { IsTrue result ↔ IsMemory (HasType (map (λ s. shape s.ty) signals.now)) memory.now }
 {
@@ -72,7 +72,7 @@ fn is_memory(signals: &[Signal], memory: &Memory) -> bool
     are_writers(signals, memory)
 }
 
-// Whether every memory has a word, and ports of its types.
+// Whether every memory has a word, and the fields of its ports have the right types.
 pub(crate) fn are_memories(signals: &[Signal], memories: &[Memory]) -> bool
     ensures { IsTrue result ↔ All (IsMemory (HasType (map (λ s. shape s.ty) signals.now))) memories.now }
 {
@@ -113,7 +113,7 @@ fn has_driver(signals: &[Signal], latency: Latency, m: usize, r: usize, reader: 
     }
 }
 
-// Whether the data of each reader of a memory has its driver.
+// Whether the data of each reader of a memory has the driver that it must have.
 fn are_driven(signals: &[Signal], m: usize, latency: Latency, readers: &[Reader]) -> bool
     ensures { IsTrue result ↔ AreDriven (λ s. slice_index_or (map (λ signal. signal.driver) signals.now) s (Input 0)) m latency readers.now }
 {
@@ -125,7 +125,7 @@ fn are_driven(signals: &[Signal], m: usize, latency: Latency, readers: &[Reader]
     true
 }
 
-// Whether the data of each reader of the memory at a place has its driver.
+// Whether the data of each reader of the memory at a place has the driver that it must have.
 fn is_read(signals: &[Signal], memories: &[Memory], m: usize) -> bool
     requires { m < length memories.now }
     ensures { IsTrue result ↔ AreDriven (λ s. slice_index_or (map (λ signal. signal.driver) signals.now) s (Input 0)) m (slice_index_or (map (λ memory. memory.latency) memories.now) m Zero) (slice_index_or (map (λ memory. memory.readers) memories.now) m []) }
@@ -135,7 +135,7 @@ fn is_read(signals: &[Signal], memories: &[Memory], m: usize) -> bool
 }
 
 impl Piece {
-    // Whether the data of each reader has its driver.
+    // Whether the data of each reader has the driver that it must have.
     pub(crate) fn are_read(&self) -> bool
         ensures { IsTrue result ↔ ((m : ℕ) → m < length self.now.memories → AreDriven (driver_at self.now) m (latency_at self.now m) (readers_at self.now m)) }
     {

@@ -1,4 +1,4 @@
-//! The values of lines and drivers, worked out without memory.
+//! The values of lines and drivers, computed without allocating.
 ghost use Rattle.std.specs.Prelude.{◌≡◌, ℕ, ◌<◌, ◌≤◌, ◌^◌, length, take};
 ghost use Rattle.gg_bits.specs.Shape.{shape, Fits};
 ghost use Rattle.gg_flat.specs.Line.{shape_at, value_at, shapes_of, op_at, HasShape, HasValue, IsLine, IsSource, op_value, node_values, line_shape, line_value, connected_value};
@@ -28,7 +28,7 @@ pub(crate) fn op_of(nodes: &[Node], k: usize) -> Op
     nodes[k].op
 }
 
-// The value of a node, from the values of the signals and of the nodes before it.
+// The value of a node, given the values of the signals and of the nodes before it.
 fn node_value(nodes: &[Node], k: usize, signals: &[u128], before: &[u128]) -> u128
     requires node { k < length nodes.now }
     requires room { k ≤ length before.now }
@@ -64,7 +64,7 @@ fn node_value(nodes: &[Node], k: usize, signals: &[u128], before: &[u128]) -> u1
     }
 }
 
-// The values of all nodes, from the front on, into the scratch space.
+// Computes the values of all nodes in order, into the scratch space.
 fn fill_nodes(nodes: &[Node], signals: &[u128], scratch: &mut [u128])
     requires line { IsLine (HasValue signals.now) nodes.now }
     requires room { length nodes.now ≤ length scratch.old }
@@ -78,7 +78,7 @@ fn fill_nodes(nodes: &[Node], signals: &[u128], scratch: &mut [u128])
 }
 
 impl Line {
-    /// The value of the line, where the signals have these values. The scratch space has room for its nodes.
+    /// The value of the line, if the signals have these values. The scratch space has room for its nodes.
     pub fn value(&self, signals: &[u128], scratch: &mut [u128]) -> u128
         requires line { IsLine (HasValue signals.now) self.now }
         requires room { length self.now ≤ length scratch.old }
@@ -112,8 +112,8 @@ impl Line {
 }
 
 impl Driver {
-    /// The value of a signal of type `sink` that the driver drives, in this state and with these inputs, where the
-    /// signals that it names have these values. The scratch space has room for the nodes of its line.
+    /// The value that the driver gives to a signal of type `sink`, in this state and with these inputs, if the signals
+    /// that it names have these values. The scratch space has room for the nodes of its line.
     pub fn value(
         &self,
         sink: Ty,
@@ -143,8 +143,9 @@ impl Driver {
 }
 
 impl Register {
-    /// The register's value after a cycle: its init where its reset condition is 1, else its connected value, else its
-    /// own. The signals have these values; the scratch space has room for the nodes of its lines.
+    /// The register's value after a cycle: its init if its reset condition is 1, otherwise its connected value, or its
+    /// own if it has no connection. The signals have these values. The scratch space has room for the nodes of its
+    /// lines.
     pub fn next_value(&self, own: u128, signals: &[u128], scratch: &mut [u128]) -> u128
         requires lines { IsRegister (HasValue signals.now) self.now }
         requires own { Fits (shape self.now.ty) own }

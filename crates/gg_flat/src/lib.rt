@@ -1,23 +1,24 @@
 //! Flat circuits: their definition, and what they do.
 //!
-//! A flat circuit has signals, each with a path, a type and one driver, registers, memories, and the signals that it gets
-//! from outside and gives to the outside. The definitions of `specs/` say when it is well formed, which signals read which,
-//! which values of all signals are settled in a cycle, the state after a cycle, and what a run is. They speak of no
-//! order of evaluation. The crate promises:
+//! A flat circuit has signals, each with a path, a type and one driver. It has registers, memories, the signals that it
+//! gets from outside (in-signals) and those that it gives to the outside (out-signals). The definitions of `specs/` say
+//! when it is well formed, which signals read which, which values of all signals are settled in a cycle, the state
+//! after a cycle, and what a run is. They use no order of evaluation. The crate promises:
 //!
-//! - `Piece::check` is true exactly where the piece is well formed;
+//! - `Piece::check` returns true exactly if the piece is well formed;
 //! - what `Piece::settle` makes along an order is settled, and nothing else is;
 //! - `State::advance` makes the next state;
-//! - along an order there is just one run from each start (`runs_along`, `run_once`), the opening or another, and a run may
-//!   be cut in two and put together again (`runs_split`, `runs_on`);
-//! - a memory that is served its accesses one after another comes to the same (`one_served`, `all_served`), and
-//!   `Bank::serve_reader` and `Bank::serve_writer` serve one;
-//! - a signal's value, and what a register and a memory become, depend on the signals alone that they name (`values_agree`).
+//! - along an order there is exactly one run from each start, the opening or another (`runs_along`, `run_once`), and a
+//!   run can be split in two and joined again (`runs_split`, `runs_on`);
+//! - a memory that serves its accesses one after another holds the same after the cycle (`one_served`, `all_served`);
+//!   `Bank::serve_reader` and `Bank::serve_writer` serve one access;
+//! - a signal's value, and what a register and a memory become, depend only on the signals that they name
+//!   (`values_agree`).
 //!
-//! `Tree` keeps the instances of a flat circuit and the names that it has no signal for. When it is the tree of a circuit
-//! `IsTree` says, and whoever fills it owes that.
+//! `Tree` keeps the instances of a flat circuit and the names that have no signal there. `IsTree` defines when it is
+//! the tree of a circuit. The code that fills a `Tree` must prove this.
 //!
-//! `Piece::check`, `Piece::settle` and `State::advance` take no memory.
+//! `Piece::check`, `Piece::settle` and `State::advance` do not allocate.
 #![tactic(auto)]
 
 mod bank;

@@ -1,11 +1,11 @@
-//! Lines: what a signal is computed by, as a straight list of nodes.
+//! Lines: the expression of a signal's value, as a list of nodes.
 ghost use Rattle.std.specs.Prelude.{◌≡◌, [], ◌∷◌, ◌++◌, length, OnOk, OnErr};
 
 use gg_bits::{Op1, Op2, OpN, Ty, Val};
 use std::alloc::{AllocError, Global};
 use std::marker::Model;
 
-/// What a node of a line does. The numbers of operands name earlier nodes of the same line.
+/// What a node of a line does. The numbers of operands are those of earlier nodes of the same line.
 ///
 /// These are the expressions of the FIRRTL Specification ("Expressions"): a reference, a literal, a primitive
 /// operation or a multiplexer.
@@ -21,7 +21,7 @@ pub enum Op {
     Two(Op2, u32, u32),
     /// An operation on one value with the parameters `n` and `m`.
     Fix(OpN, u32, u32, u32),
-    /// `mux`: the second where the first is 1, else the third.
+    /// `mux`: the second if the first is 1, otherwise the third.
     Mux(u32, u32, u32),
 }
 
@@ -34,7 +34,7 @@ pub struct Node {
     pub op: Op,
 }
 
-/// An expression as a straight list of nodes, each of which names earlier ones; the last is the result.
+/// An expression as a list of nodes. Each node names only earlier ones; the last is the result.
 ///
 /// A contract sees it as the list of its nodes.
 #[derive(Debug, Drop)]
@@ -65,7 +65,7 @@ impl Line {
     ///
     /// # Errors
     ///
-    /// Where memory is refused. The line is then unchanged.
+    /// Returns `AllocError` if an allocation fails. The line then stays as it was.
     pub fn push(&mut self, node: Node) -> Result<(), AllocError>
         ensures ok { OnOk result (self.new ≡ self.old ++ node ∷ []) }
         ensures err { OnErr result (self.new ≡ self.old) }

@@ -5,14 +5,14 @@ ghost use Rattle.gg_flat.specs.Memory.{address_width, first_width};
 use gg_bits::Ty;
 use std::marker::Model;
 
-/// What a late reader gives where a writer writes the word that it reads (FIRRTL Specification, "Memories").
+/// What a late reader gives if a writer writes the word that it reads (FIRRTL Specification, "Memories").
 #[derive(Clone, Copy, Debug, PartialEq, Eq)]
 pub enum UnderWrite {
     /// The word before the writes.
     Old,
     /// The word after the writes.
     New,
-    /// Not said: this program gives the word before the writes.
+    /// Undefined: this program gives the word before the writes.
     Undefined,
 }
 
@@ -21,11 +21,11 @@ pub enum UnderWrite {
 pub enum Latency {
     /// The same cycle.
     Zero,
-    /// The next cycle: the word stands in a read register.
+    /// The next cycle: the word is kept in a read register.
     One(UnderWrite),
 }
 
-/// A read port. Its fields are signals, named by their numbers.
+/// A read port. Its fields are signals, given by their numbers.
 #[derive(Clone, Copy, Debug, PartialEq, Eq)]
 pub struct Reader {
     /// The address: unsigned, of the memory's address width.
@@ -36,7 +36,7 @@ pub struct Reader {
     pub word: u32,
 }
 
-/// A write port. Its fields are signals, named by their numbers.
+/// A write port. Its fields are signals, given by their numbers.
 #[derive(Clone, Copy, Debug, PartialEq, Eq)]
 pub struct Writer {
     /// The address: unsigned, of the memory's address width.
@@ -51,7 +51,7 @@ pub struct Writer {
 
 /// The read ports of a memory, in the order of the file. A contract sees the list.
 ///
-/// It is made of a `Vec` without taking memory.
+/// It is made from a `Vec`, without allocating.
 #[derive(Debug, Drop)]
 pub struct Readers {
     items: Vec<Reader>,
@@ -85,7 +85,7 @@ impl From<Vec<Reader>> for Readers {
 
 /// The write ports of a memory, in the order of the file. A contract sees the list.
 ///
-/// It is made of a `Vec` without taking memory.
+/// It is made from a `Vec`, without allocating.
 #[derive(Debug, Drop)]
 pub struct Writers {
     items: Vec<Writer>,
@@ -128,11 +128,11 @@ pub struct Memory {
     pub latency: Latency,
     /// Its read ports.
     pub readers: Readers,
-    /// Its write ports. Where two write one word, the later in this order wins.
+    /// Its write ports. If two write the same word, the later in this order wins.
     pub writers: Writers,
 }
 
-/// The width of an address of a memory of this depth: the least of at least one bit that names each word.
+/// The width of an address of a memory of this depth: as few bits as can name each word, but at least one.
 pub fn address_width(depth: u32) -> u32
     ensures width { result ≡ address_width depth }
     ensures positive { 1 ≤ result }

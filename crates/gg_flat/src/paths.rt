@@ -12,10 +12,10 @@ use std::marker::Model;
 /// Why a signal, an instance or a memory was not added.
 #[derive(Clone, Copy, Debug, PartialEq, Eq)]
 pub enum AddError {
-    /// There is one of that path already: a signal where a signal was to be added, an instance where an instance was, a
-    /// memory where a memory was.
+    /// The path is already taken: a signal's if a signal was to be added, an instance's if an instance was, a memory's
+    /// if a memory was.
     Doubled,
-    /// Memory ran out.
+    /// An allocation failed.
     NoMemory,
 }
 
@@ -38,7 +38,7 @@ impl Error for AddError {}
 /// The paths of signals, of instances or of memories, in their order, no two of them equal. A contract sees the list of
 /// their bytes.
 ///
-/// There are fewer than 4,294,967,296 of them, so that a `u32` names each.
+/// There are fewer than 4,294,967,296 of them, so a `u32` can number them.
 #[derive(Drop)]
 pub struct Paths {
     names: IndexSet<Name>,
@@ -75,7 +75,7 @@ impl Paths {
         self.names.len()
     }
 
-    /// The number of a path, where it is one of these.
+    /// The number of a path, if it is one of these.
     pub fn find(&self, path: &Name) -> Option<u32>
         ensures found { IfSome result (λ number. slice_get self.now number ≡ Some path.now) }
         ensures missing { IfNone result (¬ Contains self.now path.now) }
@@ -86,7 +86,7 @@ impl Paths {
         }
     }
 
-    /// The path of a number.
+    /// The path with this number.
     pub fn get(&self, number: u32) -> Option<&Name>
         ensures { option_copied result ≡ slice_get self.now number }
     {
@@ -97,7 +97,8 @@ impl Paths {
     ///
     /// # Errors
     ///
-    /// `Doubled`, where the path is one of these; `NoMemory`, where memory is refused. The paths are then unchanged.
+    /// Returns `Doubled` if the path is one of these. Returns `NoMemory` if an allocation fails. The paths then stay as
+    /// they were.
     pub fn add(&mut self, path: Name) -> Result<(), AddError>
         requires { length self.old < 2 ^ 32 - 1 }
         ensures ok { OnOk result (self.new ≡ self.old ++ path ∷ []) }

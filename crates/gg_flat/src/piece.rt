@@ -26,7 +26,7 @@ pub enum Driver {
     Computed(Line),
 }
 
-/// A signal of a flat circuit: a port, wire, register, node or memory field that is no Clock.
+/// A signal of a flat circuit: a port, wire, register, node or memory field that is not a Clock.
 #[derive(Debug, Drop)]
 pub struct Signal {
     /// The type of its values.
@@ -35,7 +35,7 @@ pub struct Signal {
     pub driver: Driver,
 }
 
-/// A register's reset: where the condition is 1, the register takes the init.
+/// A register's reset: if the condition is 1, the register takes the init.
 #[derive(Debug, Drop)]
 pub struct Reset {
     /// One unsigned bit.
@@ -138,7 +138,7 @@ impl Piece {
         self.paths.len()
     }
 
-    /// The number of the signal of a path, where there is one.
+    /// The number of the signal with this path, if there is one.
     pub fn find(&self, path: &Name) -> Option<u32>
         ensures found { IfSome result (λ signal. slice_get self.now.paths signal ≡ Some path.now) }
         ensures missing { IfNone result (¬ Contains self.now.paths path.now) }
@@ -157,7 +157,8 @@ impl Piece {
     ///
     /// # Errors
     ///
-    /// `Doubled`, where a signal has that path; `NoMemory`, where memory is refused. The piece is then unchanged.
+    /// Returns `Doubled` if a signal has that path. Returns `NoMemory` if an allocation fails. The piece then stays as
+    /// it was.
     pub fn add_signal(&mut self, path: Name, signal: Signal) -> Result<(), AddError>
         requires { length self.old.signals < 2 ^ 32 - 1 }
         ensures ok { OnOk result (self.new ≡ record self.old { paths = self.old.paths ++ path ∷ []; signals = self.old.signals ++ signal ∷ [] }) }
@@ -181,7 +182,7 @@ impl Piece {
     ///
     /// # Errors
     ///
-    /// Where memory is refused. The piece is then unchanged.
+    /// Returns `AllocError` if an allocation fails. The piece then stays as it was.
     pub fn add_register(&mut self, register: Register) -> Result<(), AllocError>
         ensures ok { OnOk result (self.new ≡ record self.old { registers = self.old.registers ++ register ∷ [] }) }
         ensures err { OnErr result (self.new ≡ self.old) }
@@ -194,7 +195,7 @@ impl Piece {
     ///
     /// # Errors
     ///
-    /// Where memory is refused. The piece is then unchanged.
+    /// Returns `AllocError` if an allocation fails. The piece then stays as it was.
     pub fn add_memory(&mut self, memory: Memory) -> Result<(), AllocError>
         ensures ok { OnOk result (self.new ≡ record self.old { memories = self.old.memories ++ memory ∷ [] }) }
         ensures err { OnErr result (self.new ≡ self.old) }
@@ -207,7 +208,7 @@ impl Piece {
     ///
     /// # Errors
     ///
-    /// Where memory is refused. The piece is then unchanged.
+    /// Returns `AllocError` if an allocation fails. The piece then stays as it was.
     pub fn add_in(&mut self, signal: u32) -> Result<(), AllocError>
         ensures ok { OnOk result (self.new ≡ record self.old { ins = self.old.ins ++ signal ∷ [] }) }
         ensures err { OnErr result (self.new ≡ self.old) }
@@ -220,7 +221,7 @@ impl Piece {
     ///
     /// # Errors
     ///
-    /// Where memory is refused. The piece is then unchanged.
+    /// Returns `AllocError` if an allocation fails. The piece then stays as it was.
     pub fn add_out(&mut self, signal: u32) -> Result<(), AllocError>
         ensures ok { OnOk result (self.new ≡ record self.old { outs = self.old.outs ++ signal ∷ [] }) }
         ensures err { OnErr result (self.new ≡ self.old) }

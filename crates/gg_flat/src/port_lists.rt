@@ -36,7 +36,7 @@ impl Piece {
     ///
     /// # Errors
     ///
-    /// Where memory is refused.
+    /// Returns `AllocError` if an allocation fails.
     pub fn in_ports(&self, alloc: Global) -> Result<Ports, AllocError>
         requires { IsWellFormed self.now }
         ensures { IfOk result (λ ports. ports ≡ in_ports self.now) }
@@ -48,7 +48,7 @@ impl Piece {
     ///
     /// # Errors
     ///
-    /// Where memory is refused.
+    /// Returns `AllocError` if an allocation fails.
     pub fn out_ports(&self, alloc: Global) -> Result<Ports, AllocError>
         requires { IsWellFormed self.now }
         ensures { IfOk result (λ ports. ports ≡ out_ports self.now) }

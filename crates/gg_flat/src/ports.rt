@@ -15,7 +15,7 @@ pub struct Port {
 
 /// A list of ports. A contract sees it as the list.
 ///
-/// It is made of a `Vec` without taking memory.
+/// It is made from a `Vec`, without allocating.
 #[derive(Debug, Drop)]
 pub struct Ports {
     items: Vec<Port>,

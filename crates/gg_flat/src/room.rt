@@ -1,4 +1,4 @@
-//! How much room a piece wants for its signals' values and for its lines.
+//! How much room a piece needs for its signals' values and for its lines.
 ghost use Rattle.std.specs.Prelude.{◌≡◌, ℕ, ◌≤◌, length, replicate, All, IfOk};
 ghost use Rattle.gg_flat.specs.Line.{AreTyped};
 ghost use Rattle.gg_flat.specs.Circuit.{signal_shapes};
@@ -37,7 +37,7 @@ impl Register {
     }
 }
 
-// The longest of the drivers' lines.
+// The length of the longest of the drivers' lines.
 fn longest_driver(signals: &[Signal]) -> usize
     ensures longest { All (λ signal. line_length signal.driver ≤ result) signals.now }
     ensures least { (places : ℕ) → All (λ signal. line_length signal.driver ≤ places) signals.now → result ≤ places }
@@ -49,7 +49,7 @@ fn longest_driver(signals: &[Signal]) -> usize
     longest
 }
 
-// The longest of the registers' lines.
+// The length of the longest of the registers' lines.
 fn longest_register(registers: &[Register]) -> usize
     ensures longest { All (λ register. register_length register ≤ result) registers.now }
     ensures least { (places : ℕ) → All (λ register. register_length register ≤ places) registers.now → result ≤ places }
@@ -62,7 +62,7 @@ fn longest_register(registers: &[Register]) -> usize
 }
 
 impl Piece {
-    /// The scratch space that the piece's lines want: a place for each node of the longest.
+    /// The length of the scratch space that the piece's lines need: a place for each node of the longest.
     pub fn room(&self) -> usize
         ensures enough { HasRoom self.now result }
         ensures least { (places : ℕ) → HasRoom self.now places → result ≤ places }
@@ -74,7 +74,7 @@ impl Piece {
     ///
     /// # Errors
     ///
-    /// Where memory is refused.
+    /// Returns `AllocError` if an allocation fails.
     pub fn scratch(&self, alloc: Global) -> Result<Vec<u128>, AllocError>
         ensures { IfOk result (λ places. HasRoom self.now (length places.items)) }
     {
@@ -86,7 +86,7 @@ impl Piece {
     ///
     /// # Errors
     ///
-    /// Where memory is refused.
+    /// Returns `AllocError` if an allocation fails.
     pub fn zeros(&self, alloc: Global) -> Result<Vec<u128>, AllocError>
         ensures zeros { IfOk result (λ values. values.items ≡ replicate (length self.now.signals) 0) }
         ensures typed { IfOk result (λ values. AreTyped (signal_shapes self.now) values.items) }

@@ -1,4 +1,4 @@
-//! Settled cycles, worked out along an order.
+//! Settled cycles, computed along an order.
 ghost use Rattle.std.specs.Prelude.{◌≡◌, ◌<◌, length};
 ghost use Rattle.gg_bits.specs.Shape.{shape, Fits};
 ghost use Rattle.gg_flat.specs.Line.{shape_at, AreTyped};
@@ -13,10 +13,10 @@ use crate::piece::Piece;
 use crate::state::State;
 
 impl Piece {
-    /// The value of a signal's driver, in this state and with these inputs, where the signals have these values.
+    /// The value of a signal's driver, in this state and with these inputs, if the signals have these values.
     ///
-    /// The piece is well formed; state, inputs and values are of its counts and types, inputs in port order, values by
-    /// the signals' numbers; the scratch space has room for its lines (`scratch`).
+    /// The piece is well formed. State, inputs and values have its counts and types, inputs in port order, values by
+    /// the signals' numbers. The scratch space has room for its lines (`scratch`).
     pub fn driver_value(
         &self,
         signal: u32,
@@ -40,11 +40,11 @@ impl Piece {
             .value(signal.ty, state, inputs, signals, scratch)
     }
 
-    /// Makes the values of all signals settled, in this state and with these inputs: each signal of the order in turn
-    /// gets its driver's value.
+    /// Settles the values of all signals, in this state and with these inputs: each signal of the order in turn gets
+    /// its driver's value.
     ///
-    /// The piece is well formed, and the order has each signal once, behind all signals that it reads. State, inputs and
-    /// the values before are of the piece's counts and types; the scratch space has room for its lines (`scratch`).
+    /// The piece is well formed, and the order has each signal once, after all signals that it reads. State, inputs and
+    /// the old values have the piece's counts and types. The scratch space has room for its lines (`scratch`).
     pub fn settle(
         &self,
         order: &[u32],

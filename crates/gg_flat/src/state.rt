@@ -41,7 +41,7 @@ impl State {
     ///
     /// # Errors
     ///
-    /// Where memory is refused.
+    /// Returns `AllocError` if an allocation fails.
     pub fn new(alloc: Global, piece: &Piece) -> Result<State, AllocError>
         ensures opening { IfOk result (λ state. state ≡ opening piece.now) }
         ensures typed { IfOk result (λ state. IsState piece.now state) }
@@ -51,7 +51,7 @@ impl State {
         Ok(State { registers, banks })
     }
 
-    /// The state of these registers and memories. Takes no memory.
+    /// The state with these registers and memories. Does not allocate.
     pub fn of(registers: Vec<u128>, banks: Vec<Bank>) -> State
         ensures { result ≡ record { registers = registers.items; banks = banks.items } }
     {
@@ -72,10 +72,10 @@ impl State {
         self.banks.as_slice()
     }
 
-    /// Goes to the state after a cycle in which the signals have these values, which stand by the signals' numbers.
+    /// Advances to the state after a cycle in which the signals have these values, given by the signals' numbers.
     ///
-    /// The piece is well formed; state and values are of its counts and types; the scratch space has room for its lines
-    /// (`Piece::scratch`). Of a memory only the words that its writers name are touched.
+    /// The piece is well formed. State and values have its counts and types. The scratch space has room for its lines
+    /// (`Piece::scratch`). Only the words of a memory that its writers name are written.
     pub fn advance(&mut self, piece: &Piece, signals: &[u128], scratch: &mut [u128])
         requires formed { IsWellFormed piece.now }
         requires state { IsState piece.now self.old }
@@ -100,7 +100,7 @@ fn opening_banks(alloc: Global, memories: &[Memory]) -> Result<Vec<Bank>, AllocE
     Ok(banks)
 }
 
-// Puts what a memory holds after the cycle in the place of what it held.
+// Replaces what each memory holds by what it holds after the cycle.
 fn advance_banks(memories: &[Memory], banks: &mut [Bank], signals: &[u128])
     requires memories { All (IsMemory (HasValue signals.now)) memories.now }
     requires banks { AreBanks memories.now banks.old }
@@ -112,7 +112,7 @@ fn advance_banks(memories: &[Memory], banks: &mut [Bank], signals: &[u128])
     }
 }
 
-// Puts the value after the cycle in the place of each register's own.
+// Replaces the value of each register by its value after the cycle.
 fn advance_registers(
     registers: &[Register],
     own: &mut [u128],

@@ -1,16 +1,16 @@
-//! `Streams`: what the channels of a network carry, for proofs alone.
+//! `Streams`: what the channels of a network carry, used only in proofs.
 use std::marker::Brand;
 
-/// What a network that is cut out of a circuit computes, as proofs speak of it. The trait has no calls, and no code reads
-/// it: it is a last type parameter of what makes a network or works on one, and each such call holds for every choice of
-/// its two members. They are chosen where such a call is given `Brand`.
+/// What a network that is cut out of a circuit computes. Only proofs use it: the trait has no calls, and no code reads
+/// it. It is the last type parameter of what makes a network or works on one. The contract of each such call holds for
+/// every choice of its two members. They are chosen where such a call is given `Brand`.
 pub trait Streams: Send {
     ghost use Rattle.std.specs.Prelude.{ℕ, List};
 
-    /// By channel, the value that it carries in each cycle.
+    /// The value that each channel carries in each cycle, by channel.
     ghost lists: { List (List ℕ) };
 
-    /// By machine, the rows of its run.
+    /// The rows of each machine's run, by machine.
     ghost runs: { List (List (List ℕ)) };
 }
 

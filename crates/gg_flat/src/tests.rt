@@ -1,4 +1,4 @@
-//! What no clause says: that calls succeed with ample memory.
+//! What no contract says: that calls succeed if there is enough memory.
 ghost use Rattle.std.specs.Prelude.{◌≡◌, [], length, IfOk};
 ghost use Rattle.gg_flat.specs.declared.piece.Driver.TheVariants.{Held};
 ghost use Rattle.gg_flat.specs.Circuit.{no_circuit, driver_at};
@@ -41,7 +41,7 @@ fn add_toggle(alloc: Global, piece: &mut Piece) -> Result<(), Fail>
     Ok(())
 }
 
-// Whether a piece tells of its signal and of its ports.
+// Whether a piece returns its signal and its ports.
 fn tells(alloc: Global, piece: &Piece) -> Result<bool, AllocError> {
     let path = name(alloc)?;
     Ok(
@@ -53,7 +53,7 @@ fn tells(alloc: Global, piece: &Piece) -> Result<bool, AllocError> {
     )
 }
 
-// Whether a piece is well formed, and goes on as the toggle does.
+// Whether a piece is well formed, and its values change as a toggle's do.
 fn toggles(alloc: Global, piece: &Piece) -> Result<bool, AllocError>
     requires signals { length piece.now.signals ≡ 1 }
     requires driver { driver_at piece.now 0 ≡ Held 0 }

@@ -13,11 +13,11 @@ use std::marker::Model;
 pub struct InstancePort {
     /// Its signal, by its number.
     pub signal: u32,
-    /// Whether it is an input of the instance; else it is an output.
+    /// Whether it is an input of the instance; otherwise it is an output.
     pub is_input: bool,
 }
 
-/// An instance of a module, or the top. Signals, memories and other instances are named by their numbers.
+/// An instance of a module, or the top. Signals, memories and other instances are given by their numbers.
 #[derive(Debug, Drop)]
 pub struct Instance {
     /// The instance that holds it; none for the top.
@@ -26,7 +26,7 @@ pub struct Instance {
     pub module: u32,
     /// The first signal of it and of the instances below it.
     pub first: u32,
-    /// The end of these signals: the number behind the last.
+    /// The end of these signals: the number after the last.
     pub end: u32,
     /// Its ports, in port order, without clocks.
     pub ports: Items<InstancePort>,
@@ -34,7 +34,7 @@ pub struct Instance {
     pub memories: Ids,
 }
 
-/// A memory in the tree, with what a flat circuit keeps no signal of. Its path stands with the tree.
+/// A memory in the tree, with the data that a flat circuit has no signal for. The tree keeps its path.
 #[derive(Debug, Drop)]
 pub struct MemoryInstance {
     /// The instance that holds it.
@@ -48,8 +48,8 @@ pub struct MemoryInstance {
 /// The instances of a flat circuit in the order of the tree: the top first, and each followed by all that are below it. A
 /// contract sees it as an `InstanceTree`. No two instances have the same path, and no two memories; the top's path is
 /// empty.
-///
-/// The tree takes what it is given: whoever fills it for a circuit owes that it is the tree of that circuit (`IsTree` in
+/// The tree doesn't check what it is given. The code that fills it for a circuit must prove that it is the tree of that
+/// circuit (`IsTree` in `specs/Tree`).
 /// `specs/Tree`).
 #[derive(Drop)]
 pub struct Tree {
@@ -117,7 +117,7 @@ impl Tree {
         self.memory_paths.len()
     }
 
-    /// The number of the instance of a path, where there is one.
+    /// The number of the instance with this path, if there is one.
     pub fn find(&self, path: &Name) -> Option<u32>
         ensures found { IfSome result (λ instance. slice_get self.now.paths instance ≡ Some path.now) }
         ensures missing { IfNone result (¬ Contains self.now.paths path.now) }
@@ -125,7 +125,7 @@ impl Tree {
         self.paths.find(path)
     }
 
-    /// The place in `memories` of the memory of a path, where there is one.
+    /// The place in `memories` of the memory with this path, if there is one.
     pub fn find_memory(&self, path: &Name) -> Option<u32>
         ensures found { IfSome result (λ place. slice_get self.now.memory_paths place ≡ Some path.now) }
         ensures missing { IfNone result (¬ Contains self.now.memory_paths path.now) }
@@ -151,7 +151,8 @@ impl Tree {
     ///
     /// # Errors
     ///
-    /// `Doubled`, where an instance has that path; `NoMemory`, where memory is refused. The tree is then unchanged.
+    /// Returns `Doubled` if an instance has that path. Returns `NoMemory` if an allocation fails. The tree then stays
+    /// as it was.
     pub fn add(&mut self, path: Name, instance: Instance) -> Result<(), AddError>
         requires { length self.old.instances < 2 ^ 32 - 1 }
         ensures ok { OnOk result (self.new ≡ record self.old { paths = self.old.paths ++ path ∷ []; instances = self.old.instances ++ instance ∷ [] }) }
@@ -175,7 +176,8 @@ impl Tree {
     ///
     /// # Errors
     ///
-    /// `Doubled`, where a memory has that path; `NoMemory`, where memory is refused. The tree is then unchanged.
+    /// Returns `Doubled` if a memory has that path. Returns `NoMemory` if an allocation fails. The tree then stays as
+    /// it was.
     pub fn add_memory(&mut self, path: Name, memory: MemoryInstance) -> Result<(), AddError>
         requires { length self.old.memories < 2 ^ 32 - 1 }
         ensures ok { OnOk result (self.new ≡ record self.old { memory_paths = self.old.memory_paths ++ path ∷ []; memories = self.old.memories ++ memory ∷ [] }) }

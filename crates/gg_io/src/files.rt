@@ -43,8 +43,8 @@ pub trait Shelf {
     // How many loads found a file longer than the limit.
     ghost cuts: { Self → ℕ };
 
-    /// Returns the bytes of the file `name`, at most `limit` of them. A missing file is a fault. In every case the shelf's
-    /// files stay the same, and only its counts may rise.
+    /// Returns the bytes of the file `name`, at most `limit` of them. A missing file is a fault. In every case the
+    /// shelf's files stay the same, and only its counts may rise.
     fn load(&mut self, alloc: Global, name: &str, limit: u64) -> Result<Vec<u8>, LoadFail>
         ensures within { IfOk result (λ file. length file.items ≤ limit) }
         ensures whole { IfOk result (λ file. CanHold (files self.old name.now) file.items) }

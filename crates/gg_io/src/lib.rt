@@ -1,20 +1,20 @@
 //! The outside: where files are loaded from, where text is written, and what workers pass at each turn.
 //!
-//! [`Shelf`], [`Sink`] and [`Gate`] are traits with a written meaning. So an answer about a file or an output has a cause
-//! that the program can't make up. The model of a shelf is its files by name, each of them known or unknown, and two
-//! counts: its faults and its cut loads. The model of an output is the bytes that were written to it, known or unknown,
-//! and two counts: its faults and its refused puts (those that returned `NoMemory`). Counts never fall.
+//! [`Shelf`], [`Sink`] and [`Gate`] are traits with a written meaning. So an answer about a file or an output has a
+//! cause that the program can't make up. The model of a shelf is its files by name, each of them known or unknown, and
+//! two counts: its faults and its cut loads. The model of an output is the bytes that were written to it, known or
+//! unknown, and two counts: its faults and its refused puts (those that returned `NoMemory`). Counts never fall.
 //!
-//! - A load returns `Failed` only if the faults rose. It returns `TooLong` only if the cut loads rose and the file, where
-//!   it is known, is longer than the limit. A load that succeeds is within the limit and, where the file is known, returns
-//!   all of it.
+//! - A load returns `Failed` only if the faults rose. It returns `TooLong` only if the cut loads rose and the file,
+//!   where it is known, is longer than the limit. A load that succeeds is within the limit and, where the file is
+//!   known, returns all of it.
 //! - A put that succeeds writes all of its bytes. It returns `Failed` only if the faults rose; then a first part of its
 //!   bytes may have been written. It returns `NoMemory` only if the refused puts rose; then nothing was written.
 //!
-//! [`MemShelf`] and [`MemSink`] are in memory. Such a shelf returns `Failed` exactly if its list says so or it has no file
-//! of that name, such an output exactly if its list says so. [`SureShelf`] and [`SureSink`] never return `Failed`.
-//! [`FileShelf`] and [`StreamSink`] are the system's files and streams. Their contents are unknown to contracts, and what
-//! the system reads and writes is trusted. Only a load or a put can change their counts.
+//! [`MemShelf`] and [`MemSink`] are in memory. Such a shelf returns `Failed` exactly if its list says so or it has no
+//! file of that name, such an output exactly if its list says so. [`SureShelf`] and [`SureSink`] never return `Failed`.
+//! [`FileShelf`] and [`StreamSink`] are the system's files and streams. Their contents are unknown to contracts, and
+//! what the system reads and writes is trusted. Only a load or a put can change their counts.
 #![tactic(auto)]
 
 mod counts;

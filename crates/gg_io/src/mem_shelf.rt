@@ -93,7 +93,8 @@ impl Shelf for MemShelf {
     }
 }
 
-/// A shelf in memory that never returns `Failed`: every name is a file, and it is empty if the shelf has none of that name.
+/// A shelf in memory that never returns `Failed`: every name is a file, and it is empty if the shelf has none of that
+/// name.
 #[derive(Debug, Drop)]
 pub struct SureShelf {
     /// The files by name.

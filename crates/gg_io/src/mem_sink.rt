@@ -80,7 +80,8 @@ impl Sink for MemSink {
 
     ghost refused = { λ s. s.refused };
 
-    /// Fails exactly if the put's number is listed. It then writes as many bytes as the list says, or all if it has fewer.
+    /// Fails exactly if the put's number is listed. It then writes as many bytes as the list says, or all if it has
+    /// fewer.
     fn put(&mut self, bytes: &[u8]) -> Result<(), PutFail>
         ensures whole { OnOk result (Some self.new.bytes.items ≡ append_known (Some self.old.bytes.items) bytes.now) }
         ensures caused { IfErr result (HasPutCause self.old.faults self.new.faults self.old.refused self.new.refused) }

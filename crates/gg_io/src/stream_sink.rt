@@ -51,8 +51,8 @@ impl<W: Write + Drop> Sink for StreamSink<W> {
 
     ghost refused = { λ _. 0 };
 
-    /// The faults rise at each `Failed`. It never returns `NoMemory`. Where the stream's own bytes are known, they grow by
-    /// the bytes of the put, or by a first part of these if it failed.
+    /// The faults rise at each `Failed`. It never returns `NoMemory`. Where the stream's own bytes are known, they grow
+    /// by the bytes of the put, or by a first part of these if it failed.
     fn put(&mut self, bytes: &[u8]) -> Result<(), PutFail>
         ensures caused { IfErr result (HasPutCause self.old.faults self.new.faults 0 0) }
         ensures faults_stay_or_rise { self.old.faults ≤ self.new.faults }

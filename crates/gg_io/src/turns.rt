@@ -1,7 +1,7 @@
 //! What a worker passes at each of its turns.
 
-/// A place that workers pass. It returns nothing, so no result can depend on it; a test may use it to make one worker wait
-/// for another. It is shared between workers.
+/// A place that workers pass. It returns nothing, so no result can depend on it; a test may use it to make one worker
+/// wait for another. It is shared between workers.
 pub trait Gate {
     /// Called when worker `worker`, counted from 0, is about to begin its turn `turn`, counted from 0.
     fn pass(&self, worker: u32, turn: u64);

@@ -5,8 +5,8 @@ use Rattle.std.specs.Char.{is_ascii_alphabetic, is_ascii_alphanumeric, is_ascii_
 use Rattle.gg_lex.specs.declared.bytes.Class.{Class}
 use Rattle.gg_lex.specs.declared.bytes.Class.TheVariants.{Blank, WordByte, TailByte, Digit}
 
--- The characters, other than letters and digits, by which classes, texts, comments and file information are defined, with
--- their ASCII codes.
+-- The characters, other than letters and digits, by which classes, texts, comments and file information are defined,
+-- with their ASCII codes.
 abbrev pub tab : ℕ
 tab = 9
 

@@ -41,8 +41,8 @@ IsEndWith (suc infos) bs = (n : ℕ) × IsInfo (after_blanks bs) n × IsEndWith 
 abbrev pub IsEnd : List ℕ → Type 0
 IsEnd bs = (infos : ℕ) × IsEndWith infos bs
 
--- The bytes begin with these tokens. Each is the first token of the bytes that are left after the blanks before it. After
--- the last token `rest` is left.
+-- The bytes begin with these tokens. Each is the first token of the bytes that are left after the blanks before it.
+-- After the last token `rest` is left.
 abbrev pub Begins : List Tok → List ℕ → List ℕ → Type 0
 Begins [] bs rest = rest ≡ bs
 Begins (t ∷ ts) bs rest =

@@ -22,7 +22,8 @@ pub fn tokens(alloc: Global, line: &str) -> Result<Vec<Tok>, LexFault>
     ensures tokens { IfOk result (λ tokens. AreTokens tokens.items line.now) }
     ensures fault { IfErr result (λ fault. HasCause fault line.now) }
 
-    // a line with tokens gives just these, a line that fails at a place gives just this place; only `NoMemory` may come too
+    // a line with tokens gives just these, a line that fails at a place gives just this place; only `NoMemory` may come
+    // too
     ensures only_tokens { (ts : List Tok) → AreTokens ts line.now → MatchResult result (λ tokens. tokens.items ≡ ts) (λ fault. fault ≡ LexFault.NoMemory) }
     ensures only_fault { (ts : List Tok) (place : ℕ) → FailsAt ts line.now place → MatchResult result (λ _. ⊥) (λ fault. IsFaultAt fault place) }
 {

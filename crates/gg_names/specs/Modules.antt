@@ -1,5 +1,5 @@
--- Which modules have instances of which (FIRRTL Specification, "Instances": a module may not have an instance of itself,
--- directly or through others). Modules are identified by their places in the circuit, counted from 0.
+-- Which modules have instances of which (FIRRTL Specification, "Instances": a module may not have an instance of
+-- itself, directly or through others). Modules are identified by their places in the circuit, counted from 0.
 use Rattle.std.proofs.Math.Nat.{not-suc-le-zero}
 use Rattle.std.specs.Prelude.{ℕ, List, [], Contains, flat_map, option_to_list, slice_index_or, take}
 use Rattle.gg_ast.specs.Places.{place_of}

@@ -1,5 +1,5 @@
--- Names that come twice: of modules, of what a module declares, of a memory's ports (FIRRTL Specification, "Namespaces").
--- Each repetition is reported at the later of the two.
+-- Names that come twice: of modules, of what a module declares, of a memory's ports (FIRRTL Specification,
+-- "Namespaces"). Each repetition is reported at the later of the two.
 use Rattle.std.specs.Prelude.{◌≡◌, ℕ, Bool, true, false, List, [], ◌∷◌, ◌++◌, flat_map, Result, Ok, Err, Some}
 use Rattle.std.specs.List.{list_any}
 use Rattle.std.specs.Str.{bytes_eq}

@@ -107,8 +107,8 @@ abbrev pub ArePlaced : List ModuleTree → List (List ℕ × Declared) → Type 
 ArePlaced modules [] = Unit {0}
 ArePlaced modules (e ∷ es) = IsPlaced modules e.1 × ArePlaced modules es
 
--- The table has the names that the ports and the statements declare, in the order of the file. Its first entries say what
--- the scope after the first statements says.
+-- The table has the names that the ports and the statements declare, in the order of the file. Its first entries say
+-- what the scope after the first statements says.
 pub record TellsScope (modules : List ModuleTree) (ports : List Port) (statements : List Stmt) (table : List (List ℕ × Declared)) : Type 0 where
   pub names_are : names_told table ≡ names_after ports statements
   pub placed : ArePlaced modules table

@@ -119,8 +119,8 @@ fn field_named(name: &str) -> Option<PortField>
     }
 }
 
-/// The role of the field of a port with these texts, by the memory's readers and writers, or none if there is no such port
-/// or field.
+/// The role of the field of a port with these texts, by the memory's readers and writers, or none if there is no such
+/// port or field.
 pub fn field_role(readers: &Words, writers: &Words, port: &Name, field: &Name) -> Option<Role>
     ensures { result ≡ role_of_field readers.now writers.now port.now field.now }
 {

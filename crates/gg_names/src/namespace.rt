@@ -21,8 +21,8 @@ use gg_bits::Name;
 use std::alloc::{AllocError, Global};
 use std::marker::Model;
 
-/// The names of a circuit in which no name comes twice. It borrows the circuit, and its model is the circuit's tree: what
-/// contracts say of a module's names, they say of that tree.
+/// The names of a circuit in which no name comes twice. It borrows the circuit, and its model is the circuit's tree:
+/// what contracts say of a module's names, they say of that tree.
 ///
 /// Modules are identified by their places, counted from 0; there are fewer than 4,294,967,296.
 #[derive(Drop)]
@@ -53,8 +53,8 @@ impl<'a> Namespace<'a> {
     ///
     /// # Errors
     ///
-    /// Returns `Repeated` with the first name that comes twice, exactly if one does. Returns `NoMemory` if an allocation
-    /// fails or the circuit has 4,294,967,296 modules or more.
+    /// Returns `Repeated` with the first name that comes twice, exactly if one does. Returns `NoMemory` if an
+    /// allocation fails or the circuit has 4,294,967,296 modules or more.
     pub fn of(alloc: Global, circuit: &'a Circuit) -> Result<Namespace<'a>, NamesFault>
         ensures tells { Tells (repetitions circuit.now) result }
         ensures names { IfOk result (λ names. names ≡ circuit.now) }

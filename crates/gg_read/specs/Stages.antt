@@ -57,8 +57,8 @@ IsBuilt (Open circuit register) rows = without_version rows ≡ rows_of circuit 
 abbrev pub AreNamesOfRegister : OpenRegister → Type 0
 AreNamesOfRegister register = IsName register.name × AreNamesOfTerm register.clock
 
--- What holds of a stage before the line of this number. If a module has begun, the circuit has one. If a field may follow,
--- the last statement is a memory. A register that awaits its reset is on an earlier line.
+-- What holds of a stage before the line of this number. If a module has begun, the circuit has one. If a field may
+-- follow, the last statement is a memory. A register that awaits its reset is on an earlier line.
 abbrev pub IsStage : Stage → ℕ → Type 0
 IsStage Start n = Unit {0}
 IsStage Version n = Unit {0}

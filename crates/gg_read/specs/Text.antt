@@ -203,8 +203,8 @@ abbrev pub without_version : List Numbered → List Numbered
 without_version [] = []
 without_version (r ∷ rows) = if is_version r.row then rows else r ∷ rows
 
--- The text spells the circuit by the grammar: it is UTF-8, and its lines are the circuit's rows, with or without a version
--- line above them. If a line is too deep, the text has a fault line too, and no circuit is read.
+-- The text spells the circuit by the grammar: it is UTF-8, and its lines are the circuit's rows, with or without a
+-- version line above them. If a line is too deep, the text has a fault line too, and no circuit is read.
 pub record Spells (text : List ℕ) (circuit : CircuitTree) : Type 0 where
   pub utf8 : IsUtf8 text
   pub held : List LineTokens

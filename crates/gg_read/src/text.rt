@@ -24,8 +24,8 @@ pub enum ReadFault {
     Syntax { line: u64 },
     /// The same, and `word` is the first word or symbol of the line that is left out of the language.
     Outside { line: u64, word: Name },
-    /// At some token of this line the `(` from its beginning up to the token outnumber the `)` by more than 256. They may
-    /// be fewer before: a `)` and then 257 `(` are not too deep.
+    /// At some token of this line the `(` from its beginning up to the token outnumber the `)` by more than 256. They
+    /// may be fewer before: a `)` and then 257 `(` are not too deep.
     TooDeep { line: u64 },
     /// An allocation failed. This has no cause in the text.
     NoMemory,
@@ -37,19 +37,19 @@ pub enum ReadFault {
 ///
 /// # Errors
 ///
-/// Returns `NotText` exactly if the bytes are not UTF-8. Otherwise the fault is that of the first line that is not valid
-/// at its position or is too deep, even if it spells a row. If there is none and the text is incomplete, the fault is that
-/// of the line after the last. The fault is `TooDeep` if at some token of the line the count of `(` less that of `)` is
-/// above 256. Otherwise it is `Outside` with the line's first word that is left out of the language, or `Syntax` if there
-/// is none. Returns `NoMemory` if an allocation fails; this has no cause in the text.
+/// Returns `NotText` exactly if the bytes are not UTF-8. Otherwise the fault is that of the first line that is not
+/// valid at its position or is too deep, even if it spells a row. If there is none and the text is incomplete, the
+/// fault is that of the line after the last. The fault is `TooDeep` if at some token of the line the count of `(` less
+/// that of `)` is above 256. Otherwise it is `Outside` with the line's first word that is left out of the language, or
+/// `Syntax` if there is none. Returns `NoMemory` if an allocation fails; this has no cause in the text.
 pub fn read_circuit(alloc: Global, bytes: &[u8]) -> Result<Circuit, ReadFault>
     requires { length bytes.now < 2 ^ 32 }
     ensures circuit { IfOk result (Spells bytes.now) }
     ensures faultless { IfOk result (λ _. HasNoFaultLine bytes.now) }
     ensures fault { IfErr result (HasReadFault bytes.now) }
 
-    // a text that spells a circuit without a fault line gives just that circuit, a text with a fault line just its fault,
-    // and bytes that are not UTF-8 just `NotText`; in the first two cases `NoMemory` may come too
+    // a text that spells a circuit without a fault line gives just that circuit, a text with a fault line just its
+    // fault, and bytes that are not UTF-8 just `NotText`; in the first two cases `NoMemory` may come too
     ensures only_circuit { (c : CircuitTree) → Spells bytes.now c → HasNoFaultLine bytes.now → MatchResult result (λ d. d ≡ c) (λ fault. fault ≡ ReadFault.NoMemory) }
     ensures only_fault { (n : ℕ) (line : LineTokens) → IsUtf8 bytes.now → IsFaultLine bytes.now n line → MatchResult result (λ _. ⊥) (IsFaultOf n line.tokens) }
     ensures only_not_text { (IsUtf8 bytes.now → ⊥) → result ≡ Err ReadFault.NotText }

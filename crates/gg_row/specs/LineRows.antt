@@ -12,8 +12,8 @@ use Rattle.gg_row.specs.declared.cursor.Miss.TheVariants.{NoForm, NoMemory}
 use Rattle.gg_row.specs.Forms.{SpellsRow}
 use Rattle.gg_row.specs.Reading.{Misses}
 
--- The row of a statement that is on one line. A register with a reset has none: its text is one line or two, and `LineRow`
--- has separate variants for these. A memory has none: its lines are rows of separate variants too.
+-- The row of a statement that is on one line. A register with a reset has none: its text is one line or two, and
+-- `LineRow` has separate variants for these. A memory has none: its lines are rows of separate variants too.
 abbrev pub statement_row : StmtKind → Option Row
 statement_row (statement.Wire name ty) = Some (WireRow name ty)
 statement_row (statement.Node name value) = Some (NodeRow name value)
@@ -58,8 +58,8 @@ abbrev pub FindsRow : Result LineRow Miss → Option Row → Type 0
 FindsRow (Ok held) found = MatchOption (row_of held) ⊥ (λ row. found ≡ Some row)
 FindsRow (Err miss) found = Misses miss found
 
--- the answer for the tokens of a line: what has the row that they spell, or that they spell none; `NoMemory` says nothing
--- of them
+-- the answer for the tokens of a line: what has the row that they spell, or that they spell none; `NoMemory` says
+-- nothing of them
 abbrev pub TellsRow : List Tok → Result LineRow Miss → Type 0
 TellsRow ts (Ok held) = MatchOption (row_of held) ⊥ (λ row. SpellsRow row ts)
 TellsRow ts (Err NoForm) = (row : Row) → SpellsRow row ts → ⊥

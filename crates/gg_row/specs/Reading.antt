@@ -1,5 +1,5 @@
--- What a reader of tokens finds, by trying the forms one after another: the row that they spell, or nothing. The contracts
--- of the readers use these functions, and it is proved that these find just what is spelt.
+-- What a reader of tokens finds, by trying the forms one after another: the row that they spell, or nothing. The
+-- contracts of the readers use these functions, and it is proved that these find just what is spelt.
 use Rattle.std.specs.Prelude.{◌≡◌, ℕ, zero, suc, Bool, true, false, ◌||◌, ◌++◌, List, [], ◌∷◌, Option, None, Some, Result, Ok, Err, length, is_some, codes, ◌==◌, if◌then◌else◌}
 use Rattle.std.specs.Str.{bytes_eq}
 use Rattle.std.specs.Str.Parse.{digits_value}

@@ -1,5 +1,5 @@
--- What the check of a circuit's shape returns: Ok exactly if the circuit has none of the faults F1 to F8, and otherwise a
--- fault of the least number: for F1 to F6 and F8 the first in the text, for F7 any.
+-- What the check of a circuit's shape returns: Ok exactly if the circuit has none of the faults F1 to F8, and otherwise
+-- a fault of the least number: for F1 to F6 and F8 the first in the text, for F7 any.
 use Rattle.std.specs.Prelude.{◌≡◌, List, [], ◌++◌, Some, Result, Ok, Err, ◌⊎◌}
 use Rattle.gg_ast.specs.Tree.{CircuitTree}
 use Rattle.gg_shape.specs.declared.fault.Fault.{Fault}

@@ -69,8 +69,8 @@ unknown_in_reset scope None = []
 unknown_in_reset scope (Some reset) =
     unknown_in scope reset.line reset.condition ++ unknown_in scope reset.line reset.init
 
--- A statement's references, from left to right, in the scope of what is declared before it. In its own reset a register is
--- declared too.
+-- A statement's references, from left to right, in the scope of what is declared before it. In its own reset a register
+-- is declared too.
 abbrev pub unknown_in_kind : List ModuleTree → List (Reference × Role) → ℕ → statements.StmtKind → List Fault
 unknown_in_kind modules scope line (Wire name ty) = []
 unknown_in_kind modules scope line (Node name value) = unknown_in scope line value

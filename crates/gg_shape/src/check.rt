@@ -23,9 +23,9 @@ pub type ShapeFault = Refusal;
 ///
 /// # Errors
 ///
-/// Returns `Refusal::F` with a fault of the least number that the circuit has: for F1 to F6 and F8 the first in the order
-/// of the text, for F7 any ring. Returns `Refusal::NoMemory` if an allocation fails or the circuit has 4,294,967,296 modules
-/// or more.
+/// Returns `Refusal::F` with a fault of the least number that the circuit has: for F1 to F6 and F8 the first in the
+/// order of the text, for F7 any ring. Returns `Refusal::NoMemory` if an allocation fails or the circuit has
+/// 4,294,967,296 modules or more.
 pub fn shape(alloc: Global, circuit: &Circuit) -> Result<(), ShapeFault>
     ensures { AnswersShape circuit.now result }
 {

@@ -12,8 +12,8 @@ use gg_ast::Stmt;
 use gg_names::{Namespace, connection, is_sink, is_source, written};
 use std::alloc::{AllocError, Global};
 
-/// Refuses the first connection of the circuit whose sink is already connected. If there is none, returns what is connected
-/// in each module.
+/// Refuses the first connection of the circuit whose sink is already connected. If there is none, returns what is
+/// connected in each module.
 pub fn check_second<'a>(alloc: Global, names: &Namespace<'a>) -> Result<Vec<Connected<'a>>, Refusal>
     ensures answers { Answers (in_modules second_connections names.now) result }
     ensures connected { IfOk result (λ all. TellsFirst names.now.modules (length names.now.modules) all.items) }

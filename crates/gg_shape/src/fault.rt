@@ -57,8 +57,8 @@ pub enum Fault {
         /// The field.
         key: MemoryKey,
     },
-    /// F9: an operand or a connected value has the wrong kind or is a Clock, a condition is not `UInt<1>`, an expression
-    /// in a clock position is not a reference of type Clock, or a register is a Clock.
+    /// F9: an operand or a connected value has the wrong kind or is a Clock, a condition is not `UInt<1>`, an
+    /// expression in a clock position is not a reference of type Clock, or a register is a Clock.
     WrongKind {
         /// The line of the fault.
         line: u64,

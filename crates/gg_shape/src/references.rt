@@ -22,8 +22,8 @@ pub struct Before {
     pub names: usize,
 }
 
-/// Refuses the first reference of the circuit that names nothing that has a value, or the first instance of a module that
-/// doesn't exist, whichever comes first.
+/// Refuses the first reference of the circuit that names nothing that has a value, or the first instance of a module
+/// that doesn't exist, whichever comes first.
 pub fn check_references(alloc: Global, names: &Namespace) -> Result<(), Refusal>
     ensures { Answers (in_modules unknown_names names.now) result }
 {

@@ -62,7 +62,8 @@ fn is_input(direction: Direction) -> bool
     }
 }
 
-/// Refuses the first sink of the circuit that is not a register and not connected, given what is connected in each module.
+/// Refuses the first sink of the circuit that is not a register and not connected, given what is connected in each
+/// module.
 pub fn check_unconnected(alloc: Global, names: &Namespace, all: &[Connected]) -> Result<(), Refusal>
     requires { TellsFirst names.now.modules (length names.now.modules) all.now }
     ensures { Answers (in_modules unconnected_sinks names.now) result }

@@ -55,8 +55,8 @@ is_followed (Some Nowhere) = false
 
 -- ---- drivers
 
--- The name that a driver leads to. Only a bare reference leads on. A port of an instance and a field of a memory are not
--- names of the module.
+-- The name that a driver leads to. Only a bare reference leads on. A port of an instance and a field of a memory are
+-- not names of the module.
 abbrev pub bare_reference : Reference → Option (List ℕ)
 bare_reference (references.Local name) = Some name
 bare_reference (references.PortOf instance port) = None
@@ -70,8 +70,8 @@ bare (BinaryTerm o a b) = None
 bare (FixedTerm o a n m) = None
 bare (MuxTerm c a b) = None
 
--- The name that a statement drives, if it drives one, and where it leads. A node leads where its expression does, the sink
--- of a connection where its source does. An invalid sink leads nowhere.
+-- The name that a statement drives, if it drives one, and where it leads. A node leads where its expression does, the
+-- sink of a connection where its source does. An invalid sink leads nowhere.
 abbrev pub driven_reference : Reference → Option (List ℕ) → Option (List ℕ × Option (List ℕ))
 driven_reference (references.Local name) lead = Some (name, lead)
 driven_reference (references.PortOf instance port) lead = None
@@ -117,8 +117,8 @@ abbrev pub followed : List (List ℕ × Way) → List Stmt → ℕ → List ℕ 
 followed ways statements zero name = name
 followed ways statements (suc n) name = followed ways statements n (stay_or name (next_of ways statements name))
 
--- A name leads to an input port if as many steps as there are names lead to one. A longer way would pass a name twice, and
--- so be a ring.
+-- A name leads to an input port if as many steps as there are names lead to one. A longer way would pass a name twice,
+-- and so be a ring.
 abbrev pub leads : List (List ℕ × Way) → List Stmt → List ℕ → Bool
 leads ways statements name = is_outside (find_named (followed ways statements (length ways) name) ways)
 

@@ -21,8 +21,8 @@ abbrev pub count_before : ℕ → List ℕ → ℕ
 count_before c [] = zero
 count_before c (d ∷ ds) = if c == d then zero else suc (count_before c ds)
 
--- The value of a digit: its place among the digits; letters may be of either case. A byte that is not a digit counts as 16;
--- no literal that is read has one.
+-- The value of a digit: its place among the digits; letters may be of either case. A byte that is not a digit counts as
+-- 16; no literal that is read has one.
 unfoldable pub digit : ℕ → ℕ
 digit c = count_before (to_ascii_lowercase c) (codes "0123456789abcdef")
 
@@ -42,8 +42,8 @@ literal_number l = signed_number l.negative (digits_number (base l.radix) l.digi
 abbrev pub literal_value : Literal → ℕ
 literal_value l = pattern_of l.width (literal_number l)
 
--- Whether a pattern of this kind and width stands for the number. If one does, it is the number modulo 2 ^ w, so only that
--- one is tested.
+-- Whether a pattern of this kind and width stands for the number. If one does, it is the number modulo 2 ^ w, so only
+-- that one is tested.
 abbrev pub is_number_of : Kind → ℕ → ℤ → Bool
 is_number_of kind w z = int_eq (number_of kind w (pattern_of w z)) z
 

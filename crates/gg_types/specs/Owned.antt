@@ -1,5 +1,5 @@
--- The type of what a reference names. A port, a wire and a register have the type that they are declared with, a node that
--- of its expression. A port of an instance has the type that its module gives it. A field of a memory has its own.
+-- The type of what a reference names. A port, a wire and a register have the type that they are declared with, a node
+-- that of its expression. A port of an instance has the type that its module gives it. A field of a memory has its own.
 -- Sources: FIRRTL Specification, "Ground Types", "Instances", "Memories".
 use Rattle.std.specs.Prelude.{ℕ, List, [], ◌∷◌, Option, Some, None, option_map}
 use Rattle.gg_bits.specs.Shape.{uint}
@@ -103,8 +103,8 @@ typed (Some None) role = Some None
 typed (Some (Some o)) None = None
 typed (Some (Some o)) (Some role) = option_map (λ s. Some s) (typed_by o role)
 
--- What a reference names, by the roles of all that can be written in the module and by the type data of the names that are
--- declared so far: nothing, something with a type, or a node that has no type because its expression has a fault.
+-- What a reference names, by the roles of all that can be written in the module and by the type data of the names that
+-- are declared so far: nothing, something with a type, or a node that has no type because its expression has a fault.
 abbrev pub known_entry : List (Reference × Role) → List (List ℕ × Option Own) → Reference → Option (Option Sort)
 known_entry roles known r = typed (find_named (first_name r) known) (meaning_of roles r)
 

@@ -36,8 +36,8 @@ pub record TellModules (modules : List ModuleTree) (n : ℕ) (lists : List (List
   pub count : length lists ≡ n
   pub each : (k : ℕ) → k < n → TellsOwn modules (module_at modules k) (slice_index_or lists k [])
 
--- The circuit has none of the faults F1 to F14. The order has each of its modules after all that it has instances of. The
--- lists have the type data of its names.
+-- The circuit has none of the faults F1 to F14. The order has each of its modules after all that it has instances of.
+-- The lists have the type data of its names.
 pub record IsTyped (circuit : CircuitTree) (order : List ℕ) (lists : List (List Own)) : Type 0 where
   pub shaped : IsShaped circuit
   pub faultless : type_faults circuit ≡ []

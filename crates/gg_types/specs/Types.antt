@@ -48,8 +48,8 @@ use Rattle.gg_types.specs.Sorts.{sort_of, bits}
 
 -- ---- references
 
--- A name that is not declared is not a fault of types: it is F3, which is checked before. It is here so that the list of
--- faults is right for every circuit.
+-- A name that is not declared is not a fault of types: it is F3, which is checked before. It is here so that the list
+-- of faults is right for every circuit.
 abbrev pub undeclared : List (Reference × Role) → List (List ℕ × Option Own) → ℕ → Reference → List Fault
 undeclared roles known line r = fault_if (not (is_some (known_entry roles known r))) (UnknownName line (written r))
 
@@ -186,8 +186,8 @@ invalid_faults line r (Some Clock) = WrongClock line (written r) ∷ []
 
 -- ---- expressions
 
--- The module's names have these roles, and a test says which of them lead to an input port. What is known of names is the
--- type data of those that are declared so far.
+-- The module's names have these roles, and a test says which of them lead to an input port. What is known of names is
+-- the type data of those that are declared so far.
 module _ (roles : List (Reference × Role)) (traced : List ℕ → Bool) where
   -- the type of an expression, if it and its parts have no fault
   abbrev pub sort_in : List (List ℕ × Option Own) → Term → Option Sort
@@ -331,8 +331,8 @@ abbrev pub faults_of_module : CircuitTree → ModuleTree → List Fault
 faults_of_module circuit m =
     module_type_faults (bytes_eq circuit.name m.name) (scope_of circuit.modules m) (leads_to_input m) m
 
--- The faults of F9 to F14 in the order of the text, module by module, whether the top reaches them or not. Also F3 for a
--- name that is not declared; a circuit without faults of shape has none.
+-- The faults of F9 to F14 in the order of the text, module by module, whether the top reaches them or not. Also F3 for
+-- a name that is not declared; a circuit without faults of shape has none.
 abbrev pub type_faults : CircuitTree → List Fault
 type_faults circuit = flat_map (faults_of_module circuit) circuit.modules
 

@@ -32,8 +32,8 @@ pub type TypeFault = Refusal;
 ///
 /// # Errors
 ///
-/// Returns `Refusal::F` with the first of F9 to F14 in the order of the text. Returns `Refusal::NoMemory` if an allocation
-/// fails.
+/// Returns `Refusal::F` with the first of F9 to F14 in the order of the text. Returns `Refusal::NoMemory` if an
+/// allocation fails.
 pub fn types<'a>(alloc: Global, circuit: &'a Circuit) -> Result<Typed<'a>, TypeFault>
     requires shaped { IsShaped circuit.now }
     ensures answers { Answers (type_faults circuit.now) result }
@@ -50,8 +50,8 @@ pub fn types<'a>(alloc: Global, circuit: &'a Circuit) -> Result<Typed<'a>, TypeF
 ///
 /// # Errors
 ///
-/// Returns `Refusal::F` with the first of F9 to F14 in the order of the text. Returns `Refusal::NoMemory` if an allocation
-/// fails.
+/// Returns `Refusal::F` with the first of F9 to F14 in the order of the text. Returns `Refusal::NoMemory` if an
+/// allocation fails.
 pub fn typed<'a>(alloc: Global, names: Namespace<'a>) -> Result<Typed<'a>, TypeFault>
     requires shaped { IsShaped names }
     ensures answers { Answers (type_faults names.entry) result }

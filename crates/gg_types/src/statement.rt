@@ -184,7 +184,8 @@ fn judge_invalid(alloc: Global, known: &Known, line: u64, sink: &Reference) -> R
     }
 }
 
-// Fails with the first fault of the arguments of `printf`, `assert`, `assume` or `cover`. The first argument is a clock.
+// Fails with the first fault of the arguments of `printf`, `assert`, `assume` or `cover`. The first argument is a
+// clock.
 #[tactic(auto, using(crate::proofs::FaultLemmas::refused_first))]
 fn judge_report(
     alloc: Global,

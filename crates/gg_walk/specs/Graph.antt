@@ -1,5 +1,5 @@
--- Orders and rings of a directed graph. Its nodes are the numbers below `count`, and `Edge s t` says that there is an edge
--- from node s to node t. An order is a topological order of the graph with its edges reversed; a ring is a cycle.
+-- Orders and rings of a directed graph. Its nodes are the numbers below `count`, and `Edge s t` says that there is an
+-- edge from node s to node t. An order is a topological order of the graph with its edges reversed; a ring is a cycle.
 -- Source: Knuth, The Art of Computer Programming, volume 1, section 2.2.3, "Topological sorting".
 use Rattle.std.specs.Prelude.{◌≢◌, ℕ, ◌<◌, List, [], ◌∷◌, length, take, Contains, AllPairs, slice_index_or}
 

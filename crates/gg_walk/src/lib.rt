@@ -1,7 +1,7 @@
 //! A depth-first walk over a directed graph: an order of its nodes, or a ring.
 //!
-//! An order has each node once, after all its targets (`IsOrderOf`). A ring is a cycle of the graph: distinct nodes, each
-//! with an edge to the next, the last to the first (`IsRing`). The crate promises, of each graph (`Graph`):
+//! An order has each node once, after all its targets (`IsOrderOf`). A ring is a cycle of the graph: distinct nodes,
+//! each with an edge to the next, the last to the first (`IsRing`). The crate promises, of each graph (`Graph`):
 //!
 //! - `walk` returns an order exactly if the graph has no ring, and otherwise one of its rings, or `NoMemory`;
 //! - a graph that has an order has no ring (`no_ring`).

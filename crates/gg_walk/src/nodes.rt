@@ -11,8 +11,8 @@ pub struct Target {
     pub next: usize,
 }
 
-/// A directed graph. Its nodes are the numbers below their count. Each node has its targets at places, and some places may
-/// have no target. A node may have one target at several places, and may be its own target.
+/// A directed graph. Its nodes are the numbers below their count. Each node has its targets at places, and some places
+/// may have no target. A node may have one target at several places, and may be its own target.
 pub trait Graph {
     // How many nodes there are.
     ghost nodes: { Self → ℕ };

@@ -15,8 +15,8 @@ pub(crate) enum Stage {
     Done,
 }
 
-// The state of a walk. For each node its stage, and the place below which all its targets are done. The nodes of the path
-// above the one that the walk is at. The order so far.
+// The state of a walk. For each node its stage, and the place below which all its targets are done. The nodes of the
+// path above the one that the walk is at. The order so far.
 #[derive(Drop)]
 pub(crate) struct Progress {
     pub(crate) stages: Vec<Stage>,

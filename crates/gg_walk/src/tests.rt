@@ -1,4 +1,5 @@
-//! What no contract says: that there is an answer if there is enough memory. Also the order and the rings of small graphs.
+//! What no contract says: that there is an answer if there is enough memory. Also the order and the rings of small
+//! graphs.
 ghost use Rattle.std.specs.Prelude.{◌≡◌, ℕ, ◌<◌, ◌^◌, length, take, Contains, IfSome, IfNone, ◌⊎◌};
 ghost use Rattle.gg_walk.specs.Lists.{HasTarget, HasTargetBelow, none_below_first};
 
