@@ -18,8 +18,8 @@ use crate::types::{Bad, Kind, Ty, Val};
 ///
 /// # Errors
 ///
-/// `Kind` if the kinds differ. For a shift: if the amount is signed. For `validif`: if the condition is not `UInt<1>`.
-/// Otherwise `Width` if the result would have more than 128 bits.
+/// Returns `Kind` if the kinds differ. For a shift: if the amount is signed. For `validif`: if the condition is not
+/// `UInt<1>`. Otherwise returns `Width` if the result would have more than 128 bits.
 pub fn result2(op: Op2, ta: Ty, tb: Ty) -> Result<Ty, Bad>
     ensures exact { shape_of result ≡ type2 op (shape ta) (shape tb) }
     ensures ok { IfOk result (λ ty. shape ty ≡ shape2 op (shape ta) (shape tb)) }

@@ -12,7 +12,7 @@ use crate::types::{Bad, Kind, Ty, Val};
 ///
 /// # Errors
 ///
-/// `Kind` if `c` is not `UInt<1>` or the kinds of `a` and `b` differ.
+/// Returns `Kind` if `c` is not `UInt<1>` or the kinds of `a` and `b` differ.
 pub fn result_mux(tc: Ty, ta: Ty, tb: Ty) -> Result<Ty, Bad>
     ensures exact { shape_of result ≡ type_mux (shape tc) (shape ta) (shape tb) }
     ensures ok { IfOk result (λ ty. shape ty ≡ shape_mux (shape ta) (shape tb)) }

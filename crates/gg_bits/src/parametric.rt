@@ -15,8 +15,8 @@ use crate::types::{Bad, Kind, Ty, Val};
 ///
 /// # Errors
 ///
-/// `Param` if `bits` names bits that don't exist, or `head` or `tail` more bits than there are. Otherwise `Width` if
-/// the result would have no bit or more than 128.
+/// Returns `Param` if `bits` names bits that don't exist, or `head` or `tail` more bits than there are. Otherwise
+/// `Width` if the result would have no bit or more than 128.
 pub fn result_const(op: OpN, ty: Ty, n: u32, m: u32) -> Result<Ty, Bad>
     ensures exact { shape_of result ≡ type_const op (shape ty) n m }
     ensures ok { IfOk result (λ answer. shape answer ≡ shape_const op (shape ty) n m) }

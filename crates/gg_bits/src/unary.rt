@@ -14,7 +14,7 @@ use crate::types::{Bad, Kind, Ty, Val};
 ///
 /// # Errors
 ///
-/// `Width` if the result would have more than 128 bits.
+/// Returns `Width` if the result would have more than 128 bits.
 pub fn result1(op: Op1, ty: Ty) -> Result<Ty, Bad>
     ensures exact { shape_of result ≡ type1 op (shape ty) }
     ensures ok { IfOk result (λ answer. shape answer ≡ shape1 op (shape ty)) }

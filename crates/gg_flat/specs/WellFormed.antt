@@ -68,7 +68,7 @@ AreDriven driver m latency readers = (r : ℕ) → r < length readers → driver
 
 -- A flat circuit is well formed. Each signal has a path, and no two have the same. The in-signals are just the signals
 -- without a driver of their own, each listed once. The data of readers are just the signals that memories drive, each
--- of one reader. Every name is one of the circuit's. Types agree.
+-- of exactly one reader. Every name is one of the circuit's. Types agree.
 pub record IsWellFormed (circuit : FlatCircuit) : Type 0 where
   pub named : length circuit.paths ≡ length circuit.signals
   pub distinct : AllPairs (λ a b. a ≢ b) circuit.paths
