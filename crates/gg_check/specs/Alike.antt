@@ -1,12 +1,13 @@
--- Designs of which the same is told.
--- Source: this program's own. What is compared are the parts of a design that a request can name and that the text of a cut tells.
+-- Designs with the same text.
+-- Source: this program's own. Compared are the parts of a design that a request can name and that the text of a cut
+-- shows.
 use Rattle.std.specs.Prelude.{◌≡◌, ◌↔◌, ℕ}
 use Rattle.gg_flat.specs.Circuit.{signal_shapes}
 use Rattle.gg_flat.specs.Reads.{Reads}
 use Rattle.gg_order.specs.Design.{Ordered}
 
--- Two designs have the same tree of instances, the same signals, by their paths and types, which read the same signals, the same
--- inputs and outputs, and the same memories.
+-- Two designs have the same tree of instances, the same inputs and outputs, the same memories, and the same signals
+-- by paths and types. The signals read the same signals.
 pub record AreAlike (one other : Ordered) : Type 0 where
   pub tree : one.tree ≡ other.tree
   pub paths : one.circuit.paths ≡ other.circuit.paths

@@ -21,13 +21,14 @@ use Rattle.gg_cut.specs.declared.wires.Wire.{Wire}
 
 -- ---- needs
 
--- A path of reads from signal a to signal b inside a machine that takes these signals: it doesn't go on from one of them.
+-- A path of reads from signal a to signal b inside a machine that takes these signals. No signal before the last is
+-- one of them.
 abbrev pub IsPathInside : FlatCircuit → List ℕ → ℕ → List ℕ → ℕ → Type 0
 IsPathInside circuit taken a [] b = a ≡ b
 IsPathInside circuit taken a (next ∷ path) b = (¬ Contains taken a) × Reads circuit a next × IsPathInside circuit taken next path b
 
--- Channel c needs channel d: the machine that gives c, which is no source, takes d, and c's signal reaches d's by reads inside that
--- machine.
+-- Channel c needs channel d: the machine that gives c isn't a source and takes d, and c's signal reaches d's signal
+-- by reads inside that machine.
 pub record NeedsChannel (circuit : FlatCircuit) (listed : Listed) (wires : List Wire) (c d : ℕ) : Type 0 where
   pub made : (wire_at wires c).producer < first_source listed
   pub known : d < length wires
@@ -35,7 +36,7 @@ pub record NeedsChannel (circuit : FlatCircuit) (listed : Listed) (wires : List 
   pub path : List ℕ
   pub reads : IsPathInside circuit (signals_of wires (channels_to wires (wire_at wires c).producer)) (wire_at wires c).signal path (wire_at wires d).signal
 
--- just the channels that channel c needs, in their order
+-- exactly the channels that channel c needs, in their order
 pub record AreChannelNeeds (circuit : FlatCircuit) (listed : Listed) (wires : List Wire) (c : ℕ) (needs : List ℕ) : Type 0 where
   pub ascending : AllPairs (λ a b. a < b) needs
   pub each : (d : ℕ) → Contains needs d ↔ NeedsChannel circuit listed wires c d
@@ -87,7 +88,7 @@ channel_text design request default listed wires c needs =
     (capacity_of request.capacity default (channel_name design.circuit wires c))
     (map (channel_name design.circuit wires) needs)
 
--- The text has the machines' lines in their order, and then the channels'. `needs` has the needs of each channel.
+-- The text has the machines' lines in their order, then the channels' lines. `needs` has the needs of each channel.
 pub record IsCutText (design : Ordered) (request : Request) (default : ℕ) (listed : Listed) (wires : List Wire) (text : List ℕ) : Type 0 where
   pub needs : List (List ℕ)
   pub count : length needs ≡ length wires

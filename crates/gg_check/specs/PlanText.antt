@@ -1,5 +1,6 @@
--- The text of a plan: the lines of its machines, and then those of its channels.
--- Source: this program's own, as the lines are (CheckText). A plan names machines and channels by their numbers, a line by their names.
+-- The text of a plan: the lines of its machines, then the lines of its channels.
+-- Source: this program's own, as the lines are (CheckText). A plan names machines and channels by their numbers, a
+-- line names them by their names.
 use Rattle.std.specs.Prelude.{ℕ, List, ◌++◌, flat_map, map}
 use Rattle.gg_bits.specs.Shape.{shape}
 use Rattle.gg_flat.specs.Tree.{path_at}
@@ -19,7 +20,7 @@ channel_names channels = map (λ channel. channel.name) channels
 abbrev pub line_of_machine : Machine → List ℕ
 line_of_machine machine = machine_line machine.name machine.host
 
--- the line of a channel, where machines and channels have these names
+-- the line of a channel, if machines and channels have these names
 abbrev pub line_of_channel : List (List ℕ) → List (List ℕ) → Channel → List ℕ
 line_of_channel machines channels channel =
     channel_line channel.name (path_at machines channel.producer) (path_at machines channel.consumer) (shape channel.ty) channel.capacity (map (path_at channels) channel.needs)

@@ -1,4 +1,4 @@
-//! Laws: facts about the definitions, each on a function with an empty body.
+//! Laws: facts about the definitions. Each is the contract of a function with an empty body.
 ghost use Rattle.std.specs.Prelude.{◌≡◌, ℕ, ◌<◌, List, length, slice_index_or};
 ghost use Rattle.gg_order.specs.Design.{Ordered};
 ghost use Rattle.gg_partfile.specs.declared.request.Request.{Request};
@@ -12,7 +12,7 @@ ghost use Rattle.gg_check.specs.Alike.{AreAlike};
 ghost use Rattle.gg_check.specs.CheckText.{AreChannelNeeds, IsTextOfCut};
 ghost use Rattle.gg_check.specs.PlanText.{plan_text};
 
-/// What a channel of a plan needs is just what it needs in the circuit.
+/// What a channel of a plan needs is exactly what it needs in the circuit.
 pub fn needs_are_told()
     ensures { (design : Ordered) (request : Request) (default : ℕ) (plan : Plan) → IsPlan design request default plan → (c : ℕ) (any : Channel) → c < length (wires_of design.circuit design.tree (listed_of design.tree request)) → AreChannelNeeds design.circuit (listed_of design.tree request) (wires_of design.circuit design.tree (listed_of design.tree request)) c (slice_index_or plan.channels c any).needs }
 {}
@@ -22,12 +22,12 @@ pub fn plan_is_told()
     ensures { (design : Ordered) (request : Request) (default : ℕ) (plan : Plan) → IsPlan design request default plan → IsTextOfCut design request default (plan_text plan) }
 {}
 
-/// A request has one first fault, or none, for all designs that are alike.
+/// For all designs that are alike, a request has the same first fault, or none.
 pub fn one_fault()
     ensures { (one other : Ordered) (request : Request) → AreAlike one other → first_fault one request ≡ first_fault other request }
 {}
 
-/// The cut of a request has one text, for all designs that are alike.
+/// For all designs that are alike, the cut of a request has the same text.
 pub fn one_text()
     ensures { (one other : Ordered) (request : Request) (default : ℕ) (text others : List ℕ) → AreAlike one other → IsTextOfCut one request default text → IsTextOfCut other request default others → text ≡ others }
 {}

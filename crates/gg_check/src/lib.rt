@@ -1,12 +1,18 @@
 //! The text of a cut: a line for each machine, and one for each channel with what it needs.
 //!
-//! The definitions of `specs/` say what a channel needs, in the circuit and with no plan, and how a line looks (CheckText), what the
-//! text of a plan is (PlanText), and of which designs the same is told (Alike). The crate promises:
+//! The definitions in `specs/` say:
+//!
+//! - what a channel needs in the circuit, without a plan, and how a line looks (CheckText);
+//! - what the text of a plan is (PlanText);
+//! - which designs have the same text (Alike).
+//!
+//! The crate promises:
 //!
 //! - `machine_line` and `channel_line` give the line of a machine and of a channel of a plan;
-//! - each channel of a plan needs in the plan just what it needs in the circuit (`needs_are_told`);
+//! - each channel of a plan needs in the plan exactly what it needs in the circuit (`needs_are_told`);
 //! - the text of a plan is the text of its cut (`plan_is_told`);
-//! - for all designs that are alike a request has one first fault (`one_fault`), and its cut one text (`one_text`).
+//! - for all designs that are alike, a request has one first fault (`one_fault`), and its cut has one text
+//!   (`one_text`).
 #![tactic(auto)]
 
 mod laws;

@@ -1,4 +1,4 @@
-//! The line of a machine, and that of a channel.
+//! The line of a machine, and the line of a channel.
 ghost use Rattle.std.specs.Prelude.{◌≡◌, ◌++◌, IfOk, OnOk, codes, decimal, string_bytes};
 ghost use Rattle.gg_bits.specs.Shape.{shape};
 ghost use Rattle.gg_check.specs.CheckText.{type_text};
@@ -35,7 +35,7 @@ pub fn machine_line(alloc: Global, machine: &Machine) -> Result<String, AllocErr
     Ok(line)
 }
 
-// The front of a channel's line: its name, and its machines'.
+// The front of a channel's line: the names of the channel and its machines.
 fn line_front(
     alloc: Global,
     name: &str,
@@ -53,7 +53,7 @@ fn line_front(
     Ok(line)
 }
 
-// The rest of it: the type, the capacity and the needs.
+// The rest of a channel's line: the type, the capacity and the needs.
 fn push_rest(line: &mut String, ty: &str, capacity: u32, needs: &str) -> Result<(), AllocError>
     ensures { OnOk result (string_bytes line.new ≡ string_bytes line.old ++ codes " " ++ ty.now ++ codes " capacity " ++ decimal capacity ++ codes " needs" ++ needs.now ++ codes "\n") }
 {
@@ -67,8 +67,8 @@ fn push_rest(line: &mut String, ty: &str, capacity: u32, needs: &str) -> Result<
     line.push_str("\n")
 }
 
-/// The line of a channel of a plan with these machines and channels: its name, its two machines, its type, its capacity, and the
-/// names of the channels that it needs, or `-`.
+/// The line of a channel of a plan with these machines and channels. It has the channel's name, its two machines, its
+/// type, its capacity, and the names of the channels that it needs, or `-`.
 pub fn channel_line(
     alloc: Global,
     machines: &[Machine],

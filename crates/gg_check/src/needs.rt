@@ -8,7 +8,7 @@ use crate::names::channel_name;
 use gg_cut::Channel;
 use std::alloc::{AllocError, Global};
 
-// The names of needed channels, a blank before each.
+// The names of needed channels, with a blank before each.
 fn spaced(alloc: Global, channels: &[Channel], needs: &[u32]) -> Result<String, AllocError>
     ensures { IfOk result (λ text. string_bytes text ≡ spaced (map (path_at (channel_names channels.now)) needs.now)) }
 {

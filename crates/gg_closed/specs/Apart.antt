@@ -1,5 +1,5 @@
--- What is listed, where a request has no fault.
--- Source: ICCAD 2019 (instances that are marked lie apart, each a model of its own).
+-- What is listed, if a request has no fault.
+-- Source: ICCAD 2019 (instances that are marked are apart, each a model of its own).
 use Rattle.std.specs.Prelude.{◌≡◌, ◌≢◌, ◌⊎◌, ℕ, ◌<◌, ◌≤◌, ◌+◌, length, false, All, AllPairs}
 use Rattle.gg_flat.specs.Circuit.{FlatCircuit}
 use Rattle.gg_flat.specs.Tree.{InstanceTree}
@@ -9,7 +9,7 @@ use Rattle.gg_cut.specs.declared.wires.Wire.{Wire}
 use Rattle.gg_cut.specs.Channels.{wires_of}
 use Rattle.gg_cut.specs.Fault.{most_units, most_channels}
 
--- Units are instances below the top, none of which lies in another; memories are the tree's, in its order.
+-- Units are instances below the top, and none of them is in another. Memories are the tree's, in its order.
 pub record AreApart (tree : InstanceTree) (listed : Listed) : Type 0 where
   pub lower : All (λ unit. 0 < unit) listed.units
   pub known : All (λ unit. unit < length tree.instances) listed.units
@@ -17,12 +17,12 @@ pub record AreApart (tree : InstanceTree) (listed : Listed) : Type 0 where
   pub memories : All (λ place. place < length tree.memories) listed.memories
   pub ascending : AllPairs (λ a b. a < b) listed.memories
 
--- there are no more units and memories, and no more channels, than a plan may have
+-- there are at most as many units and memories, and as many channels, as a plan may have
 pub record AreFew (circuit : FlatCircuit) (tree : InstanceTree) (listed : Listed) : Type 0 where
   pub units : length listed.units + length listed.memories ≤ most_units
   pub channels : length (wires_of circuit tree listed) ≤ most_channels
 
--- the ends of a channel are two machines, of so many
+-- the ends of a channel are two different machines; `count` is the number of machines
 pub record AreEnds (count : ℕ) (w : Wire) : Type 0 where
   pub producer : w.producer < count
   pub consumer : w.consumer < count

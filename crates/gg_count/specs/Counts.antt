@@ -1,5 +1,6 @@
 -- What is counted over the sites of a circuit, and the limits.
--- Source: FIRRTL Specification, "Instances", "Memories" (depth). The limits are this program's. A count stands still at 2^64 - 1.
+-- Source: FIRRTL Specification, "Instances", "Memories" (depth). The limits are this program's. A count saturates at
+-- 2^64 - 1.
 use Rattle.std.specs.Prelude.{ℕ, suc, ◌-◌, ◌^◌, min, max, Bool, true, false, List, [], ◌∷◌, Option, Some, None, length, fold, slice_index_or, nat_lt, nat_eq, is_some, if◌then◌else◌}
 use Rattle.std.specs.List.{sum_by, list_any}
 use Rattle.gg_ast.specs.declared.statement.Field.{Field}
@@ -15,13 +16,13 @@ use Rattle.gg_count.specs.declared.counts.Measure.{Measure}
 use Rattle.gg_count.specs.declared.counts.Measure.TheVariants.{Depth, Signals, Memory, Words, Instances}
 use Rattle.gg_count.specs.Sites.{Site, module_at, all_sites}
 
--- a count, which stands still at its type's end
+-- a count, which saturates at the greatest value of its type
 abbrev pub capped : ℕ → ℕ
 capped n = min n (2 ^ 64 - 1)
 
 -- ---- memories
 
--- the depth that a field says
+-- the depth that a field gives
 abbrev pub depth_in : MemoryField → Option ℕ
 depth_in (field.DataType ty) = None
 depth_in (field.Depth n) = Some n
@@ -31,12 +32,12 @@ depth_in (field.Readers names) = None
 depth_in (field.Writers names) = None
 depth_in (field.ReadUnderWrite word) = None
 
--- the first, where there is one
+-- the first value, if there is one, else the second
 abbrev pub first_of : Option ℕ → ℕ → ℕ
 first_of None other = other
 first_of (Some n) other = n
 
--- a memory's depth: what the first of its fields says that says one; 0 where none does
+-- a memory's depth: what the first field that gives a depth gives; 0 if none does
 abbrev pub depth_of_fields : List Field → ℕ
 depth_of_fields [] = 0
 depth_of_fields (f ∷ fs) = first_of (depth_in f.kind) (depth_of_fields fs)
@@ -63,13 +64,13 @@ abbrev pub deep_in : List Stmt → Option ℕ
 deep_in [] = None
 deep_in (s ∷ ss) = if nat_lt 65536 (words_of_kind s.kind) then Some (words_of_kind s.kind) else deep_in ss
 
--- that depth, where the module is reached, else what follows
+-- that depth if the module is reached, else what follows
 abbrev pub deep_or : Bool → Option ℕ → Option ℕ → Option ℕ
 deep_or true (Some depth) later = Some depth
 deep_or true None later = later
 deep_or false depth later = later
 
--- the same of the modules from place k on, of those that are reached
+-- the same for the modules from place k on that are reached
 abbrev pub deep_from : (ℕ → Bool) → ℕ → List ModuleTree → Option ℕ
 deep_from reached k [] = None
 deep_from reached k (m ∷ ms) = deep_or (reached k) (deep_in m.statements) (deep_from reached (suc k) ms)
@@ -80,13 +81,13 @@ deep_from reached k (m ∷ ms) = deep_or (reached k) (deep_in m.statements) (dee
 abbrev pub is_reached : List Site → ℕ → Bool
 is_reached all k = list_any (λ s. nat_eq s.number k) all
 
--- how deep the deepest site lies
+-- the depth of the deepest site
 abbrev pub deepest : List Site → ℕ
 deepest all = fold (λ n s. max n s.depth) 0 all
 
--- What is counted over these sites, where a module has the number of signals of its own that stands at its place of a list:
--- the depth of the deepest, their signals, the depth of the first memory in the text that is too deep, their words, and
--- the instances, which are all but the top.
+-- The counts over these sites, where `own` has the number of each module's own signals: the depth of the deepest
+-- site, the signals, the depth of the first memory in the text that is too deep, the words, and the instances, which
+-- are all sites but the top.
 abbrev pub counts_over : List ModuleTree → List ℕ → List Site → Counts
 counts_over modules own all =
     record {
@@ -103,7 +104,7 @@ counts_of modules own k = counts_over modules own (all_sites modules k)
 
 -- ---- which module has the first memory that is too deep
 
--- the place of a module, where it has a memory that is too deep; else a number that is no place
+-- the place of a module if it has a memory that is too deep, else a number that isn't a place
 abbrev pub deep_place : ℕ → List Stmt → ℕ
 deep_place k statements = if is_some (deep_in statements) then k else 2 ^ 64 - 1
 
@@ -112,7 +113,7 @@ abbrev pub deep_places : ℕ → List ModuleTree → List ℕ
 deep_places k [] = []
 deep_places k (m ∷ ms) = deep_place k m.statements ∷ deep_places (suc k) ms
 
--- the depth of the first memory that is too deep of the module at a place; none past the end
+-- the depth of the first memory that is too deep in the module at a place; none past the end
 abbrev pub deep_at : List ModuleTree → ℕ → Option ℕ
 deep_at modules k = if nat_lt k (length modules) then deep_in (module_at modules k).statements else None
 
@@ -126,7 +127,7 @@ abbrev pub memory_or : Option ℕ → Option Excess → Option Excess
 memory_or None other = other
 memory_or (Some depth) other = excess_of Memory depth
 
--- the first count that is above its limit: 32, 200,000, 65,536, 1,048,576 and 1,000,000
+-- the first count above its limit: 32, 200,000, 65,536, 1,048,576 and 1,000,000
 abbrev pub first_excess : Counts → Option Excess
 first_excess c =
     if nat_lt 32 c.depth then excess_of Depth c.depth

@@ -12,7 +12,7 @@ use Rattle.gg_flat.specs.Tree.{joined}
 
 -- ---- the instances that a module holds
 
--- the module at a place of the file; past the end one that holds nothing
+-- the module at a place of the file; past the end, a module that holds nothing
 abbrev pub module_at : List ModuleTree → ℕ → ModuleTree
 module_at modules k = slice_index_or modules k (empty_module 0 [])
 
@@ -24,7 +24,7 @@ pub record Held : Type 0 where
 abbrev pub held : List ℕ → ℕ → Held
 held name number = record { name = name; number = number }
 
--- The instance that a statement makes, where it makes one and its module is there.
+-- The instance that a statement makes, if it makes one and its module exists.
 abbrev pub held_by_kind : List ModuleTree → StmtKind → Option Held
 held_by_kind modules (says.Wire name ty) = None
 held_by_kind modules (says.Node name value) = None
@@ -45,7 +45,7 @@ held_by modules statements = filter_map (λ (s : Stmt). held_by_kind modules s.k
 abbrev pub held_at : List ModuleTree → ℕ → List Held
 held_at modules k = held_by modules (module_at modules k).statements
 
--- the module at place s holds an instance of that at place t
+-- the module at place s holds an instance of the module at place t
 abbrev pub HoldsModule : List ModuleTree → ℕ → ℕ → Type 0
 HoldsModule modules s t = Contains (map (λ h. h.number) (held_at modules s)) t
 
@@ -57,8 +57,9 @@ pub record Outer : Type 0 where
   pub number : ℕ
   pub name : List ℕ
 
--- A place at which a module stands: the top, or an instance. Its path has the names of the instances from the top down, with
--- dots between them; the top's is empty. `number` is its module's place in the file, `depth` how many sites it lies below.
+-- A place where a module stands: the top, or an instance. Its path has the names of the instances from the top down,
+-- with dots between them. The top's path is empty. `number` is its module's place in the file, and `depth` the number
+-- of sites above it.
 pub record Site : Type 0 where
   pub path : List ℕ
   pub number : ℕ
@@ -79,18 +80,18 @@ site_below here h =
       outer = Some (record { path = here.path; number = here.number; name = h.name });
     }
 
--- A site and all below it, down to so many levels: itself first and then, in the order of the file, each instance that its
--- module holds with all that is below that.
+-- A site and all sites below it, down to this many levels: the site itself first, then each instance that its module
+-- holds, in the order of the file, with all sites below that instance.
 abbrev pub sites : ℕ → List ModuleTree → Site → List Site
 sites zero modules here = here ∷ []
 sites (suc levels) modules here = here ∷ flat_map (λ h. sites levels modules (site_below here h)) (held_at modules here.number)
 
--- the sites of the module at a place as the top. Where modules don't hold each other in a ring, no site lies so deep below
--- another as there are modules.
+-- The sites of the module at a place as the top. If no modules hold each other in a ring, each site has fewer sites
+-- above it than there are modules.
 abbrev pub all_sites : List ModuleTree → ℕ → List Site
 all_sites modules k = sites (length modules) modules (top_site k)
 
--- the sites where there is a top
+-- the sites, if there is a top
 abbrev pub sites_from : List ModuleTree → Option ℕ → List Site
 sites_from modules None = []
 sites_from modules (Some k) = all_sites modules k

@@ -12,7 +12,7 @@ use std::alloc::{AllocError, Global};
 /// What is counted, and has a limit.
 #[derive(Clone, Copy, Debug, PartialEq, Eq)]
 pub enum Measure {
-    /// How deep the deepest instance lies: at most 32.
+    /// The depth of the deepest instance: at most 32.
     Depth,
     /// The signals of the top and of all instances: at most 200,000.
     Signals,
@@ -36,11 +36,11 @@ pub struct Excess {
 /// The counts of a circuit, over its top and all instances below it.
 #[derive(Clone, Copy, Debug, PartialEq, Eq)]
 pub struct Counts {
-    /// How many instances lie above the deepest, the top among them.
+    /// How many sites are above the deepest instance, counting the top.
     pub depth: u64,
     /// The signals.
     pub signals: u64,
-    /// The words of the first memory in the text that has more than 65,536.
+    /// The words of the first memory in the text that has more than 65,536 words.
     pub memory: Option<u32>,
     /// The words of all memories.
     pub words: u64,
@@ -49,7 +49,7 @@ pub struct Counts {
 }
 
 impl Counts {
-    /// The first count that is above its limit, in the order in which `Measure` has them.
+    /// The first count above its limit, in the order of the variants of `Measure`.
     pub fn excess(&self) -> Option<Excess>
         ensures { result ≡ first_excess self.now }
     {
@@ -87,14 +87,14 @@ impl Counts {
     }
 }
 
-// So many of the same.
+// A list with `count` copies of a value.
 fn all_of(alloc: Global, count: usize, value: u64) -> Result<Vec<u64>, AllocError>
     ensures { IfOk result (λ values. values.items ≡ replicate count value) }
 {
     vec![in alloc; value; count]
 }
 
-// The depth that a memory's fields say, or 0.
+// The depth that a memory's fields give, or 0.
 fn depth_of(fields: &[Field]) -> u32
     ensures { result ≡ depth_of_fields fields.now }
 {
@@ -152,7 +152,7 @@ fn own_words(alloc: Global, modules: &[Module]) -> Result<Vec<u64>, AllocError>
     Ok(words)
 }
 
-// For each module its place, where it has a memory that is too deep; else a number that is no place.
+// For each module: its place if it has a memory that is too deep, else a number that isn't a place.
 fn own_deep(alloc: Global, modules: &[Module]) -> Result<Vec<u64>, AllocError>
     ensures { IfOk result (λ places. places.items ≡ deep_places 0 modules.now) }
 {
@@ -163,7 +163,7 @@ fn own_deep(alloc: Global, modules: &[Module]) -> Result<Vec<u64>, AllocError>
     Ok(places)
 }
 
-// The place, where a memory is too deep; else a number that is no place.
+// The place if a memory is too deep, else a number that isn't a place.
 fn deep_place(place: usize, statements: &[Stmt]) -> u64
     ensures { result ≡ deep_place place statements.now }
 {
@@ -174,7 +174,7 @@ fn deep_place(place: usize, statements: &[Stmt]) -> u64
     }
 }
 
-// The depth of the first memory that is too deep of the module at this place, if the place is one.
+// The depth of the first memory that is too deep in the module at this place, if there is such a module.
 fn deep_at(modules: &[Module], place: u64) -> Option<u32>
     ensures { result ≡ deep_at modules.now place }
 {
@@ -185,7 +185,7 @@ fn deep_at(modules: &[Module], place: u64) -> Option<u32>
     }
 }
 
-// The same numbers again.
+// A copy of a list of numbers.
 fn copy_of(alloc: Global, values: &[u64]) -> Result<Vec<u64>, AllocError>
     ensures { IfOk result (λ copy. copy.items ≡ values.now) }
 {
@@ -196,7 +196,7 @@ fn copy_of(alloc: Global, values: &[u64]) -> Result<Vec<u64>, AllocError>
     Ok(copy)
 }
 
-// What the module at a place has with all below it.
+// The value of the module at a place, with those of all modules below it.
 fn gather_at(circuit: &Circuit, order: &[u32], place: usize, how: Gathering, own: Vec<u64>) -> u64
     requires few { length circuit.now.modules < 2 ^ 32 }
     requires order { IsOrderOf (HoldsModule circuit.now.modules) (length circuit.now.modules) order.now }
@@ -208,7 +208,7 @@ fn gather_at(circuit: &Circuit, order: &[u32], place: usize, how: Gathering, own
     values[place]
 }
 
-// How deep the deepest site lies.
+// The depth of the deepest site.
 fn depth(alloc: Global, circuit: &Circuit, order: &[u32], place: usize) -> Result<u64, AllocError>
     requires few { length circuit.now.modules < 2 ^ 32 }
     requires order { IsOrderOf (HoldsModule circuit.now.modules) (length circuit.now.modules) order.now }
@@ -220,7 +220,7 @@ fn depth(alloc: Global, circuit: &Circuit, order: &[u32], place: usize) -> Resul
     Ok(deepest)
 }
 
-// The signals of all sites, where each module has so many.
+// The number of signals of all sites, from the number of each module's own signals.
 fn signal_total(
     alloc: Global,
     circuit: &Circuit,
@@ -256,7 +256,7 @@ fn word_total(
     Ok(total)
 }
 
-// The depth of the first memory in the text that is too deep, of the modules that have a site.
+// The depth of the first memory in the text that is too deep, among the modules that have a site.
 fn first_deep(
     alloc: Global,
     circuit: &Circuit,
@@ -293,12 +293,12 @@ fn instance_total(
     Ok(total)
 }
 
-/// The counts of a circuit whose top is the module at this place, where each module has so many signals of its own. The order
-/// has each module behind all that it holds.
+/// The counts of a circuit whose top is the module at place `top`. `own_signals` has the number of each module's own
+/// signals. The order has each module after all modules that it holds.
 ///
 /// # Errors
 ///
-/// `AllocError` where memory is refused.
+/// Returns `AllocError` if an allocation fails.
 pub fn count(
     alloc: Global,
     circuit: &Circuit,

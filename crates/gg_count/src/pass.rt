@@ -1,4 +1,4 @@
-//! One pass over the modules of a circuit, each behind all that it holds.
+//! One pass over the modules of a circuit, each after all modules that it holds.
 ghost use Rattle.std.specs.Prelude.{◌≡◌, ℕ, suc, ◌<◌, ◌≤◌, ◌^◌, length, slice_index_or, option_to_list};
 ghost use Rattle.gg_walk.specs.Graph.{IsOrderOf};
 ghost use Rattle.gg_count.specs.Sites.{HoldsModule, held_by, held_by_kind};
@@ -6,19 +6,19 @@ ghost use Rattle.gg_count.specs.Graph.{gathered, gathered_over, value_below};
 
 use gg_ast::{Circuit, Stmt, StmtKind};
 
-/// How what a module has comes from what the modules have that it holds.
+/// How a module's value is made from its own value and those of the modules that it holds.
 #[derive(Clone, Copy)]
 pub(crate) enum Gathering {
-    /// The sum, which stands still at its type's end.
+    /// The sum, which saturates.
     Sum,
-    /// The greatest, each one more.
+    /// The greatest of the module's own value and, for each module that it holds, one more than that module's value.
     Height,
     /// The least.
     Least,
 }
 
 impl Gathering {
-    // What a module has, with what an instance has that it holds.
+    // A module's value, combined with that of one module that it holds.
     fn gather(self, own: u64, below: u64) -> u64
         ensures { result ≡ gathered self own below }
     {
@@ -30,7 +30,8 @@ impl Gathering {
     }
 }
 
-/// What a module has, with what each instance has that these statements make. There is a value for each module.
+/// A module's own value, combined with those of the instances that these statements make. `values` has a value for
+/// each module.
 pub(crate) fn gather_over(
     circuit: &Circuit,
     statements: &[Stmt],
@@ -64,8 +65,9 @@ fn gather_kind(circuit: &Circuit, kind: &StmtKind, values: &[u64], how: Gatherin
     }
 }
 
-/// What each module has with all below it, down to so many levels or more, where the module at a place has of its own what stands there. The order has each
-/// module behind all that it holds.
+/// The value of each module, with those of all modules below it. `own` has each module's own value. The order has
+/// each module after all modules that it holds. This holds for every number of levels that is at least the number of
+/// modules minus one.
 pub(crate) fn gather(circuit: &Circuit, order: &[u32], how: Gathering, own: Vec<u64>) -> Vec<u64>
     requires few { length circuit.now.modules < 2 ^ 32 }
     requires order { IsOrderOf (HoldsModule circuit.now.modules) (length circuit.now.modules) order.now }

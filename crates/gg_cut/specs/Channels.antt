@@ -16,7 +16,7 @@ use Rattle.gg_cut.specs.Listed.{owner_of_instance}
 abbrev pub wire : ℕ → ℕ → ℕ → Wire
 wire signal producer consumer = record { signal = signal; producer = producer; consumer = consumer }
 
--- what f makes of each item and its number, from n on
+-- the lists that f gives for each item and its number, joined; the first number is n
 abbrev pub numbered : {A B : Type 0} → (ℕ → A → List B) → ℕ → List A → List B
 numbered f n [] = []
 numbered f n (x ∷ xs) = f n x ++ numbered f (suc n) xs
@@ -74,8 +74,8 @@ source_wires number signal = wire signal number 0 ∷ []
 abbrev pub tray_wires : ℕ → ℕ → List Wire
 tray_wires number signal = wire signal 0 number ∷ []
 
--- The channels in their order: each top input; for each unit its ports in port order; for each listed memory its fields;
--- each top output.
+-- The channels in their order: each top input; each unit's ports, in port order; each listed memory's fields; each
+-- top output.
 abbrev pub wires_of : FlatCircuit → InstanceTree → Listed → List Wire
 wires_of circuit tree listed =
     numbered source_wires (first_source listed) circuit.ins
@@ -87,7 +87,8 @@ wires_of circuit tree listed =
 abbrev pub port_signals : InstanceTree → ℕ → List ℕ
 port_signals tree unit = map (λ port. port.signal) (instance_at tree unit).ports
 
--- The signals of the channels, in order: the top's inputs, the units' ports, the listed memories' fields, the top's outputs.
+-- The signals of the channels, in order: the top's inputs, the units' ports, the listed memories' fields, the top's
+-- outputs.
 abbrev pub channel_signals : FlatCircuit → InstanceTree → Listed → List ℕ
 channel_signals circuit tree listed =
     circuit.ins
@@ -98,6 +99,6 @@ channel_signals circuit tree listed =
 abbrev pub channel_names : FlatCircuit → List ℕ → List (List ℕ)
 channel_names circuit signals = map (path_at circuit.paths) signals
 
--- the capacity that the request has for a name, else the default
+-- the capacity that the request gives for a name, else the default
 abbrev pub capacity_of : List (List ℕ × ℕ) → ℕ → List ℕ → ℕ
 capacity_of capacities default name = unwrap_or (option_map (λ pair. pair.1) (find (λ pair. bytes_eq pair.0 name) capacities)) default

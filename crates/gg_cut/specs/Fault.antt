@@ -34,7 +34,7 @@ entries share = flat_map (λ group. group) share
 
 -- ---- entries that name nothing
 
--- the first of these that is no instance path
+-- the first of these that isn't an instance path
 abbrev pub unknown_unit : InstanceTree → List (List ℕ) → Option (List ℕ)
 unknown_unit tree units = find (λ path. not (is_instance_path tree path)) units
 
@@ -43,14 +43,14 @@ abbrev pub unshared : List (List ℕ) → List (List (List ℕ)) → Option (Lis
 unshared units [] = None
 unshared units (group ∷ share) = or_else (find (λ path. not (is_among units path)) group) (unshared units share)
 
--- ---- entries that stand twice
+-- ---- entries that occur twice
 
--- the first of these that clashes with one before it, `earlier` standing before them all
+-- the first of these paths that clashes with an earlier one; `earlier` has the paths before all of them
 abbrev pub first_clash : (List ℕ → List ℕ → Bool) → List (List ℕ) → List (List ℕ) → Option (List ℕ)
 first_clash clash earlier [] = None
 first_clash clash earlier (path ∷ paths) = if list_any (clash path) earlier then Some path else first_clash clash (earlier ++ path ∷ []) paths
 
--- a unit holds another, lies in it or is it
+-- a unit holds another, is in it or equals it
 abbrev pub overlap : InstanceTree → List ℕ → List ℕ → Bool
 overlap tree a b = lies tree (instance_of tree a) (instance_of tree b) || lies tree (instance_of tree b) (instance_of tree a)
 
@@ -73,7 +73,7 @@ module_of tree path = (instance_at tree (instance_of tree path)).«module»
 abbrev pub other_in : InstanceTree → List (List ℕ) → Option (List ℕ)
 other_in tree group = find (λ path. not (module_of tree path == module_of tree (path_at group 0))) group
 
--- the first entry of a list of `share` that has another module than the list's first
+-- the first entry of a list of `share` whose module isn't that of the list's first entry
 abbrev pub other_module : InstanceTree → List (List (List ℕ)) → Option (List ℕ)
 other_module tree [] = None
 other_module tree (group ∷ share) = or_else (other_in tree group) (other_module tree share)
@@ -88,22 +88,22 @@ abbrev pub dotted : List ℕ → Option (List ℕ)
 dotted [] = None
 dotted (byte ∷ rest) = if byte == 46 then Some (byte ∷ rest) else None
 
--- what stands in a path behind the path of a unit in which it lies, with the dot between them
+-- what follows the path of a unit in a path, including the dot, if the path is in the unit
 abbrev pub rest_behind : List ℕ → List ℕ → Option (List ℕ)
 rest_behind [] path = dotted path
 rest_behind (a ∷ unit) [] = None
 rest_behind (a ∷ unit) (b ∷ path) = if a == b then rest_behind unit path else None
 
--- whether, for what stands behind one unit of a list, the counterpart in a unit of the list isn't among the memories
+-- whether some unit of a list, followed by this rest, isn't among the memories
 abbrev pub lacks_counterpart : List (List ℕ) → List (List ℕ) → Option (List ℕ) → Bool
 lacks_counterpart memories group None = false
 lacks_counterpart memories group (Some rest) = list_any (λ unit. not (is_among memories (unit ++ rest))) group
 
--- whether a memory lies in a unit of a list, and its counterpart in a unit of the list isn't listed
+-- whether a memory is in a unit of a list, and its counterpart in a unit of the list isn't listed
 abbrev pub lacks_in : List (List ℕ) → List ℕ → List (List ℕ) → Bool
 lacks_in memories path group = list_any (λ unit. lacks_counterpart memories group (rest_behind unit path)) group
 
--- the first listed memory that lies in a shared unit and whose counterpart in another unit of the list isn't listed
+-- the first listed memory that is in a shared unit and whose counterpart in another unit of the list isn't listed
 abbrev pub unmatched : List (List ℕ) → List (List (List ℕ)) → Option (List ℕ)
 unmatched memories share = find (λ path. list_any (lacks_in memories path) share) memories
 
@@ -126,9 +126,9 @@ too_many_units listed = if nat_lt most_units (length listed.units + length liste
 abbrev pub too_many_channels : List ℕ → Option ℕ
 too_many_channels signals = if nat_lt most_channels (length signals) then Some (length signals) else None
 
--- ---- the first of all
+-- ---- the first of all faults
 
--- entries that name nothing, or stand twice
+-- entries that name nothing, or occur twice
 abbrev pub entry_fault : InstanceTree → Request → Option CutFault
 entry_fault tree request =
     or_else (option_map UnknownUnit (unknown_unit tree request.units))
@@ -137,7 +137,7 @@ entry_fault tree request =
     (or_else (option_map Doubled (repeated (entries request.share)))
     (option_map Doubled (repeated request.memories)))))
 
--- lists of units of different modules; memories
+-- lists of units with different modules; memories
 abbrev pub kind_fault : InstanceTree → Request → Option CutFault
 kind_fault tree request =
     or_else (option_map OtherModule (other_module tree request.share))
@@ -158,8 +158,8 @@ fault_in circuit tree request =
     (or_else (kind_fault tree request)
     (channel_fault circuit request (listed_of tree request) (channel_signals circuit tree (listed_of tree request))))
 
--- The fault of a request for a design: the one of the least number; of one number the first in `units`, then in `share`, then in
--- `memories`; for capacities the least name.
+-- The fault of a request for a design: the one with the least number. Among faults with the same number it is the
+-- first in `units`, then in `share`, then in `memories`. For capacities it is the one with the least name.
 abbrev pub first_fault : Ordered → Request → Option CutFault
 first_fault design request = fault_in design.circuit design.tree request
 
@@ -176,13 +176,13 @@ fault_text (TooManyUnits count) = codes "P9 units " ++ decimal count
 fault_text (TooManyChannels count) = codes "P9 channels " ++ decimal count
 fault_text NoMemory = codes "out of memory"
 
--- ---- what a call that judges answers
+-- ---- what a call that judges returns
 
--- the error tells this fault, or want of memory
+-- the error is this fault, or `NoMemory`
 abbrev pub IsTold : Option CutFault → CutFault → Type 0
 IsTold fault cause = (cause ≡ NoMemory) ⊎ (fault ≡ Some cause)
 
--- Ok exactly where there is no fault, else the fault; want of memory says nothing
+-- Ok exactly if there is no fault, else the fault; `NoMemory` implies nothing
 abbrev pub Tells : {A : Type 0} → Option CutFault → Result A CutFault → Type 0
 Tells fault (Ok answer) = fault ≡ None
 Tells fault (Err cause) = IsTold fault cause

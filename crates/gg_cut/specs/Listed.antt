@@ -1,4 +1,5 @@
--- What a request lists, by places in the tree of instances: its units and its memories; and what lies in what.
+-- What a request lists, by places in the tree of instances: its units and its memories. Also which instance is in
+-- which.
 -- Source: ICCAD 2019 (instances and memories of a target that are marked become models of their own); FIRRTL
 -- Specification, "Instances" and "Memories" for what an instance holds.
 use Rattle.std.specs.Prelude.{◌≡◌, ◌<◌, ℕ, zero, suc, ◌+◌, List, [], ◌∷◌, Bool, true, false, ◌||◌, ◌&&◌, ◌==◌, if◌then◌else◌, Option, Some, None, length, map, filter, option_map, unwrap_or, is_some, bytes_eq, nat_lt, nat_le}
@@ -12,7 +13,7 @@ use Rattle.gg_partfile.specs.declared.request.Request.{Request}
 
 -- ---- paths
 
--- whether a path is one of these
+-- whether a path is among these
 abbrev pub is_among : List (List ℕ) → List ℕ → Bool
 is_among paths path = list_any (bytes_eq path) paths
 
@@ -25,7 +26,7 @@ first_place test (x ∷ xs) = if test x then Some 0 else option_map suc (first_p
 abbrev pub place_of : List (List ℕ) → List ℕ → Option ℕ
 place_of paths path = first_place (bytes_eq path) paths
 
--- The top, at place 0, is a module and no instance: its path is no instance path.
+-- The top, at place 0, is a module and not an instance. Its path isn't an instance path.
 abbrev pub is_lower : Option ℕ → Bool
 is_lower None = false
 is_lower (Some zero) = false
@@ -37,31 +38,31 @@ is_instance_path tree path = is_lower (place_of tree.paths path)
 abbrev pub is_memory_path : InstanceTree → List ℕ → Bool
 is_memory_path tree path = is_some (place_of tree.memory_paths path)
 
--- the instance of a path
+-- the instance with a path
 abbrev pub instance_of : InstanceTree → List ℕ → ℕ
 instance_of tree path = unwrap_or (place_of tree.paths path) 0
 
--- ---- what lies in what
+-- ---- which instance is in which
 
--- whether a test holds of the parent, where there is one
+-- whether a test holds of the parent, if there is one
 abbrev pub of_parent : (ℕ → Bool) → Option ℕ → Bool
 of_parent test None = false
 of_parent test (Some parent) = test parent
 
--- whether instance k is instance i, or has it among the instances above it, of which so many are looked at
+-- whether instance k is instance i, or i is among this many instances above it
 abbrev pub lies_within : InstanceTree → ℕ → ℕ → ℕ → Bool
 lies_within tree zero k i = k == i
 lies_within tree (suc more) k i = (k == i) || of_parent (λ parent. lies_within tree more parent i) (instance_at tree k).parent
 
--- Instance k is instance i, or one below it. An instance has fewer above it than its place says.
+-- Instance k is instance i, or one below it. The number of instances above an instance is at most its place.
 abbrev pub lies : InstanceTree → ℕ → ℕ → Bool
 lies tree k i = lies_within tree k k i
 
--- each instance stands behind its parent
+-- each instance comes after its parent
 abbrev pub ParentsBefore : InstanceTree → Type 0
 ParentsBefore tree = (k parent : ℕ) → k < length tree.instances → (instance_at tree k).parent ≡ Some parent → parent < k
 
--- just these instances are marked
+-- exactly these instances are marked
 abbrev pub AreMarks : List ℕ → List Bool → Type 0
 AreMarks units marks = (k : ℕ) → is_marked marks k ≡ list_any (λ unit. k == unit) units
 
@@ -83,11 +84,11 @@ abbrev pub unit_or_hub : Option ℕ → ℕ
 unit_or_hub None = 0
 unit_or_hub (Some u) = suc u
 
--- the machine that an instance belongs to: the unit in which it lies, else the hub
+-- the machine that an instance belongs to: the unit that it is in, else the hub
 abbrev pub owner_of_instance : InstanceTree → List ℕ → ℕ → ℕ
 owner_of_instance tree units k = unit_or_hub (first_place (λ unit. lies tree k unit) units)
 
--- whether a signal is one of an instance's, or of one below it
+-- whether a signal belongs to an instance, or to one below it
 abbrev pub has_signal : InstanceTree → ℕ → ℕ → Bool
 has_signal tree s k = nat_le (instance_at tree k).first s && nat_lt s (instance_at tree k).end
 
@@ -95,12 +96,14 @@ has_signal tree s k = nat_le (instance_at tree k).first s && nat_lt s (instance_
 abbrev pub has_field : FlatCircuit → InstanceTree → ℕ → ℕ → Bool
 has_field circuit tree s j = list_any (λ t. t == s) (memory_fields circuit (memory_at tree j).memory)
 
--- the listed memory of which a signal is a field, by its place among the listed ones; else another machine
+-- the machine of the listed memory that has a signal as a field, by its place among the listed ones; else another
+-- machine
 abbrev pub memory_or : ℕ → ℕ → Option ℕ → ℕ
 memory_or units other None = other
 memory_or units other (Some j) = suc units + j
 
--- The machine that a signal belongs to: the listed memory of which it is a field, else the unit that has it, else the hub.
+-- The machine that a signal belongs to: the listed memory that has it as a field, else the unit that has it, else the
+-- hub.
 abbrev pub owner_of : FlatCircuit → InstanceTree → Listed → ℕ → ℕ
 owner_of circuit tree listed s =
     memory_or (length listed.units) (unit_or_hub (first_place (has_signal tree s) listed.units)) (first_place (has_field circuit tree s) listed.memories)

@@ -9,7 +9,7 @@ earlier zero b = b
 earlier (suc a) zero = suc a
 earlier (suc a) (suc b) = if nat_lt a b then suc a else suc b
 
--- the machine of a parent; the hub, where there is none
+-- the machine of a parent, or the hub if there is none
 abbrev pub above_by : List ℕ → Option ℕ → ℕ
 above_by owners None = 0
 above_by owners (Some parent) = value_at owners parent

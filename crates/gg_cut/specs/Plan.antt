@@ -1,6 +1,6 @@
 -- The plan of a cut: its machines with their pieces, its channels, and what each channel needs.
--- Source: MEMOCODE 2009 (a network of machines that are latency-insensitive: an output depends on just the inputs that it is
--- computed from); ICCAD 2019 (instances and memories of a target as models of their own).
+-- Source: MEMOCODE 2009 (a network of machines that are latency-insensitive: an output depends only on the inputs
+-- that it is computed from); ICCAD 2019 (instances and memories of a target as models of their own).
 use Rattle.std.specs.Prelude.{◌≡◌, ◌↔◌, ◌⊎◌, ℕ, ◌<◌, ◌≤◌, List, [], ◌∷◌, ◌++◌, ◌==◌, length, map, filter, codes, slice_index_or, Contains, AllPairs}
 use Rattle.std.specs.List.{range_with_len}
 use Rattle.gg_bits.specs.Shape.{shape}
@@ -44,11 +44,11 @@ signals_of wires channels = map (λ c. (wire_at wires c).signal) channels
 
 -- ---- a machine's piece
 
--- a signal of no channel
+-- a signal that no channel carries
 abbrev pub IsInner : List Wire → ℕ → Type 0
 IsInner wires s = (c : ℕ) → c < length wires → ¬ ((wire_at wires c).signal ≡ s)
 
--- Machine m gives signal s its value: it owns the signal, which no channel carries, or it gives the signal's channel.
+-- Machine m gives signal s its value: it owns the signal and no channel carries it, or it gives the signal's channel.
 abbrev pub Makes : FlatCircuit → InstanceTree → Listed → List Wire → ℕ → ℕ → Type 0
 Makes circuit tree listed wires m s = ((s < length circuit.signals) × (owner_of circuit tree listed s ≡ m) × IsInner wires s) ⊎ Contains (signals_of wires (channels_from wires m)) s
 
@@ -56,7 +56,7 @@ Makes circuit tree listed wires m s = ((s < length circuit.signals) × (owner_of
 abbrev pub Takes : List Wire → ℕ → ℕ → Type 0
 Takes wires m s = Contains (signals_of wires (channels_to wires m)) s
 
--- the machine that the memory at a place of the tree belongs to: its own where it is listed, else its instance's
+-- the machine that the memory at a place of the tree belongs to: its own if it is listed, else its instance's
 abbrev pub memory_owner : InstanceTree → Listed → ℕ → ℕ
 memory_owner tree listed place =
     memory_or (length listed.units) (owner_of_instance tree listed.units (memory_at tree place).instance) (first_place (λ j. j == place) listed.memories)
@@ -68,8 +68,8 @@ pub record HasMemory (tree : InstanceTree) (listed : Listed) (m k : ℕ) : Type 
   pub is : (memory_at tree place).memory ≡ k
   pub owner : memory_owner tree listed place ≡ m
 
--- A machine's piece: just the signals that it makes or takes; its channels' signals, in order, are its in-signals and its
--- out-signals; the memories that belong to it; in an order of evaluation.
+-- A machine's piece: exactly the signals that it makes or takes, in an order of evaluation, and the memories that
+-- belong to it. The signals of its channels, in order, are its in-signals and its out-signals.
 pub record IsCutPart (design : Ordered) (listed : Listed) (wires : List Wire) (m : ℕ) (part : Part) : Type 0 where
   pub is : IsPart design.circuit part.piece part.globals part.held part.memories
   pub signals : (s : ℕ) → Contains part.globals s ↔ (Makes design.circuit design.tree listed wires m s ⊎ Takes wires m s)
@@ -105,18 +105,19 @@ pub record IsMachine (design : Ordered) (request : Request) (listed : Listed) (w
 
 -- ---- channels
 
--- Channel c is needed by an out-signal of a part: it is at an in-signal that the out-signal reaches by reads.
+-- An out-signal of a part needs channel c: the channel is at an in-signal that the out-signal reaches by reads.
 pub record IsNeed (part : Part) (channels : List ℕ) (out c : ℕ) : Type 0 where
   pub place : ℕ
   pub known : place < length part.piece.ins
   pub is : value_at channels place ≡ c
   pub reached : Reaches part.piece out (value_at part.piece.ins place)
 
--- The needs of an out-signal of a part: the channels at just those of its in-signals that it reaches by reads.
+-- The needs of an out-signal of a part: exactly the channels at the in-signals that it reaches by reads.
 abbrev pub AreNeedsOf : Part → List ℕ → ℕ → List ℕ → Type 0
 AreNeedsOf part channels out needs = (c : ℕ) → Contains needs c ↔ IsNeed part channels out c
 
--- The needs of a channel that this machine gives: those of the out-signal that is the channel's; a source's channel needs none.
+-- The needs of a channel that this machine gives: those of the out-signal that the channel carries. A source's
+-- channel needs none.
 abbrev pub NeedsIn : Body → List ℕ → ℕ → List ℕ → Type 0
 NeedsIn (Cut part) channels s needs = (out : ℕ) → out < length part.globals → value_at part.globals out ≡ s → AreNeedsOf part channels out needs
 NeedsIn (Memory part) channels s needs = (out : ℕ) → out < length part.globals → value_at part.globals out ≡ s → AreNeedsOf part channels out needs

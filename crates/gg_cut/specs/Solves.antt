@@ -8,14 +8,14 @@ use Rattle.gg_cut.specs.declared.plan.Body.TheVariants.{Cut, Memory, Source, Tra
 use Rattle.gg_cut.specs.declared.plan.Machine.{Machine}
 use Rattle.gg_cut.specs.declared.plan.Plan.{Plan}
 
--- The part has a run of n cycles on these columns of its ins, and in each such run its outs have these columns.
+-- The part has a run of n cycles on these columns of its inputs, and in each such run its outputs have these columns.
 pub record GivesColumns (part : Part) (n : ℕ) (ins outs : List (List ℕ)) : Type 0 where
   pub rows : List (List ℕ)
   pub run : IsRun part.piece ins n rows
   pub gives : (others : List (List ℕ)) → IsRun part.piece ins n others → map (column others) part.piece.outs ≡ outs
 
--- A machine answers: its outs are those of the run of its piece on its ins. A source's out is the column that it was given;
--- a tray has none.
+-- How a machine answers: its outputs are those of the run of its piece on its inputs. A source's output is the column
+-- that it was given. A tray has no output.
 abbrev pub Answers : Body → ℕ → List ℕ → List (List ℕ) → List (List ℕ) → Type 0
 Answers (Cut part) n given ins outs = GivesColumns part n ins outs
 Answers (Memory part) n given ins outs = GivesColumns part n ins outs
@@ -26,8 +26,8 @@ Answers Tray n given ins outs = outs ≡ []
 abbrev pub lists_of : List (List ℕ) → List ℕ → List (List ℕ)
 lists_of lists channels = map (λ c. slice_index_or lists c []) channels
 
--- The lists solve the plan: there is one for each channel, and each machine answers on those of its channels. `given` has the
--- column that the source of a machine's number was given.
+-- The lists solve the plan: there is one for each channel, and each machine answers on the lists of its channels.
+-- `given m` is the column that source m was given.
 pub record Solves (plan : Plan) (given : ℕ → List ℕ) (n : ℕ) (lists : List (List ℕ)) : Type 0 where
   pub count : length lists ≡ length plan.channels
   pub each : (m : ℕ) (any : Machine) → m < length plan.machines → Answers (slice_index_or plan.machines m any).body n (given m) (lists_of lists (slice_index_or plan.machines m any).ins) (lists_of lists (slice_index_or plan.machines m any).outs)

@@ -16,11 +16,11 @@ use std::alloc::{AllocError, Global};
 /// The most tokens that a channel holds.
 const MOST_CAPACITY: u64 = 4096;
 
-/// Marks on the signals of channels, by their numbers.
+/// Marks on the signals of channels, by the signals' numbers.
 ///
 /// # Errors
 ///
-/// Where memory is refused.
+/// Returns `AllocError` if an allocation fails.
 pub(crate) fn channel_marks(
     alloc: Global,
     count: usize,
@@ -35,7 +35,7 @@ pub(crate) fn channel_marks(
     Ok(marks)
 }
 
-// No marks.
+// A list without marks.
 fn unmarked(alloc: Global, count: usize) -> Result<Vec<bool>, AllocError>
     ensures none { IfOk result (λ marks. (k : ℕ) → is_marked marks.items k ≡ false) }
     ensures count { IfOk result (λ marks. length marks.items ≡ count) }
@@ -43,7 +43,7 @@ fn unmarked(alloc: Global, count: usize) -> Result<Vec<bool>, AllocError>
     vec![in alloc; false; count]
 }
 
-// Marks signals, where nothing is marked.
+// Marks signals, in a list without marks.
 fn mark_all(marks: &mut [bool], signals: &[u32])
     requires known { All (λ s. s < length marks.old) signals.now }
     requires none { (k : ℕ) → is_marked marks.old k ≡ false }
@@ -55,11 +55,11 @@ fn mark_all(marks: &mut [bool], signals: &[u32])
     }
 }
 
-/// Each name is a channel's, of the channels that have these signals.
+/// Checks that each name is that of a channel. The channels have these signals.
 ///
 /// # Errors
 ///
-/// `UnknownChannel`, with the first that isn't. `NoMemory`, where memory is refused.
+/// Returns `UnknownChannel` with the first name that isn't that of a channel, or `NoMemory` if an allocation fails.
 pub(crate) fn channels_exist(
     piece: &Piece,
     signals: &[u32],
@@ -79,7 +79,7 @@ pub(crate) fn channels_exist(
     Ok(())
 }
 
-// Whether a name is a channel's.
+// Whether a name is that of a channel.
 fn is_channel(piece: &Piece, signals: &[u32], marks: &[bool], name: &Name) -> bool
     requires known { All (λ s. s < length piece.now.signals) signals.now }
     requires marks { AreMarks signals.now marks.now }
@@ -94,11 +94,11 @@ fn is_channel(piece: &Piece, signals: &[u32], marks: &[bool], name: &Name) -> bo
     }
 }
 
-/// Each capacity is from 1 to 4,096.
+/// Checks that each capacity is from 1 to 4,096.
 ///
 /// # Errors
 ///
-/// `OutOfRange`, with the first that isn't, and its name. `NoMemory`, where memory is refused.
+/// Returns `OutOfRange` with the first capacity that isn't and its name, or `NoMemory` if an allocation fails.
 pub(crate) fn capacities_in_range(capacities: &[(Name, u64)]) -> Result<(), CutFault>
     ensures { Tells (range_fault capacities.now) result }
 {

@@ -1,4 +1,4 @@
-//! The listed memories of shared units.
+//! The listed memories in shared units.
 ghost use Rattle.std.specs.Prelude.{◌≡◌, ℕ, List, ◌++◌, ◌<◌, ◌^◌, not, find, option_map, length, MatchBool, MatchOption, IfOk, IfErr};
 ghost use Rattle.std.specs.Prelude.{None, Some};
 ghost use Rattle.std.specs.List.{list_any};
@@ -12,11 +12,12 @@ use gg_bits::{Name, Names};
 use gg_flat::Paths;
 use std::alloc::{AllocError, Global};
 
-/// Each listed memory that lies in a shared unit has its counterpart in each unit of the list listed.
+/// Checks the counterparts of listed memories. For each listed memory in a shared unit, its counterpart in each unit
+/// of the unit's list has to be listed too.
 ///
 /// # Errors
 ///
-/// `Unmatched`, with the first that hasn't. `NoMemory`, where memory is refused.
+/// Returns `Unmatched` with the first memory that lacks a counterpart, or `NoMemory` if an allocation fails.
 pub(crate) fn memories_matched(
     alloc: Global,
     memories: &[Name],
@@ -29,7 +30,7 @@ pub(crate) fn memories_matched(
     all_matched(alloc, &set, memories, share)
 }
 
-// Each memory has its counterparts in a set.
+// Checks that each memory has its counterparts in a set.
 fn all_matched(
     alloc: Global,
     set: &Paths,
@@ -46,7 +47,7 @@ fn all_matched(
     Ok(())
 }
 
-// Whether a memory lacks a counterpart, for one of the lists.
+// Whether a memory lacks a counterpart for one of the lists.
 fn lacks(alloc: Global, set: &Paths, path: &Name, share: &[Names]) -> Result<bool, CutFault>
     ensures lacks { IfOk result (λ lacks. lacks ≡ list_any (lacks_in set.now path.now) share.now) }
     ensures err { IfErr result (λ cause. cause ≡ NoMemory) }
@@ -59,7 +60,7 @@ fn lacks(alloc: Global, set: &Paths, path: &Name, share: &[Names]) -> Result<boo
     Ok(false)
 }
 
-// Whether a memory lacks a counterpart, for a list.
+// Whether a memory lacks a counterpart for a list.
 fn lacks_in(alloc: Global, set: &Paths, path: &Name, group: &[Name]) -> Result<bool, CutFault>
     ensures lacks { IfOk result (λ lacks. lacks ≡ lacks_in set.now path.now group.now) }
     ensures err { IfErr result (λ cause. cause ≡ NoMemory) }
@@ -72,7 +73,7 @@ fn lacks_in(alloc: Global, set: &Paths, path: &Name, group: &[Name]) -> Result<b
     Ok(false)
 }
 
-// Whether a memory lies in a unit and lacks a counterpart in one of its list.
+// Whether a memory is in a unit and lacks a counterpart in a unit of the same list.
 fn lacks_behind(
     alloc: Global,
     set: &Paths,
@@ -89,7 +90,7 @@ fn lacks_behind(
     }
 }
 
-// Whether one of these paths isn't in a set: of each unit, with a rest behind it.
+// Whether some unit's path, followed by a rest, isn't in a set.
 fn lacks_rest(alloc: Global, set: &Paths, group: &[Name], rest: &str) -> Result<bool, CutFault>
     ensures lacks { IfOk result (λ lacks. lacks ≡ list_any (λ unit. not (is_among set.now (unit ++ rest.now))) group.now) }
     ensures err { IfErr result (λ cause. cause ≡ NoMemory) }
@@ -102,7 +103,7 @@ fn lacks_rest(alloc: Global, set: &Paths, group: &[Name], rest: &str) -> Result<
     Ok(false)
 }
 
-// A path with a rest behind it.
+// A path followed by a rest.
 fn appended(alloc: Global, path: &Name, rest: &str) -> Result<Name, AllocError>
     ensures { IfOk result (λ name. name ≡ path.now ++ rest.now) }
 {
@@ -111,7 +112,7 @@ fn appended(alloc: Global, path: &Name, rest: &str) -> Result<Name, AllocError>
     Ok(Name::from(text))
 }
 
-// What stands in a path behind a unit's path, with the dot, where it lies in the unit.
+// What follows a unit's path in a path, including the dot, if the path is in the unit.
 fn rest_behind<'a>(unit: &Name, path: &'a Name) -> Option<&'a str>
     ensures { MatchOption result (rest_behind unit.now path.now ≡ None) (λ rest. rest_behind unit.now path.now ≡ Some rest.now) }
 {

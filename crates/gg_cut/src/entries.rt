@@ -10,11 +10,11 @@ use gg_bits::{Name, Names};
 use gg_flat::{AddError, Paths, Tree};
 use std::alloc::Global;
 
-/// Each unit is an instance.
+/// Checks that each unit is an instance.
 ///
 /// # Errors
 ///
-/// `UnknownUnit`, with the first that isn't. `NoMemory`, where memory is refused.
+/// Returns `UnknownUnit` with the first unit that isn't an instance, or `NoMemory` if an allocation fails.
 pub(crate) fn units_exist(tree: &Tree, units: &[Name]) -> Result<(), CutFault>
     ensures { Tells (option_map UnknownUnit (unknown_unit tree.now units.now)) result }
 {
@@ -26,11 +26,11 @@ pub(crate) fn units_exist(tree: &Tree, units: &[Name]) -> Result<(), CutFault>
     Ok(())
 }
 
-/// Each listed memory is a memory.
+/// Checks that each listed memory exists.
 ///
 /// # Errors
 ///
-/// `UnknownMemory`, with the first that isn't. `NoMemory`, where memory is refused.
+/// Returns `UnknownMemory` with the first one that doesn't, or `NoMemory` if an allocation fails.
 pub(crate) fn memories_exist(tree: &Tree, memories: &[Name]) -> Result<(), CutFault>
     ensures { Tells (option_map UnknownMemory (unknown_memory tree.now memories.now)) result }
 {
@@ -42,11 +42,11 @@ pub(crate) fn memories_exist(tree: &Tree, memories: &[Name]) -> Result<(), CutFa
     Ok(())
 }
 
-/// Each entry of the lists is one of the units.
+/// Checks that each entry of the lists is one of the units.
 ///
 /// # Errors
 ///
-/// `UnknownUnit`, with the first that isn't. `NoMemory`, where memory is refused.
+/// Returns `UnknownUnit` with the first entry that isn't, or `NoMemory` if an allocation fails.
 pub(crate) fn shared_are_units(
     alloc: Global,
     units: &[Name],
@@ -59,7 +59,7 @@ pub(crate) fn shared_are_units(
     groups_are_units(&set, share)
 }
 
-// Each entry of the lists is one of a set.
+// Checks that each entry of the lists is in a set.
 fn groups_are_units(set: &Paths, share: &[Names]) -> Result<(), CutFault>
     ensures { Tells (option_map UnknownUnit (unshared set.now share.now)) result }
 {
@@ -69,7 +69,7 @@ fn groups_are_units(set: &Paths, share: &[Names]) -> Result<(), CutFault>
     Ok(())
 }
 
-// Each path is one of a set.
+// Checks that each path is in a set.
 fn group_is_units(set: &Paths, group: &[Name]) -> Result<(), CutFault>
     ensures { Tells (option_map UnknownUnit (find (λ path. not (is_among set.now path)) group.now)) result }
 {
@@ -81,11 +81,11 @@ fn group_is_units(set: &Paths, group: &[Name]) -> Result<(), CutFault>
     Ok(())
 }
 
-/// No path equals an earlier one.
+/// Checks that no path equals an earlier one.
 ///
 /// # Errors
 ///
-/// `Doubled`, with the first that does. `NoMemory`, where memory is refused.
+/// Returns `Doubled` with the first path that does, or `NoMemory` if an allocation fails.
 pub(crate) fn none_repeated(alloc: Global, paths: &[Name]) -> Result<(), CutFault>
     requires few { length paths.now < 2 ^ 32 }
     ensures { Tells (option_map Doubled (repeated paths.now)) result }
@@ -94,7 +94,7 @@ pub(crate) fn none_repeated(alloc: Global, paths: &[Name]) -> Result<(), CutFaul
     add_all(&mut seen, paths)
 }
 
-// Adds paths to those that were seen.
+// Adds paths to those seen so far.
 fn add_all(seen: &mut Paths, paths: &[Name]) -> Result<(), CutFault>
     requires few { length seen.old + length paths.now < 2 ^ 32 }
     ensures told { Tells (option_map Doubled (first_clash same_path seen.old paths.now)) result }
@@ -106,7 +106,7 @@ fn add_all(seen: &mut Paths, paths: &[Name]) -> Result<(), CutFault>
     Ok(())
 }
 
-// Adds a path to those that were seen.
+// Adds a path to those seen so far.
 fn add_one(seen: &mut Paths, path: &Name) -> Result<(), CutFault>
     requires few { length seen.old < 2 ^ 32 - 1 }
     ensures told { Tells (option_map Doubled (first_clash same_path seen.old (path.now ∷ []))) result }
@@ -119,7 +119,7 @@ fn add_one(seen: &mut Paths, path: &Name) -> Result<(), CutFault>
     }
 }
 
-/// The fault of a path that stands twice.
+/// The fault of a path that occurs twice.
 pub(crate) fn doubled(path: &Name) -> CutFault
     ensures { IsTold (Some (Doubled path.now)) result }
 {
@@ -129,11 +129,11 @@ pub(crate) fn doubled(path: &Name) -> CutFault
     }
 }
 
-/// No entry of the lists equals an earlier one, of the same list or another.
+/// Checks that no entry of the lists equals an earlier one, of the same list or another.
 ///
 /// # Errors
 ///
-/// `Doubled`, with the first that does. `NoMemory`, where memory is refused.
+/// Returns `Doubled` with the first entry that does, or `NoMemory` if an allocation fails.
 pub(crate) fn shared_once(alloc: Global, share: &[Names]) -> Result<(), CutFault>
     requires few { length (entries share.now) < 2 ^ 32 }
     ensures { Tells (option_map Doubled (repeated (entries share.now))) result }
@@ -148,11 +148,12 @@ pub(crate) fn shared_once(alloc: Global, share: &[Names]) -> Result<(), CutFault
     Ok(())
 }
 
-/// The units of each list have one module.
+/// Checks that the units of each list have the same module.
 ///
 /// # Errors
 ///
-/// `OtherModule`, with the first entry of a list that has another than the list's first. `NoMemory`, where memory is refused.
+/// Returns `OtherModule` with the first entry of a list whose module isn't that of the list's first entry, or
+/// `NoMemory` if an allocation fails.
 pub(crate) fn one_module_each(tree: &Tree, share: &[Names]) -> Result<(), CutFault>
     ensures { Tells (option_map OtherModule (other_module tree.now share.now)) result }
 {
@@ -162,7 +163,7 @@ pub(crate) fn one_module_each(tree: &Tree, share: &[Names]) -> Result<(), CutFau
     Ok(())
 }
 
-// The units of a list have one module.
+// Checks that the units of a list have the same module.
 fn one_module(tree: &Tree, group: &[Name]) -> Result<(), CutFault>
     ensures { Tells (option_map OtherModule (other_in tree.now group.now)) result }
 {
@@ -172,7 +173,7 @@ fn one_module(tree: &Tree, group: &[Name]) -> Result<(), CutFault>
     }
 }
 
-// Each instance is of this module.
+// Checks that each instance has this module.
 fn all_of_module(tree: &Tree, module: u32, group: &[Name]) -> Result<(), CutFault>
     ensures { Tells (option_map OtherModule (find (λ path. not (module_of tree.now path == «module»)) group.now)) result }
 {
@@ -184,7 +185,7 @@ fn all_of_module(tree: &Tree, module: u32, group: &[Name]) -> Result<(), CutFaul
     Ok(())
 }
 
-// The module of an instance, by its path.
+// The module of the instance with a path.
 fn module_of(tree: &Tree, path: &Name) -> u32
     ensures { result ≡ module_of tree.now path.now }
 {

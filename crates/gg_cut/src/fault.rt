@@ -7,28 +7,28 @@ use std::alloc::AllocError;
 use std::error::Error;
 use std::fmt;
 
-/// Why a request doesn't fit a design, in the order in which faults are told.
+/// Why a request doesn't fit a design, in the order in which faults are reported.
 #[derive(Debug, Drop)]
 pub enum CutFault {
-    /// An entry of `units` that is no instance path, or of `share` that isn't in `units`.
+    /// An entry of `units` that isn't an instance path, or of `share` that isn't in `units`.
     UnknownUnit(Name),
-    /// An entry that equals an earlier one of the same key, or a unit that holds or lies in an earlier one.
+    /// An entry that equals an earlier one of the same key, or a unit that holds an earlier unit or is in one.
     Doubled(Name),
-    /// An entry of a list of `share` that has another module than the list's first.
+    /// An entry of a list of `share` whose module isn't that of the list's first entry.
     OtherModule(Name),
-    /// An entry of `memories` that is no memory's path.
+    /// An entry of `memories` that isn't the path of a memory.
     UnknownMemory(Name),
     /// A listed memory in a shared unit, whose counterpart in another unit of the list isn't listed.
     Unmatched(Name),
-    /// A name in `capacity` that is no channel.
+    /// A name in `capacity` that isn't that of a channel.
     UnknownChannel(Name),
     /// A capacity of 0 or above 4,096, with its channel's name.
     OutOfRange(Name, u64),
-    /// The number of units and listed memories, where it is above 256.
+    /// The number of units and listed memories, if it is above 256.
     TooManyUnits(u64),
-    /// The number of channels, where it is above 16,384.
+    /// The number of channels, if it is above 16,384.
     TooManyChannels(u64),
-    /// Memory was refused.
+    /// An allocation failed.
     NoMemory,
 }
 

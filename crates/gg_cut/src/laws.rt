@@ -1,4 +1,4 @@
-//! Laws: facts about the definitions, each on a function with an empty body.
+//! Laws: facts about the definitions. Each is the contract of a function with an empty body.
 ghost use Rattle.std.specs.Prelude.{◌≡◌, ℕ, ◌-◌, List, [], map, slice_index_or};
 ghost use Rattle.gg_flat.specs.Run.{IsRun, IsColumns};
 ghost use Rattle.gg_order.specs.Design.{Ordered, IsDesign};
@@ -13,12 +13,13 @@ ghost use Rattle.gg_cut.specs.Listed.{listed_of};
 ghost use Rattle.gg_cut.specs.Plan.{IsPlan};
 ghost use Rattle.gg_cut.specs.Solves.{Solves, columns_of};
 
-/// The channels, with their machines, carry just the signals by which channels are counted and named, in the same order.
+/// The channels, with their machines, carry exactly the signals by which channels are counted and named, in the same
+/// order.
 pub fn channels_agree()
     ensures { (circuit : FlatCircuit) (tree : InstanceTree) (listed : Listed) → map (λ (w : Wire). w.signal) (wires_of circuit tree listed) ≡ channel_signals circuit tree listed }
 {}
 
-/// The columns of the circuit's run solve the plan, where each source was given the column of its top input.
+/// The columns of the circuit's run solve the plan, if each source was given the column of its top input.
 pub fn columns_solve()
     ensures { (design : Ordered) (request : Request) (default : ℕ) (plan : Plan) (columns : List (List ℕ)) (n : ℕ) (rows : List (List ℕ)) → IsDesign design → IsPlan design request default plan → IsColumns design.circuit n columns → IsRun design.circuit columns n rows → Solves plan (λ m. slice_index_or columns (m - first_source (listed_of design.tree request)) []) n (columns_of plan rows) }
 {}

@@ -1,15 +1,21 @@
-//! Cutting a design into machines: what a request may ask, and what the plan of a cut is.
+//! Cutting a design into machines: what a request may ask for, and what the plan of a cut is.
 //!
-//! A request lists instances (units), lists of units that share a host, memories, and capacities of channels. The definitions of
-//! `specs/` say what it lists by places in the tree of instances (Listed), which faults it has and in what order they are told
-//! (Fault), which channels there are between which machines (Channels), who shares a host (Hosts), and what the plan is: the
-//! machines with their pieces, the channels and their needs (Plan). The crate promises:
+//! A request lists instances (units), lists of units that share a host, memories, and capacities of channels. The
+//! definitions in `specs/` say:
 //!
-//! - `judge` gives what a request lists exactly where it has no fault, and else its first fault;
-//! - `owners_of` gives each instance its machine: the unit in which it lies, else the hub;
-//! - the channels carry just the signals by which they are counted and named (`channels_agree`);
-//! - the columns of the circuit's one run solve the plan (`columns_solve`): each machine's outputs, in the run of its own piece
-//!   on its inputs' columns, are the circuit's columns there.
+//! - what a request lists, by places in the tree of instances (Listed);
+//! - which faults it has, and in what order they are reported (Fault);
+//! - which channels there are, and between which machines (Channels);
+//! - who shares a host (Hosts);
+//! - what the plan is: the machines with their pieces, the channels and their needs (Plan).
+//!
+//! The crate promises:
+//!
+//! - `judge` returns what a request lists exactly if it has no fault, and else its first fault;
+//! - `owners_of` gives each instance its machine: the unit that the instance is in, else the hub;
+//! - the channels carry exactly the signals by which they are counted and named (`channels_agree`);
+//! - the columns of the circuit's one run solve the plan (`columns_solve`): in the run of its own piece on its
+//!   inputs' columns, each machine's outputs have the columns that they have in the circuit.
 #![tactic(auto)]
 
 mod capacities;

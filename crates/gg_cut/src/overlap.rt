@@ -1,4 +1,4 @@
-//! Units that lie in one another.
+//! Units that are in one another.
 ghost use Rattle.std.specs.Prelude.{◌≡◌, ℕ, List, ◌<◌, ◌||◌, false, length, option_map, IfOk, IfErr};
 ghost use Rattle.std.specs.List.{list_any};
 ghost use Rattle.gg_flat.specs.Tree.{instance_at};
@@ -14,13 +14,13 @@ use gg_bits::Name;
 use gg_flat::Tree;
 use std::alloc::{AllocError, Global};
 
-/// No unit holds an earlier one, lies in it or is it.
+/// Checks that no unit holds an earlier one, is in an earlier one or equals one.
 ///
-/// Each instance of the tree stands behind its parent.
+/// In the tree each instance comes after its parent.
 ///
 /// # Errors
 ///
-/// `Doubled`, with the first that does. `NoMemory`, where memory is refused.
+/// Returns `Doubled` with the first unit that does, or `NoMemory` if an allocation fails.
 pub(crate) fn none_overlap(alloc: Global, tree: &Tree, units: &[Name]) -> Result<(), CutFault>
     requires some { 0 < length tree.now.instances }
     requires parents { ParentsBefore tree.now }
@@ -31,7 +31,8 @@ pub(crate) fn none_overlap(alloc: Global, tree: &Tree, units: &[Name]) -> Result
     check_apart(tree, units, &mut own, &mut above)
 }
 
-// No unit overlaps an earlier one, where nothing is marked. Marks the units in `own`, and what they lie in in `above`.
+// Checks that no unit overlaps an earlier one. At first nothing is marked. Marks the units in `own`, and the
+// instances that they are in in `above`.
 fn check_apart(
     tree: &Tree,
     units: &[Name],
@@ -57,7 +58,8 @@ fn check_apart(
     Ok(())
 }
 
-// Whether an instance lies in a unit or holds one, of the units that are marked in `own` and what they lie in in `above`.
+// Whether an instance is in a unit or holds one. The units are marked in `own`, and what they are in is marked in
+// `above`.
 fn overlaps(tree: &Tree, own: &[bool], above: &[bool], place: u32) -> bool
     requires parents { ParentsBefore tree.now }
     requires known { place < length tree.now.instances }
@@ -68,7 +70,7 @@ fn overlaps(tree: &Tree, own: &[bool], above: &[bool], place: u32) -> bool
     lies_in_marked(tree, own, place) || above[place as usize]
 }
 
-// No marks.
+// A list without marks.
 fn unmarked(alloc: Global, count: usize) -> Result<Vec<bool>, AllocError>
     ensures none { IfOk result (λ marks. (k : ℕ) → is_marked marks.items k ≡ false) }
     ensures count { IfOk result (λ marks. length marks.items ≡ count) }
@@ -76,7 +78,7 @@ fn unmarked(alloc: Global, count: usize) -> Result<Vec<bool>, AllocError>
     vec![in alloc; false; count]
 }
 
-/// The place of the instance of a path; the top, where it is none.
+/// The place of the instance with a path, or of the top if there is none.
 pub(crate) fn place(tree: &Tree, path: &Name) -> u32
     requires some { 0 < length tree.now.instances }
     ensures place { result ≡ instance_of tree.now path.now }
@@ -97,7 +99,7 @@ pub(crate) fn parent_of(tree: &Tree, place: u32) -> Option<u32>
     tree.instances()[place as usize].parent
 }
 
-// Whether an instance is a marked one, or lies in one.
+// Whether an instance is marked, or is in a marked one.
 fn lies_in_marked(tree: &Tree, marks: &[bool], place: u32) -> bool
     requires parents { ParentsBefore tree.now }
     requires known { place < length tree.now.instances }
@@ -116,7 +118,7 @@ fn lies_in_marked(tree: &Tree, marks: &[bool], place: u32) -> bool
     }
 }
 
-// Marks an instance and all that it lies in.
+// Marks an instance and all instances that it is in.
 fn mark_above(tree: &Tree, marks: &mut [bool], place: u32)
     requires parents { ParentsBefore tree.now }
     requires known { place < length tree.now.instances }

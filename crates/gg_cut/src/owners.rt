@@ -8,12 +8,12 @@ use crate::overlap::parent_of;
 use gg_flat::Tree;
 use std::alloc::{AllocError, Global};
 
-/// The machines of the instances, by their places: of the unit in which an instance lies, else of the hub. Units are
-/// instances, and each instance of the tree stands behind its parent.
+/// The machines of the instances, by their places: that of the unit that an instance is in, else the hub. Units are
+/// instances, and in the tree each instance comes after its parent.
 ///
 /// # Errors
 ///
-/// Where memory is refused.
+/// Returns `AllocError` if an allocation fails.
 pub fn owners_of(alloc: Global, tree: &Tree, units: &[u32]) -> Result<Vec<u32>, AllocError>
     requires parents { ParentsBefore tree.now }
     requires known { All (λ unit. unit < length tree.now.instances) units.now }
@@ -26,7 +26,7 @@ pub fn owners_of(alloc: Global, tree: &Tree, units: &[u32]) -> Result<Vec<u32>, 
     Ok(owners)
 }
 
-// Gives each instance its machine, where all have 0.
+// Gives each instance its machine. At first all have 0.
 fn fill_owners(tree: &Tree, units: &[u32], owners: &mut [u32])
     requires parents { ParentsBefore tree.now }
     requires known { All (λ unit. unit < length tree.now.instances) units.now }
@@ -51,7 +51,8 @@ fn zeros(alloc: Global, count: usize) -> Result<Vec<u32>, AllocError>
     vec![in alloc; 0; count]
 }
 
-// Gives each unit its machine's number, where all had 0; a unit that stands twice has that of its first place.
+// Gives each unit its machine's number. At first all have 0. A unit that is listed twice gets the number of its first
+// place.
 fn number_units(owners: &mut [u32], units: &[u32])
     requires known { All (λ unit. unit < length owners.old) units.now }
     requires few { length units.now < 2 ^ 32 - 1 }
@@ -67,7 +68,7 @@ fn number_units(owners: &mut [u32], units: &[u32])
     }
 }
 
-// The machine of an instance's parent; the hub, where it has none.
+// The machine of an instance's parent, or the hub if it has none.
 fn owner_above(tree: &Tree, owners: &[u32], place: u32) -> u32
     requires parents { ParentsBefore tree.now }
     requires known { place < length tree.now.instances }

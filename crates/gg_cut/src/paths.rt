@@ -8,7 +8,7 @@ use gg_bits::Name;
 use gg_flat::{AddError, Paths, Tree};
 use std::alloc::Global;
 
-/// The place of the instance of a path.
+/// The place of the instance with a path.
 pub(crate) fn instance(tree: &Tree, path: &Name) -> Option<u32>
     ensures { result ≡ place_of tree.now.paths path.now }
 {
@@ -16,7 +16,7 @@ pub(crate) fn instance(tree: &Tree, path: &Name) -> Option<u32>
     tree.find(path)
 }
 
-/// The place in the tree of the memory of a path.
+/// The place in the tree of the memory with a path.
 pub(crate) fn memory(tree: &Tree, path: &Name) -> Option<u32>
     ensures { result ≡ place_of tree.now.memory_paths path.now }
 {
@@ -24,7 +24,7 @@ pub(crate) fn memory(tree: &Tree, path: &Name) -> Option<u32>
     tree.find_memory(path)
 }
 
-/// Whether a path is an instance's. The top's isn't.
+/// Whether a path is that of an instance. The top's path isn't.
 pub(crate) fn is_instance(tree: &Tree, path: &Name) -> bool
     ensures { result ≡ is_instance_path tree.now path.now }
 {
@@ -34,14 +34,14 @@ pub(crate) fn is_instance(tree: &Tree, path: &Name) -> bool
     }
 }
 
-/// Whether a path is a memory's.
+/// Whether a path is that of a memory.
 pub(crate) fn is_memory(tree: &Tree, path: &Name) -> bool
     ensures { result ≡ is_memory_path tree.now path.now }
 {
     memory(tree, path).is_some()
 }
 
-/// Whether a path is one of a set.
+/// Whether a path is in a set.
 pub(crate) fn has(set: &Paths, path: &Name) -> bool
     ensures { result ≡ is_among set.now path.now }
 {
@@ -55,7 +55,7 @@ pub(crate) fn has(set: &Paths, path: &Name) -> bool
 ///
 /// # Errors
 ///
-/// `NoMemory`, where memory is refused.
+/// Returns `NoMemory` if an allocation fails.
 pub(crate) fn set_of(alloc: Global, paths: &[Name]) -> Result<Paths, CutFault>
     requires few { length paths.now < 2 ^ 32 }
     ensures same { IfOk result (λ set. (path : List ℕ) → is_among set path ≡ is_among paths.now path) }
@@ -68,7 +68,7 @@ pub(crate) fn set_of(alloc: Global, paths: &[Name]) -> Result<Paths, CutFault>
     Ok(set)
 }
 
-// Adds a path to a set, if it isn't there.
+// Adds a path to a set, if it isn't there yet.
 fn include(set: &mut Paths, path: &Name) -> Result<(), CutFault>
     requires few { length set.old < 2 ^ 32 - 1 }
     ensures same { IfOk result (λ _. (other : List ℕ) → is_among set.new other ≡ (is_among set.old other || bytes_eq other path.now)) }
@@ -85,7 +85,7 @@ fn include(set: &mut Paths, path: &Name) -> Result<(), CutFault>
 ///
 /// # Errors
 ///
-/// `NoMemory`, where memory is refused.
+/// Returns `NoMemory` if an allocation fails.
 pub(crate) fn copied(path: &Name) -> Result<Name, CutFault>
     ensures copy { IfOk result (λ copy. copy ≡ path.now) }
     ensures err { IfErr result (λ cause. cause ≡ NoMemory) }

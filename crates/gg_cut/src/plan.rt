@@ -7,7 +7,7 @@ use gg_part::Part;
 pub enum Body {
     /// The hub or a unit: it runs a part of the circuit.
     Cut(Part),
-    /// A listed memory: a part of the circuit that is one memory, which is served port by port.
+    /// A listed memory: a part of the circuit that has just this memory. Its ports are served one by one.
     Memory(Part),
     /// Gives the column of a top input.
     Source,

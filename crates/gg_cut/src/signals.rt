@@ -1,4 +1,4 @@
-//! What is listed, by places, and the signals of the channels.
+//! What is listed, by places in the tree, and the signals of the channels.
 ghost use Rattle.std.specs.Prelude.{◌≡◌, ℕ, List, [], ◌∷◌, if◌then◌else◌, ◌<◌, ◌≤◌, ◌^◌, ◌++◌, length, map, filter, flat_map, All, OnOk, IfOk, IfErr};
 ghost use Rattle.std.specs.List.{range_with_len};
 ghost use Rattle.gg_flat.specs.Tree.{IsTree, path_at, memory_at};
@@ -15,11 +15,11 @@ use gg_bits::Name;
 use gg_flat::{InstancePort, Paths, Piece, Reader, Tree, Writer};
 use std::alloc::{AllocError, Global};
 
-/// The instances of the paths.
+/// The instances with these paths.
 ///
 /// # Errors
 ///
-/// Where memory is refused.
+/// Returns `AllocError` if an allocation fails.
 pub(crate) fn listed_units(
     alloc: Global,
     tree: &Tree,
@@ -40,7 +40,7 @@ pub(crate) fn listed_units(
 ///
 /// # Errors
 ///
-/// `NoMemory`, where memory is refused.
+/// Returns `NoMemory` if an allocation fails.
 pub(crate) fn listed_memories(
     alloc: Global,
     tree: &Tree,
@@ -80,7 +80,7 @@ fn push_if(found: &mut Vec<u32>, number: u32, chosen: bool) -> Result<(), AllocE
     Ok(())
 }
 
-// Whether a memory's path is one of a set.
+// Whether a memory's path is in a set.
 fn has_memory(set: &Paths, tree: &Tree, place: u32) -> bool
     requires { place < length tree.now.memory_paths }
     ensures { result ≡ is_among set.now (path_at tree.now.memory_paths place) }
@@ -97,7 +97,7 @@ fn has_memory(set: &Paths, tree: &Tree, place: u32) -> bool
 ///
 /// # Errors
 ///
-/// Where memory is refused.
+/// Returns `AllocError` if an allocation fails.
 pub(crate) fn signals_of(
     alloc: Global,
     piece: &Piece,

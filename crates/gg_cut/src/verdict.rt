@@ -32,8 +32,8 @@ const MOST_CHANNELS: u64 = 16384;
 ///
 /// # Errors
 ///
-/// The first fault of the request (`first_fault` in `specs/Fault`), exactly where it has one. `NoMemory`, where memory is
-/// refused.
+/// Returns the first fault of the request (`first_fault` in `specs/Fault`), exactly if it has one, or `NoMemory` if
+/// an allocation fails.
 pub fn judge(alloc: Global, design: &Design, request: &Request) -> Result<Listed, CutFault>
     requires small { IsSmall request.now }
     ensures told { Tells (first_fault design.now request.now) result }
@@ -60,7 +60,7 @@ fn judge_all(
     judge_channels(alloc, piece, tree, request)
 }
 
-// Entries that name nothing, or stand twice.
+// Checks for entries that name nothing, or occur twice.
 fn judge_entries(
     alloc: Global,
     piece: &Piece,
@@ -79,7 +79,7 @@ fn judge_entries(
     none_repeated(alloc, request.memories.as_slice())
 }
 
-// Lists of units of different modules; memories.
+// Checks for lists of units with different modules, and checks the memories.
 fn judge_kinds(alloc: Global, tree: &Tree, request: &Request) -> Result<(), CutFault>
     requires small { IsSmall request.now }
     ensures { Tells (kind_fault tree.now request.now) result }
@@ -89,7 +89,7 @@ fn judge_kinds(alloc: Global, tree: &Tree, request: &Request) -> Result<(), CutF
     memories_matched(alloc, request.memories.as_slice(), request.share.as_slice())
 }
 
-// What is listed, by places.
+// What is listed, by places in the tree.
 fn list(alloc: Global, piece: &Piece, tree: &Tree, request: &Request) -> Result<Listed, CutFault>
     requires small { IsSmall request.now }
     requires fitting { IsTree piece.now tree.now }
@@ -109,7 +109,7 @@ fn list(alloc: Global, piece: &Piece, tree: &Tree, request: &Request) -> Result<
     })
 }
 
-// Capacities, and the numbers of units and of channels. Gives what is listed.
+// Checks the capacities, and the numbers of units and of channels. Returns what is listed.
 fn judge_channels(
     alloc: Global,
     piece: &Piece,
@@ -136,8 +136,8 @@ fn judge_channels(
     }
 }
 
-// Names that are no channel, capacities out of range, and the numbers of units and of channels, where the channels have these
-// signals.
+// Checks for names that aren't those of channels, capacities out of range, and too many units or channels. The
+// channels have these signals.
 fn judge_signals(
     alloc: Global,
     piece: &Piece,
@@ -160,7 +160,7 @@ fn judge_signals(
     few_channels(signals)
 }
 
-// There are at most 256 units and listed memories.
+// Checks that there are at most 256 units and listed memories.
 fn few_units(units: u64, memories: u64) -> Result<(), CutFault>
     requires units { units < 2 ^ 32 }
     requires memories { memories < 2 ^ 32 }
@@ -173,7 +173,7 @@ fn few_units(units: u64, memories: u64) -> Result<(), CutFault>
     Ok(())
 }
 
-// There are at most 16,384 channels.
+// Checks that there are at most 16,384 channels.
 fn few_channels(signals: &[u32]) -> Result<(), CutFault>
     ensures { Tells (option_map TooManyChannels (too_many_channels signals.now)) result }
 {

@@ -1,4 +1,4 @@
--- What a sink is connected to, in the module in which that is written.
+-- What a sink is connected to, in the module where that is written.
 -- Source: FIRRTL Specification, "Connects", "Invalidates".
 use Rattle.std.specs.Prelude.{ℕ, List, [], ◌∷◌, Option, Some, None, if◌then◌else◌}
 use Rattle.std.specs.Str.{bytes_eq}
@@ -14,7 +14,7 @@ pub data Connection : Type 0 where
   ConnectedTo : Term → Connection
   Zeroed : Connection
 
--- what a statement connects the sink of this written name to
+-- what a statement connects the sink with this written name to
 abbrev pub connection_by : List ℕ → StmtKind → Option Connection
 connection_by name (says.Wire n ty) = None
 connection_by name (says.Node n value) = None

@@ -1,6 +1,6 @@
 -- The signals and memories of a circuit: those of the top and of every instance below it, by their paths.
 -- Source: FIRRTL Specification, "Circuits and Modules", "Instances", "Memories", "Connects". An instance's input is
--- connected in the module that holds the instance, as i.p; every other sink in its own module.
+-- connected in the module that holds the instance, as i.p. Every other sink is connected in its own module.
 use Rattle.std.specs.Prelude.{ℕ, List, Option, Some, None, map, flat_map, codes}
 use Rattle.gg_bits.specs.Shape.{Shape}
 use Rattle.gg_ast.specs.declared.statement.Reset.{Reset}
@@ -12,7 +12,7 @@ use Rattle.gg_digest.specs.Memories.{Bank}
 use Rattle.gg_digest.specs.Signals.{Cause, FromOutside, Connected, Expressed, Kept, Answered, Own, Types, own_signals, OwnBank, own_banks, dotted, field_name}
 use Rattle.gg_digest.specs.Connection.{Connection, ConnectedTo, connection_in}
 
--- where a name stands: the path before it, and the place of the module in which it is written
+-- where a name is written: the path before it, and the place of the module
 pub record Scope : Type 0 where
   pub path : List ℕ
   pub number : ℕ
@@ -23,9 +23,9 @@ scope_at site = record { path = site.path; number = site.number }
 abbrev pub scope_around : Outer → Scope
 scope_around outer = record { path = outer.path; number = outer.number }
 
--- What gives a signal of the circuit its value: the outside; what it is connected to, with where that is written; the
--- state of a register; or what the reader at this place of the memory of this path answers, whose address and enable
--- have these paths.
+-- What gives a signal of the circuit its value: the outside; its connection, with where that is written; the state of
+-- a register; or a reader of a memory. Of a reader it has the memory's path, the reader's place, and the paths of its
+-- address and its enable.
 pub data Drive : Type 0 where
   Outside : Drive
   Gets : Scope → Option Connection → Drive
@@ -37,7 +37,7 @@ pub record FlatSignal : Type 0 where
   pub shape : Shape
   pub drive : Drive
 
--- what an input port of this name gets, of the top and of an instance
+-- what an input port of this name gets, in the top and in an instance
 abbrev pub input_drive : List ModuleTree → Option Outer → List ℕ → Drive
 input_drive modules None name = Outside
 input_drive modules (Some outer) name =
@@ -77,6 +77,6 @@ flat_memory site own = record { path = joined site.path own.name; bank = own.ban
 abbrev pub memories_at : List ModuleTree → Site → List FlatMemory
 memories_at modules site = map (flat_memory site) (own_banks (module_at modules site.number).statements)
 
--- the memories of all sites: those of a site before those below it, wherever they stand in its module
+-- the memories of all sites: those of a site before those of the sites below it, wherever its module declares them
 abbrev pub flat_memories : List ModuleTree → List Site → List FlatMemory
 flat_memories modules all = flat_map (memories_at modules) all

@@ -1,7 +1,7 @@
 -- When a flat circuit is that of a circuit.
 -- Source: FIRRTL Specification, "Circuits and Modules", "Instances", "Statements", "Memories", "Connects",
 -- "Invalidates". It has the signals, registers, memories and ports of the circuit's sites, and nothing more. How a
--- line is laid out is left open: only what it comes to, and which signals it names, is said.
+-- line is laid out is left open. Only its value and the signals that it names are fixed.
 use Rattle.std.specs.Prelude.{◌≡◌, ℕ, ◌<◌, ◌↔◌, List, [], Option, Some, None, Bool, true, false, MatchOption, length, map, take, filter_map, count_by, slice_index_or, unwrap_or, if◌then◌else◌, ◌&&◌, is_some, codes}
 use Rattle.gg_bits.specs.Shape.{Shape, shape}
 use Rattle.gg_ast.specs.declared.module.Direction.{Direction}
@@ -34,7 +34,8 @@ use Rattle.gg_digest.specs.Meaning.{Signals, TermNames, taken_value, connected_v
 
 -- ---- lines
 
--- A line gives a sink of this shape what it is connected to, and names just the signals that this names.
+-- A line gives a sink of this shape what it is connected to, and names exactly the signals that this connection
+-- names.
 pub record IsLineFor (types : Types) (signals : Signals) (scope : Scope) (sink : Shape) (c : Option Connection) (line : List Node) : Type 0 where
   pub value : (values : List ℕ) → line_connected values sink line ≡ connected_value types signals scope values sink c
   pub names : (s : ℕ) → Names line s ↔ ConnectionNames types signals scope s c
@@ -56,7 +57,7 @@ HasReset types signals scope sink None reset = reset ≡ None
 HasReset types signals scope sink (Some asked) reset =
     MatchOption reset ⊥ (λ r. IsConditionOf types signals scope asked.condition r.condition × IsLineOf types signals scope sink asked.init r.init)
 
--- a register that nothing is connected to keeps its value
+-- a register without a connection keeps its value
 abbrev pub HasNext : Types → Signals → Scope → Shape → Option Connection → Option (List Node) → Type 0
 HasNext types signals scope sink None next = next ≡ None
 HasNext types signals scope sink (Some c) next = MatchOption next ⊥ (IsLineFor types signals scope sink (Some c))
@@ -68,7 +69,7 @@ pub record IsRegisterOf (types : Types) (signals : Signals) (scope : Scope) (sin
 
 -- ---- numbers
 
--- the number of the signal, or the memory, of a path
+-- the number of the signal, or the memory, with a path
 abbrev pub number_of : List (List ℕ) → List ℕ → ℕ
 number_of paths path = unwrap_or (place_of path paths) 0
 
@@ -157,11 +158,11 @@ same_direction direction.Input direction.Output = false
 same_direction direction.Output direction.Input = false
 same_direction direction.Output direction.Output = true
 
--- the name of a port, if it is of this direction and no Clock
+-- the name of a port, if it has this direction and isn't a Clock
 abbrev pub port_name : Direction → Port → Option (List ℕ)
 port_name way port = if same_direction way port.direction && is_some (type_shape port.ty) then Some port.name else None
 
--- the names of the ports of a direction that are no Clocks
+-- the names of the ports of a direction, without Clocks
 abbrev pub port_names : Direction → List Port → List (List ℕ)
 port_names way ports = filter_map (port_name way) ports
 
@@ -180,8 +181,8 @@ signals_of all = record { paths = map (λ x. x.path) all; shapes = map (λ x. x.
 abbrev pub memory_paths : List FlatMemory → List (List ℕ)
 memory_paths banks = map (λ x. x.path) banks
 
--- The flat circuit of these signals and memories, with these ports of the top: just these signals, each with its
--- driver; the registers that they hold, in turn; these memories; and the ports, in port order.
+-- The flat circuit of these signals and memories, with these ports of the top. It has exactly these signals, each
+-- with its driver; the registers that they hold, in turn; these memories; and the ports, in port order.
 pub record IsFlatOf (types : Types) (all : List FlatSignal) (banks : List FlatMemory) (ports : List Port) (flat : FlatCircuit) : Type 0 where
   pub paths : flat.paths ≡ (signals_of all).paths
   pub shapes : signal_shapes flat ≡ (signals_of all).shapes
@@ -192,7 +193,7 @@ pub record IsFlatOf (types : Types) (all : List FlatSignal) (banks : List FlatMe
   pub ins : flat.ins ≡ map (number_of (signals_of all).paths) (port_names direction.Input ports)
   pub outs : flat.outs ≡ map (number_of (signals_of all).paths) (port_names direction.Output ports)
 
--- The flat circuit of a circuit, where the type checks say this of its names.
+-- The flat circuit of a circuit, if the type checks give its names these shapes.
 abbrev pub IsFlatWith : Types → CircuitTree → FlatCircuit → Type 0
 IsFlatWith types circuit flat =
     IsFlatOf types

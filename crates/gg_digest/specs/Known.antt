@@ -9,7 +9,7 @@ use Rattle.gg_types.specs.declared.sort.Sort.TheVariants.{Bits, Clock}
 use Rattle.gg_types.specs.Types.{sort_named}
 use Rattle.gg_digest.specs.Signals.{Types}
 
--- the shape of a type that is there and no Clock
+-- the shape of a type, if there is one and it isn't a Clock
 abbrev pub value_shape : Option Sort → Option Shape
 value_shape None = None
 value_shape (Some (Bits kind width)) = Some (of_kind kind width)

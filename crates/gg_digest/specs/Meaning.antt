@@ -1,10 +1,10 @@
 -- What an expression means at a site of the circuit: its shape and its value, by the signals of the whole circuit. A
--- name stands for the signal whose path is the site's path with the name behind it.
+-- name stands for the signal whose path is the site's path followed by the name.
 -- Source: FIRRTL Specification, "Expressions" (references, literals, primitive operations, multiplexers), "Primitive
--- Operations", "Connects". The shape and the value of each operation are those of the values' crate.
--- The definitions are total: what names nothing, a literal that doesn't fit and an operation that doesn't take its
--- operands are the UInt<1> 0, and a source that a sink can't take is 0. In a circuit that the checks pass there is
--- none of these.
+-- Operations", "Connects". The shape and the value of each operation are those of gg_bits.
+-- The definitions are total. A reference that names nothing is the UInt<1> 0. So is a literal that doesn't fit, and
+-- an operation that doesn't take its operands. A source that a sink can't take is 0. None of these occurs in a
+-- circuit that passed the checks.
 use Rattle.std.specs.Prelude.{◌≡◌, ℕ, List, Option, Some, None, Bool, ◌&&◌, Result, Ok, Err, nat_le, is_some, unwrap_or, ◌⊎◌, if◌then◌else◌}
 use Rattle.gg_bits.specs.declared.types.Bad.{Bad}
 use Rattle.gg_bits.specs.Shape.{Shape, uint}
@@ -28,7 +28,7 @@ pub record Signals : Type 0 where
   pub paths : List (List ℕ)
   pub shapes : List Shape
 
--- The signal that a reference names, by its place: that of this path, where the module knows the name.
+-- The signal that a reference names, by its place: the signal of this path, if the module knows the name.
 abbrev pub named_if : Bool → List (List ℕ) → List ℕ → Option ℕ
 named_if known paths path = if known then place_of path paths else None
 
@@ -70,7 +70,7 @@ term_shape types signals scope (FixedTerm op a n m) = accepted (type_const op (t
 term_shape types signals scope (MuxTerm c a b) =
     accepted (type_mux (term_shape types signals scope c) (term_shape types signals scope a) (term_shape types signals scope b))
 
--- the value of an expression, where the signals have these values
+-- the value of an expression, if the signals have these values
 abbrev pub term_value : Types → Signals → Scope → List ℕ → Term → ℕ
 term_value types signals scope values (NamedTerm r) = value_named values (named types signals scope r)
 term_value types signals scope values (ConstantTerm l) = value_of_literal (literal_shape l) l
@@ -97,7 +97,7 @@ TermNames types signals scope s (MuxTerm c a b) =
 
 -- ---- what a sink gets
 
--- a value of the second shape can be connected to a sink of the first: it is of its kind, and not wider
+-- a value of the second shape can be connected to a sink of the first: it has the same kind, and isn't wider
 abbrev pub takes : Shape → Shape → Bool
 takes sink source = same_kind sink.kind source.kind && nat_le source.width sink.width
 
@@ -108,7 +108,7 @@ taken_value types signals scope values sink e =
     then extended (term_shape types signals scope e) sink.width (term_value types signals scope values e)
     else 0
 
--- what a sink gets from its connection; 0 for `is invalid`, and where it has none
+-- what a sink gets from its connection; 0 for `is invalid`, and if there is no connection
 abbrev pub connected_value : Types → Signals → Scope → List ℕ → Shape → Option Connection → ℕ
 connected_value types signals scope values sink None = 0
 connected_value types signals scope values sink (Some Zeroed) = 0

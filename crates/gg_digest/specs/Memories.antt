@@ -1,6 +1,6 @@
 -- What the fields of a memory say.
--- Source: FIRRTL Specification, "Memories" (data type, depth, latencies, ports, read-under-write). Where a field
--- stands twice the first counts; where read-under-write is missing it is `undefined`: this program's profile.
+-- Source: FIRRTL Specification, "Memories" (data type, depth, latencies, ports, read-under-write). This program's
+-- profile: if a field occurs twice, the first counts; if read-under-write is missing, it is `undefined`.
 use Rattle.std.specs.Prelude.{ℕ, zero, suc, List, [], ◌∷◌, Option, Some, None, ◌&&◌, nat_le, nat_lt, flat_map, if◌then◌else◌, option_and_then, unwrap_or}
 use Rattle.gg_bits.specs.Shape.{Shape, uint, sint}
 use Rattle.gg_ast.specs.declared.module.GroundType.{GroundType}
@@ -29,7 +29,7 @@ type_shape Clock = None
 
 -- ---- fields
 
--- what a field says, else what those behind it say
+-- what a field says, else what the fields after it say
 abbrev pub or_later : {A : Type 0} → Option A → Option A → Option A
 or_later None later = later
 or_later (Some x) later = Some x
@@ -99,7 +99,7 @@ writers_said (field.ReadUnderWrite said) = []
 
 -- ---- a memory
 
--- the shape of a memory's words, how many there are, its latency, and the names of its readers and writers, each in
+-- the shape of a memory's words, the number of words, the latency, and the names of its readers and writers, each in
 -- the order of the file
 pub record Bank : Type 0 where
   pub word : Shape
@@ -122,7 +122,7 @@ bank_with (Some word) depth (Some latency) readers writers =
     then Some (record { word = word; depth = depth; latency = latency; readers = readers; writers = writers })
     else None
 
--- The memory that the fields make. A memory without a type, a word or a read latency that it can have is none.
+-- The memory that the fields make. There is none without a type, at least one word and a read latency of 0 or 1.
 abbrev pub bank_of : List Field → Option Bank
 bank_of fields =
     bank_with

@@ -1,6 +1,6 @@
 -- The signals that a module has of its own.
 -- Source: FIRRTL Specification, "Circuits and Modules" (ports), "Statements" (wires, registers, nodes), "Memories"
--- (the fields of ports). What is a Clock is no signal.
+-- (the fields of ports). A Clock isn't a signal.
 use Rattle.std.specs.Prelude.{ℕ, suc, List, [], ◌∷◌, ◌++◌, Option, Some, None, option_map, option_to_list, filter_map, flat_map, codes}
 use Rattle.gg_bits.specs.Shape.{Shape, uint}
 use Rattle.gg_ast.specs.declared.expression.Reference.{Reference}
@@ -18,7 +18,7 @@ use Rattle.gg_flat.specs.declared.memory.Latency.{Latency}
 use Rattle.gg_flat.specs.Memory.{address_width}
 use Rattle.gg_digest.specs.Memories.{Bank, bank_of, type_shape}
 
--- What gives a signal its value, as its module says it: whoever holds the module, for an input port; a connection; a
+-- What gives a signal its value, as its module says: whatever holds the module, for an input port; a connection; a
 -- node's expression; a register's state; or what the reader at this place of a memory answers.
 pub data Cause : Type 0 where
   FromOutside : Cause
@@ -78,8 +78,8 @@ abbrev pub memory_signals : List ℕ → Option Bank → List Own
 memory_signals memory None = []
 memory_signals memory (Some bank) = readers_signals memory bank 0 bank.readers ++ flat_map (writer_signals memory bank) bank.writers
 
--- what the type checks say of the names of the module at a place: the shape of what a reference names, where that is
--- a value and no Clock
+-- what the type checks say of the names of the module at a place: the shape of what a reference names, if that is a
+-- value and not a Clock
 abbrev pub Types : Type 0
 Types = ℕ → Reference → Option Shape
 
@@ -96,7 +96,7 @@ own_of_kind types k says.Skip = []
 own_of_kind types k (says.Stop clock condition code label) = []
 own_of_kind types k (says.Report word arguments label) = []
 
--- the signals of the module at place k: its ports, and then what its statements declare, in the order of the file
+-- the signals of the module at place k: its ports, then what its statements declare, in the order of the file
 abbrev pub own_signals : Types → ℕ → ModuleTree → List Own
 own_signals types k m = filter_map own_of_port m.ports ++ flat_map (λ (s : Stmt). own_of_kind types k s.kind) m.statements
 

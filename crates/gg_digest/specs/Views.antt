@@ -62,7 +62,7 @@ outer_of (Some around) = Some (record { path = around.path; number = around.numb
 abbrev pub site_of : Place → count.Site
 site_of place = record { path = place.path; number = place.number; depth = place.depth; outer = outer_of place.outer }
 
--- the modules of a site, and of what holds it, are among so many
+-- the module of a site, and that of what holds it, are among this many modules
 pub record IsPlaceIn (count : ℕ) (place : Place) : Type 0 where
   pub own : place.number < count
   pub around : IfSome place.outer (λ a. a.number < count)
@@ -77,12 +77,12 @@ abbrev pub seen : Option Source → Option Connection
 seen None = None
 seen (Some source) = Some (connection source)
 
--- the connection at a place of a list, if it is one
+-- the connection at a place of a list, if there is one
 abbrev pub source_at : List Source → Option ℕ → Option Connection
 source_at sources None = None
 source_at sources (Some place) = option_map connection (slice_get sources place)
 
--- The table tells what each sink is connected to by these statements.
+-- The table gives what each sink is connected to by these statements.
 abbrev pub TellsConnections : List Stmt → List (List ℕ) → List Source → Type 0
 TellsConnections statements names sources = (name : List ℕ) → source_at sources (place_of name names) ≡ connection_in statements name
 
@@ -96,7 +96,7 @@ pub record IsDigest (types : Types) (modules : List ModuleTree) (k : ℕ) (diges
   pub connections : TellsConnections (count.module_at modules k).statements digest.sinks.names digest.sinks.sources.items
   pub sources : length digest.sinks.sources.items ≡ length digest.sinks.names
 
--- .. of each module
+-- the same for each module
 pub record AreDigests (types : Types) (modules : List ModuleTree) (digests : List Digest) : Type 0 where
   pub count : length digests ≡ length modules
   pub each : (k : ℕ) (any : Digest) → k < length modules → IsDigest types modules k (slice_index_or digests k any)

@@ -23,7 +23,7 @@ pub enum Source<'a> {
     Zero,
 }
 
-/// The sinks that are connected, by their written names, each with what its first connection gives it.
+/// The connected sinks by their written names, each with what its first connection gives it.
 #[derive(Drop)]
 pub struct Sinks<'a> {
     pub names: Paths,
@@ -48,7 +48,7 @@ pub(crate) fn connections<'a>(
     Ok(sinks)
 }
 
-// Notes the connection of a statement, if it makes one, unless its sink is noted.
+// Records the connection of a statement, if it makes one and its sink has none yet.
 fn note<'a>(alloc: Global, sinks: &mut Sinks<'a>, kind: &'a StmtKind) -> Result<(), AllocError>
     requires { length sinks.old.sources.items ≡ length sinks.old.names }
     ensures noted { OnOk result ((name : List ℕ) → source_at sinks.new.sources.items (place_of name sinks.new.names) ≡ or_later (source_at sinks.old.sources.items (place_of name sinks.old.names)) (connection_by name kind.now)) }
@@ -61,7 +61,8 @@ fn note<'a>(alloc: Global, sinks: &mut Sinks<'a>, kind: &'a StmtKind) -> Result<
     }
 }
 
-// Notes the connection of a sink, unless it is noted. More than 4,294,967,295 sinks are refused as want of memory.
+// Records the connection of a sink, unless it has one already. Returns `AllocError` for more than 4,294,967,295
+// sinks.
 fn note_sink<'a>(
     alloc: Global,
     sinks: &mut Sinks<'a>,

@@ -18,7 +18,7 @@ use std::alloc::{AllocError, Global};
 pub struct Instance<'a> {
     /// Its name.
     pub name: &'a Name,
-    /// Its module's place.
+    /// The place of its module.
     pub number: u32,
 }
 
@@ -74,7 +74,7 @@ fn add_instance<'a>(
     }
 }
 
-// The instance that a statement makes, where its module is there.
+// The instance that a statement makes, if its module exists.
 fn instance_of<'a>(circuit: &Circuit, kind: &'a StmtKind) -> Option<Instance<'a>>
     requires { length circuit.now.modules < 2 ^ 32 }
     ensures { option_map held_of result ≡ held_by_kind circuit.now.modules kind.now }
@@ -161,7 +161,7 @@ fn digest_of<'a>(
 ///
 /// # Errors
 ///
-/// `AllocError` where memory is refused.
+/// Returns `AllocError` if an allocation fails.
 pub fn digests<'a>(alloc: Global, typed: &Typed<'a>) -> Result<Vec<Digest<'a>>, AllocError>
     requires { length typed.now.circuit.modules < 2 ^ 32 }
     ensures { IfOk result (λ digests. AreDigests (types_of typed.now.circuit) typed.now.circuit.modules digests.items) }

@@ -8,7 +8,7 @@ use gg_ast::Reference;
 use gg_bits::Ty;
 use gg_types::{Typed, Typing};
 
-// The type, where there is one and it is no Clock.
+// The type, if there is one and it isn't a Clock.
 fn ground(typing: Option<Typing>) -> Option<Ty>
     ensures { option_map (λ ty. shape ty) result ≡ value_shape (option_map sort typing) }
 {
@@ -18,7 +18,7 @@ fn ground(typing: Option<Typing>) -> Option<Ty>
     }
 }
 
-/// The type of what a reference names in a module, where that is a value and no Clock.
+/// The type of what a reference names in a module, if that is a value and not a Clock.
 pub fn value_type(typed: &Typed, number: u32, reference: &Reference) -> Option<Ty>
     requires { number < length typed.now.circuit.modules }
     ensures { option_map (λ ty. shape ty) result ≡ types_of typed.now.circuit number reference.now }

@@ -1,21 +1,28 @@
 //! What each module of a circuit declares, read once, and what the flat circuit of a circuit is.
 //!
-//! The signals of a circuit are those of its top and of every instance below it, by their paths (`flat_signals`); so
-//! are its memories (`flat_memories`). A name that is written at a site stands for the signal whose path is the
-//! site's with the name behind it (`named`); an instance's input is connected where the instance is held. A flat
-//! circuit is that of a circuit (`IsFlat`) where it has just these signals, each with its type and a driver that
-//! means what its connection, expression, register or memory says and names what that names; the registers in the
-//! order of the signals; these memories, a module's before those of its instances; and the ports of the top. How a
-//! line is laid out is left open. The crate promises:
+//! The signals of a circuit are those of its top and of every instance below it, by their paths (`flat_signals`). The
+//! same holds for its memories (`flat_memories`). A name that is written at a site stands for the signal whose path
+//! is the site's path followed by the name (`named`). An instance's input is connected in the module that holds the
+//! instance.
 //!
-//! - `digests` tells of each module the signals that it has of its own, the instances that it holds, its memories, and
-//!   what each sink is connected to (`AreDigests`);
-//! - `places` lists the top and the instances below it, each behind what holds it (`all_sites`);
+//! A flat circuit is that of a circuit (`IsFlat`) if it has exactly these parts:
+//!
+//! - these signals, each with its type and a driver. The driver means what the signal's connection, expression,
+//!   register or memory says, and names the same signals;
+//! - the registers, in the order of the signals;
+//! - these memories, those of a module before those of its instances;
+//! - the ports of the top.
+//!
+//! How a line is laid out is left open. The crate promises:
+//!
+//! - `digests` gives, for each module, its own signals, the instances that it holds, its memories, and what each sink
+//!   is connected to (`AreDigests`);
+//! - `places` lists the top and the instances below it, each after what holds it (`all_sites`);
 //! - `table_of` has the paths and the types of all their signals, and the paths of all their memories, in order;
-//! - `value_type` is the type of what a reference names, where that is a value.
+//! - `value_type` is the type of what a reference names, if that is a value.
 //!
-//! The definitions are total: what isn't known, or doesn't fit, is 0. In a circuit that the checks pass there is none
-//! of it.
+//! The definitions are total: what isn't known, or doesn't fit, is 0. This never occurs in a circuit that passed the
+//! checks.
 #![tactic(auto)]
 
 mod connections;

@@ -20,7 +20,7 @@ pub struct Bank<'a> {
     pub writers: Vec<&'a Name>,
 }
 
-/// The type of a signal; none of a Clock, and none of a width that is 0 or above 128.
+/// The type of a signal. A Clock has none, nor does a type whose width is 0 or above 128.
 pub fn ground_type(ty: GroundType) -> Option<Ty>
     ensures { option_map (λ t. shape t) result ≡ type_shape ty }
 {
@@ -31,7 +31,7 @@ pub fn ground_type(ty: GroundType) -> Option<Ty>
     }
 }
 
-// A type of this width, which is 1 to 128.
+// A type of this width, if the width is 1 to 128.
 fn sized(kind: Kind, width: u32) -> Option<Ty>
     ensures { option_map (λ t. shape t) result ≡ sized_shape width (of_kind kind width) }
 {
@@ -78,7 +78,7 @@ fn said_latency(fields: &[Field]) -> Option<u32>
     None
 }
 
-// What a late reader finds where its word is written.
+// What a reader of latency 1 gets if its word is written in the same cycle.
 fn said_under(fields: &[Field]) -> Option<UnderWrite>
     ensures { result ≡ first_said under_said fields.now }
 {
@@ -100,7 +100,7 @@ fn under_write(word: ReadUnderWrite) -> UnderWrite
     }
 }
 
-// The latency of this number of cycles, 0 or 1.
+// The latency of this number of cycles, if it is 0 or 1.
 fn latency_of(under: UnderWrite, cycles: u32) -> Option<Latency>
     ensures { result ≡ latency_of under cycles }
 {
@@ -111,7 +111,7 @@ fn latency_of(under: UnderWrite, cycles: u32) -> Option<Latency>
     }
 }
 
-// The names behind others.
+// Adds names to the end of a list.
 fn add_names<'a>(names: &mut Vec<&'a Name>, more: &'a [Name]) -> Result<(), AllocError>
     ensures { OnOk result (map (λ n. n.now) names.new.items ≡ map (λ n. n.now) names.old.items ++ more.now) }
 {
@@ -148,7 +148,7 @@ fn writers<'a>(alloc: Global, fields: &'a [Field]) -> Result<Vec<&'a Name>, Allo
     Ok(names)
 }
 
-// The memory of these parts, where it has a type, a word and a latency.
+// The memory with these parts, if it has a type, at least one word and a latency.
 fn bank_with<'a>(
     word: Option<Ty>,
     depth: u32,

@@ -10,7 +10,7 @@ use std::alloc::{AllocError, Global};
 ///
 /// # Errors
 ///
-/// `AllocError` where memory is refused.
+/// Returns `AllocError` if an allocation fails.
 pub fn dotted(alloc: Global, a: &str, b: &str) -> Result<Name, AllocError>
     ensures { IfOk result (λ name. name ≡ dotted_text a.now b.now) }
 {
@@ -20,11 +20,11 @@ pub fn dotted(alloc: Global, a: &str, b: &str) -> Result<Name, AllocError>
     Ok(Name::from(text))
 }
 
-/// A name behind a path: a dot stands between them, where the path isn't empty.
+/// A path followed by a name, with a dot between them if the path isn't empty.
 ///
 /// # Errors
 ///
-/// `AllocError` where memory is refused.
+/// Returns `AllocError` if an allocation fails.
 pub fn joined(alloc: Global, outer: &Name, name: &Name) -> Result<Name, AllocError>
     ensures { IfOk result (λ path. path ≡ joined_text outer.now name.now) }
 {
@@ -38,7 +38,7 @@ pub fn joined(alloc: Global, outer: &Name, name: &Name) -> Result<Name, AllocErr
 ///
 /// # Errors
 ///
-/// `AllocError` where memory is refused.
+/// Returns `AllocError` if an allocation fails.
 pub fn field_name(
     alloc: Global,
     memory: &Name,

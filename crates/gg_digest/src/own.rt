@@ -15,18 +15,19 @@ use gg_flat::{Latency, address_width};
 use gg_types::Typed;
 use std::alloc::{AllocError, Global};
 
-/// What gives a signal its value, as its module says it.
+/// What gives a signal its value, as its module says.
 #[derive(Clone, Copy)]
 pub enum Origin<'a> {
-    /// Whoever holds the module: an input port.
+    /// An input port: whatever holds the module.
     FromOutside,
-    /// A connection: an output port, a wire, a field that is given to a memory.
+    /// An output port, a wire, or a field that is given to a memory: a connection.
     Connected,
-    /// An expression: a node.
+    /// A node: an expression.
     Expressed(&'a Expr),
-    /// A state: a register, with its reset.
+    /// A register, with its reset: its state.
     Kept(Option<&'a Reset>),
-    /// What the reader of this name and place of the memory of this name answers.
+    /// The data of a reader: what the memory answers. It has the memory's name, the reader's name, the reader's place
+    /// and the latency.
     Answered(&'a Name, &'a Name, u32, Latency),
 }
 
@@ -179,7 +180,7 @@ fn add_memory<'a>(
     }
 }
 
-// Adds a signal, where it has a type.
+// Adds a signal, if it has a type.
 fn add_typed<'a>(
     signals: &mut Vec<OwnSignal<'a>>,
     name: &Name,
@@ -249,7 +250,7 @@ fn add_statements<'a>(
     Ok(())
 }
 
-/// The signals of a module, which stands at this place: its ports, and then what its statements declare.
+/// The signals of the module at this place: its ports, and then what its statements declare.
 pub(crate) fn own_signals<'a>(
     alloc: Global,
     typed: &Typed,

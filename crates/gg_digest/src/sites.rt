@@ -11,7 +11,7 @@ use gg_bits::Name;
 use gg_types::Typed;
 use std::alloc::{AllocError, Global};
 
-/// What holds an instance: its path, its module's place, and the name that the instance has there.
+/// What holds an instance: its path, the place of its module, and the name that the instance has there.
 #[derive(Drop)]
 pub struct Around<'a> {
     pub path: Name,
@@ -19,8 +19,8 @@ pub struct Around<'a> {
     pub name: &'a Name,
 }
 
-/// A site: its path, its module's place, how many sites it lies below, and, of an instance, what holds it and that
-/// one's place among the sites.
+/// A site: its path, the place of its module and the number of sites above it. For an instance, also what holds it,
+/// and the place of that among the sites.
 #[derive(Drop)]
 pub struct Place<'a> {
     pub path: Name,
@@ -30,7 +30,7 @@ pub struct Place<'a> {
     pub parent: Option<u32>,
 }
 
-// An instance of a site at this path, as a site.
+// An instance that a site at this path holds, as a site.
 fn below<'a>(
     alloc: Global,
     path: &Name,
@@ -58,7 +58,7 @@ fn below<'a>(
     })
 }
 
-// Adds a site and all below it, down to so many levels.
+// Adds a site and all sites below it, down to this many levels.
 fn add_site<'a>(
     alloc: Global,
     typed: &Typed,
@@ -97,7 +97,7 @@ fn add_site<'a>(
 ///
 /// # Errors
 ///
-/// `AllocError` where memory is refused, or there would be more than 4,294,967,295 sites.
+/// Returns `AllocError` if an allocation fails, or if there would be more than 4,294,967,295 sites.
 pub fn places<'a>(
     alloc: Global,
     typed: &Typed,

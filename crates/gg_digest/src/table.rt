@@ -24,11 +24,11 @@ pub struct Table {
     pub memories: Paths,
 }
 
-/// Adds a path that isn't there.
+/// Adds a path that isn't there yet.
 ///
 /// # Errors
 ///
-/// `AllocError` where memory is refused; so are more than 4,294,967,295 paths.
+/// Returns `AllocError` if an allocation fails, or if there would be more than 4,294,967,295 paths.
 pub fn add_path(paths: &mut Paths, path: Name) -> Result<(), AllocError>
     requires fresh { ¬ Contains paths.old path }
     ensures { OnOk result (paths.new ≡ paths.old ++ path ∷ []) }
@@ -81,11 +81,11 @@ fn add_memories(
     Ok(())
 }
 
-/// The signals and memories of all sites, no two of which have the same path.
+/// The signals and memories of all sites. No two signals may have the same path, and no two memories.
 ///
 /// # Errors
 ///
-/// `AllocError` where memory is refused.
+/// Returns `AllocError` if an allocation fails.
 pub fn table_of(
     alloc: Global,
     typed: &Typed,
@@ -113,7 +113,7 @@ pub fn table_of(
     Ok(table)
 }
 
-/// The number of a path; 0 where it is none of these.
+/// The number of a path, or 0 if it isn't one of these.
 pub fn number(paths: &Paths, path: &Name) -> u32
     ensures { result ≡ number_of paths.now path.now }
 {

@@ -15,7 +15,7 @@ use Rattle.gg_digest.specs.IsFlat.{IsComputed, IsRegisterOf, IsDrivenBy, answer,
 use Rattle.gg_digest.specs.Meaning.{Signals}
 use Rattle.gg_digest.specs.Signals.{Types}
 
--- A driver and a register, if there is one, are made for a signal that has this drive.
+-- A driver and a register, if there is one, are made for a signal with this drive.
 abbrev pub IsMade : Types → Signals → List (List ℕ) → ℕ → ℕ → Shape → Drive → Driver → Option Register → Type 0
 IsMade types signals memories inputs states sink Outside driver register = (driver ≡ Input inputs) × (register ≡ None)
 IsMade types signals memories inputs states sink (Gets scope c) driver register = IsComputed types signals scope sink c driver × (register ≡ None)
@@ -31,7 +31,7 @@ is_input_driver (MemoryWord memory reader addr en) = false
 is_input_driver (ReadRegister memory reader) = false
 is_input_driver (Computed line) = false
 
--- a flat circuit with one more signal, and the register that it holds, if it holds one
+-- a flat circuit with one more signal, and the register that the signal holds, if any
 abbrev pub with_made : FlatCircuit → List ℕ → Ty → Driver → Option Register → FlatCircuit
 with_made flat path ty driver register =
     record flat {
@@ -40,7 +40,7 @@ with_made flat path ty driver register =
       registers = flat.registers ++ option_to_list register;
     }
 
--- The flat circuit has these signals so far, each with its driver, and of these the outside drives so many.
+-- The flat circuit has these signals so far, each with its driver. `inputs` of them are driven from outside.
 pub record IsSoFar (types : Types) (signals : Signals) (memories : List (List ℕ)) (xs : List FlatSignal) (flat : FlatCircuit) (inputs : ℕ) : Type 0 where
   pub paths : flat.paths ≡ map (λ x. x.path) xs
   pub shapes : signal_shapes flat ≡ map (λ x. x.shape) xs
@@ -53,7 +53,7 @@ pub record IsSoFar (types : Types) (signals : Signals) (memories : List (List �
   pub no_ins : flat.ins ≡ []
   pub no_outs : flat.outs ≡ []
 
--- A flat circuit got these memories, and nothing else.
+-- These memories, and nothing else, were added to a flat circuit.
 pub record HasMemories (paths : List (List ℕ)) (said : List FlatMemory) (old new : FlatCircuit) : Type 0 where
   pub rest : new ≡ record old { memories = new.memories }
   pub count : length new.memories ≡ length said

@@ -1,4 +1,4 @@
--- What is said of a circuit that has no flat circuit.
+-- The text of a fault of the elaboration.
 use Rattle.std.specs.Prelude.{ℕ, List, codes}
 use Rattle.gg_count.specs.declared.counts.Measure.{Measure}
 use Rattle.gg_count.specs.declared.counts.Measure.TheVariants as measures

@@ -17,7 +17,7 @@ use Rattle.gg_digest.specs.Meaning.{Signals, term_shape, term_value, TermNames}
 use Rattle.gg_digest.specs.Views.{table_signals}
 use Rattle.gg_digest.specs.Signals.{Types}
 
--- what an expression is read by: what the type checks say, the circuit's signals, and where it stands
+-- what gives an expression its meaning: what the type checks say, the circuit's signals, and where it is written
 pub record Where : Type 0 where
   pub types : Types
   pub signals : Signals
@@ -45,12 +45,12 @@ pub record IsZeroNode (n : Node) : Type 0 where
   pub typed : shape n.ty ≡ uint 1
   pub zero : n.op ≡ Literal (record { 0 = 0 })
 
--- The node of an operation with this result: the operation, or 0 where it doesn't take its operands.
+-- The node of an operation with this result: the operation, or 0 if it doesn't take its operands.
 abbrev pub IsResultNode : Result Ty Bad → Op → Node → Type 0
 IsResultNode (Ok ty) op n = (n.ty ≡ ty) × (n.op ≡ op)
 IsResultNode (Err bad) op n = IsZeroNode n
 
--- A node was added to a line, as the last.
+-- A node was added to the end of a line.
 pub record IsPlaced (IsIt : Node → Type 0) (old new : List Node) (stand : Stand) : Type 0 where
   pub node : Node
   pub is : IsIt node
@@ -62,14 +62,14 @@ pub record IsPlaced (IsIt : Node → Type 0) (old new : List Node) (stand : Stan
 abbrev pub HaveShapes : Where → List Node → Type 0
 HaveShapes w nodes = (k : ℕ) → k < length nodes → HasShape (HasType w.signals.shapes) (shapes_of nodes) k (shape_at (shapes_of nodes) k) (op_at nodes k)
 
--- Node k stands for an expression, whatever nodes follow.
+-- Node k stands for an expression, regardless of the nodes that follow.
 pub record StandsFor (w : Where) (nodes : List Node) (k : ℕ) (e : Term) : Type 0 where
   pub within : k < length nodes
   pub node : shape_at (shapes_of nodes) k ≡ shape_of w e
   pub value : (values : List ℕ) (more : List Shape) → value_at (node_values values (shapes_of nodes ++ more) nodes) k ≡ value_of w values e
   pub named : (s : ℕ) → NamesIn w s e → Names nodes s
 
--- The nodes of an expression were added to `old`; the last of them, node k, stands for it.
+-- The nodes of an expression were added to `old`. The last of them, node k, stands for it.
 pub record Added (w : Where) (old new : List Node) (e : Term) (k : ℕ) : Type 0 where
   pub stands : StandsFor w new k e
   pub last : length new ≡ k + 1
@@ -86,7 +86,7 @@ pub record IsZeroOf (old new : List Node) (sink : Shape) : Type 0 where
   pub zero : node.op ≡ Literal (record { 0 = 0 })
   pub added : new ≡ old ++ node ∷ []
 
--- The line, where its value can be taken; else it has a 0 behind it.
+-- The line if its value can be taken, else the line with a 0 at the end.
 abbrev pub IsCut : Bool → List Node → Shape → List Node → Type 0
 IsCut true line sink new = new ≡ line
 IsCut false line sink new = IsZeroOf line new sink

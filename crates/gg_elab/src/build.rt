@@ -25,7 +25,7 @@ use gg_flat::{AddError, Driver, Latency, Line, Piece, Register, Signal};
 use gg_types::Typed;
 use std::alloc::{AllocError, Global};
 
-/// A signal's driver, and the register that it holds, if it holds one.
+/// A signal's driver, and the register that the signal holds, if any.
 #[derive(Drop)]
 pub(crate) struct Made {
     pub(crate) driver: Driver,
@@ -70,7 +70,7 @@ fn reset_lines(
     }
 }
 
-// What a register takes next, if it is connected.
+// The line of a register's next value, if the register is connected.
 fn next_line(
     alloc: Global,
     scope: &Scope,
@@ -86,7 +86,7 @@ fn next_line(
     }
 }
 
-// What is made for a signal that gets a connection.
+// The driver of a signal with a connection.
 fn computed(
     alloc: Global,
     scope: &Scope,
@@ -105,7 +105,7 @@ fn computed(
     })
 }
 
-// The driver of what a reader answers.
+// The driver of a reader's data.
 fn answer(
     alloc: Global,
     table: &Table,
@@ -131,7 +131,7 @@ fn answer(
     }
 }
 
-// What is made for an input port of this name, of the top or of an instance.
+// The driver of an input port with this name, of the top or of an instance.
 fn input<'a>(
     alloc: Global,
     typed: &Typed,
@@ -168,7 +168,8 @@ fn input<'a>(
     }
 }
 
-// What is made for a signal of a site, where the outside drives so many before it, and so many hold a register.
+// The driver and the register of a signal of a site. `inputs` is the number of earlier signals that are driven from
+// outside, `states` the number of earlier signals that hold a register.
 fn make<'a>(
     alloc: Global,
     typed: &Typed,
@@ -232,7 +233,7 @@ fn hold(piece: &mut Piece, register: Option<Register>) -> Result<(), AllocError>
     }
 }
 
-// Adds a signal that is made, of a path that none has, and the register that it holds.
+// Adds a signal with a path that no other signal has, and the register that it holds, if any.
 fn add_made(piece: &mut Piece, path: Name, ty: Ty, made: Made) -> Result<(), AllocError>
     requires few { length piece.old.signals < 2 ^ 32 - 1 }
     requires fresh { ¬ Contains piece.old.paths path }
@@ -247,7 +248,7 @@ fn add_made(piece: &mut Piece, path: Name, ty: Ty, made: Made) -> Result<(), All
     }
 }
 
-// How many inputs there are with this driver, which may be one.
+// The number of inputs, counting this driver if it is one.
 fn with_input(inputs: u32, driver: &Driver) -> u32
     requires { inputs < 2 ^ 32 - 1 }
     ensures { result ≡ (if is_input_driver driver.now then inputs + 1 else inputs) }
@@ -258,7 +259,7 @@ fn with_input(inputs: u32, driver: &Driver) -> u32
     }
 }
 
-// Adds a signal of a site. It answers how many signals the outside drives then.
+// Adds a signal of a site. Returns the number of signals so far that are driven from outside.
 fn add_signal<'a>(
     alloc: Global,
     typed: &Typed,

@@ -23,7 +23,7 @@ use gg_tree::{fits, tree_of};
 use gg_types::Typed;
 use std::alloc::{AllocError, Global};
 
-// How many signals each module has of its own.
+// The number of each module's own signals.
 fn own_counts(alloc: Global, digests: &[Digest]) -> Result<Vec<u64>, AllocError>
     ensures { IfOk result (λ counts. counts.items ≡ map (λ d. length d.signals.items) digests.now) }
 {
@@ -61,7 +61,8 @@ fn build<'a>(
     Ok((piece, tree))
 }
 
-// The flat circuit with its tree: it is well formed, the tree fits it, and it keeps to the tree's scopes.
+// The flat circuit with its tree. The flat circuit is well formed, the tree fits it, and it keeps to the tree's
+// scopes.
 fn joined(typed: &Typed, piece: Piece, tree: Tree) -> (Piece, Tree)
     requires top { (place_of typed.now.circuit.name (module_names typed.now.circuit)) ≢ None }
     requires flat { IsFlat typed.now.circuit piece }
@@ -78,12 +79,13 @@ fn joined(typed: &Typed, piece: Piece, tree: Tree) -> (Piece, Tree)
     (piece, tree)
 }
 
-/// The flat circuit of a circuit that the checks passed, and the tree of its instances, to whose scopes it keeps.
+/// The flat circuit of a circuit that passed the checks, and the tree of its instances. The flat circuit keeps to the
+/// tree's scopes.
 ///
 /// # Errors
 ///
-/// `TooLarge` with the first count that is above its limit, exactly where there is one; `NoMemory`, where memory is
-/// refused.
+/// Returns `TooLarge` with the first count above its limit, exactly if there is one, or `NoMemory` if an allocation
+/// fails.
 pub fn flatten(alloc: Global, typed: &Typed) -> Result<(Piece, Tree), ElabFault>
     ensures flat { IfOk result (λ both. IsFlat typed.now.circuit both.0) }
     ensures tree { IfOk result (λ both. IsTreeOf typed.now.circuit both.1) }

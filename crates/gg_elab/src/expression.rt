@@ -21,7 +21,7 @@ pub(crate) struct Stand {
     pub(crate) ty: Ty,
 }
 
-// Adds a node at the end. A line of 4,294,967,296 nodes is refused as want of memory.
+// Adds a node at the end. Returns `AllocError` if the line has 4,294,967,296 nodes already.
 fn add_node(line: &mut Line, ty: Ty, op: Op) -> Result<Stand, AllocError>
     ensures { IfOk result (λ stand. IsPlaced (λ n. (n.ty ≡ ty) × (n.op ≡ op)) line.old line.new stand) }
 {
@@ -33,14 +33,14 @@ fn add_node(line: &mut Line, ty: Ty, op: Op) -> Result<Stand, AllocError>
     Ok(Stand { node, ty })
 }
 
-// Adds the node of the UInt<1> 0.
+// Adds the node of 0 of type UInt<1>.
 fn add_zero(line: &mut Line) -> Result<Stand, AllocError>
     ensures { IfOk result (λ stand. IsPlaced IsZeroNode line.old line.new stand) }
 {
     add_node(line, Ty::new(Kind::UInt, 1), Op::Literal(Val(0)))
 }
 
-// Adds the node of an operation with this result, or of 0 where it has none.
+// Adds the node of an operation with this result, or the node of 0 if it has none.
 fn add_result(line: &mut Line, found: Result<Ty, Bad>, op: Op) -> Result<Stand, AllocError>
     ensures { IfOk result (λ stand. IsPlaced (IsResultNode found op) line.old line.new stand) }
 {

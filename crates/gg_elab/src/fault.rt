@@ -9,12 +9,12 @@ use std::alloc::AllocError;
 use std::error::Error;
 use std::fmt;
 
-/// What the elaboration answers in place of a flat circuit.
+/// Why the elaboration gave no flat circuit.
 #[derive(Clone, Copy, Debug, PartialEq, Eq)]
 pub enum ElabFault {
-    /// F15: this count of the circuit is above its limit, and no count that comes before it.
+    /// F15: this count of the circuit is above its limit, and no earlier count is.
     TooLarge(Excess),
-    /// Memory was refused.
+    /// An allocation failed.
     NoMemory,
 }
 

@@ -2,9 +2,10 @@
 //!
 //! The crate promises of `flatten`:
 //!
-//! - the circuit that it gives is the flat circuit of the circuit (`IsFlat`), and is well formed;
-//! - the tree that it gives is one of it (`IsTree`), and the circuit keeps to the tree's scopes (`IsScoped`);
-//! - it refuses a circuit exactly where a count is above its limit, with the first that is (`IsAnswered`).
+//! - the flat circuit that it returns is that of the circuit (`IsFlat`), and is well formed;
+//! - the tree that it returns is a tree of the flat circuit (`IsTree`), and the flat circuit keeps to the tree's
+//!   scopes (`IsScoped`);
+//! - it refuses a circuit exactly if a count is above its limit, with the first such count (`IsAnswered`).
 //!
 //! All flat circuits of a circuit have the same runs and the same combinational loops (`one_run`, `one_reads`).
 #![tactic(auto)]

@@ -17,14 +17,14 @@ use gg_digest::Source;
 use gg_flat::{Line, Node, Op};
 use std::alloc::{AllocError, Global};
 
-// Whether a sink of the first type takes a value of the second.
+// Whether a sink of the first type can take a value of the second.
 fn takes(sink: Ty, source: Ty) -> bool
     ensures { result ≡ takes_shape (shape sink) (shape source) }
 {
     sink.kind == source.kind && source.width <= sink.width
 }
 
-// Adds the node of 0 of a type.
+// Adds a node of 0 with this type.
 fn add_zero_of(line: &mut Line, ty: Ty) -> Result<(), AllocError>
     ensures { OnOk result (IsZeroOf line.old line.new (shape ty)) }
 {
@@ -42,7 +42,7 @@ fn is_bit(ty: Ty) -> bool
     ty.kind == Kind::UInt && ty.width == 1
 }
 
-// The line, where its value can be taken; else the same with a 0 of this type behind it.
+// The line, if its value can be taken; else the line with a 0 of this type at the end.
 fn cut(line: Line, taken: bool, sink: Ty) -> Result<Line, AllocError>
     ensures { IfOk result (IsCut taken line (shape sink)) }
 {
@@ -80,7 +80,7 @@ pub(crate) fn source_line(
     }
 }
 
-// The line of 0 alone.
+// A line with a single node: 0.
 fn zero_line(alloc: Global, scope: &Scope, ty: Ty) -> Result<Line, AllocError>
     ensures none { IfOk result (IsLineFor (where_of scope.now).types (where_of scope.now).signals (where_of scope.now).scope (shape ty) None) }
     ensures zeroed { IfOk result (IsLineFor (where_of scope.now).types (where_of scope.now).signals (where_of scope.now).scope (shape ty) (Some Zeroed)) }
@@ -92,7 +92,7 @@ fn zero_line(alloc: Global, scope: &Scope, ty: Ty) -> Result<Line, AllocError>
     Ok(line)
 }
 
-// The line that gives a sink of this type a connection.
+// The line that gives a sink of this type the value of a connection.
 fn given_line(alloc: Global, scope: &Scope, source: Source, ty: Ty) -> Result<Line, AllocError>
     ensures stands { IfOk result (IsLineFor (where_of scope.now).types (where_of scope.now).signals (where_of scope.now).scope (shape ty) (Some (connection source.entry))) }
     ensures fits { IfOk result (IsSource (HasType (where_of scope.now).signals.shapes) (shape ty)) }

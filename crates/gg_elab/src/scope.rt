@@ -1,12 +1,12 @@
-//! `Scope`: where names stand.
+//! `Scope`: where names are written.
 ghost use Rattle.std.specs.Prelude.{◌≡◌, ◌<◌, length};
 
 use gg_bits::Name;
 use gg_digest::Table;
 use gg_types::Typed;
 
-/// What an expression is read by: what the type checks say, the circuit's signals, the site's path, and the place of
-/// its module.
+/// What gives an expression its meaning: what the type checks say, the circuit's signals, the site's path, and the
+/// place of the site's module.
 #[derive(Clone, Copy)]
 pub(crate) struct Scope<'a> {
     pub(crate) typed: &'a Typed<'a>,

@@ -1,4 +1,4 @@
--- What may be connected in a flat circuit, as its well-formedness wants it.
+-- What may be connected in a well-formed flat circuit.
 -- Source: FIRRTL Specification, "Connects", "Registers".
 use Rattle.std.specs.Prelude.{ℕ, ◌<◌, List, Option, MatchOption, length, All, ⊤}
 use Rattle.gg_bits.specs.Shape.{Shape}
@@ -17,7 +17,7 @@ FitsDriver shapes sink (MemoryWord memory reader addr en) = Unit {0}
 FitsDriver shapes sink (ReadRegister memory reader) = Unit {0}
 FitsDriver shapes sink (Computed line) = IsSource (HasType shapes) sink line
 
--- .. and the register, if there is one, takes its lines
+-- the same, and the register, if there is one, takes its lines
 abbrev pub IsFitting : List Shape → Shape → Driver → Option Register → Type 0
 IsFitting shapes sink driver register = FitsDriver shapes sink driver × MatchOption register ⊤ (IsRegister (HasType shapes))
 

@@ -9,7 +9,8 @@ ghost use Rattle.gg_formed.specs.Fitting.{AreFitting};
 use gg_flat::Piece;
 use gg_types::Typed;
 
-/// The flat circuit of a circuit is well formed. It does nothing but look at what is known of both.
+/// The flat circuit of a circuit is well formed. The function computes nothing: its contract states this fact about
+/// both.
 pub fn formed(typed: &Typed, piece: &Piece)
     requires top { (place_of typed.now.circuit.name (module_names typed.now.circuit)) ≢ None }
     requires flat { IsFlat typed.now.circuit piece.now }

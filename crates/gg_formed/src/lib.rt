@@ -1,12 +1,12 @@
-//! What the checks of a circuit say of its flat circuit.
+//! What the checks of a circuit imply for its flat circuit.
 //!
-//! The crate makes nothing: its functions look at what is known of a checked circuit, and promise:
+//! The functions of this crate build nothing. Each states a fact about a circuit that passed the checks:
 //!
 //! - `top_of`: there is a top;
-//! - `distinct`: no two sites have the same path, nor two signals, nor two memories;
-//! - `formed`: a flat circuit of the circuit, whose lines may be connected to what they drive (`AreFitting`), is well
-//!   formed: its in-signals, the data of readers and the signals that they drive belong together, every name is one of
-//!   the circuit's, and types agree (`IsWellFormed`).
+//! - `distinct`: no two sites have the same path, no two signals, and no two memories;
+//! - `formed`: a flat circuit of the circuit is well formed (`IsWellFormed`), if its lines may be connected to what
+//!   they drive (`AreFitting`). Its in-signals, the data of readers and the signals that they drive belong together;
+//!   every name is a name of the circuit; types agree.
 #![tactic(auto)]
 
 mod forms;

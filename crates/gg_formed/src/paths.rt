@@ -5,8 +5,8 @@ ghost use Rattle.gg_tree.specs.IsTreeOf.{site_paths, signal_paths, memories_of};
 
 use gg_types::Typed;
 
-/// No two sites of a circuit that the checks passed have the same path, nor two signals, nor two memories. It does
-/// nothing but look at what is known of the circuit.
+/// In a circuit that passed the checks, no two sites have the same path, no two signals, and no two memories. The
+/// function computes nothing: its contract states this fact about the circuit.
 pub fn distinct(typed: &Typed)
     ensures sites { AllPairs (λ a b. a ≢ b) (site_paths typed.now.circuit) }
     ensures signals { AllPairs (λ a b. a ≢ b) (signal_paths typed.now.circuit) }

@@ -19,7 +19,7 @@ pub record IsSound (circuit : CircuitTree) : Type 0 where
   pub shaped : IsShaped circuit
   pub typed : type_faults circuit ≡ []
 
--- F15: the first count that is above its limit, if one is
+-- F15: the first count above its limit, if any
 abbrev pub excess_of : CircuitTree → Option Excess
 excess_of circuit = excess_over (types_of circuit) circuit.modules (place_of circuit.name (module_names circuit))
 

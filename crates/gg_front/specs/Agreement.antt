@@ -1,5 +1,5 @@
--- How far a text settles what is told of it: the fault of reading is one, and so is the first fault of a circuit, but for rings
--- of modules and combinational loops, of which any may be told.
+-- How far a text settles which fault is reported. The fault of reading is the only one. The first fault of a circuit
+-- is the only one too, except that any ring of modules and any combinational loop may be reported.
 use Rattle.std.specs.Prelude.{◌≡◌, ◌⊎◌, ℕ, List, ⊤}
 use Rattle.gg_shape.specs.declared.fault.Fault.{Fault}
 use Rattle.gg_shape.specs.declared.fault.Fault.TheVariants.{ModuleRing, Loop}
@@ -20,11 +20,11 @@ pub record AreLoops (one other : Fault) : Type 0 where
   pub one_is : one ≡ Loop paths
   pub other_is : other ≡ Loop others
 
--- one fault, or both rings, or both loops
+-- the same fault, or two rings, or two loops
 abbrev pub AreAlike : Fault → Fault → Type 0
 AreAlike one other = (one ≡ other) ⊎ (AreRings one other ⊎ AreLoops one other)
 
--- want of memory agrees with every fault; a fault of reading agrees with itself alone
+-- `NoMemory` agrees with every fault; a fault of reading agrees only with itself
 abbrev pub Agree : FrontFault → FrontFault → Type 0
 Agree (front.Read one) (front.Read other) = one ≡ other
 Agree (front.Read one) (front.Fault other) = ⊥

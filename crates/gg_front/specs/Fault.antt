@@ -24,18 +24,18 @@ use Rattle.gg_front.specs.Accepted.{IsSound, excess_of}
 use Rattle.gg_front.specs.declared.fault.FrontFault.{FrontFault}
 use Rattle.gg_front.specs.declared.fault.FrontFault.TheVariants as front
 
--- a count above its limit, as it is told
+-- a count above its limit, as it is reported
 abbrev pub over_limit : Excess → Fault
 over_limit excess = OverLimit (limit_of excess.measure) excess.count
 
--- The fault is F16 of a flat circuit: the paths of a combinational loop of it, from the least on.
+-- The fault is F16 of a flat circuit: the paths of one of its combinational loops, beginning with the least.
 pub record TellsLoop (flat : FlatCircuit) (fault : Fault) : Type 0 where
   pub signals : List ℕ
   pub loop : IsToldLoop flat signals
   pub fault_is : fault ≡ Loop (map (path_at flat.paths) signals)
 
--- The fault holds of the circuit and comes first: F1 to F8 before F9 to F14, these before F15, and that before F16. Of module
--- rings and of loops any one may be told; every other first fault is the only one.
+-- The fault holds of the circuit and comes first: F1 to F8 come before F9 to F14, these before F15, and F15 before
+-- F16. Any ring of modules and any loop may be reported. Every other first fault is the only one.
 pub data IsFirstFault (circuit : CircuitTree) (fault : Fault) : Type 0 where
   OfShape : (told : RefusesFrom (named_faults circuit) circuit (F fault)) → IsFirstFault circuit fault
   OfTypes : (shaped : IsShaped circuit) (told : first (type_faults circuit) ≡ Some fault) → IsFirstFault circuit fault
@@ -49,14 +49,14 @@ pub record IsFaulty (text : List ℕ) (fault : Fault) : Type 0 where
   pub faultless : HasNoFaultLine text
   pub told : IsFirstFault circuit fault
 
--- The text has the fault of reading, which isn't want of memory; or the circuit that is read from it has the fault, and none
--- before it. Want of memory has no cause in the bytes.
+-- The text has this fault of reading, which isn't `ReadFault::NoMemory`; or the circuit that is read from it has this
+-- fault, and no earlier one. `NoMemory` implies nothing about the bytes.
 abbrev pub HasFrontFault : List ℕ → FrontFault → Type 0
 HasFrontFault bytes (front.Read fault) = HasReadFault bytes fault × (fault ≢ unread.NoMemory)
 HasFrontFault bytes (front.Fault fault) = IsFaulty bytes fault
 HasFrontFault bytes front.NoMemory = ⊤
 
--- the text of a fault, as the program prints it behind `golden: circuit: `
+-- the text of a fault, as the program prints it after `golden: circuit: `
 abbrev pub front_text : FrontFault → List ℕ
 front_text (front.Read fault) = reading.fault_text fault
 front_text (front.Fault fault) = circuits.fault_text fault
@@ -64,24 +64,24 @@ front_text front.NoMemory = codes "out of memory"
 
 -- ---- parts of the front end
 
--- where it is a fault of a circuit it is that circuit's first; it is no fault of reading
+-- if it is a fault of a circuit, it is that circuit's first fault; it isn't a fault of reading
 abbrev pub IfFirstFault : CircuitTree → FrontFault → Type 0
 IfFirstFault circuit (front.Read fault) = ⊥
 IfFirstFault circuit (front.Fault fault) = IsFirstFault circuit fault
 IfFirstFault circuit front.NoMemory = ⊤
 
--- where it is a fault of a circuit it is a loop of this flat circuit; it is no fault of reading
+-- if it is a fault of a circuit, it is a loop of this flat circuit; it isn't a fault of reading
 abbrev pub IfTellsLoop : FlatCircuit → FrontFault → Type 0
 IfTellsLoop flat (front.Read fault) = ⊥
 IfTellsLoop flat (front.Fault fault) = TellsLoop flat fault
 IfTellsLoop flat front.NoMemory = ⊤
 
--- what a check of a circuit refuses
+-- the fault of a check that refuses a circuit
 abbrev pub fault_by : Refusal → FrontFault
 fault_by (F fault) = front.Fault fault
 fault_by refusals.NoMemory = front.NoMemory
 
--- it is a fault of reading, or want of memory
+-- it is a fault of reading, or `NoMemory`
 abbrev pub IsUnread : List ℕ → FrontFault → Type 0
 IsUnread bytes (front.Read fault) = HasReadFault bytes fault × (fault ≢ unread.NoMemory)
 IsUnread bytes (front.Fault fault) = ⊥

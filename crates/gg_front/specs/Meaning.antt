@@ -1,6 +1,6 @@
--- What the bytes of a circuit file mean: a flat circuit. It is not the only one, since expressions may be laid out as lines
--- of nodes in more than one way; but all of them have the same ports and the same runs. And a design: such a circuit, with the
--- tree of the instances, of which there is one.
+-- What the bytes of a circuit file mean: a flat circuit. There may be several, since an expression may be laid out as
+-- a line of nodes in more than one way. All of them have the same ports and the same runs. The bytes also mean a
+-- design: such a flat circuit with the tree of the instances, of which there is only one.
 use Rattle.std.specs.Prelude.{ℕ, List}
 use Rattle.gg_digest.specs.IsFlat.{IsFlat}
 use Rattle.gg_tree.specs.IsTreeOf.{IsTreeOf}
@@ -15,7 +15,8 @@ pub record Means (bytes : List ℕ) (flat : FlatCircuit) : Type 0 where
   pub flattened : IsFlat text.circuit flat
   pub formed : IsWellFormed flat
 
--- The bytes mean the design's flat circuit, and its tree is that of the circuit which they spell. Nothing is said of its order.
+-- The bytes mean the design's flat circuit, and its tree is that of the circuit that they spell. The order is left
+-- open.
 pub record MeansDesign (bytes : List ℕ) (design : Ordered) : Type 0 where
   pub means : Means bytes design.circuit
   pub grown : IsTreeOf means.text.circuit design.tree

@@ -1,4 +1,4 @@
-//! Circuits that are made line by line, at the limits of depth, signals, words and instances and past them.
+//! Circuits that are built line by line, at the limits of depth, signals, words and instances, and beyond them.
 use crate::tests::told;
 use std::alloc::{AllocError, Global};
 use std::test::Fail;
@@ -6,12 +6,12 @@ use std::test::Fail;
 /// What the last module of a chain declares: a wire.
 const WIRE: &str = "wire w : UInt<1>\nw <= UInt<1>(\"h0\")\n";
 
-/// Or a memory of 65,536 words.
+/// The same: a memory of 65,536 words.
 const STORE: &str =
     "mem m :\ndata-type => UInt<8>\ndepth => 65536\nread-latency => 0\nwrite-latency => 1\nread-under-write => undefined\n";
 
-/// How many levels of instances lie below the top, how many instances each module has of the next one, what the last module
-/// declares, and what `front` answers.
+/// The number of levels of instances below the top, the number of instances of the next module in each module, what
+/// the last module declares, and what `front` answers.
 static CHAINS: [(u32, u32, &str, &str); 7] = [
     (17, 2, WIRE, "131072 signals 0 in 0 out 262143 instances"),
     (18, 2, WIRE, "F15 signals 262144"),
@@ -22,7 +22,7 @@ static CHAINS: [(u32, u32, &str, &str); 7] = [
     (1, 17, STORE, "F15 words 1114112"),
 ];
 
-/// Adds the module of a level, with so many instances of the next level's.
+/// Adds the module of a level, with this many instances of the next level's module.
 fn add_module(
     alloc: Global,
     text: &mut String,

@@ -8,11 +8,12 @@ use std::fmt;
 /// Why the bytes of a circuit file give no design.
 #[derive(Debug, Drop)]
 pub enum FrontFault {
-    /// No circuit is read. Want of memory is `FrontFault::NoMemory`.
+    /// The fault of reading, if no circuit can be read. It is never `ReadFault::NoMemory`, for which there is
+    /// `FrontFault::NoMemory`.
     Read(ReadFault),
-    /// The first fault of the circuit that is read: one of F1 to F16.
+    /// The first fault of the circuit: one of F1 to F16.
     Fault(Fault),
-    /// Memory ran out. The bytes say nothing of this.
+    /// An allocation failed. This implies nothing about the bytes.
     NoMemory,
 }
 
@@ -28,7 +29,7 @@ impl From<AllocError> for FrontFault {
     }
 }
 
-/// The fault's text, as the program prints it behind `golden: circuit: `.
+/// The fault's text, as the program prints it after `golden: circuit: `.
 impl fmt::Display for FrontFault {
     ghost use Rattle.std.specs.Prelude.{Some};
     ghost use Rattle.gg_front.specs.Fault.{front_text};

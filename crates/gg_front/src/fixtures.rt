@@ -1,7 +1,8 @@
-//! What the tests share: circuits by their lines, and how a fault of reading is told.
+//! What the tests share: circuits by their lines, and the text of a fault of reading.
 //!
-//! A circuit, a piece or a design is dear to drop in a proof, once for each way out of the function that owns it. So the
-//! functions that look at one take it by reference, and those that own one have a single way out.
+//! A value of a circuit, a piece or a design makes a proof long: it is dropped once for each way out of the function
+//! that owns it. So functions that only look at one take it by reference, and functions that own one have a single
+//! way out.
 use gg_read::ReadFault;
 use std::alloc::{AllocError, Global};
 
@@ -202,7 +203,7 @@ pub(crate) fn counter(
     text_of(alloc, &COUNTER, count, changed, text)
 }
 
-/// A fault of reading as it is printed.
+/// A fault of reading, as it is printed.
 pub(crate) fn told_unread(alloc: Global, fault: ReadFault) -> Result<String, AllocError> {
     format!(in alloc; "{fault}")
 }

@@ -28,14 +28,15 @@ use gg_shape::{Fault, Refusal, shaped};
 use gg_types::{Typed, typed};
 use std::alloc::{AllocError, Global};
 
-/// The design of a circuit file: a well-formed flat circuit that the bytes mean, with the tree of the circuit that they spell
-/// and an order of evaluation.
+/// The design of a circuit file: a well-formed flat circuit that the bytes mean, with the tree of the circuit that
+/// they spell and an order of evaluation.
 ///
 /// # Errors
 ///
-/// `Read` where the bytes are no text or a line is at fault, with the fault of reading; `Fault` where a circuit is spelt that
-/// isn't accepted, with its first fault: of shape (F1 to F8), of types (F9 to F14), of the limits (F15), or a loop (F16);
-/// of rings of modules and of loops it is any. `NoMemory` where memory is refused.
+/// Returns `Read` with the fault of reading if the bytes are not a text or a line is at fault. Returns `Fault` with
+/// the first fault if the bytes spell a circuit that isn't accepted: a fault of shape (F1 to F8), of types (F9 to
+/// F14), of the limits (F15), or a loop (F16). Any one of several rings of modules, or of several loops, may be
+/// reported. Returns `NoMemory` if an allocation fails.
 pub fn front(alloc: Global, bytes: &[u8]) -> Result<Design, FrontFault>
     requires { length bytes.now < 2 ^ 32 }
     ensures ok { IfOk result (λ design. MeansDesign bytes.now design) }
@@ -45,7 +46,7 @@ pub fn front(alloc: Global, bytes: &[u8]) -> Result<Design, FrontFault>
     design_of(alloc, &circuit)
 }
 
-// The circuit that a text spells, where no line of it is at fault.
+// The circuit that a text spells, if none of its lines is at fault.
 fn read(alloc: Global, bytes: &[u8]) -> Result<Circuit, FrontFault>
     requires { length bytes.now < 2 ^ 32 }
     ensures spelt { IfOk result (λ circuit. Spells bytes.now circuit) }
@@ -59,7 +60,7 @@ fn read(alloc: Global, bytes: &[u8]) -> Result<Circuit, FrontFault>
     }
 }
 
-// The design of a circuit that is accepted, or its first fault.
+// The design of an accepted circuit, or the circuit's first fault.
 fn design_of(alloc: Global, circuit: &Circuit) -> Result<Design, FrontFault>
     ensures accepted { IfOk result (λ _. IsAccepted circuit.now) }
     ensures flat { IfOk result (λ design. IsFlat circuit.now design.circuit) }
@@ -101,7 +102,7 @@ fn checked<'a>(alloc: Global, circuit: &'a Circuit) -> Result<Typed<'a>, FrontFa
     }
 }
 
-// The circuit of these names with its types, or the first of F9 to F14.
+// The circuit with these names and its types, or the first of F9 to F14.
 fn with_types<'a>(alloc: Global, names: Namespace<'a>) -> Result<Typed<'a>, FrontFault>
     requires shaped { IsShaped names }
     ensures circuit { IfOk result (λ typed. typed.circuit ≡ names.entry) }
@@ -114,7 +115,7 @@ fn with_types<'a>(alloc: Global, names: Namespace<'a>) -> Result<Typed<'a>, Fron
     }
 }
 
-// What a check refuses.
+// The fault of a check that refuses a circuit.
 fn fault_by(refusal: Refusal) -> FrontFault
     ensures { result ≡ fault_by refusal }
 {
@@ -124,7 +125,7 @@ fn fault_by(refusal: Refusal) -> FrontFault
     }
 }
 
-// The flat circuit of a sound circuit with its tree, or the first count that is above its limit.
+// The flat circuit of a sound circuit with its tree, or the first count above its limit.
 fn flattened(alloc: Global, checked: &Typed) -> Result<(Piece, Tree), FrontFault>
     requires { IsSound checked.now.circuit }
     ensures within { IfOk result (λ _. excess_of checked.now.circuit ≡ None) }

@@ -28,8 +28,8 @@ pub fn ports_agree()
     gg_elab::one_run();
 }
 
-/// All flat circuits that some bytes mean do the same: they have the same in-signals and the same out-signals, and what is a
-/// run of one of them is a run of each.
+/// All flat circuits that some bytes mean behave the same. They have the same in-signals and the same out-signals,
+/// and a run of one of them is a run of each.
 pub fn one_run()
     ensures ins { (bytes : List ℕ) (one other : FlatCircuit) → Means bytes one → Means bytes other → one.ins ≡ other.ins }
     ensures outs { (bytes : List ℕ) (one other : FlatCircuit) → Means bytes one → Means bytes other → one.outs ≡ other.outs }
@@ -39,9 +39,9 @@ pub fn one_run()
     gg_elab::one_run();
 }
 
-/// All designs that some bytes mean have the same tree of instances, and all flat circuits that they mean have the same signals,
-/// by their paths and types, which read the same signals, and the same memories. So a partition asks the same of each
-/// of them.
+/// All designs that some bytes mean have the same tree of instances. All flat circuits that they mean have the same
+/// memories and the same signals, by paths and types, and these read the same signals. So a partition asks the same
+/// of each of them.
 pub fn designs_agree()
     ensures trees { (bytes : List ℕ) (one other : Ordered) → MeansDesign bytes one → MeansDesign bytes other → one.tree ≡ other.tree }
     ensures paths { (bytes : List ℕ) (one other : FlatCircuit) → Means bytes one → Means bytes other → one.paths ≡ other.paths }
@@ -53,14 +53,14 @@ pub fn designs_agree()
     gg_elab::one_reads();
 }
 
-/// Where one circuit that a text spells is accepted, each is.
+/// If one circuit that a text spells is accepted, each is.
 pub fn acceptance_agrees()
     ensures { (text : List ℕ) (one other : CircuitTree) → Spells text one → Spells text other → IsAccepted one → IsAccepted other }
 {
     one_circuit();
 }
 
-/// An accepted text has no fault, and one with a fault of reading has no fault of a circuit.
+/// An accepted text has no fault. A text with a fault of reading has no fault of a circuit.
 pub fn faults_apart()
     ensures accepted { (text : List ℕ) (fault : FrontFault) → IsAcceptedText text → fault ≢ NoMemory → HasFrontFault text fault → ⊥ }
     ensures read { (text : List ℕ) (one : ReadFault) (fault : Fault) → one ≢ unread.NoMemory → HasReadFault text one → IsFaulty text fault → ⊥ }
@@ -68,7 +68,8 @@ pub fn faults_apart()
     one_circuit();
 }
 
-/// Two faults of a text are the same, or both are rings of modules, or both combinational loops; want of memory aside.
+/// Two faults of a text, other than `NoMemory`, are the same, or both are rings of modules, or both are combinational
+/// loops.
 pub fn one_fault()
     ensures { (text : List ℕ) (one other : FrontFault) → HasFrontFault text one → HasFrontFault text other → Agree one other }
 {

@@ -1,16 +1,18 @@
-//! The front end: from the bytes of a circuit file to a design, which is a well-formed flat circuit with the tree of its
-//! instances and an order of evaluation.
+//! The front end: from the bytes of a circuit file to a design. A design is a well-formed flat circuit with the tree
+//! of its instances and an order of evaluation.
 //!
-//! - `front` answers a design that the bytes mean (`MeansDesign`): they spell a circuit, no line is at fault, the circuit is
-//!   accepted (`IsAccepted`): it has none of the faults F1 to F16; the flat circuit is one of it, and the tree is its tree. Else it answers the fault of reading, or
-//!   the circuit's first fault (`HasFrontFault`): of shape, of types, of the limits, or a combinational loop. Of rings of
-//!   modules and of loops it may tell any.
+//! - `front` returns a design that the bytes mean (`MeansDesign`): they spell a circuit, no line is at fault, and the
+//!   circuit is accepted (`IsAccepted`), so it has none of the faults F1 to F16. The flat circuit and the tree are
+//!   those of this circuit. Else `front` returns the fault of reading, or the circuit's first fault
+//!   (`HasFrontFault`): of shape, of types, of the limits, or a combinational loop. Any one of several rings of
+//!   modules, or of several loops, may be reported.
 //! - `ports_agree`: all flat circuits that some bytes mean have the same input ports and output ports.
 //! - `one_run`: they all have the same runs.
-//! - `designs_agree`: all designs that some bytes mean have the same tree, the same signals and memories with the same ports.
-//! - `acceptance_agrees`: where one circuit that a text spells is accepted, each is.
-//! - `one_fault`: two faults of a text are the same, but that of rings of modules and of loops any may be told.
-//! - `faults_apart`: an accepted text has no fault, and one with a fault of reading none of a circuit.
+//! - `designs_agree`: all designs that some bytes mean have the same tree, the same signals, and the same memories
+//!   with the same ports.
+//! - `acceptance_agrees`: if one circuit that a text spells is accepted, each is.
+//! - `one_fault`: two faults of a text are the same, except that any ring of modules and any loop may be reported.
+//! - `faults_apart`: an accepted text has no fault, and a text with a fault of reading has no fault of a circuit.
 #![tactic(auto)]
 
 #[cfg(test)]

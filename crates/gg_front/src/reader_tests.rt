@@ -1,5 +1,5 @@
-//! Texts and what `read_circuit` reads of them, worked by hand from the grammar. They stand here, above the reader's own
-//! crate, since a crate with tests is proved twice, and the reader is a large one.
+//! Texts and what `read_circuit` reads of them, worked by hand from the grammar. The tests are here and not in the
+//! reader's own crate, since a crate with tests is proved twice, and the reader is a large one.
 ghost use Rattle.std.specs.Prelude.{◌<◌, ◌^◌, length};
 
 use crate::fixtures::{counter, told_unread};
@@ -8,8 +8,8 @@ use gg_read::read_circuit;
 use std::alloc::{AllocError, Global};
 use std::test::Fail;
 
-/// How many of the counter's lines are taken, the line that another text replaces, counted from 1 (0: none), that text,
-/// and what is read.
+/// How many of the counter's lines are taken; the line that is replaced, counted from 1 (0: none); its new text; and
+/// what is read.
 static COUNTERS: [(usize, usize, &str, &str); 32] = [
     (
         11,
@@ -101,8 +101,8 @@ fn word(kind: &StmtKind) -> &'static str {
     }
 }
 
-/// A circuit's lines: its own, and of each module its own, its ports' and its statements'. A module whose name another
-/// one before it has is shown with that one's place, to which the name leads.
+/// The line numbers of a circuit: its own, and for each module its own, its ports' and its statements'. If an earlier
+/// module has the same name, the place of that module is shown, since the name leads there.
 fn shown(alloc: Global, circuit: &Circuit) -> Result<String, AllocError> {
     let name = circuit.name();
     let line = circuit.line();
@@ -127,7 +127,7 @@ fn shown(alloc: Global, circuit: &Circuit) -> Result<String, AllocError> {
     Ok(out)
 }
 
-/// Where a module's name leads, unless it leads to the module itself, at this place.
+/// The place where a module's name leads, unless it leads to the module itself, which is at this place.
 fn shown_place(
     alloc: Global,
     circuit: &Circuit,
@@ -144,7 +144,7 @@ fn shown_place(
     }
 }
 
-/// A statement's line, and what it is.
+/// The line number of a statement, and what it is.
 fn shown_statement(alloc: Global, statement: &Stmt) -> Result<String, AllocError> {
     let line = statement.line;
     let word = word(&statement.kind);
@@ -162,7 +162,7 @@ fn read_told(alloc: Global, bytes: &[u8]) -> Result<String, AllocError> {
     }
 }
 
-/// The connection of `out` to so many times `not` of `c`.
+/// The connection of `out` to `not` of `c`, applied this many times.
 fn nested(alloc: Global, depth: usize) -> Result<String, AllocError> {
     let mut out = String::from_str(alloc, "out <= ")?;
     for _turn in 0..depth {

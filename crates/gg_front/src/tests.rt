@@ -1,5 +1,5 @@
-//! Circuits as texts through `front`, worked by hand: each fault is told as it is printed, and what is accepted is no want of
-//! memory.
+//! Circuits as texts through `front`, worked by hand. Each fault is compared as it is printed, and an accepted
+//! circuit doesn't give `NoMemory`.
 ghost use Rattle.std.specs.Prelude.{◌<◌, ◌^◌, length};
 
 use crate::fixtures::{COUNTER, LATE, LOOP, MEM, PAIR, TOP, WIDE, text_of};
@@ -8,7 +8,7 @@ use gg_order::Design;
 use std::alloc::{AllocError, Global};
 use std::test::Fail;
 
-/// A line that is changed, counted from 1 (0: none), what stands in its place, and what `front` answers.
+/// A line that is changed, counted from 1 (0: none), its new text, and what `front` answers.
 type Row = (usize, &'static str, &'static str);
 
 static COUNTERS: [Row; 23] = [
@@ -41,7 +41,7 @@ static COUNTERS: [Row; 23] = [
     (6, "wire k : Clock\nk is invalid", "F14 line 7 k"),
     (10, "out <= out", "F16 out"),
     (11, "c <= out", "4 signals 1 in 1 out 1 instances"),
-    // the fault of shape comes first, wherever it stands
+    // the fault of shape comes first, wherever it is in the text
     (
         9,
         "node n = add(c, UInt<1>(\"h2\"))\nout <= q",
@@ -93,7 +93,7 @@ static NESTED: [Row; 3] = [
     (12, "o <= tile.o\ninst tile of Tile", "F2 line 13 tile"),
 ];
 
-/// How many signals, inputs, outputs and instances a design has.
+/// The numbers of signals, inputs, outputs and instances of a design.
 fn shown(alloc: Global, design: &Design) -> Result<String, AllocError> {
     let piece = design.piece();
     let signals = piece.signal_count();
@@ -114,7 +114,7 @@ pub(crate) fn told(alloc: Global, bytes: &[u8]) -> Result<String, AllocError> {
     }
 }
 
-/// The first of the answers that isn't the wanted one; empty where each is.
+/// The first of the answers that isn't the expected one; empty if all are.
 fn first_wrong(alloc: Global, lines: &[&str], rows: &[Row]) -> Result<String, AllocError> {
     for (changed, text, wanted) in rows {
         let bytes = text_of(alloc, lines, lines.len(), *changed, text)?;

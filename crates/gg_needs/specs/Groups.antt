@@ -5,14 +5,14 @@ use Rattle.gg_flat.specs.Line.{value_at}
 use Rattle.gg_flat.specs.Circuit.{FlatCircuit}
 use Rattle.gg_needs.specs.Needs.{AreNeeds}
 
--- some out-signals from a place on, 128 at most
+-- some out-signals from a place on, at most 128
 pub record IsGroup (outs : List ℕ) (first : ℕ) (group : List ℕ) : Type 0 where
   pub some : 0 < length group
   pub most : length group ≤ 128
   pub within : first + length group ≤ length outs
   pub each : (place : ℕ) → place < length group → value_at group place ≡ value_at outs (first + place)
 
--- the lists are what the first out-signals need
+-- the lists are the needs of the first out-signals
 pub record AreNeedsSoFar (circuit : FlatCircuit) (needs : List (List ℕ)) : Type 0 where
   pub within : length needs ≤ length circuit.outs
   pub each : (out : ℕ) → out < length needs → AreNeeds circuit (value_at circuit.outs out) (slice_index_or needs out [])

@@ -8,7 +8,8 @@ use Rattle.gg_order.specs.Marks.{Marks}
 abbrev pub marks_of : ℕ → List ℕ → List Bool
 marks_of place marks = map (λ set. bit_at set place == 1) marks
 
--- A set is added to those of the named signals: each out-signal in it marks them too, the others mark what they did.
+-- A set is added to the sets of the named signals. Each out-signal in the set marks these signals too. The marks of
+-- the others don't change.
 pub record Adds (added : ℕ) (Named : ℕ → Type 0) (before after : List ℕ) : Type 0 where
   pub count : length after ≡ length before
   pub given : (place : ℕ) → bit_at added place ≡ 1 → Marks Named (marks_of place before) (marks_of place after)

@@ -1,12 +1,13 @@
 //! Needs: the in-signals that each out-signal of a piece depends on in a cycle.
 //!
-//! An out-signal needs an in-signal where a path of reads leads from the one to the other (`AreNeeds`, in specs/Needs). The crate
-//! promises:
+//! An out-signal needs an in-signal if a path of reads leads from the out-signal to the in-signal (`AreNeeds`, in
+//! specs/Needs). The crate promises:
 //!
-//! - `needs_of` gives for each out-signal, in port order, the places of just the in-signals that it needs, ascending.
+//! - `needs_of` gives, for each out-signal in port order, the places of exactly the in-signals that it needs,
+//!   ascending.
 //!
-//! It goes over the signals once for every 128 out-signals, from the last to the first. Each signal has a set of marks,
-//! one for each of those out-signals, and hands its set on to the signals that it reads.
+//! It makes one pass over the signals for every 128 out-signals, from the last signal to the first. Each signal has a
+//! set of marks, one for each of those out-signals, and passes its set on to the signals that it reads.
 #![tactic(auto)]
 
 mod groups;

@@ -6,10 +6,10 @@ ghost use Rattle.gg_needs.specs.Marks.{Adds};
 
 use gg_flat::{Driver, Node, Op};
 
-/// How many out-signals a group has at most.
+/// The most out-signals that a group has.
 pub(crate) const MOST: usize = 128;
 
-/// The set that has just the mark of the out-signal at this place.
+/// The set that has only the mark of the out-signal at this place.
 pub(crate) fn one_mark(place: usize) -> u128
     requires { place < 128 }
     ensures { result ≡ 2 ^ place }
@@ -25,7 +25,7 @@ pub(crate) fn has_mark(set: u128, place: usize) -> bool
     (set >> place) & 1 == 1
 }
 
-/// Adds a set to that of a signal.
+/// Adds a set to the set of a signal.
 pub(crate) fn add_mark(marks: &mut [u128], signal: u32, added: u128)
     requires { signal < length marks.old }
     ensures { Adds added (λ s. signal ≡ s) marks.old marks.new }
@@ -33,7 +33,7 @@ pub(crate) fn add_mark(marks: &mut [u128], signal: u32, added: u128)
     marks[signal as usize] |= added;
 }
 
-/// Adds a set to those of the signals that a driver names. There is a set for each of them.
+/// Adds a set to the sets of the signals that a driver names. There is a set for each of these signals.
 pub(crate) fn add_driver(marks: &mut [u128], driver: &Driver, added: u128)
     requires { (s : ℕ) → NamesSignal driver.now s → s < length marks.old }
     ensures { Adds added (NamesSignal driver.now) marks.old marks.new }
@@ -48,7 +48,7 @@ pub(crate) fn add_driver(marks: &mut [u128], driver: &Driver, added: u128)
     }
 }
 
-// Adds a set to those of the signals that nodes name.
+// Adds a set to the sets of the signals that nodes name.
 fn add_nodes(marks: &mut [u128], nodes: &[Node], added: u128)
     requires { (s : ℕ) → Names nodes.now s → s < length marks.old }
     ensures { Adds added (Names nodes.now) marks.old marks.new }
@@ -58,7 +58,7 @@ fn add_nodes(marks: &mut [u128], nodes: &[Node], added: u128)
     }
 }
 
-// Adds a set to that of the signal that an operation is a reference to.
+// Adds a set to the set of the signal that an operation refers to.
 fn add_op(marks: &mut [u128], op: Op, added: u128)
     requires { (s : ℕ) → op ≡ Op.Ref s → s < length marks.old }
     ensures { Adds added (λ s. op ≡ Op.Ref s) marks.old marks.new }

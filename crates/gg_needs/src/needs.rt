@@ -16,13 +16,13 @@ use gg_bits::Ids;
 use gg_flat::{Driver, Piece};
 use std::alloc::{AllocError, Global};
 
-/// For each out-signal, in port order, the places, ascending, of just the in-signals that it needs.
+/// For each out-signal, in port order, the places of exactly the in-signals that it needs, ascending.
 ///
-/// The piece is well formed, and each signal reads only signals before it.
+/// The piece is well formed, and each signal reads only earlier signals.
 ///
 /// # Errors
 ///
-/// Where memory is refused.
+/// Returns `AllocError` if an allocation fails.
 pub fn needs_of(alloc: Global, piece: &Piece) -> Result<Vec<Ids>, AllocError>
     requires formed { IsWellFormed piece.now }
     requires ordered { IsInOrder piece.now }
@@ -70,7 +70,7 @@ fn marked_ins(alloc: Global, piece: &Piece, marks: &[u128], place: usize) -> Res
     Ok(Ids::from(ins))
 }
 
-// The place of an in-signal, which its driver names.
+// The place of an in-signal, which is in its driver.
 fn place_of(piece: &Piece, signal: u32) -> u32
     requires { signal < length piece.now.signals }
     ensures { (place : ℕ) → driver_at piece.now signal ≡ Input place → result ≡ place }

@@ -1,4 +1,4 @@
-//! What no clause says: that calls succeed with ample memory.
+//! What no contract says: calls succeed with ample memory.
 ghost use Rattle.std.specs.Prelude.{◌≡◌, IfOk};
 ghost use Rattle.gg_flat.specs.Circuit.{no_circuit};
 ghost use Rattle.gg_part.specs.InOrder.{IsInOrder};

@@ -8,7 +8,7 @@ use crate::marks::{add_driver, add_mark, one_mark};
 use gg_flat::Piece;
 use std::alloc::{AllocError, Global};
 
-/// For each signal the set of the out-signals of a group that reach it.
+/// For each signal, the set of those out-signals of a group that reach it.
 pub(crate) fn reached(alloc: Global, piece: &Piece, group: &[u32]) -> Result<Vec<u128>, AllocError>
     requires formed { IsWellFormed piece.now }
     requires ordered { IsInOrder piece.now }
@@ -28,7 +28,7 @@ fn no_marks(alloc: Global, count: usize) -> Result<Vec<u128>, AllocError>
     vec![in alloc; 0; count]
 }
 
-// Marks what the out-signals of a group reach, where nothing is marked yet.
+// Marks what the out-signals of a group reach. At first nothing is marked.
 fn mark_reached(marks: &mut [u128], piece: &Piece, group: &[u32])
     requires formed { IsWellFormed piece.now }
     requires ordered { IsInOrder piece.now }
@@ -53,7 +53,7 @@ fn mark_outs(marks: &mut [u128], group: &[u32])
     }
 }
 
-// Hands the marks on, from the last signal to the first.
+// Passes the marks on, from the last signal to the first.
 fn hand_down(marks: &mut [u128], piece: &Piece, group: &[u32])
     requires formed { IsWellFormed piece.now }
     requires ordered { IsInOrder piece.now }
@@ -68,7 +68,7 @@ fn hand_down(marks: &mut [u128], piece: &Piece, group: &[u32])
     }
 }
 
-// A signal hands its marks on to the signals that it reads.
+// Passes a signal's marks on to the signals that it reads.
 fn hand_on(marks: &mut [u128], piece: &Piece, signal: usize)
     requires formed { IsWellFormed piece.now }
     requires known { signal < length piece.now.signals }

@@ -12,7 +12,8 @@ pub record Ordered : Type 0 where
   pub tree : InstanceTree
   pub order : List ℕ
 
--- the circuit is well formed, the tree is that of its instances, to whose scopes it keeps, and the order is one of it
+-- the circuit is well formed and keeps to the scopes of the tree of its instances, and the order is one of the
+-- circuit
 pub record IsDesign (design : Ordered) : Type 0 where
   pub formed : IsWellFormed design.circuit
   pub fitting : IsTree design.circuit design.tree

@@ -3,7 +3,7 @@ use Rattle.std.specs.Prelude.{ℕ, List, codes, ⊤}
 use Rattle.gg_order.specs.declared.fault.OrderFault.{OrderFault}
 use Rattle.gg_order.specs.declared.fault.OrderFault.TheVariants.{Loop, NoMemory}
 
--- where it is a loop, a fact of the loop
+-- if the fault is a loop, a fact about the loop
 abbrev pub IfLoop : (List ℕ → Type 0) → OrderFault → Type 0
 IfLoop P (Loop signals) = P signals
 IfLoop P NoMemory = ⊤

@@ -8,7 +8,7 @@ use Rattle.gg_flat.specs.declared.piece.Signal.{Signal}
 abbrev pub is_marked : List Bool → ℕ → Bool
 is_marked marks s = slice_index_or marks s false
 
--- Just what was marked before, and what is named, is marked afterwards.
+-- Exactly what was marked before, and what is named, is marked afterwards.
 pub record Marks (Named : ℕ → Type 0) (before after : List Bool) : Type 0 where
   pub kept : (s : ℕ) → is_marked before s ≡ true → is_marked after s ≡ true
   pub marked : (s : ℕ) → Named s → is_marked after s ≡ true

@@ -1,5 +1,5 @@
--- The signals that a driver names, place by place: a line has a place for each node, a read of latency 0 one for its
--- address and one for its enable.
+-- The signals that a driver names, place by place. A line has a place for each node. A read of latency 0 has one for
+-- its address and one for its enable.
 use Rattle.std.proofs.Common.{inl, inr}
 use Rattle.std.proofs.Math.Nat.{not-suc-le-zero}
 use Rattle.std.specs.Prelude.{◌≡◌, ◌⊎◌, ℕ, ◌<◌, take}

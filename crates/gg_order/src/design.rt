@@ -29,9 +29,9 @@ impl Model for Design {
 }
 
 impl Design {
-    /// The design of a circuit, the tree of its instances and an order of it. The circuit is well formed (`Piece::check`
-    /// tells), the tree is its tree, to whose scopes it keeps, and the order has each of its signals once, behind all
-    /// signals that it reads.
+    /// The design of a circuit, the tree of its instances and an order of it. The circuit is well formed, as
+    /// `Piece::check` tells. The tree is one of the circuit, and the circuit keeps to its scopes. The order has each
+    /// signal once, after all signals that it reads.
     pub fn new(piece: Piece, tree: Tree, order: Order) -> Design
         requires formed { IsWellFormed piece }
         requires fitting { IsTree piece tree }

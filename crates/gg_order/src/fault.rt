@@ -6,10 +6,10 @@ use std::fmt;
 /// Why `order` gave no order.
 #[derive(Debug, Drop)]
 pub enum OrderFault {
-    /// A combinational loop: distinct signals, by their numbers, each of which reads the next, the last the first. It
-    /// begins with the signal whose path is the least by bytes.
+    /// A combinational loop: distinct signals, by their numbers. Each reads the next, and the last reads the first.
+    /// It begins with the signal whose path is the least by bytes.
     Loop(Ids),
-    /// Memory was refused.
+    /// An allocation failed.
     NoMemory,
 }
 

@@ -46,7 +46,7 @@ impl<'a> Graph for Dependencies<'a> {
     }
 }
 
-// The first signal that a driver names at or behind a place.
+// The first signal that a driver names at this place or later.
 fn next_named(driver: &Driver, place: usize) -> Option<Target>
     ensures named { IfSome result (λ found. NamesSignal driver.now found.node) }
     ensures onward { IfSome result (λ found. place < found.next) }
@@ -60,7 +60,7 @@ fn next_named(driver: &Driver, place: usize) -> Option<Target>
     }
 }
 
-// The first of an address and an enable at or behind a place.
+// The first of an address and an enable at this place or later.
 fn next_field(addr: u32, en: u32, place: usize) -> Option<Target>
     ensures named { IfSome result (λ found. (addr ≡ found.node) ⊎ (en ≡ found.node)) }
     ensures onward { IfSome result (λ found. place < found.next) }
@@ -77,7 +77,7 @@ fn next_field(addr: u32, en: u32, place: usize) -> Option<Target>
     }
 }
 
-// The first signal that a node refers to at or behind a place.
+// The first signal that a node refers to at this place or later.
 fn next_reference(nodes: &[Node], place: usize) -> Option<Target>
     ensures named { IfSome result (λ found. Names nodes.now found.node) }
     ensures onward { IfSome result (λ found. place < found.next) }

@@ -1,15 +1,15 @@
 //! Orders of evaluation of a flat circuit, and combinational loops.
 //!
-//! An order has every signal once, each after all that it reads (gg_flat's `IsOrder`). A combinational loop is a list of
-//! distinct signals, each of which reads the next, the last the first (gg_flat's `IsLoop`). The crate promises, of each
-//! well-formed flat circuit:
+//! An order has every signal once, each after all that it reads (gg_flat's `IsOrder`). A combinational loop is a list
+//! of distinct signals: each reads the next, and the last reads the first (gg_flat's `IsLoop`). For each well-formed
+//! flat circuit the crate promises:
 //!
-//! - `order` gives an order exactly where the circuit has no combinational loop, and else such a loop, which begins with
-//!   the signal whose path is the least by bytes (`IsToldLoop`), or that memory was refused;
-//! - a `Design` is a flat circuit that is well formed, with the tree of its instances and an order of it;
-//! - `mark_driver` marks just the signals that a driver names.
+//! - `order` returns an order exactly if the circuit has no combinational loop. Else it returns such a loop, which
+//!   begins with the signal whose path is the least by bytes (`IsToldLoop`). It may return `NoMemory` instead;
+//! - a `Design` is a well-formed flat circuit, with the tree of its instances and an order of it;
+//! - `mark_driver` marks exactly the signals that a driver names.
 //!
-//! The time that `order` takes is linear in signals and nodes.
+//! The time that `order` takes is linear in the numbers of signals and nodes.
 #![tactic(auto)]
 
 mod design;

@@ -5,7 +5,7 @@ ghost use Rattle.gg_order.specs.Marks.{Marks};
 
 use gg_flat::{Driver, Node, Op};
 
-/// Marks the signals that a driver names, and leaves all other marks. There is a mark for each of them.
+/// Marks the signals that a driver names, and keeps all other marks. There is a mark for each of these signals.
 pub fn mark_driver(marks: &mut [bool], driver: &Driver)
     requires { (s : ℕ) → NamesSignal driver.now s → s < length marks.old }
     ensures { Marks (NamesSignal driver.now) marks.old marks.new }

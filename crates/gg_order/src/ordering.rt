@@ -14,15 +14,16 @@ use gg_flat::{Piece, no_loop};
 use gg_walk::{WalkFault, walk};
 use std::alloc::Global;
 
-/// An order of evaluation: the signals of a circuit by their numbers, each once, behind all that it reads.
+/// An order of evaluation: the signals of a circuit by their numbers, each once, after all that it reads.
 pub type Order = Ids;
 
 /// An order of evaluation of a well-formed circuit.
 ///
 /// # Errors
 ///
-/// `Loop`, with a combinational loop of the circuit, exactly where it has one; it begins with the signal whose path is
-/// the least by bytes, and where there is more than one loop, it is any of them. `NoMemory`, where memory is refused.
+/// Returns `Loop` with a combinational loop of the circuit, exactly if there is one. The loop begins with the signal
+/// whose path is the least by bytes. If there are several loops, it is any one of them. Returns `NoMemory` if an
+/// allocation fails.
 pub fn order(alloc: Global, piece: &Piece) -> Result<Order, OrderFault>
     requires { IsWellFormed piece.now }
     ensures order { IfOk result (λ order. IsOrder piece.now order) }

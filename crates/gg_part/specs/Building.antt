@@ -1,5 +1,6 @@
--- A part while it is made: what its frame is, and what stands of its signals, registers and memories.
--- Source: this program's own: a part has its signals, registers and memories in the order of the lists that it is made of.
+-- A part while it is built: its frame, and the signals, registers and memories that it has so far.
+-- Source: this program's own. A part has its signals, registers and memories in the order of the lists that it is
+-- built from.
 use Rattle.std.specs.Prelude.{◌≡◌, ℕ, ◌<◌, List, [], ◌∷◌, ◌++◌, length, map, take, slice_index_or, Contains}
 use Rattle.gg_bits.specs.Shape.{shape}
 use Rattle.gg_flat.specs.declared.piece.Signal.{Signal}
@@ -23,7 +24,7 @@ pub record IsHeldIn (whole : FlatCircuit) (globals ins : List ℕ) (r : ℕ) : T
   pub chosen : Contains globals signal
   pub holds : Holds whole ins signal r
 
--- The registers that these signals hold, all of them and no others. A register may stand twice.
+-- The registers that these signals hold, all of them and no others. A register may be listed twice.
 pub record AreHeld (whole : FlatCircuit) (globals ins held : List ℕ) : Type 0 where
   pub every : (s r : ℕ) → Contains globals s → Holds whole ins s r → Contains held r
   pub sound : (r : ℕ) → Contains held r → IsHeldIn whole globals ins r
@@ -32,12 +33,13 @@ pub record AreHeld (whole : FlatCircuit) (globals ins held : List ℕ) : Type 0 
 abbrev pub IsInput : Driver → Type 0
 IsInput driver = (place : ℕ) × (driver ≡ Input place)
 
--- The driver of a signal of the part, which has the number s in the whole. `ins` are the whole's numbers too.
+-- The driver of a signal of the part that has the number s in the whole circuit. `ins` are numbers of the whole
+-- circuit too.
 pub record IsDriven (whole : FlatCircuit) (globals ins held memories : List ℕ) (s : ℕ) (own : Driver) : Type 0 where
   pub from : IsFrom ins globals held memories s (driver_at whole s) own
   pub given : Contains ins s → IsInput own
 
--- A piece with one signal more: the whole's of number s.
+-- A piece with one more signal: signal s of the whole circuit.
 pub record IsAdded (whole : FlatCircuit) (globals ins held memories : List ℕ) (s : ℕ) (old new : FlatCircuit) : Type 0 where
   pub own : Signal
   pub is : new ≡ record old { paths = old.paths ++ path_at whole.paths s ∷ []; signals = old.signals ++ own ∷ [] }

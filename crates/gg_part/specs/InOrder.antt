@@ -4,7 +4,7 @@ use Rattle.gg_flat.specs.Line.{value_at}
 use Rattle.gg_flat.specs.Circuit.{FlatCircuit}
 use Rattle.gg_flat.specs.Reads.{Reads}
 
--- Signal a stands in the order before signal b.
+-- Signal a comes before signal b in the order.
 pub record Precedes (order : List ℕ) (a b : ℕ) : Type 0 where
   pub first : ℕ
   pub second : ℕ
@@ -13,10 +13,10 @@ pub record Precedes (order : List ℕ) (a b : ℕ) : Type 0 where
   pub first_is : value_at order first ≡ a
   pub second_is : value_at order second ≡ b
 
--- the signals stand in the order, and in the list as there
+-- the signals of the list are in the order, and come in the list as they come there
 abbrev pub IsAlong : List ℕ → List ℕ → Type 0
 IsAlong order globals = AllPairs (λ a b. Precedes order a b) globals
 
--- The signals of a circuit stand in an order of evaluation: each reads only such as stand before it.
+-- The signals of a circuit are in an order of evaluation: each reads only earlier signals.
 abbrev pub IsInOrder : FlatCircuit → Type 0
 IsInOrder circuit = (a b : ℕ) → Reads circuit a b → b < a

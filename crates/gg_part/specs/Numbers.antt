@@ -1,10 +1,10 @@
--- A list of numbers with a table by which the place of each is found.
--- Source: this program's own: a table from a number of the whole to the number that a part gives it.
+-- A list of numbers with a table that gives the place of each.
+-- Source: this program's own: a table from a number of the whole circuit to the number that a part gives it.
 use Rattle.std.specs.Prelude.{◌≡◌, ℕ, ◌<◌, List, length}
 use Rattle.gg_flat.specs.Line.{value_at}
 
--- The table has, at each of the first `count` numbers of the list, one of those places where the number stands. What it has
--- elsewhere doesn't count.
+-- At each of the first `count` numbers of the list, the table has one of those places where the number is in the
+-- list. Its other entries don't matter.
 pub record ArePlaces (items : List ℕ) (count : ℕ) (places : List ℕ) : Type 0 where
   pub known : (k : ℕ) → k < count → value_at items k < length places
   pub within : (k : ℕ) → k < count → value_at places (value_at items k) < count

@@ -1,7 +1,7 @@
--- A part of a flat circuit: some of its signals, registers and memories, with numbers of the part's own. Signals that the
--- part gets from outside are its in-signals, whatever drives them in the whole.
--- Source: FIRRTL Specification, "Circuit Definitions", "Instances" (a design is cut where its modules meet); MEMOCODE 2009 (a
--- synchronous design as a network of its parts).
+-- A part of a flat circuit: some of its signals, registers and memories, with numbers of the part's own. The signals
+-- that the part gets from outside are its in-signals, regardless of what drives them in the whole circuit.
+-- Source: FIRRTL Specification, "Circuit Definitions", "Instances" (a design is cut where its modules meet); MEMOCODE
+-- 2009 (a synchronous design as a network of its parts).
 use Rattle.std.specs.Prelude.{◌≡◌, ◌≢◌, ℕ, ◌<◌, List, Option, Some, None, length, map, slice_index_or, All, AllPairs}
 use Rattle.gg_flat.specs.declared.line.Node.{Node}
 use Rattle.gg_flat.specs.declared.line.Op.{Op}
@@ -19,7 +19,8 @@ use Rattle.gg_flat.specs.Reads.{Names, RegisterNames}
 use Rattle.gg_flat.specs.Memory.{WritesAmong}
 use Rattle.gg_flat.specs.Tree.{path_at}
 
--- ---- the part's things in the whole's numbers; `globals` has the number in the whole of each signal of the part
+-- ---- the part's things in the numbers of the whole; `globals` has the number in the whole of each signal of the
+-- part
 
 abbrev pub renamed_op : List ℕ → Op → Op
 renamed_op globals (Ref s) = Ref (value_at globals s)
@@ -64,13 +65,13 @@ renamed_memory globals memory =
       writers = map (λ writer. renamed_writer globals writer) memory.writers;
     }
 
--- ---- what the part names is there
+-- ---- what the part names exists
 
--- a line names signals below n alone
+-- a line names only signals below n
 abbrev pub NamesBelow : ℕ → List Node → Type 0
 NamesBelow n line = (s : ℕ) → Names line s → s < n
 
--- a register names signals below n alone
+-- a register names only signals below n
 abbrev pub RegisterBelow : ℕ → Register → Type 0
 RegisterBelow n register = (s : ℕ) → RegisterNames register s → s < n
 
@@ -85,9 +86,9 @@ pub record MemoryBelow (n : ℕ) (memory : Memory) : Type 0 where
 
 -- ---- the part
 
--- The driver of signal s of the part, last, stands for the whole's: it is an in-signal, whatever drives it in the whole, or
--- the same driver in the part's numbers. `held` and `memories` have the numbers in the whole of the part's registers and
--- memories.
+-- The last argument, the driver of signal s of the part, stands for the driver in the whole circuit. It is that of an
+-- in-signal, regardless of what drives the signal in the whole circuit, or the same driver in the part's numbers.
+-- `held` and `memories` have the numbers in the whole circuit of the part's registers and memories.
 abbrev pub IsFrom : List ℕ → List ℕ → List ℕ → List ℕ → ℕ → Driver → Driver → Type 0
 IsFrom ins globals held memories s driver (Input place) = (place < length ins) × (value_at ins place ≡ s)
 IsFrom ins globals held memories s driver (Held register) = (register < length held) × (driver ≡ Held (value_at held register))
@@ -96,21 +97,23 @@ IsFrom ins globals held memories s driver (MemoryWord m r addr en) =
 IsFrom ins globals held memories s driver (ReadRegister m r) = (m < length memories) × (driver ≡ ReadRegister (value_at memories m) r)
 IsFrom ins globals held memories s driver (Computed line) = NamesBelow (length globals) line × (driver ≡ Computed (renamed_line globals line))
 
--- Register r of the part is the whole's of that number.
+-- Register r of the part is the register of the whole circuit with that number in `held`.
 pub record IsRegisterFrom (whole part : FlatCircuit) (globals held : List ℕ) (r : ℕ) : Type 0 where
   pub within : value_at held r < length whole.registers
   pub is : (any other : Register) → slice_index_or whole.registers (value_at held r) other ≡ renamed_register globals (slice_index_or part.registers r any)
   pub below : (any : Register) → RegisterBelow (length globals) (slice_index_or part.registers r any)
 
--- Memory m of the part is the whole's of that number, with all its ports, and none of its readers' data is an in-signal.
+-- Memory m of the part is the memory of the whole circuit with that number in `memories`. It has all its ports, and
+-- the data of its readers isn't an in-signal.
 pub record IsMemoryFrom (whole part : FlatCircuit) (globals memories : List ℕ) (m : ℕ) : Type 0 where
   pub within : value_at memories m < length whole.memories
   pub is : (any other : Memory) → slice_index_or whole.memories (value_at memories m) other ≡ renamed_memory globals (slice_index_or part.memories m any)
   pub below : (any : Memory) → MemoryBelow (length globals) (slice_index_or part.memories m any)
   pub given : (r place : ℕ) → r < length (readers_at part m) → driver_at part (reader_at (readers_at part m) r).word ≢ Input place
 
--- A part: some of the whole's signals, each once, with their paths and types; each is one of the in-signals, or has its
--- driver from the whole; the registers and the memories that these drivers speak of are the whole's.
+-- A part: some signals of the whole circuit, each once, with their paths and types. Each is an in-signal, or has its
+-- driver from the whole circuit. The registers and the memories that these drivers name are those of the whole
+-- circuit.
 pub record IsPart (whole part : FlatCircuit) (globals held memories : List ℕ) : Type 0 where
   pub count : length part.signals ≡ length globals
   pub within : (s : ℕ) → s < length globals → value_at globals s < length whole.signals

@@ -1,4 +1,4 @@
--- What a part makes of the rows, states and runs of the whole.
+-- What a part has of the rows, states and runs of the whole circuit.
 -- Source: MEMOCODE 2009: the values of a part are those of the same signals in the whole.
 use Rattle.std.specs.Prelude.{ℕ, List, map}
 use Rattle.gg_flat.specs.Line.{value_at}
@@ -15,11 +15,11 @@ part_row globals row = map (value_at row) globals
 abbrev pub part_rows : List ℕ → List (List ℕ) → List (List ℕ)
 part_rows globals rows = map (λ row. part_row globals row) rows
 
--- the part's state in a state of the whole
+-- the part's state, for a state of the whole
 abbrev pub part_state : List ℕ → List ℕ → State → State
 part_state held memories state = record { registers = map (value_at state.registers) held; banks = map (bank_at state.banks) memories }
 
--- where the part's run starts, where the whole's starts here
+-- where the part's run starts, if the run of the whole starts here
 abbrev pub part_start : List ℕ → List ℕ → Start → Start
 part_start held memories start = record { cycle = start.cycle; state = part_state held memories start.state }
 

@@ -1,4 +1,4 @@
-//! `part_of`: a part, made of what was chosen of a circuit.
+//! `part_of`: builds a part from a choice of a circuit's signals and memories.
 ghost use Rattle.std.specs.Prelude.{◌≡◌, ◌≢◌, ℕ, ◌<◌, ◌-◌, ◌^◌, List, [], length, map, IfOk, OnOk, All, Contains};
 ghost use Rattle.gg_flat.specs.declared.paths.AddError.TheVariants.{Doubled};
 ghost use Rattle.gg_flat.specs.declared.piece.Driver.TheVariants.{Input, Held};
@@ -68,7 +68,7 @@ fn path_of(whole: &Piece, signal: u32) -> Result<Name, AllocError>
     Ok(whole.path(signal).unwrap().clone()?)
 }
 
-// That memory was refused, since no path was doubled.
+// The error of a failed allocation, since no path was added twice.
 fn refused(error: AddError) -> AllocError
     requires { error ≢ Doubled }
 {
@@ -116,7 +116,7 @@ fn add_signals(
     ensures only { OnOk result (piece.new ≡ record no_circuit { paths = piece.new.paths; signals = piece.new.signals }) }
     ensures signals { OnOk result (AreSignals whole.now frame.now.globals frame.now.ins frame.now.held frame.now.memories (length frame.now.globals) piece.new) }
 {
-    // What it says of the whole's signals: that they are few enough for a piece.
+    // its contract says that the whole has few enough signals for a piece
     let _ = whole.signal_count();
     for signal in frame.globals.as_slice() {
         add_signal(alloc, whole, frame, *signal, piece)?;
@@ -200,7 +200,7 @@ fn add_outs(globals: &Numbers, outs: &[u32], piece: &mut Piece) -> Result<(), Al
 
 // ---- the part
 
-// Adds all that the part has.
+// Adds everything that the part has.
 fn add_all(
     alloc: Global,
     whole: &Piece,
@@ -225,14 +225,14 @@ fn add_all(
     Ok(())
 }
 
-/// The part of a circuit that has these signals and memories, gets the values of `ins` from outside, and gives those
-/// of `outs`. All numbers are the whole's. The part's signals stand in the order of `globals`, its in-signals in that
-/// of `ins`, its out-signals in that of `outs`, its memories in that of `memories`. It has just the registers that its
-/// signals hold.
+/// The part of a circuit with these signals and memories. It gets the values of `ins` from outside, and gives those
+/// of `outs`. All numbers are those of the whole circuit. The part's signals are in the order of `globals`, its
+/// in-signals in that of `ins`, its out-signals in that of `outs`, and its memories in that of `memories`. Its
+/// registers are exactly those that its signals hold.
 ///
 /// # Errors
 ///
-/// Where memory is refused.
+/// Returns `AllocError` if an allocation fails.
 pub fn part_of(
     alloc: Global,
     whole: &Piece,

@@ -10,8 +10,8 @@ use crate::part::Part;
 use gg_flat::{Driver, Piece};
 use std::alloc::{AllocError, Global};
 
-/// The numbers of what a part has, all of them the whole's: its signals, those among them that come from outside, its
-/// registers, its memories.
+/// The numbers of what a part has, all of them those of the whole circuit: its signals, those of them that come from
+/// outside, its registers, and its memories.
 #[derive(Drop)]
 pub(crate) struct Frame {
     pub(crate) globals: Numbers,
@@ -21,7 +21,7 @@ pub(crate) struct Frame {
 }
 
 impl Frame {
-    /// The part whose frame this is, and that is this piece.
+    /// The part with this frame and this piece.
     pub(crate) fn part(self, piece: Piece) -> Part
         ensures piece { result.piece ≡ piece }
         ensures globals { result.globals ≡ self.globals }
@@ -52,7 +52,7 @@ pub(crate) fn driver_of(whole: &Piece, signal: u32) -> &Driver
     &whole.signals()[signal as usize].driver
 }
 
-// The register that a signal holds, if it does and isn't one that comes from outside.
+// The register that a signal holds, if it holds one and doesn't come from outside.
 fn register_of(whole: &Piece, ins: &Numbers, signal: u32) -> Option<u32>
     requires { signal < length whole.now.signals }
     ensures holds { IfSome result (λ register. Holds whole.now ins.now signal register) }
@@ -87,11 +87,11 @@ fn held_by(
     Ok(held)
 }
 
-/// The frame of a part that has these signals and memories.
+/// The frame of the part with these signals and memories.
 ///
 /// # Errors
 ///
-/// Where memory is refused.
+/// Returns `AllocError` if an allocation fails.
 pub(crate) fn frame_of(
     alloc: Global,
     whole: &Piece,

@@ -1,16 +1,17 @@
 //! Parts of a flat circuit.
 //!
 //! A part has some of the signals, registers and memories of a flat circuit, with numbers of its own (`IsPart` in
-//! `specs/Part`). What it gets from outside are its in-signals. The crate promises:
+//! `specs/Part`). The signals that it gets from outside are its in-signals. The crate promises:
 //!
-//! - `part_of` makes the part that was chosen of a circuit (`IsChoice` in `specs/Choice`), with its signals,
-//!   in-signals, out-signals and memories in the order in which they were chosen;
+//! - `part_of` builds the part for a choice (`IsChoice` in `specs/Choice`). Its signals, in-signals, out-signals and
+//!   memories are in the order in which they were chosen;
 //! - a part of a run is a run of the part (`part_runs`);
 //! - a part of a well-formed circuit is well formed (`part_formed`);
-//! - where the part's signals are listed along an order of the whole, their numbers are an order of the part
+//! - if the part's signals are listed along an order of the whole circuit, their numbers are an order of the part
 //!   (`part_in_order`).
 //!
-//! `part_of` takes time and memory for the whole's signals, registers and memories, and for what the part has.
+//! `part_of` takes time and memory for the signals, registers and memories of the whole circuit, and for those of the
+//! part.
 #![tactic(auto)]
 
 mod build;

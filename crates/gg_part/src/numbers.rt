@@ -1,4 +1,4 @@
-//! `Numbers`: numbers of the whole, each with its place.
+//! `Numbers`: numbers of the whole circuit, each with its place.
 ghost use Rattle.std.specs.Prelude.{◌≡◌, ℕ, ◌<◌, ◌≤◌, ◌^◌, length, replicate, IfOk, IfSome, IfNone, All, Contains};
 ghost use Rattle.gg_flat.specs.Line.{value_at};
 ghost use Rattle.gg_part.specs.Numbers.{ArePlaces};
@@ -7,9 +7,9 @@ use gg_bits::Ids;
 use std::alloc::{AllocError, Global};
 use std::marker::Model;
 
-/// Numbers of the whole's signals, registers or memories: what a part has at a place is the whole's of the number
-/// there. A contract sees the list. The table by which the place of a number is found has an entry for each of the
-/// whole's.
+/// Numbers of the whole circuit's signals, registers or memories. The number at a place is the number in the whole
+/// circuit of what the part has at that place. A contract sees the list. A table gives the place of each number. It
+/// has an entry for everything that the whole circuit has.
 #[derive(Drop)]
 pub(crate) struct Numbers {
     items: Vec<u32>,
@@ -61,7 +61,7 @@ impl Numbers {
     ///
     /// # Errors
     ///
-    /// Where memory is refused.
+    /// Returns `AllocError` if an allocation fails.
     pub(crate) fn of(alloc: Global, count: usize, items: &[u32]) -> Result<Numbers, AllocError>
         requires below { All (λ s. s < count) items.now }
         requires few { length items.now ≤ 2 ^ 32 }
@@ -79,7 +79,7 @@ impl Numbers {
         self.items.as_slice()
     }
 
-    /// The place of a number, where it is one of these.
+    /// The place of a number, if it is one of these.
     pub(crate) fn find(&self, number: u32) -> Option<u32>
         ensures within { IfSome result (λ place. place < length self.now) }
         ensures found { IfSome result (λ place. value_at self.now place ≡ number) }
@@ -102,7 +102,7 @@ impl Numbers {
         self.find(number).unwrap()
     }
 
-    /// Gives the numbers back.
+    /// Returns the numbers, in order.
     pub(crate) fn into_ids(self) -> Ids
         ensures { result ≡ self }
     {

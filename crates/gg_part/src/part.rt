@@ -1,16 +1,17 @@
-//! `Part`: a part of a flat circuit, with what its numbers are in the whole.
+//! `Part`: a part of a flat circuit, with its numbers in the whole circuit.
 use gg_bits::Ids;
 use gg_flat::Piece;
 
-/// A part of a flat circuit. Whoever makes it owes that it is one (`IsPart` in `specs/Part`), as `part_of` promises.
+/// A part of a flat circuit. Code that makes one has to ensure that it is one (`IsPart` in `specs/Part`), as
+/// `part_of` does.
 #[derive(Drop)]
 pub struct Part {
     /// The part as a circuit of its own.
     pub piece: Piece,
-    /// The number in the whole of each signal.
+    /// The number of each signal in the whole circuit.
     pub globals: Ids,
-    /// The number in the whole of each register.
+    /// The number of each register in the whole circuit.
     pub held: Ids,
-    /// The number in the whole of each memory.
+    /// The number of each memory in the whole circuit.
     pub memories: Ids,
 }

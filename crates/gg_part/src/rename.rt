@@ -1,4 +1,4 @@
-//! The lines, registers and memories of a part: the whole's, in the part's numbers.
+//! The lines, registers and memories of a part: those of the whole circuit, in the part's numbers.
 ghost use Rattle.std.specs.Prelude.{◌≡◌, ℕ, ◌<◌, List, length, map, IfOk, All, Contains};
 ghost use Rattle.gg_flat.specs.declared.line.Op.TheVariants.{Ref};
 ghost use Rattle.gg_flat.specs.Reads.{Names, NextNames, ResetNames, RegisterNames};
@@ -40,7 +40,7 @@ fn local_node(globals: &Numbers, node: Node) -> Node
 ///
 /// # Errors
 ///
-/// Where memory is refused.
+/// Returns `AllocError` if an allocation fails.
 pub(crate) fn local_line(alloc: Global, globals: &Numbers, line: &Line) -> Result<Line, AllocError>
     requires { (s : ℕ) → Names line.now s → Contains globals.now s }
     ensures is { IfOk result (λ own. renamed_line globals.now own ≡ line.now) }
@@ -53,7 +53,7 @@ pub(crate) fn local_line(alloc: Global, globals: &Numbers, line: &Line) -> Resul
     Ok(own)
 }
 
-// What a register takes next, in the part's numbers.
+// The line of a register's next value, in the part's numbers.
 fn local_next(
     alloc: Global,
     globals: &Numbers,
@@ -93,7 +93,7 @@ fn local_reset(
 ///
 /// # Errors
 ///
-/// Where memory is refused.
+/// Returns `AllocError` if an allocation fails.
 pub(crate) fn local_register(
     alloc: Global,
     globals: &Numbers,
@@ -179,7 +179,7 @@ fn local_writers(
 ///
 /// # Errors
 ///
-/// Where memory is refused.
+/// Returns `AllocError` if an allocation fails.
 pub(crate) fn local_memory(
     alloc: Global,
     globals: &Numbers,

@@ -1,4 +1,4 @@
--- What is wrong with a partition file: the key that is told.
+-- What is wrong with a partition file: the key that is reported.
 use Rattle.std.specs.Prelude.{◌≡◌, ℕ, List, ◌++◌, if◌then◌else◌, Option, Some, None, is_some, codes, ◌⊎◌}
 use Rattle.std.specs.Str.{IsUtf8}
 use Rattle.serde_json.specs.Data.{Data}
@@ -8,7 +8,7 @@ use Rattle.gg_partfile.specs.Partition.{texts, groups, numbers, under, unknown}
 use Rattle.gg_partfile.specs.declared.fault.PartFault.{PartFault}
 use Rattle.gg_partfile.specs.declared.fault.PartFault.TheVariants.{WrongKey, NoMemory}
 
--- what the fault says, where it is a key
+-- what the fault says, if it has a key
 abbrev pub IfKey : (List ℕ → Type 0) → PartFault → Type 0
 IfKey P (WrongKey key) = P key
 IfKey P NoMemory = Unit {0}
@@ -18,7 +18,7 @@ abbrev pub fault_text : PartFault → List ℕ
 fault_text (WrongKey key) = codes "P1 " ++ key
 fault_text NoMemory = codes "out of memory"
 
--- the key, where what stands under it is of another shape
+-- the key, if the value under it has another shape
 abbrev pub wrong : {A : Type 0} → (Data → Option (List A)) → List ℕ → Data → Option (List ℕ)
 wrong f key d = if is_some (under f key d) then None else Some key
 
@@ -26,14 +26,14 @@ abbrev pub or_else : Option (List ℕ) → Option (List ℕ) → Option (List �
 or_else None later = later
 or_else (Some key) later = Some key
 
--- the first key whose value is of a wrong shape, else the least unknown key
+-- the first key whose value has a wrong shape, else the least unknown key
 abbrev pub first_wrong : Data → Option (List ℕ)
 first_wrong d = or_else (wrong texts (codes "units") d) (or_else (wrong groups (codes "share") d) (or_else (wrong texts (codes "memories") d) (or_else (wrong numbers (codes "capacity") d) (unknown d))))
 
--- a value that isn't an object is told with the key `-`
+-- a value that isn't an object is reported with the key `-`
 abbrev pub wrong_key : Data → Option (List ℕ)
 wrong_key d = if is_some (as_object d) then first_wrong d else Some (codes "-")
 
--- The bytes are no partition, and this is the key that is told. Bytes that aren't UTF-8 are no JSON.
+-- The bytes aren't a partition, and this is the key that is reported. Bytes that aren't UTF-8 aren't JSON.
 abbrev pub IsRefused : List ℕ → List ℕ → Type 0
 IsRefused bytes key = ((IsUtf8 bytes → read bytes ≡ None) × (key ≡ codes "-")) ⊎ ((d : Data) × IsUtf8 bytes × (read bytes ≡ Some d) × (wrong_key d ≡ Some key))

@@ -1,4 +1,4 @@
--- The keys of objects stand in the order of their bytes.
+-- The keys of objects are in the order of their bytes.
 use Rattle.std.specs.Prelude.{◌≡◌, ℕ, List, is_some, true, false}
 use Rattle.std.specs.Ordering.{nat_cmp}
 use Rattle.std.specs.Cmp.Lexicographic.{slice_cmp}

@@ -1,7 +1,7 @@
--- A partition file: a JSON object (RFC 8259) with the optional keys `units` (a list of texts), `share` (a list of lists of
--- texts), `memories` (a list of texts) and `capacity` (an object of whole numbers). What is JSON, and the value that a text is,
--- is serde_json's `read`: of a repeated key the last value stands, and a whole number is one that it reads as an unsigned
--- number of 64 bits.
+-- A partition file: a JSON object (RFC 8259) with the optional keys `units` (a list of texts), `share` (a list of
+-- lists of texts), `memories` (a list of texts) and `capacity` (an object of whole numbers). Which texts are JSON,
+-- and their values, is defined by serde_json's `read`. If a key occurs twice, its last value counts. A whole number
+-- is one that `read` gives as an unsigned number of 64 bits.
 use Rattle.std.specs.Prelude.{◌≡◌, ℕ, ◌||◌, List, [], ◌∷◌, Bool, true, if◌then◌else◌, Option, Some, None, option_map, option_and_then, is_some, codes, bytes_eq}
 use Rattle.std.specs.Str.{IsUtf8}
 use Rattle.serde_json.specs.Data.{Data, Items, no_items, item, Members, no_members, member}
@@ -11,7 +11,7 @@ use Rattle.gg_partfile.specs.declared.request.Request.{Request}
 
 -- ---- shapes
 
--- what f reads of each item, if it reads each
+-- what f reads of each item, if it reads every item
 abbrev pub each : {A : Type 0} → (Data → Option A) → Items → Option (List A)
 each f no_items = Some []
 each f (item d ds) = option_and_then (λ a. option_map (λ rest. a ∷ rest) (each f ds)) (f d)
@@ -28,7 +28,7 @@ groups d = option_and_then (each texts) (as_array d)
 abbrev pub whole : Data → Option ℕ
 whole d = option_and_then as_u64 (as_number d)
 
--- the members with their whole numbers, if each has one; they stand in the order of their keys' bytes
+-- the members with their whole numbers, if each has one; they are in the order of their keys' bytes
 abbrev pub pairs : Members → Option (List (List ℕ × ℕ))
 pairs no_members = Some []
 pairs (member k d ms) = option_and_then (λ n. option_map (λ rest. (k, n) ∷ rest) (pairs ms)) (whole d)
@@ -39,7 +39,7 @@ numbers d = option_and_then pairs (as_object d)
 
 -- ---- keys
 
--- what f reads of the value under an optional key; where the key is absent, an empty list
+-- what f reads of the value under an optional key; an empty list if the key is absent
 abbrev pub or_empty : {A : Type 0} → (Data → Option (List A)) → Option Data → Option (List A)
 or_empty f None = Some []
 or_empty f (Some d) = f d
@@ -50,7 +50,7 @@ under f key d = or_empty f (get key d)
 abbrev pub is_known : List ℕ → Bool
 is_known k = bytes_eq k (codes "units") || (bytes_eq k (codes "share") || (bytes_eq k (codes "memories") || bytes_eq k (codes "capacity")))
 
--- the first unknown key: members stand in the order of their keys' bytes, so it is the least
+-- the first unknown key: members are in the order of their keys' bytes, so it is the least
 abbrev pub unknown_key : Members → Option (List ℕ)
 unknown_key no_members = None
 unknown_key (member k d ms) = if is_known k then unknown_key ms else Some k

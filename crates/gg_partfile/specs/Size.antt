@@ -1,5 +1,6 @@
 -- How much a partition file asks for.
--- Source: RFC 8259: each text and each number of a JSON text takes bytes of its own, so it has no more of them than bytes.
+-- Source: RFC 8259. Each text and each number of a JSON text takes bytes of its own, so there are at most as many of
+-- them as bytes.
 use Rattle.std.specs.Prelude.{ℕ, ◌≤◌, List, length, flat_map}
 use Rattle.gg_partfile.specs.declared.request.Request.{Request}
 

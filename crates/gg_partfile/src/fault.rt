@@ -10,10 +10,10 @@ use std::fmt;
 /// Why a partition file gave no request.
 #[derive(Debug, Drop)]
 pub enum PartFault {
-    /// The first of the keys `units`, `share`, `memories` and `capacity` whose value is of a wrong shape; else the least
-    /// unknown key; `-` where the file is no JSON text, or no object.
+    /// The first of the keys `units`, `share`, `memories` and `capacity` whose value has a wrong shape, else the
+    /// least unknown key. It is `-` if the file isn't a JSON text, or isn't an object.
     WrongKey(Name),
-    /// Memory was refused.
+    /// An allocation failed.
     NoMemory,
 }
 

@@ -1,9 +1,9 @@
-//! Partition files: which instances become units, which of them share a host, which memories are hosts of their own, and
-//! the capacities of channels.
+//! Partition files: which instances become units, which of them share a host, which memories are hosts of their own,
+//! and the capacities of channels.
 //!
-//! A partition file is JSON text (RFC 8259). The crate promises that `read_partition` gives the request that the bytes
-//! hold (`IsPartition`), or the key that is wrong (`IsRefused`), or that memory was refused. A request has no more entries of
-//! each kind than the file has bytes (`HasAtMost`).
+//! A partition file is a JSON text (RFC 8259). The crate promises that `read_partition` returns the request that the
+//! bytes hold (`IsPartition`), or the key that is wrong (`IsRefused`), or `NoMemory`. A request has at most as many
+//! entries of each kind as the file has bytes (`HasAtMost`).
 #![tactic(auto)]
 
 mod fault;

@@ -13,11 +13,12 @@ use gg_bits::{Name, Names};
 use serde_json::Value;
 use std::alloc::Global;
 
-/// The request that the bytes of a partition file hold. It has no more entries of each kind than the file has bytes.
+/// The request that the bytes of a partition file hold. It has at most as many entries of each kind as the file has
+/// bytes.
 ///
 /// # Errors
 ///
-/// `WrongKey`, exactly where the bytes hold none; `NoMemory`, where memory is refused.
+/// Returns `WrongKey` exactly if the bytes hold no request. Returns `NoMemory` if an allocation fails.
 pub fn read_partition(alloc: Global, bytes: &[u8]) -> Result<Request, PartFault>
     ensures request { IfOk result (IsPartition bytes.now) }
     ensures entries { IfOk result (HasAtMost (length bytes.now)) }
@@ -40,7 +41,7 @@ fn fault_of(alloc: Global, key: &str) -> PartFault
     }
 }
 
-// The request of a value.
+// The request that a value holds.
 fn request_of(alloc: Global, value: &Value) -> Result<Request, PartFault>
     ensures asks { IfOk result (Asks (view value.now)) }
     ensures wrong { IfErr result (IfKey (λ key. wrong_key (view value.now) ≡ Some key)) }

@@ -4,7 +4,7 @@ use gg_bits::{Items, Name, Names};
 /// Lists of names. A contract sees them as the list of the lists of their bytes.
 pub type Groups = Items<Names>;
 
-/// Names with a number each. A contract sees them as the list of pairs.
+/// Names, each with a number. A contract sees them as the list of pairs.
 pub type Capacities = Items<(Name, u64)>;
 
 /// What a partition asks for.

@@ -1,4 +1,4 @@
-//! Values of a shape.
+//! Values of a certain shape.
 ghost use Rattle.std.specs.Prelude.{◌≡◌, IfOk};
 ghost use Rattle.serde_json.specs.Find.{as_str};
 ghost use Rattle.serde_json.specs.View.{view, items_view, members_view};
@@ -19,7 +19,7 @@ pub(crate) fn texts_of(alloc: Global, value: &Value) -> Result<Option<Names>, Al
     }
 }
 
-// The texts that the items are.
+// The items as texts, if all of them are texts.
 fn text_list(alloc: Global, items: &[Value]) -> Result<Option<Names>, AllocError>
     ensures { IfOk result (λ found. each as_str (items_view items.now) ≡ found) }
 {
@@ -43,7 +43,7 @@ pub(crate) fn groups_of(alloc: Global, value: &Value) -> Result<Option<Groups>, 
     }
 }
 
-// The lists of texts that the items are.
+// The items as lists of texts, if all of them are such lists.
 fn group_list(alloc: Global, items: &[Value]) -> Result<Option<Groups>, AllocError>
     ensures { IfOk result (λ found. each texts (items_view items.now) ≡ found) }
 {
@@ -67,7 +67,7 @@ pub(crate) fn numbers_of(alloc: Global, value: &Value) -> Result<Option<Capaciti
     }
 }
 
-// The members with their whole numbers.
+// The members with their whole numbers, if all of them have one.
 fn pairs_of(alloc: Global, members: &Map<String, Value>) -> Result<Option<Capacities>, AllocError>
     ensures { IfOk result (λ found. pairs (members_view members.now.entries) ≡ found) }
 {

@@ -1,4 +1,4 @@
-//! What no clause says: that with ample memory there is an answer, and what a fault prints.
+//! What no contract says: with ample memory there is an answer. Also what a fault prints.
 use super::*;
 use gg_bits::Names;
 use std::test::Fail;

@@ -1,4 +1,5 @@
--- The parts of a plan while it is made: its machines, its channels but for their needs, and the needs of each channel.
+-- The parts of a plan while it is built: its machines, its channels without their needs, and the needs of each
+-- channel.
 -- Source: MEMOCODE 2009 (a network of machines that are latency-insensitive); ICCAD 2019 (instances and memories of a
 -- target as models of their own).
 use Rattle.std.specs.Prelude.{◌≡◌, ◌≢◌, ℕ, ◌<◌, ◌≤◌, List, [], length, map, slice_index_or, AllPairs}
@@ -30,7 +31,8 @@ pub record AreMachines (design : Ordered) (request : Request) (listed : Listed) 
   pub total : length machines ≡ machine_count design.circuit listed
   pub each : (m : ℕ) (any : Machine) → m < length machines → IsMachine design request listed wires m (slice_index_or machines m any)
 
--- A part whose needs can be told: a well-formed piece in an order of evaluation, whose ports are a machine's channels.
+-- A part whose needs can be computed: a well-formed piece in an order of evaluation, whose ports are a machine's
+-- channels.
 pub record IsServed (wires : List Wire) (part : Part) (taken given : List ℕ) : Type 0 where
   pub formed : IsWellFormed part.piece
   pub ordered : IsInOrder part.piece
@@ -45,19 +47,19 @@ IsServedBody wires (Memory part) taken given = IsServed wires part taken given
 IsServedBody wires Source taken given = Unit {0}
 IsServedBody wires Tray taken given = Unit {0}
 
--- machine m has its channels, and its needs can be told
+-- machine m has its channels, and its needs can be computed
 pub record IsFit (wires : List Wire) (m : ℕ) (machine : Machine) : Type 0 where
   pub ins : machine.ins ≡ channels_to wires m
   pub outs : machine.outs ≡ channels_from wires m
   pub body : IsServedBody wires machine.body machine.ins machine.outs
 
--- The needs of the channel of signal s that a part gives, ascending.
+-- The needs, ascending, of the channel of signal s that a part gives.
 pub record ArePartNeeds (part : Part) (channels : List ℕ) (s : ℕ) (told : List ℕ) : Type 0 where
   pub ascending : AllPairs (λ a b. a < b) told
   pub needs : (out : ℕ) → out < length part.globals → value_at part.globals out ≡ s → AreNeedsOf part channels out told
 
--- The first n of the channels `given` have in a table the channels at the places of their lists among `taken`; every other
--- channel has what it had before.
+-- In a table, the lists of the first n channels of `given` are set: each has the channels of `taken` at the places of
+-- its list. Every other channel keeps its list.
 pub record ArePut (taken given : List ℕ) (lists before : List (List ℕ)) (n : ℕ) (table : List (List ℕ)) : Type 0 where
   pub count : length table ≡ length before
   pub put : (i : ℕ) → i < n → slice_index_or table (value_at given i) [] ≡ map (value_at taken) (slice_index_or lists i [])
@@ -73,7 +75,7 @@ pub record AreTold (wires : List Wire) (machines : List Machine) (table : List (
   pub count : length table ≡ length wires
   pub each : (c : ℕ) (any : Machine) → c < length wires → AreGiven (slice_index_or machines (wire_at wires c).producer any) (wire_at wires c) (slice_index_or table c [])
 
--- a channel, but for its needs
+-- a channel, without its needs
 pub record IsWired (circuit : FlatCircuit) (capacity : List ℕ → ℕ) (w : Wire) (channel : Channel) : Type 0 where
   pub signal : channel.signal ≡ w.signal
   pub name : channel.name ≡ path_at circuit.paths w.signal
@@ -82,7 +84,7 @@ pub record IsWired (circuit : FlatCircuit) (capacity : List ℕ → ℕ) (w : Wi
   pub consumer : channel.consumer ≡ w.consumer
   pub bound : channel.capacity ≡ capacity (path_at circuit.paths w.signal)
 
--- the channels with the needs of a table
+-- the channels, with the needs of a table
 pub record AreWired (circuit : FlatCircuit) (capacity : List ℕ → ℕ) (wires : List Wire) (table : List (List ℕ)) (channels : List Channel) : Type 0 where
   pub count : length channels ≡ length wires
   pub each : (c : ℕ) (any : Channel) → c < length channels → IsWired circuit capacity (wire_at wires c) (slice_index_or channels c any)

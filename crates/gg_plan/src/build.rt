@@ -18,12 +18,13 @@ use gg_partfile::Request;
 use gg_split::split;
 use std::alloc::{AllocError, Global};
 
-/// The plan of a design, a request and the capacity of the channels that the request doesn't name. Each channel's
-/// capacity is from 1 to 4,096.
+/// The plan of a design and a request. `default_capacity` is the capacity of the channels that the request doesn't
+/// name. Each channel's capacity is from 1 to 4,096.
 ///
 /// # Errors
 ///
-/// The request's first fault (gg_cut's `first_fault`), exactly where it has one. `NoMemory`, where memory is refused.
+/// Returns the request's first fault (gg_cut's `first_fault`), exactly if it has one, or `NoMemory` if an allocation
+/// fails.
 pub fn cut(
     alloc: Global,
     design: &Design,
@@ -76,7 +77,7 @@ fn plan_of(
     })
 }
 
-// The channels of a request without a fault, between these machines.
+// The channels between these machines, for a request without a fault.
 fn channels_for(
     alloc: Global,
     design: &Design,
@@ -108,8 +109,8 @@ fn channels_for(
     Ok(channels)
 }
 
-/// The channels that a channel of a plan needs in a cycle, ascending: its producer has to have taken of these before it
-/// gives.
+/// The channels that a channel of a plan needs in a cycle, ascending. Its producer has to take a token of each of
+/// them before it gives one.
 pub fn deps(plan: &Plan, channel: u32) -> &[u32]
     requires { channel < length plan.now.channels }
     ensures { (any : Channel) → result.now ≡ (slice_index_or plan.now.channels channel any).needs }

@@ -8,11 +8,11 @@ use gg_bits::Name;
 use gg_flat::Piece;
 use std::alloc::{AllocError, Global};
 
-/// What a channel of each signal holds at most: the capacity that the request has for its path, else the default.
+/// The capacity of a channel of each signal: the one that the request gives for its path, else the default.
 ///
 /// # Errors
 ///
-/// Where memory is refused.
+/// Returns `AllocError` if an allocation fails.
 pub(crate) fn capacity_table(
     alloc: Global,
     piece: &Piece,
@@ -31,14 +31,14 @@ pub(crate) fn capacity_table(
     Ok(table)
 }
 
-// A number, so many times.
+// A list with `count` copies of a number.
 fn filled(alloc: Global, count: usize, number: u32) -> Result<Vec<u32>, AllocError>
     ensures { IfOk result (λ filled. filled.items ≡ replicate count number) }
 {
     vec![in alloc; number; count]
 }
 
-// Gives the signal of a path a capacity, if there is one.
+// Gives a signal the capacity, if there is a signal with this path.
 fn set_capacity(piece: &Piece, path: &Name, capacity: u32, table: &mut Vec<u32>)
     requires { length table.old.items ≡ length piece.now.signals }
     ensures count { length table.new.items ≡ length table.old.items }

@@ -14,11 +14,11 @@ use gg_cut::{Channel, Wire};
 use gg_flat::Piece;
 use std::alloc::{AllocError, Global};
 
-/// The channels of a circuit, by their numbers, with the needs of a table.
+/// The channels of a circuit, by their numbers. Their needs are given by a table.
 ///
 /// # Errors
 ///
-/// Where memory is refused.
+/// Returns `AllocError` if an allocation fails.
 pub(crate) fn channels_of(
     alloc: Global,
     piece: &Piece,
@@ -41,7 +41,7 @@ pub(crate) fn channels_of(
     Ok(channels)
 }
 
-// A channel with its capacity, of those that its signal's channel would have, and its needs.
+// A channel with its capacity, from a table by signals, and its needs.
 fn channel_at(
     alloc: Global,
     piece: &Piece,

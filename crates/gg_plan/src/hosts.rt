@@ -12,7 +12,7 @@ use std::alloc::{AllocError, Global};
 ///
 /// # Errors
 ///
-/// Where memory is refused.
+/// Returns `AllocError` if an allocation fails.
 pub(crate) fn hosts_of(
     alloc: Global,
     units: &[Name],
@@ -64,7 +64,7 @@ fn numbers(alloc: Global, count: usize) -> Result<Vec<u32>, AllocError>
     Ok(numbers)
 }
 
-// Gives the machines of a list the least of them.
+// Gives each machine of a list the least of these machines.
 fn lead(units: &[Name], group: &[Name], leaders: &mut Vec<u32>)
     requires units { length units.now < length leaders.old.items }
     requires few { length leaders.old.items < 2 ^ 32 }
@@ -87,7 +87,7 @@ fn set_all(units: &[Name], group: &[Name], number: u32, leaders: &mut Vec<u32>)
     }
 }
 
-// The least of the machines of a list and a number.
+// The least of a number and the machines of a list.
 fn least_of(units: &[Name], group: &[Name], number: u32) -> u32
     requires { length units.now < 2 ^ 32 - 1 }
     ensures { result ≡ least_machine units.now group.now number }
@@ -99,7 +99,7 @@ fn least_of(units: &[Name], group: &[Name], number: u32) -> u32
     least
 }
 
-// The machine of a unit's path; the hub, where it is none.
+// The machine of the unit with a path, or the hub if there is none.
 fn machine_of(units: &[Name], path: &Name) -> u32
     requires few { length units.now < 2 ^ 32 - 1 }
     ensures machine { result ≡ machine_of units.now path.now }
@@ -132,7 +132,7 @@ fn number_hosts(
     Ok(hosts)
 }
 
-// How many machines before each lead.
+// For each machine, the number of earlier machines that are the first of their host.
 fn firsts_before(alloc: Global, leaders: &[u32]) -> Result<Vec<u32>, AllocError>
     requires few { length leaders.now < 2 ^ 32 }
     ensures count { IfOk result (λ before. length before.items ≡ length leaders.now) }
@@ -147,7 +147,7 @@ fn firsts_before(alloc: Global, leaders: &[u32]) -> Result<Vec<u32>, AllocError>
     Ok(before)
 }
 
-// One, if a fact holds; else nothing.
+// 1 if a fact holds, else 0.
 fn one_if(holds: bool) -> u32
     ensures one { result ≡ (if holds then 1 else 0) }
     ensures small { result ≤ 1 }

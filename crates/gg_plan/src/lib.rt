@@ -1,13 +1,14 @@
-//! The plan of a cut: from a design and a request, the machines with their pieces and the channels with their needs.
+//! The plan of a cut: from a design and a request to the machines with their pieces and the channels with their
+//! needs.
 //!
-//! What a plan is gg_cut's `IsPlan` says. The crate promises:
+//! gg_cut's `IsPlan` defines what a plan is. The crate promises:
 //!
-//! - `cut` gives the plan of a design and a request exactly where the request has no fault, and else its first fault; each
-//!   channel's capacity is from 1 to 4,096;
-//! - `deps` answers the channels that a channel of a plan needs, and takes no memory.
+//! - `cut` returns the plan of a design and a request exactly if the request has no fault, and else its first fault.
+//!   Each channel's capacity is from 1 to 4,096;
+//! - `deps` returns the channels that a channel of a plan needs. It allocates nothing.
 //!
-//! The time that `cut` takes is that of gg_split, gg_part and gg_needs, and linear besides; but to find the hosts it
-//! compares each entry of `share` with the units, of which there are at most 256.
+//! The time that `cut` takes is that of gg_split, gg_part and gg_needs, and otherwise linear, with one exception: to
+//! find the hosts it compares each entry of `share` with the units, of which there are at most 256.
 #![tactic(auto)]
 
 mod build;

@@ -14,7 +14,7 @@ use std::alloc::{AllocError, Global};
 ///
 /// # Errors
 ///
-/// Where memory is refused.
+/// Returns `AllocError` if an allocation fails.
 pub(crate) fn machine_name(
     alloc: Global,
     design: &Design,
@@ -47,7 +47,7 @@ pub(crate) fn machine_name(
     port_name(alloc, "out:", design.piece(), outs[source - ins.len()])
 }
 
-// The path of a memory, by its place in the tree; the empty path, where there is none.
+// The path of a memory, by its place in the tree; the empty path if there is none.
 fn memory_name(alloc: Global, tree: &Tree, place: u32) -> Result<Name, AllocError>
     ensures { IfOk result (λ name. name ≡ path_at tree.now.memory_paths place) }
 {
@@ -57,7 +57,7 @@ fn memory_name(alloc: Global, tree: &Tree, place: u32) -> Result<Name, AllocErro
     }
 }
 
-// A word and the path of a signal behind it.
+// A word followed by the path of a signal.
 fn port_name(alloc: Global, word: &str, piece: &Piece, signal: u32) -> Result<Name, AllocError>
     ensures { IfOk result (λ name. name ≡ word.now ++ path_at piece.now.paths signal) }
 {
@@ -67,11 +67,11 @@ fn port_name(alloc: Global, word: &str, piece: &Piece, signal: u32) -> Result<Na
     Ok(Name::from(text))
 }
 
-/// The path of a signal; the empty path, where there is none.
+/// The path of a signal; the empty path if there is none.
 ///
 /// # Errors
 ///
-/// Where memory is refused.
+/// Returns `AllocError` if an allocation fails.
 pub(crate) fn signal_name(alloc: Global, piece: &Piece, signal: u32) -> Result<Name, AllocError>
     ensures { IfOk result (λ name. name ≡ path_at piece.now.paths signal) }
 {

@@ -16,7 +16,7 @@ use std::mem::replace;
 ///
 /// # Errors
 ///
-/// Where memory is refused.
+/// Returns `AllocError` if an allocation fails.
 pub(crate) fn needs_table(
     alloc: Global,
     wires: &[Wire],
@@ -33,7 +33,7 @@ pub(crate) fn needs_table(
     Ok(table)
 }
 
-// So many empty lists.
+// A list with `count` empty lists.
 fn empty_lists(alloc: Global, count: usize) -> Result<Vec<Ids>, AllocError>
     ensures { IfOk result (λ lists. lists.items ≡ replicate count []) }
 {
@@ -44,7 +44,7 @@ fn empty_lists(alloc: Global, count: usize) -> Result<Vec<Ids>, AllocError>
     Ok(lists)
 }
 
-// Tells the needs of the channels that a machine gives, where they have none yet.
+// Writes the needs of the channels that a machine gives into the table.
 fn tell_machine(
     alloc: Global,
     wires: &[Wire],
@@ -68,7 +68,7 @@ fn tell_machine(
     }
 }
 
-// Tells the needs of the channels that a machine with a part gives.
+// Writes the needs of the channels that a machine with a part gives into the table.
 fn tell_part(
     alloc: Global,
     wires: &[Wire],
@@ -93,7 +93,8 @@ fn tell_part(
     Ok(())
 }
 
-// Puts lists of channels in the places of channels: of each list of places among `ins` the channels at these.
+// Writes lists into the table at the channels `outs`. The list for a channel has the channels of `ins` at the places
+// that `lists` gives.
 fn put_all(alloc: Global, lists: &mut Vec<Ids>, ins: &[u32], outs: &[u32], table: &mut Vec<Ids>)
     requires count { length lists.old.items ≡ length outs.now }
     requires places { (i : ℕ) → i < length outs.now → All (λ place. place < length ins.now) (slice_index_or lists.old.items i []) }
@@ -116,7 +117,7 @@ pub(crate) fn take_list(alloc: Global, lists: &mut Vec<Ids>, place: usize) -> Id
     replace(&mut lists[place], Ids::from(Vec::new(alloc)))
 }
 
-// The values at a list of places.
+// The values at these places, in the same list.
 fn renamed(list: Ids, values: &[u32]) -> Ids
     requires { All (λ place. place < length values.now) list }
     ensures { result ≡ map (value_at values.now) list }

@@ -1,4 +1,4 @@
-//! The parts of the circuit that machines run.
+//! The parts of the circuit that the machines run.
 ghost use Rattle.std.specs.Prelude.{◌≡◌, ◌<◌, length, All, IfOk};
 ghost use Rattle.gg_cut.specs.Channels.{first_source};
 ghost use Rattle.gg_cut.specs.Plan.{signals_of, IsCutPart};
@@ -11,11 +11,11 @@ use gg_part::{Part, part_in_order, part_of};
 use gg_split::Share;
 use std::alloc::{AllocError, Global};
 
-/// The part of a machine that runs one, by its number.
+/// The part of a machine that has one, by the machine's number.
 ///
 /// # Errors
 ///
-/// Where memory is refused.
+/// Returns `AllocError` if an allocation fails.
 pub(crate) fn cut_part(
     alloc: Global,
     design: &Design,
@@ -60,7 +60,7 @@ fn signals(alloc: Global, wires: &[Wire], channels: &[u32]) -> Result<Vec<u32>, 
 ///
 /// # Errors
 ///
-/// Where memory is refused.
+/// Returns `AllocError` if an allocation fails.
 pub(crate) fn copied(alloc: Global, numbers: &[u32]) -> Result<Ids, AllocError>
     ensures { IfOk result (λ copy. copy ≡ numbers.now) }
 {

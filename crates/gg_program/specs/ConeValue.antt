@@ -7,27 +7,27 @@ use Rattle.gg_flat.specs.State.{State}
 use Rattle.gg_flat.specs.Settled.{Settled}
 use Rattle.gg_flat.specs.Reads.{Reaches}
 
--- two lists of inputs, in port order, have alike those that a signal needs
+-- two lists of inputs, in port order, agree on those that a signal needs
 abbrev pub NeedsAlike : FlatCircuit → ℕ → List ℕ → List ℕ → Type 0
 NeedsAlike circuit out inputs others =
     (place : ℕ) → place < length circuit.ins → Reaches circuit out (value_at circuit.ins place)
     → value_at inputs place ≡ value_at others place
 
--- in a row the in-signals that a signal reaches have these inputs, in port order
+-- in a row, the in-signals that a signal reaches have these inputs, in port order
 abbrev pub HasNeeds : FlatCircuit → List ℕ → ℕ → List ℕ → Type 0
 HasNeeds circuit inputs out row =
     (place : ℕ) → place < length circuit.ins → Reaches circuit out (value_at circuit.ins place)
     → value_at row (value_at circuit.ins place) ≡ value_at inputs place
 
--- some row is settled in this state, with some inputs, and has those of these inputs that the signal needs
+-- some row is settled in this state, with some inputs, and has those of the given inputs that the signal needs
 pub record MaySettle (circuit : FlatCircuit) (state : State) (inputs : List ℕ) (out : ℕ) : Type 0 where
   pub others : List ℕ
   pub row : List ℕ
   pub settled : Settled circuit state others row
   pub needs : HasNeeds circuit inputs out row
 
--- The value that a signal has in every row that is settled in this state, whatever its inputs, and has those of these
--- inputs, in port order, that the signal needs. There is such a row.
+-- The value that a signal has in every row that is settled in this state, with any inputs, and that has those of the
+-- given inputs, in port order, that the signal needs. There is such a row.
 pub record IsConeValue (circuit : FlatCircuit) (state : State) (inputs : List ℕ) (out value : ℕ) : Type 0 where
   pub every : (others row : List ℕ) → Settled circuit state others row → HasNeeds circuit inputs out row → value_at row out ≡ value
   pub some : MaySettle circuit state inputs out

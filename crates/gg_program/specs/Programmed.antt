@@ -11,7 +11,8 @@ pub record Programmed : Type 0 where
   pub circuit : FlatCircuit
   pub needs : List (List ℕ)
 
--- The circuit is well formed, and its signals stand in an order of evaluation; the lists are what its out-signals need.
+-- The circuit is well formed, and its signals are in an order of evaluation. The lists are the needs of its
+-- out-signals.
 pub record IsProgram (circuit : FlatCircuit) (needs : List (List ℕ)) : Type 0 where
   pub formed : IsWellFormed circuit
   pub ordered : IsInOrder circuit

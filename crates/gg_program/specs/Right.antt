@@ -1,4 +1,4 @@
--- Values that are right where they are done, and a cycle that is worked out.
+-- Values that are right for the signals that are done, and a complete cycle.
 -- Source: FIRRTL Specification (the settled cycle of gg_flat's `Settled`), signal by signal.
 use Rattle.std.specs.Prelude.{◌≡◌, ◌≢◌, ℕ, ◌<◌, List, length}
 use Rattle.gg_flat.specs.declared.piece.Driver.TheVariants.{Input}
@@ -9,8 +9,8 @@ use Rattle.gg_flat.specs.State.{State, next_state}
 use Rattle.gg_flat.specs.Settled.{Settled, driver_value}
 use Rattle.gg_program.specs.Slots.{Slotted, IsDone, AreSlots, inputs_in}
 
--- Each signal that is done has its driver's value, where the inputs are those in the places of the in-signals; and all that
--- it reads is done.
+-- Each signal that is done has its driver's value, for the inputs in the places of the in-signals. All that it reads
+-- is done.
 pub record AreRight (circuit : FlatCircuit) (state : State) (values : List ℕ) (Done : ℕ → Type 0) : Type 0 where
   pub closed : (a b : ℕ) → Done a → Reads circuit a b → Done b
   pub driven : (s : ℕ) → s < length circuit.signals → Done s → value_at values s ≡ driver_value state (inputs_in circuit values) values (shape_at (signal_shapes circuit) s) (driver_at circuit s)
@@ -20,7 +20,8 @@ pub record InCycle (circuit : FlatCircuit) (state : State) (slots : Slotted) : T
   pub held : AreSlots circuit slots
   pub right : AreRight circuit state slots.values (IsDone slots)
 
--- The cycle from one state to another with these inputs: there are settled values, and the other state is the next by them.
+-- The cycle from one state to another with these inputs: there are settled values, and the other state is the next
+-- one by them.
 pub record IsCycle (circuit : FlatCircuit) (before : State) (inputs : List ℕ) (after : State) : Type 0 where
   pub signals : List ℕ
   pub settled : Settled circuit before inputs signals

@@ -1,4 +1,4 @@
--- Slots: the values of the signals in a cycle, and which of them stand already.
+-- Slots: the values of the signals in a cycle, and which of them are there already.
 -- Source: MEMOCODE 2009 (a node gets its inputs one by one, and gives each output as soon as it can).
 use Rattle.std.specs.Prelude.{◌≡◌, ◌⊎◌, ◌↔◌, ℕ, ◌<◌, List, length, map, Bool, true, false, slice_index_or, slice_set}
 use Rattle.gg_flat.specs.Line.{value_at, AreTyped}
@@ -6,13 +6,13 @@ use Rattle.gg_flat.specs.Circuit.{FlatCircuit, signal_shapes}
 use Rattle.gg_flat.specs.Reads.{Reaches}
 use Rattle.gg_flat.specs.Room.{HasRoom}
 
--- A place for the value of each signal, a mark for each signal whose value stands there, and room for this many nodes.
+-- A place for the value of each signal, a mark for each signal whose value is there, and room for this many nodes.
 pub record Slotted : Type 0 where
   pub values : List ℕ
   pub done : List Bool
   pub room : ℕ
 
--- a signal is done: its value of this cycle stands in its place
+-- a signal is done: its value of this cycle is in its place
 abbrev pub IsDone : Slotted → ℕ → Type 0
 IsDone slots s = slice_index_or slots.done s false ≡ true
 
@@ -20,11 +20,11 @@ IsDone slots s = slice_index_or slots.done s false ≡ true
 abbrev pub NoneDone : Slotted → Type 0
 NoneDone slots = (s : ℕ) → ¬ IsDone slots s
 
--- the inputs, in port order: what stands in the places of the in-signals
+-- the inputs, in port order: the values in the places of the in-signals
 abbrev pub inputs_in : FlatCircuit → List ℕ → List ℕ
 inputs_in circuit values = map (λ s. value_at values s) circuit.ins
 
--- slots of a circuit: the values are of their signals' types, each signal has a mark, and there is room for each line
+-- slots of a circuit: the values have their signals' types, each signal has a mark, and there is room for each line
 pub record AreSlots (circuit : FlatCircuit) (slots : Slotted) : Type 0 where
   pub typed : AreTyped (signal_shapes circuit) slots.values
   pub count : length slots.done ≡ length circuit.signals
@@ -51,6 +51,6 @@ with_input circuit slots place input =
       room = slots.room;
     }
 
--- what was done is done, and what a signal reaches; nothing else is
+-- exactly what was done before, and what a signal reaches, is done
 abbrev pub DoneWith : FlatCircuit → ℕ → Slotted → Slotted → Type 0
 DoneWith circuit out before after = (s : ℕ) → IsDone after s ↔ (IsDone before s ⊎ Reaches circuit out s)

@@ -1,4 +1,4 @@
-//! Signals worked out one after another, each in its place.
+//! Evaluates signals one after another, each into its place.
 ghost use Rattle.std.specs.Prelude.{◌≡◌, ◌⊎◌, ℕ, ◌<◌, ◌≤◌, List, [], length, Bool, true, All, Contains};
 ghost use Rattle.gg_bits.specs.Shape.{shape, Fits};
 ghost use Rattle.gg_flat.specs.Line.{shape_at, value_at, AreTyped};
@@ -15,7 +15,7 @@ ghost use Rattle.gg_program.specs.Search.{StandBehind};
 
 use gg_flat::{Piece, Signal, State};
 
-/// Works out these signals, each behind all that it reads.
+/// Evaluates these signals, each after all signals that it reads.
 pub(crate) fn work_out(
     piece: &Piece,
     signals: &[u32],
@@ -39,7 +39,7 @@ pub(crate) fn work_out(
     }
 }
 
-/// Works out all signals that aren't marked, from the first to the last. The in-signals are marked.
+/// Evaluates all signals that aren't marked, from the first to the last. The in-signals are marked.
 pub(crate) fn work_rest(
     piece: &Piece,
     marks: &[bool],
@@ -67,7 +67,7 @@ pub(crate) fn work_rest(
     }
 }
 
-// The value of a signal that isn't an in-signal, from those of the signals that it reads.
+// The value of a signal that isn't an in-signal, from the values of the signals that it reads.
 fn worked(piece: &Piece, signal: u32, state: &State, values: &[u128], room: &mut [u128]) -> u128
     requires formed { IsWellFormed piece.now }
     requires inner { IsInner piece.now signal }
@@ -80,7 +80,7 @@ fn worked(piece: &Piece, signal: u32, state: &State, values: &[u128], room: &mut
     driven(&piece.signals()[signal as usize], state, values, room)
 }
 
-// What a signal's driver gives.
+// The value that a signal's driver gives.
 fn driven(signal: &Signal, state: &State, values: &[u128], room: &mut [u128]) -> u128
     requires source { HasSource state.now [] values.now (shape signal.now.ty) signal.now.driver }
     requires room { line_length signal.now.driver ≤ length room.old }

@@ -1,16 +1,18 @@
 //! Programs: what a unit of a cut circuit computes, output by output.
 //!
-//! A [`Program`] is a well-formed circuit in an order of evaluation, with what each out-signal needs. [`Slots`] hold the values of
-//! one cycle: an input is put into its place, and each signal is worked out at most once a cycle, whatever the number of
-//! out-signals that reach it. The crate promises:
+//! A [`Program`] is a well-formed circuit in an order of evaluation, with the needs of each out-signal. [`Slots`]
+//! hold the values of one cycle. A signal is done if its value of this cycle is in its place. An input is put into
+//! its place, and each signal is evaluated at most once a cycle, regardless of how many out-signals reach it. The
+//! crate promises:
 //!
-//! - `Program::needs` is just the in-signals to which a path of reads leads from the out-signal;
-//! - `Program::run_cone` gives the value that the out-signal has in every settled row of the state that has the needed
-//!   inputs, so it depends on no other (`one_cone_value`). Then just what was done, and what the out-signal
-//!   reaches, is done;
-//! - `Program::run_next` goes to the next state by the settled values with the inputs that were put, and nothing is done then.
+//! - `Program::needs` is exactly the in-signals to which a path of reads leads from the out-signal;
+//! - `Program::run_cone` gives the value that the out-signal has in every settled row of the state that has the
+//!   needed inputs. So the value depends on no other input (`one_cone_value`). Afterwards exactly those signals are
+//!   done that were done before or that the out-signal reaches;
+//! - `Program::run_next` goes to the next state by the settled values with the inputs that were put. Afterwards no
+//!   signal is done.
 //!
-//! Only `Program::of` and `Program::slots` take memory.
+//! Only `Program::of` and `Program::slots` allocate.
 #![tactic(auto)]
 
 mod ascend;

@@ -1,4 +1,4 @@
-//! `Program`: a piece in an order of evaluation, with what each out-signal needs.
+//! `Program`: a piece in an order of evaluation, with the needs of each out-signal.
 ghost use Rattle.std.specs.Prelude.{◌≡◌, ℕ, ◌<◌, [], length, slice_index_or, slice_set, IfOk};
 ghost use Rattle.gg_bits.specs.Shape.{Fits};
 ghost use Rattle.gg_flat.specs.Line.{shape_at, value_at};
@@ -20,7 +20,7 @@ use std::error::Error;
 use std::fmt;
 use std::marker::Model;
 
-/// Memory was refused.
+/// An allocation failed.
 #[derive(Clone, Copy, Debug, PartialEq, Eq)]
 pub struct NoMemory;
 
@@ -45,7 +45,8 @@ impl fmt::Display for NoMemory {
 
 impl Error for NoMemory {}
 
-/// A piece in an order of evaluation, with what each of its out-signals needs. A contract sees the circuit and the needs.
+/// A piece in an order of evaluation, with the needs of each of its out-signals. A contract sees the circuit and the
+/// needs.
 #[derive(Drop)]
 pub struct Program<'a> {
     piece: &'a Piece,
@@ -63,11 +64,11 @@ impl<'a> Model for Program<'a> {
 }
 
 impl<'a> Program<'a> {
-    /// The program of a piece. The piece is well formed, and each of its signals reads only such as stand before it.
+    /// The program of a piece. The piece is well formed, and each of its signals reads only earlier signals.
     ///
     /// # Errors
     ///
-    /// `NoMemory`, where memory is refused.
+    /// Returns `NoMemory` if an allocation fails.
     pub fn of(alloc: Global, piece: &'a Piece) -> Result<Program<'a>, NoMemory>
         requires formed { IsWellFormed piece.now }
         requires ordered { IsInOrder piece.now }
@@ -78,7 +79,8 @@ impl<'a> Program<'a> {
         Ok(Program { piece, needs })
     }
 
-    /// The circuit, which is well formed and in an order of evaluation; its needs are those of its out-signals.
+    /// The circuit, which is well formed and in an order of evaluation. The program's needs are those of its
+    /// out-signals.
     pub fn piece(&self) -> &Piece
         ensures circuit { result.now ≡ self.now.circuit }
         ensures formed { IsWellFormed self.now.circuit }
@@ -88,8 +90,8 @@ impl<'a> Program<'a> {
         self.piece
     }
 
-    /// What the out-signal at this place needs: the places, ascending, of just the in-signals to which a path of reads
-    /// leads from it.
+    /// What the out-signal at this place needs: the places of exactly the in-signals to which a path of reads leads
+    /// from it, ascending.
     pub fn needs(&self, out: u32) -> &[u32]
         requires { out < length self.now.circuit.outs }
         ensures exact { AreNeeds self.now.circuit (value_at self.now.circuit.outs out) result.now }
@@ -98,11 +100,11 @@ impl<'a> Program<'a> {
         self.needs[out as usize].as_slice()
     }
 
-    /// Slots for the program, in which nothing is done.
+    /// Slots for the program, in which no signal is done.
     ///
     /// # Errors
     ///
-    /// `NoMemory`, where memory is refused.
+    /// Returns `NoMemory` if an allocation fails.
     pub fn slots(&self, alloc: Global) -> Result<Slots, NoMemory>
         ensures none { IfOk result (λ slots. NoneDone slots) }
         ensures cycle { IfOk result (λ slots. (state : State) → InCycle self.now.circuit state slots) }
@@ -111,9 +113,11 @@ impl<'a> Program<'a> {
         Ok(slots)
     }
 
-    /// Puts the input at this place in port order into the place of its in-signal, which is done then. Nothing else changes.
+    /// Puts the input at this place, in port order, into the place of its in-signal. The in-signal is done then.
+    /// Nothing else changes.
     ///
-    /// It is of the in-signal's type, and the in-signal isn't done. The slots are of the program's circuit.
+    /// The input has the in-signal's type, and the in-signal isn't done yet. The slots are those of the program's
+    /// circuit.
     pub fn put(&self, slots: &mut Slots, place: u32, input: u128)
         requires place { place < length self.now.circuit.ins }
         requires typed { Fits (shape_at (in_shapes self.now.circuit) place) input }
@@ -127,10 +131,11 @@ impl<'a> Program<'a> {
         slots.put(piece.ins()[place as usize], input);
     }
 
-    /// The value of the out-signal at this place, in this state and with the inputs that it needs, which were put. It depends
-    /// on no other input. What it reaches is done then, beside what was; just what wasn't is worked out. It takes no memory.
+    /// The value of the out-signal at this place, in this state and with the inputs that it needs, which were put
+    /// before. It depends on no other input. What the out-signal reaches is done then, in addition to what was done
+    /// before. Only what wasn't done is evaluated. It allocates nothing.
     ///
-    /// State and slots are of the program's circuit, in a cycle from this state.
+    /// State and slots are those of the program's circuit, in a cycle from this state.
     pub fn run_cone(&self, state: &State, slots: &mut Slots, out: u32) -> u128
         requires out { out < length self.now.circuit.outs }
         requires state { IsState self.now.circuit state.now }
@@ -147,10 +152,10 @@ impl<'a> Program<'a> {
         slots.value(signal)
     }
 
-    /// One cycle, where all inputs were put: the state becomes the next one by the settled values with these inputs, and
-    /// nothing is done any more. It works out just what isn't done, and takes no memory.
+    /// Completes a cycle for which all inputs were put. The state becomes the next one by the settled values with
+    /// these inputs, and no signal is done any more. Only what isn't done is evaluated. It allocates nothing.
     ///
-    /// State and slots are of the program's circuit, in a cycle from this state.
+    /// State and slots are those of the program's circuit, in a cycle from this state.
     pub fn run_next(&self, state: &mut State, slots: &mut Slots)
         requires state { IsState self.now.circuit state.old }
         requires cycle { InCycle self.now.circuit state.old slots.old }

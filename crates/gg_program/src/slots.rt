@@ -1,4 +1,4 @@
-//! `Slots`: the values of a cycle, and which of them stand already.
+//! `Slots`: the values of a cycle, and which of them are there already.
 ghost use Rattle.std.specs.Prelude.{◌≡◌, ◌⊎◌, ℕ, ◌<◌, length, replicate, true, false, slice_set, IfOk};
 ghost use Rattle.gg_flat.specs.Line.{value_at};
 ghost use Rattle.gg_flat.specs.WellFormed.{IsWellFormed};
@@ -13,7 +13,8 @@ use gg_flat::{Piece, State};
 use std::alloc::{AllocError, Global};
 use std::marker::Model;
 
-/// The values of a cycle. A contract sees the value of each signal, which of them are done, and the room for the nodes of a line.
+/// The values of a cycle. A contract sees the value of each signal, which of them are done, and the room for the
+/// nodes of a line.
 #[derive(Drop)]
 pub struct Slots {
     values: Vec<u128>,
@@ -56,7 +57,7 @@ impl Slots {
         })
     }
 
-    // Puts the value of a signal into its place, which is done then.
+    // Puts the value of a signal into its place. The signal is done then.
     pub(crate) fn put(&mut self, signal: u32, value: u128)
         requires value { signal < length self.old.values }
         requires done { signal < length self.old.done }
@@ -74,7 +75,7 @@ impl Slots {
         self.values[signal as usize]
     }
 
-    // Works out what a signal reaches and isn't done. All inputs that it needs are.
+    // Evaluates what a signal reaches and isn't done. All inputs that it needs are done.
     pub(crate) fn reach(&mut self, piece: &Piece, state: &State, signal: u32)
         requires formed { IsWellFormed piece.now }
         requires ordered { IsInOrder piece.now }
@@ -98,7 +99,7 @@ impl Slots {
         self.search.forget();
     }
 
-    // Works out what isn't done, and goes to the next state. All inputs are done, and then nothing is.
+    // Evaluates what isn't done, and goes to the next state. All inputs are done. Afterwards nothing is.
     pub(crate) fn next(&mut self, piece: &Piece, state: &mut State)
         requires formed { IsWellFormed piece.now }
         requires ordered { IsInOrder piece.now }

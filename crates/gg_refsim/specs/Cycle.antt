@@ -6,7 +6,7 @@ use Rattle.gg_flat.specs.Circuit.{FlatCircuit}
 use Rattle.gg_flat.specs.State.{State, next_state}
 use Rattle.gg_flat.specs.Settled.{Settled}
 
--- what a contract sees of a simulator: a circuit, and the state that it is in
+-- what a contract sees of a simulator: a circuit, and the simulator's state
 pub record Simulation : Type 0 where
   pub circuit : FlatCircuit
   pub state : State
@@ -15,8 +15,8 @@ pub record Simulation : Type 0 where
 abbrev pub outputs : FlatCircuit → List ℕ → List ℕ
 outputs circuit row = map (λ s. value_at row s) circuit.outs
 
--- A cycle with these inputs leads from a state to another: some row is settled in the first with the inputs, the other
--- is the next state by this row, and `printed` has the row's outputs.
+-- A cycle with these inputs leads from one state to another. Some row is settled in the first state with the inputs,
+-- the second is the next state by this row, and `printed` has the row's outputs.
 pub record Cycle (circuit : FlatCircuit) (before : State) (inputs printed : List ℕ) (after : State) : Type 0 where
   pub row : List ℕ
   pub settled : Settled circuit before inputs row

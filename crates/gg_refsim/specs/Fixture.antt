@@ -6,7 +6,7 @@ use Rattle.gg_flat.specs.declared.tree.Instance.{Instance}
 use Rattle.gg_flat.specs.Circuit.{FlatCircuit}
 use Rattle.gg_flat.specs.Tree.{InstanceTree, joined}
 
--- the fields of the memory, behind its name: `r.addr`, `r.en`, `r.data`, `w.addr`, `w.en`, `w.data` and `w.mask`
+-- the fields of the memory, without its name: `r.addr`, `r.en`, `r.data`, `w.addr`, `w.en`, `w.data` and `w.mask`
 abbrev pub field_names : List (List ℕ)
 field_names =
     (114 ∷ 46 ∷ 97 ∷ 100 ∷ 100 ∷ 114 ∷ [])

@@ -14,7 +14,7 @@ use std::error::Error;
 use std::fmt;
 use std::marker::Model;
 
-/// Memory was refused.
+/// An allocation failed.
 #[derive(Clone, Copy, Debug, PartialEq, Eq)]
 pub struct NoMemory;
 
@@ -39,7 +39,7 @@ impl fmt::Display for NoMemory {
 
 impl Error for NoMemory {}
 
-/// A simulator of a design's circuit. A contract sees the circuit and the state that it is in.
+/// A simulator of a design's circuit. A contract sees the circuit and the simulator's state.
 #[derive(Drop)]
 pub struct Mono<'a> {
     design: &'a Design,
@@ -65,7 +65,7 @@ impl<'a> Mono<'a> {
     ///
     /// # Errors
     ///
-    /// `NoMemory`, where memory is refused.
+    /// Returns `NoMemory` if an allocation fails.
     pub fn new(alloc: Global, design: &'a Design) -> Result<Mono<'a>, NoMemory>
         ensures circuit { IfOk result (λ mono. mono.circuit ≡ design.now.circuit) }
         ensures opening { IfOk result (λ mono. mono.state ≡ opening design.now.circuit) }
@@ -89,14 +89,15 @@ impl<'a> Mono<'a> {
         ensures ordered { (order : List ℕ) × IsOrder self.now.circuit order }
         ensures typed { IsState self.now.circuit self.now.state }
     {
-        // for what the design says of its order
+        // for what the design's contract says of its order
         let _ = self.design.order();
         self.design.piece()
     }
 
-    /// One cycle: puts the outputs, in port order, into `outs`, and goes to the next state. It takes no memory.
+    /// Makes one cycle: puts the outputs, in port order, into `outs`, and goes to the next state. It allocates
+    /// nothing.
     ///
-    /// The inputs stand in port order: one for each in-signal, of its type. `outs` has a place for each out-signal.
+    /// The inputs are in port order, one for each in-signal, of its type. `outs` has a place for each out-signal.
     pub fn cycle(&mut self, inputs: &[u128], outs: &mut [u128])
         requires inputs { IsInputs self.old.circuit inputs.now }
         requires outs { length outs.old ≡ length self.old.circuit.outs }

@@ -1,4 +1,5 @@
-//! What no clause says: that there is a simulator with ample memory; and what a memory of each kind gives, run.
+//! What no contract says: with ample memory there is a simulator. Also what a memory of each kind gives when it is
+//! run.
 ghost use Rattle.std.specs.Prelude.{◌≡◌, ◌∷◌, ◌++◌, [], List, ℕ, length, take, IfOk};
 ghost use Rattle.gg_flat.specs.Circuit.{no_circuit};
 ghost use Rattle.gg_flat.specs.Settled.{in_shapes};
@@ -21,7 +22,7 @@ fn line(alloc: Global, ty: Ty, op: Op) -> Result<Line, AllocError> {
     Ok(line)
 }
 
-// Adds a signal, as the last.
+// Adds a signal at the end.
 fn add(alloc: Global, piece: &mut Piece, path: &str, ty: Ty, driver: Driver) -> Result<(), Fail>
     ensures { IfOk result (λ _. (paths : List (List ℕ)) → HasSignals piece.old paths → HasSignals piece.new (paths ++ path.now ∷ [])) }
 {
@@ -33,7 +34,7 @@ fn add(alloc: Global, piece: &mut Piece, path: &str, ty: Ty, driver: Driver) -> 
     Ok(())
 }
 
-// Adds a signal that is always this value.
+// Adds a signal that always has this value.
 fn add_constant(
     alloc: Global,
     piece: &mut Piece,
@@ -47,7 +48,8 @@ fn add_constant(
     add(alloc, piece, path, ty, Driver::Computed(line))
 }
 
-// Adds the output `o`, which is what the memory's reader gives, and the fields of the reader, which reads address 0.
+// Adds the output `o`, which is what the memory's reader gives, and the fields of the reader. The reader reads
+// address 0.
 fn add_reader(alloc: Global, piece: &mut Piece, latency: Latency) -> Result<(), Fail>
     ensures { IfOk result (λ _. HasSignals piece.old [] → HasSignals piece.new (take 4 fixture_paths)) }
 {

@@ -11,19 +11,19 @@ use Rattle.gg_split.specs.declared.share.Share.{Share}
 abbrev pub IsShare : Ordered → Listed → ℕ → Share → Type 0
 IsShare design listed m share = IsShareOf design listed (wires_of design.circuit design.tree listed) m share.ins share.outs share.globals share.memories
 
--- what the machines of a cut have: as many as machines
+-- what the machines of a cut have: one share for each machine
 pub record AreShares (design : Ordered) (listed : Listed) (shares : List Share) : Type 0 where
   pub many : length shares ≡ machine_count design.circuit listed
   pub each : (m : ℕ) (any : Share) → m < machine_count design.circuit listed → IsShare design listed m (slice_index_or shares m any)
 
--- a share has what stands for machine m in four lists of lists
+-- a share has the entries of machine m in four lists of lists
 pub record IsGathered (ins outs globals memories : List (List ℕ)) (m : ℕ) (share : Share) : Type 0 where
   pub takes : share.ins ≡ slice_index_or ins m []
   pub gives : share.outs ≡ slice_index_or outs m []
   pub signals : share.globals ≡ slice_index_or globals m []
   pub banks : share.memories ≡ slice_index_or memories m []
 
--- so many shares, each of which has what stands in the lists for its machine
+-- `count` shares; each has the entries of its machine in the lists
 pub record AreGathered (ins outs globals memories : List (List ℕ)) (count : ℕ) (shares : List Share) : Type 0 where
   pub many : length shares ≡ count
   pub each : (m : ℕ) (any : Share) → m < count → IsGathered ins outs globals memories m (slice_index_or shares m any)

@@ -1,6 +1,6 @@
 -- What a machine of a cut has.
--- Source: MEMOCODE 2009 (the nodes of a network, with the channels that each takes and gives); ICCAD 2019 (instances and memories
--- of a target as models of their own).
+-- Source: MEMOCODE 2009 (the nodes of a network, with the channels that each takes and gives); ICCAD 2019 (instances
+-- and memories of a target as models of their own).
 use Rattle.std.specs.Prelude.{◌≡◌, ◌↔◌, ◌⊎◌, ℕ, ◌<◌, List, Contains}
 use Rattle.gg_order.specs.Design.{Ordered}
 use Rattle.gg_part.specs.InOrder.{IsAlong}
@@ -10,8 +10,9 @@ use Rattle.gg_cut.specs.declared.wires.Wire.{Wire}
 use Rattle.gg_cut.specs.Channels.{first_source}
 use Rattle.gg_cut.specs.Plan.{channels_to, channels_from, signals_of, Makes, Takes, HasMemory}
 
--- What machine m has: the channels that it takes and those that it gives, in order; just the signals that it makes or takes, along
--- the order of evaluation; and just the memories that belong to it. They make a part, where m is the hub, a unit or a memory.
+-- What machine m has: the channels that it takes and those that it gives, in order; exactly the signals that it makes
+-- or takes, along the order of evaluation; and exactly the memories that belong to it. If m is the hub, a unit or a
+-- memory, these make a part.
 pub record IsShareOf (design : Ordered) (listed : Listed) (wires : List Wire) (m : ℕ) (ins outs globals memories : List ℕ) : Type 0 where
   pub takes : ins ≡ channels_to wires m
   pub gives : outs ≡ channels_from wires m

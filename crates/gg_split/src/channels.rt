@@ -15,7 +15,7 @@ use std::alloc::{AllocError, Global};
 ///
 /// # Errors
 ///
-/// Where memory is refused.
+/// Returns `AllocError` if an allocation fails.
 pub(crate) fn channels(
     alloc: Global,
     piece: &Piece,
@@ -98,7 +98,7 @@ fn push_units(
     Ok(())
 }
 
-// The machine outside an instance, by those of all instances.
+// The machine outside an instance, from the machines of all instances.
 fn outside_of(piece: &Piece, tree: &Tree, owners: &[u32], place: u32) -> u32
     requires fitting { IsTree piece.now tree.now }
     requires known { place < length tree.now.instances }
@@ -219,7 +219,7 @@ fn push_writers(
     Ok(())
 }
 
-// The channel of a signal from a machine to another.
+// The channel of a signal from one machine to another.
 fn to(signal: u32, producer: u32, consumer: u32) -> Wire
     ensures { result ≡ wire signal producer consumer }
 {

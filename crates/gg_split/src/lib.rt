@@ -1,17 +1,17 @@
-//! Who has what in a cut: the channels, and the channels, signals and memories of each machine.
+//! What each machine of a cut has: its channels, signals and memories.
 //!
-//! A machine makes the signals that belong to it by the tree of instances and that no channel carries, and those of
-//! the channels that it gives; it takes the signals of the channels that it takes (`Makes` and `Takes` in gg_cut's
-//! `specs/Plan`). The crate promises, for a request without a fault:
+//! A machine makes the signals that belong to it by the tree of instances and that no channel carries, and the
+//! signals of the channels that it gives. It takes the signals of the channels that it takes (`Makes` and `Takes` in
+//! gg_cut's `specs/Plan`). For a request without a fault, the crate promises:
 //!
-//! - `split` gives the channels in their order, and for each machine the channels that it takes and gives, just the
-//!   signals that it makes or takes, along the order of evaluation, and just the memories that belong to it
-//!   (`IsShareOf` in `specs/Share`);
-//! - what the hub, a unit or a memory has makes a part of the circuit (`IsChoice` in gg_part): all that the driver,
-//!   the register or the memory of a signal that it makes names, it makes or takes.
+//! - `split` gives the channels in their order. For each machine it gives the channels that the machine takes and
+//!   gives; exactly the signals that it makes or takes, along the order of evaluation; and exactly the memories that
+//!   belong to it (`IsShareOf` in `specs/Share`);
+//! - what the hub, a unit or a memory has makes a part of the circuit (`IsChoice` in gg_part): for each signal that
+//!   it makes, it makes or takes all that the signal's driver, register or memory names.
 //!
-//! One pass over the order gives all machines their signals, by a table of the channel of each signal and one of its
-//! owner.
+//! One pass over the order gives all machines their signals. It uses a table of the channel of each signal and a
+//! table of the owner of each signal.
 #![tactic(auto)]
 
 mod channels;

@@ -25,11 +25,11 @@ use gg_order::Design;
 use gg_partfile::Request;
 use std::alloc::{AllocError, Global};
 
-/// The channels of a cut, and what each machine has, where the request has no fault.
+/// The channels of a cut, and what each machine has. The request has no fault.
 ///
 /// # Errors
 ///
-/// Where memory is refused.
+/// Returns `AllocError` if an allocation fails.
 pub fn split(
     alloc: Global,
     design: &Design,
@@ -46,7 +46,7 @@ pub fn split(
     Ok(split)
 }
 
-// The channels, and what each machine has, where what is listed lies apart.
+// The channels, and what each machine has, if what is listed is apart.
 fn split_all(
     alloc: Global,
     piece: &Piece,
@@ -102,7 +102,7 @@ fn shares(
     Ok(shares)
 }
 
-// How many machines there are.
+// The number of machines.
 fn machines(piece: &Piece, tree: &Tree, listed: &Listed) -> usize
     requires few { AreFew piece.now tree.now listed.now }
     ensures { result ≡ machine_count piece.now listed.now }
@@ -164,7 +164,7 @@ fn memories_of(
     Ok(lists)
 }
 
-// What each machine has, from the lists of all machines, which are left empty.
+// What each machine has, from the lists of all machines. The lists are empty afterwards.
 fn gather(
     alloc: Global,
     ins: &mut [Pile],
@@ -185,7 +185,7 @@ fn gather(
     Ok(Items::from(shares))
 }
 
-// What one machine has, from the lists of all machines, where it leaves nothing.
+// What one machine has, from the lists of all machines. The machine's lists are empty afterwards.
 fn share_at(
     alloc: Global,
     ins: &mut [Pile],
@@ -212,7 +212,7 @@ fn share_at(
     }
 }
 
-// The list of one machine, where nothing is left.
+// The list of one machine. It is empty afterwards.
 fn take_at(alloc: Global, lists: &mut [Pile], machine: usize) -> Ids
     requires { machine < length lists.old }
     ensures given { result ≡ slice_index_or lists.old machine [] }

@@ -1,4 +1,4 @@
-//! `Pile`: a list that grows, one of several.
+//! `Pile`: a growing list, one of several.
 ghost use Rattle.std.specs.Prelude.{◌≡◌, ℕ, ◌<◌, [], ◌∷◌, ◌++◌, ◌==◌, length, set, get_or, replicate, OnOk, IfOk};
 ghost use Rattle.gg_split.specs.Spread.{IsPut};
 
@@ -6,7 +6,7 @@ use gg_bits::Ids;
 use std::alloc::{AllocError, Global};
 use std::marker::Model;
 
-/// A list of numbers that grows. A contract sees it as the list.
+/// A growing list of numbers. A contract sees it as the list.
 #[derive(Drop)]
 pub(crate) struct Pile {
     items: Vec<u32>,
@@ -21,7 +21,7 @@ impl Model for Pile {
 }
 
 impl Pile {
-    // The empty one.
+    // An empty pile.
     fn new(alloc: Global) -> Pile
         ensures { result ≡ [] }
     {
@@ -38,7 +38,7 @@ impl Pile {
         Ok(())
     }
 
-    /// The list; nothing is left.
+    /// Returns the list, and leaves the pile empty.
     pub(crate) fn take(&mut self, alloc: Global) -> Ids
         ensures given { result ≡ self.old }
         ensures left { self.new ≡ [] }

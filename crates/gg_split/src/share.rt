@@ -2,7 +2,7 @@
 use gg_bits::{Ids, Items};
 use gg_cut::Wire;
 
-/// What a machine has, all by numbers of the whole.
+/// What a machine has. All numbers are those of the whole circuit.
 #[derive(Drop)]
 pub struct Share {
     /// The channels that it takes, ascending.

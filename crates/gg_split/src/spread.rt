@@ -9,11 +9,11 @@ use gg_cut::Wire;
 use gg_flat::Tree;
 use std::alloc::{AllocError, Global};
 
-/// The channels that each of so many machines takes, in order.
+/// The channels that each machine takes, in order. `count` is the number of machines.
 ///
 /// # Errors
 ///
-/// Where memory is refused.
+/// Returns `AllocError` if an allocation fails.
 pub(crate) fn taken(alloc: Global, wires: &[Wire], count: usize) -> Result<Vec<Pile>, AllocError>
     requires few { length wires.now < 2 ^ 32 }
     requires ends { All (AreEnds count) wires.now }
@@ -24,7 +24,7 @@ pub(crate) fn taken(alloc: Global, wires: &[Wire], count: usize) -> Result<Vec<P
     Ok(lists)
 }
 
-// Adds each channel to those that its consumer takes, where all have none.
+// Adds each channel to the list of its consumer. At first all lists are empty.
 fn put_taken(wires: &[Wire], lists: &mut [Pile]) -> Result<(), AllocError>
     requires few { length wires.now < 2 ^ 32 }
     requires ends { All (AreEnds (length lists.old)) wires.now }
@@ -37,11 +37,11 @@ fn put_taken(wires: &[Wire], lists: &mut [Pile]) -> Result<(), AllocError>
     Ok(())
 }
 
-/// The channels that each of so many machines gives, in order.
+/// The channels that each machine gives, in order. `count` is the number of machines.
 ///
 /// # Errors
 ///
-/// Where memory is refused.
+/// Returns `AllocError` if an allocation fails.
 pub(crate) fn given(alloc: Global, wires: &[Wire], count: usize) -> Result<Vec<Pile>, AllocError>
     requires few { length wires.now < 2 ^ 32 }
     requires ends { All (AreEnds count) wires.now }
@@ -52,7 +52,7 @@ pub(crate) fn given(alloc: Global, wires: &[Wire], count: usize) -> Result<Vec<P
     Ok(lists)
 }
 
-// Adds each channel to those that its producer gives, where all have none.
+// Adds each channel to the list of its producer. At first all lists are empty.
 fn put_given(wires: &[Wire], lists: &mut [Pile]) -> Result<(), AllocError>
     requires few { length wires.now < 2 ^ 32 }
     requires ends { All (AreEnds (length lists.old)) wires.now }
@@ -65,12 +65,12 @@ fn put_given(wires: &[Wire], lists: &mut [Pile]) -> Result<(), AllocError>
     Ok(())
 }
 
-/// The signals of each of so many machines among those of an order: each signal is that of the machines at the ends
-/// of its channel, or of its owner, where it has none.
+/// The signals of each machine, among those of an order. A signal with a channel belongs to the machines at the ends
+/// of the channel. Any other signal belongs to its owner.
 ///
 /// # Errors
 ///
-/// Where memory is refused.
+/// Returns `AllocError` if an allocation fails.
 pub(crate) fn spread(
     alloc: Global,
     wires: &[Wire],
@@ -91,7 +91,7 @@ pub(crate) fn spread(
     Ok(lists)
 }
 
-// Adds each signal of an order to those of its machines, where all have none.
+// Adds each signal of an order to the lists of its machines. At first all lists are empty.
 fn put_signals(
     wires: &[Wire],
     owners: &[u32],
@@ -113,7 +113,7 @@ fn put_signals(
     Ok(())
 }
 
-// Adds a signal to those of its machines.
+// Adds a signal to the lists of its machines.
 fn put_signal(
     wires: &[Wire],
     owners: &[u32],
@@ -134,7 +134,7 @@ fn put_signal(
     }
 }
 
-// Adds a signal to those of the machines at both ends of a channel.
+// Adds a signal to the lists of the machines at both ends of a channel.
 fn put_both(wire: &Wire, signal: u32, lists: &mut [Pile]) -> Result<(), AllocError>
     requires { AreEnds (length lists.old) wire.now }
     ensures { OnOk result (IsPut (λ m. (wire.now.producer == m) || (wire.now.consumer == m)) signal lists.old lists.new) }
@@ -143,11 +143,11 @@ fn put_both(wire: &Wire, signal: u32, lists: &mut [Pile]) -> Result<(), AllocErr
     put(lists, wire.consumer, signal)
 }
 
-/// The memories of each of so many machines, by their numbers in the circuit.
+/// The memories of each machine, by their numbers in the circuit.
 ///
 /// # Errors
 ///
-/// Where memory is refused.
+/// Returns `AllocError` if an allocation fails.
 pub(crate) fn memories(
     alloc: Global,
     tree: &Tree,
@@ -163,7 +163,7 @@ pub(crate) fn memories(
     Ok(lists)
 }
 
-// Adds each memory to those of its machine, where all have none.
+// Adds each memory to the list of its machine. At first all lists are empty.
 fn put_memories(tree: &Tree, owners: &[u32], lists: &mut [Pile]) -> Result<(), AllocError>
     requires owned { All (λ m. m < length lists.old) owners.now }
     requires same { length owners.now ≡ length tree.now.memories }

@@ -14,7 +14,7 @@ use std::alloc::{AllocError, Global};
 ///
 /// # Errors
 ///
-/// Where memory is refused.
+/// Returns `AllocError` if an allocation fails.
 pub(crate) fn signal_owners(
     alloc: Global,
     tree: &Tree,
@@ -39,7 +39,7 @@ fn zeros(alloc: Global, count: usize) -> Result<Vec<u32>, AllocError>
     vec![in alloc; 0; count]
 }
 
-// Gives each unit its signals, where all are the hub's.
+// Gives each unit its signals. At first all signals are the hub's.
 fn claim_units(tree: &Tree, units: &[u32], owners: &mut [u32])
     requires known { All (λ unit. unit < length tree.now.instances) units.now }
     requires inside { All (λ unit. ((instance_at tree.now unit).first ≤ (instance_at tree.now unit).end) × ((instance_at tree.now unit).end ≤ length owners.old)) units.now }
@@ -53,7 +53,7 @@ fn claim_units(tree: &Tree, units: &[u32], owners: &mut [u32])
     }
 }
 
-// Gives a unit its signals, where they are the hub's.
+// Gives a unit those of its signals that are still the hub's.
 fn claim_unit(tree: &Tree, unit: u32, number: u32, owners: &mut [u32])
     requires known { unit < length tree.now.instances }
     requires range { (instance_at tree.now unit).first ≤ (instance_at tree.now unit).end }
@@ -65,7 +65,7 @@ fn claim_unit(tree: &Tree, unit: u32, number: u32, owners: &mut [u32])
     claim(owners, instance.first, instance.end, number);
 }
 
-// Gives a machine the signals from first on, up to end, that are the hub's.
+// Gives a machine those signals from `first` up to `end` that are still the hub's.
 fn claim(owners: &mut [u32], first: u32, end: u32, number: u32)
     requires range { first ≤ end }
     requires inside { end ≤ length owners.old }
@@ -79,11 +79,11 @@ fn claim(owners: &mut [u32], first: u32, end: u32, number: u32)
     }
 }
 
-/// The channel of each signal, where it has one.
+/// The channel of each signal, if it has one.
 ///
 /// # Errors
 ///
-/// Where memory is refused.
+/// Returns `AllocError` if an allocation fails.
 pub(crate) fn channels_of(
     alloc: Global,
     wires: &[Wire],
@@ -99,7 +99,7 @@ pub(crate) fn channels_of(
     Ok(channels)
 }
 
-// This many times none.
+// A list with `count` times none.
 fn nones(alloc: Global, count: usize) -> Result<Vec<Option<u32>>, AllocError>
     ensures { IfOk result (λ nones. nones.items ≡ replicate count None) }
 {
@@ -110,7 +110,7 @@ fn nones(alloc: Global, count: usize) -> Result<Vec<Option<u32>>, AllocError>
     Ok(nones)
 }
 
-// Gives each signal its channel, where all have none.
+// Gives each signal its channel. At first no signal has one.
 fn mark_channels(wires: &[Wire], channels: &mut [Option<u32>])
     requires few { length wires.now < 2 ^ 32 }
     requires known { All (λ w. w.signal < length channels.old) wires.now }
@@ -127,7 +127,7 @@ fn mark_channels(wires: &[Wire], channels: &mut [Option<u32>])
 ///
 /// # Errors
 ///
-/// Where memory is refused.
+/// Returns `AllocError` if an allocation fails.
 pub(crate) fn memory_owners(
     alloc: Global,
     tree: &Tree,

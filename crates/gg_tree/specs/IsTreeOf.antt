@@ -18,11 +18,11 @@ use Rattle.gg_digest.specs.Memories.{type_shape}
 
 -- ---- places by paths
 
--- A path stands first at this place of a list of paths.
+-- The first occurrence of a path in a list of paths is at this place.
 pub record IsAt (paths : List (List ℕ)) (path : List ℕ) (place : ℕ) : Type 0 where
   pub is : place_of path paths ≡ Some place
 
--- both lists are equally long, and it holds of the elements at each place
+-- both lists have the same length, and the relation holds of the elements at each place
 abbrev pub Pairwise : {A B : Type 0} → (A → B → Type 0) → List A → List B → Type 0
 Pairwise R [] [] = Unit {0}
 Pairwise R [] (y ∷ ys) = ⊥
@@ -41,14 +41,14 @@ memories_of circuit = flat_memories circuit.modules (sites_of circuit)
 
 -- ---- instances
 
--- the parent is the instance of the path of what holds this one; the top has none
+-- the parent is the instance with the path of what holds this one; the top has no parent
 abbrev pub IsParent : CircuitTree → Option Outer → Option ℕ → Type 0
 IsParent circuit None None = Unit {0}
 IsParent circuit None (Some parent) = ⊥
 IsParent circuit (Some outer) None = ⊥
 IsParent circuit (Some outer) (Some parent) = IsAt (site_paths circuit) outer.path parent
 
--- the ports of a site's module that are no Clocks, in port order
+-- the ports of a site's module in port order, without Clocks
 abbrev pub signal_ports : ModuleTree → List Port
 signal_ports m = filter (λ port. is_some (type_shape port.ty)) m.ports
 
@@ -56,7 +56,7 @@ abbrev pub is_input : Direction → Bool
 is_input Input = true
 is_input Output = false
 
--- a port of an instance: its signal is that of its path
+-- a port of an instance: its signal is the one with the port's path
 pub record IsPortFor (circuit : CircuitTree) (site : Site) (port : Port) (found : InstancePort) : Type 0 where
   pub signal : IsAt (signal_paths circuit) (joined site.path port.name) found.signal
   pub goes : found.is_input ≡ is_input port.direction
@@ -68,12 +68,12 @@ pub record IsMemoryAt (circuit : CircuitTree) (said : FlatMemory) (m : ℕ) : Ty
 abbrev pub signal_count : CircuitTree → List Site → ℕ
 signal_count circuit all = length (flat_signals (types_of circuit) circuit.modules all)
 
--- a site and all that lie below it
+-- a site and all sites below it
 abbrev pub sites_within : CircuitTree → Site → List Site
 sites_within circuit site = sites (length circuit.modules - site.depth) circuit.modules site
 
--- An instance: what holds it, its module, its signals with those below it, which are the next from `first` on, its
--- ports in port order, and its own memories.
+-- An instance: its parent, its module, its ports in port order, its own memories, and its signals with those below
+-- it. These signals are the next ones from `first` on.
 pub record IsInstanceFor (circuit : CircuitTree) (first : ℕ) (site : Site) (instance : Instance) : Type 0 where
   pub parent : IsParent circuit site.outer instance.parent
   pub number : instance.«module» ≡ site.number
@@ -82,7 +82,7 @@ pub record IsInstanceFor (circuit : CircuitTree) (first : ℕ) (site : Site) (in
   pub ports : Pairwise (IsPortFor circuit site) (signal_ports (module_at circuit.modules site.number)) instance.ports
   pub memories : Pairwise (IsMemoryAt circuit) (memories_at circuit.modules site) instance.memories
 
--- These instances are the sites in turn, the first of which has the signals from `first` on.
+-- These instances are the sites in turn. The signals of the first begin at `first`.
 abbrev pub AreInstances : CircuitTree → ℕ → List Site → List Instance → Type 0
 AreInstances circuit first [] [] = Unit {0}
 AreInstances circuit first [] (instance ∷ instances) = ⊥
@@ -112,7 +112,7 @@ held_memories modules site = map (held_memory site) (memories_at modules site)
 
 -- ---- the tree
 
--- The tree of a circuit has its instances and its memories in turn, and nothing more.
+-- The tree of a circuit has exactly its instances and its memories, in turn.
 pub record IsTreeOf (circuit : CircuitTree) (tree : InstanceTree) : Type 0 where
   pub paths : tree.paths ≡ site_paths circuit
   pub instances : AreInstances circuit 0 (sites_of circuit) tree.instances

@@ -1,4 +1,5 @@
--- The parts of a tree while it is made: each by its path among those of all sites, signals and memories.
+-- The parts of a tree while it is built. Each is found by its path among the paths of all sites, signals and
+-- memories.
 use Rattle.std.specs.Prelude.{◌≡◌, ℕ, Bool, List, ◌++◌, Option, Some, None, map, filter, flat_map, length, take, is_some}
 use Rattle.gg_ast.specs.declared.module.Port.{Port}
 use Rattle.gg_ast.specs.Tree.{CircuitTree}
@@ -23,12 +24,12 @@ is_signal port = is_some (type_shape port.ty)
 abbrev pub signals_among : List Port → List Port
 signals_among ports = filter is_signal ports
 
--- a port of the instance of a path
+-- a port of the instance with a path
 pub record IsPortAt (paths : List (List ℕ)) (outer : List ℕ) (port : Port) (found : InstancePort) : Type 0 where
   pub signal : IsAt paths (joined outer port.name) found.signal
   pub goes : found.is_input ≡ is_input port.direction
 
--- the number of a memory of the instance of a path
+-- the number of a memory of the instance with a path
 abbrev pub IsNumberAt : List (List ℕ) → List ℕ → OwnMemory → ℕ → Type 0
 IsNumberAt paths outer own number = IsAt paths (joined outer own.name.now) number
 
@@ -46,7 +47,7 @@ place_paths places = map (λ p. p.path) places
 abbrev pub signals_to : CircuitTree → List Place → ℕ → ℕ
 signals_to circuit places k = length (flat_map (signals_at (types_of circuit) circuit.modules) (map site_of (take k places)))
 
--- What is made of a site, by its parts.
+-- What is made for a site, by its parts.
 pub record IsInstanceAt (paths signals memories : List (List ℕ)) (digest : Digest) (ports : List Port) (place : Place) (first end : ℕ) (made : Instance) : Type 0 where
   pub holder : IsHolder paths place.outer made.parent
   pub number : made.«module» ≡ place.number
@@ -55,7 +56,7 @@ pub record IsInstanceAt (paths signals memories : List (List ℕ)) (digest : Dig
   pub ports_are : Pairwise (IsPortAt signals place.path) (signals_among ports) made.ports
   pub memories_are : Pairwise (IsNumberAt memories place.path) digest.memories.items made.memories
 
--- What is made of a memory, by its parts.
+-- What is made for a memory, by its parts.
 pub record IsMemoryPart (paths memories : List (List ℕ)) (outer : List ℕ) (own : OwnMemory) (made : MemoryInstance) : Type 0 where
   pub holder : IsAt paths outer made.instance
   pub number : IsAt memories (joined outer own.name.now) made.memory

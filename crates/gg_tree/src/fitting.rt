@@ -10,8 +10,8 @@ ghost use Rattle.gg_tree.specs.IsTreeOf.{IsTreeOf};
 use gg_flat::{Piece, Tree};
 use gg_types::Typed;
 
-/// The flat circuit of a circuit with the circuit's tree: the tree is one of this flat circuit, which keeps to its
-/// scopes. It does nothing but look at what is known of the three.
+/// The circuit's tree is a tree of its flat circuit, and the flat circuit keeps to the tree's scopes. The function
+/// computes nothing: its contract states this fact about the three.
 pub fn fits(typed: &Typed, piece: &Piece, tree: &Tree)
     requires top { (place_of typed.now.circuit.name (module_names typed.now.circuit)) ≢ None }
     requires flat { IsFlat typed.now.circuit piece.now }

@@ -19,7 +19,7 @@ use gg_flat::{AddError, Instance, InstancePort, MemoryInstance, Paths, Tree};
 use gg_types::Typed;
 use std::alloc::{AllocError, Global};
 
-// The place of one of these paths.
+// The place of a path, which is one of these.
 fn place_at(paths: &Paths, path: &Name) -> u32
     requires there { Contains paths.now path.now }
     ensures { IsAt paths.now path.now result }
@@ -43,7 +43,7 @@ fn site_paths(alloc: Global, places: &[Place]) -> Result<Paths, AllocError>
     Ok(paths)
 }
 
-// A number and so many more; 4,294,967,296 and above are refused as want of memory.
+// A number plus a count. Returns `AllocError` if the sum is 4,294,967,296 or more.
 fn raised(number: u32, count: usize) -> Result<u32, AllocError>
     ensures { IfOk result (λ sum. sum ≡ number + count) }
 {
@@ -53,7 +53,7 @@ fn raised(number: u32, count: usize) -> Result<u32, AllocError>
     Ok(number + count as u32)
 }
 
-// The first signal of each site, and the end of the last one's.
+// The first signal of each site, and the end of the last site's signals.
 fn firsts(
     alloc: Global,
     typed: &Typed,
@@ -77,7 +77,7 @@ fn firsts(
     Ok(firsts)
 }
 
-// How many sites each site lies below.
+// The number of sites above each site.
 fn depths(alloc: Global, places: &[Place]) -> Result<Vec<u32>, AllocError>
     ensures { IfOk result (λ depths. depths.items ≡ map (λ p. p.depth) places.now) }
 {
@@ -89,7 +89,7 @@ fn depths(alloc: Global, places: &[Place]) -> Result<Vec<u32>, AllocError>
     Ok(depths)
 }
 
-// The next that lies no deeper than this one, or the end.
+// The next site that isn't deeper than this one, or the end.
 fn end_of(depths: &[u32], from: usize) -> usize
     requires { from < length depths.now }
     ensures after { from < result }
@@ -104,7 +104,7 @@ fn end_of(depths: &[u32], from: usize) -> usize
     next
 }
 
-// The port of an instance of this path; none where it is a Clock.
+// The port of an instance with this path; none for a Clock.
 fn port(
     alloc: Global,
     paths: &Paths,
@@ -140,7 +140,7 @@ fn add_port(found: &mut Vec<InstancePort>, port: Option<InstancePort>) -> Result
     }
 }
 
-// The ports of an instance of this path, but Clocks.
+// The ports of an instance with this path, without Clocks.
 fn ports(
     alloc: Global,
     paths: &Paths,
@@ -158,7 +158,7 @@ fn ports(
     Ok(found)
 }
 
-// The numbers of the memories of an instance of this path.
+// The numbers of the memories of an instance with this path.
 fn numbers(
     alloc: Global,
     paths: &Paths,
@@ -178,7 +178,7 @@ fn numbers(
     Ok(numbers)
 }
 
-// The instance that holds one, if one does.
+// The instance that holds an instance, if there is one.
 fn holder(paths: &Paths, outer: &Option<Around>) -> Option<u32>
     requires there { IfSome outer.now (λ around. Contains paths.now around.path) }
     ensures { IsHolder paths.now outer.now result }
@@ -189,7 +189,7 @@ fn holder(paths: &Paths, outer: &Option<Around>) -> Option<u32>
     }
 }
 
-// Adds names once more.
+// Adds copies of names.
 fn add_names(names: &mut Vec<Name>, more: &[&Name]) -> Result<(), AllocError>
     ensures { OnOk result (names.new.items ≡ names.old.items ++ map (λ n. n.now) more.now) }
 {
@@ -200,14 +200,14 @@ fn add_names(names: &mut Vec<Name>, more: &[&Name]) -> Result<(), AllocError>
     Ok(())
 }
 
-// A name once more.
+// A copy of a name.
 fn copied(name: &Name) -> Result<Name, AllocError>
     ensures { IfOk result (λ copy. copy ≡ name.now) }
 {
     name.clone()
 }
 
-// The instance of a site, whose signals and those below it are these.
+// The instance of a site. Its signals and those below it are given.
 fn instance(
     alloc: Global,
     table: &Table,
@@ -241,7 +241,7 @@ fn instance(
     })
 }
 
-// Adds an instance of a path that none has.
+// Adds an instance with a path that no other instance has.
 fn add_instance(tree: &mut Tree, path: Name, instance: Instance) -> Result<(), AllocError>
     requires fresh { ¬ Contains tree.old.paths path }
     ensures { OnOk result (tree.new ≡ record tree.old { paths = tree.old.paths ++ path ∷ []; instances = tree.old.instances ++ instance ∷ [] }) }
@@ -256,7 +256,7 @@ fn add_instance(tree: &mut Tree, path: Name, instance: Instance) -> Result<(), A
     }
 }
 
-// Adds a memory of a path that none has.
+// Adds a memory with a path that no other memory has.
 fn add_memory(tree: &mut Tree, path: Name, memory: MemoryInstance) -> Result<(), AllocError>
     requires fresh { ¬ Contains tree.old.memory_paths path }
     ensures { OnOk result (tree.new ≡ record tree.old { memory_paths = tree.old.memory_paths ++ path ∷ []; memories = tree.old.memories ++ memory ∷ [] }) }
@@ -271,7 +271,7 @@ fn add_memory(tree: &mut Tree, path: Name, memory: MemoryInstance) -> Result<(),
     }
 }
 
-// A memory of a site of this path.
+// A memory of a site with this path.
 fn memory(
     alloc: Global,
     table: &Table,
@@ -341,7 +341,7 @@ fn add_instances(
     Ok(())
 }
 
-// Adds the memories of a site of this path.
+// Adds the memories of a site with this path.
 fn add_site_memories(
     alloc: Global,
     table: &Table,
@@ -400,11 +400,11 @@ fn add_memories(
 }
 
 /// The tree of a circuit: the instances of its sites with their signals, ports and memories. The table has the
-/// circuit's signals and memories, and the places are its sites.
+/// circuit's signals and memories, and `places` has its sites.
 ///
 /// # Errors
 ///
-/// `AllocError` where memory is refused.
+/// Returns `AllocError` if an allocation fails.
 pub fn tree_of(
     alloc: Global,
     typed: &Typed,

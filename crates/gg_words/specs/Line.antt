@@ -5,7 +5,7 @@ use Rattle.clap.specs.Walk.{Rule, Text}
 use Rattle.clap.specs.Simple.{App, Shape, new_rule, new_shape}
 use Rattle.clap.specs.declared.builder.action.ArgAction.TheVariants.{SetTrue}
 
--- a file that must be named
+-- a file, which is required
 abbrev pub file_rule : Text → Rule
 file_rule id = record (new_rule id) { required = true }
 
@@ -46,7 +46,7 @@ replay_shape = command_shape (codes "replay") replay_rules
 abbrev pub check_shape : Shape
 check_shape = command_shape (codes "check") check_rules
 
--- The program: it wants a command, and has no words that ask for help.
+-- The program: it requires a command, and has no words that ask for help.
 abbrev pub golden_app : App
 golden_app = record {
   top = record (new_shape (codes "golden")) {

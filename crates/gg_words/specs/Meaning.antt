@@ -1,4 +1,4 @@
--- What words mean: a command, or that they are none.
+-- What words mean: a command, or why they aren't one.
 -- Source: `clap`'s definitions for which words are taken (`fault_of`) and what is found in them (`subcommand_of`).
 use Rattle.std.specs.Prelude.{◌≡◌, ◌⊎◌, ℕ, Bool, true, false, List, [], ◌∷◌, Option, None, Some, is_some, Result, Ok, Err, MatchResult, String, codes, cond, map, string_bytes, unwrap_or, ⊤}
 use Rattle.std.specs.Option.{option_map_or}
@@ -14,7 +14,7 @@ use Rattle.gg_words.specs.declared.command.Cmd.TheVariants.{Run, Replay, Check}
 use Rattle.gg_words.specs.declared.command.WordFault.{WordFault}
 use Rattle.gg_words.specs.declared.command.WordFault.TheVariants.{Refused, Number, NoMemory}
 
--- The text that was given to this argument. Where `clap` takes the words there is one for each file.
+-- The text that was given to this argument. If `clap` takes the words, there is one for each file.
 abbrev pub text_of : Text → List Row → Text
 text_of id rows = unwrap_or (first_of id rows) []
 
@@ -22,32 +22,32 @@ text_of id rows = unwrap_or (first_of id rows) []
 abbrev pub is_set : Text → List Row → Bool
 is_set id rows = option_map_or (λ text. bytes_eq text (codes "true")) (first_of id rows) false
 
--- the capacity: 1 to 4,096, and 2 where it is left out
+-- the capacity: 1 to 4,096, and 2 by default
 abbrev pub capacity_of : List Row → Result ℕ Text
 capacity_of rows = number_of 1 4096 2 (first_of (codes "capacity") rows)
 
--- the number of workers: 0 to 64, and 0 where it is left out
+-- the number of workers: 0 to 64, and 0 by default
 abbrev pub workers_of : List Row → Result ℕ Text
 workers_of rows = number_of 0 64 0 (first_of (codes "workers") rows)
 
--- a number and what comes of it, or the value that is none
+-- the result of a function of a number, or the value that isn't a number
 abbrev pub with_number : Result ℕ Text → (ℕ → Result Cmd Text) → Result Cmd Text
 with_number (Ok n) next = next n
 with_number (Err value) next = Err value
 
--- what is found in the words of `run`: the command, or its first value that is no number in its range
+-- what is found in the words of `run`: the command, or its first value that isn't a number in its range
 abbrev pub run_of : List Row → Result Cmd Text
 run_of rows = with_number (capacity_of rows) (λ capacity. with_number (workers_of rows) (λ workers.
     Ok (Run (text_of (codes "circuit") rows) (text_of (codes "partition") rows) (text_of (codes "trace") rows)
     capacity workers (is_set (codes "mono") rows))))
 
--- of `replay`
+-- the same for `replay`
 abbrev pub replay_of : List Row → Result Cmd Text
 replay_of rows = with_number (capacity_of rows) (λ capacity.
     Ok (Replay (text_of (codes "circuit") rows) (text_of (codes "partition") rows) (text_of (codes "trace") rows)
     (text_of (codes "steps") rows) capacity))
 
--- and of `check`
+-- the same for `check`
 abbrev pub check_of : List Row → Result Cmd Text
 check_of rows = with_number (capacity_of rows) (λ capacity.
     Ok (Check (text_of (codes "circuit") rows) (text_of (codes "partition") rows) capacity))
@@ -77,19 +77,19 @@ IsWordFault words (Refused kind) = IsAmong kind (fault_of golden_app words)
 IsWordFault words (Number value) = Says words (Err value)
 IsWordFault words NoMemory = ⊥
 
--- and memory may have run out
+-- the same, or `NoMemory`
 abbrev pub IfWordFault : List Text → WordFault → Type 0
 IfWordFault words (Refused kind) = IsWordFault words (Refused kind)
 IfWordFault words (Number value) = IsWordFault words (Number value)
 IfWordFault words NoMemory = ⊤
 
--- a fault says this of what was found; `clap` refused nothing there
+-- a fault agrees with what was found; `clap` refused nothing there
 abbrev pub SaysFault : {T : Type 0} → WordFault → Result T Text → Type 0
 SaysFault (Refused kind) said = ⊥
 SaysFault (Number value) said = said ≡ Err value
 SaysFault NoMemory said = ⊤
 
--- what was found is answered, unless memory runs out
+-- the result is what was found, or `NoMemory`
 abbrev pub Answers : {T : Type 0} → Result T WordFault → Result T Text → Type 0
 Answers result said = MatchResult result (λ x. said ≡ Ok x) (λ fault. SaysFault fault said)
 

@@ -4,13 +4,13 @@ use Rattle.std.specs.Option.{option_map_or}
 use Rattle.std.specs.Str.{all_ascii_digits}
 use Rattle.std.specs.Str.Parse.{digits_value}
 
--- a number in this range: one or more decimal digits, and no sign; zeros may lead
+-- a number in this range: one or more decimal digits, without a sign; leading zeros are allowed
 abbrev pub number_in : (least most : ℕ) → List ℕ → Option ℕ
 number_in least most text =
     if nat_lt 0 (length text) && all_ascii_digits text && nat_le least (digits_value 10 text) && nat_le (digits_value 10 text) most
     then Some (digits_value 10 text) else None
 
--- The number of an option whose value may be left out: its default then, else the value as a number in this range; `Err`
--- is a value that is no such number.
+-- The number of an option whose value may be left out. Without a value it is the default. Else it is the value as a
+-- number in this range, or `Err` with a value that isn't such a number.
 abbrev pub number_of : (least most default : ℕ) → Option (List ℕ) → Result ℕ (List ℕ)
 number_of least most default given = option_map_or (λ text. option_map_or (λ n. Ok n) (number_in least most text) (Err text)) given (Ok default)

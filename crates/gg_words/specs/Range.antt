@@ -4,11 +4,11 @@ use Rattle.std.specs.Prelude.{ℕ, ◌≤◌}
 use Rattle.gg_words.specs.declared.command.Cmd.{Cmd}
 use Rattle.gg_words.specs.declared.command.Cmd.TheVariants.{Run, Replay, Check}
 
--- the number lies in this range, its ends included
+-- the number is in this range, both ends included
 abbrev pub IsWithin : (least most : ℕ) → ℕ → Type 0
 IsWithin least most n = (least ≤ n) × (n ≤ most)
 
--- each number of the command lies in its range
+-- each number of the command is in its range
 abbrev pub AreInRange : Cmd → Type 0
 AreInRange (Run circuit partition trace capacity workers mono) = IsWithin 1 4096 capacity × IsWithin 0 64 workers
 AreInRange (Replay circuit partition trace steps capacity) = IsWithin 1 4096 capacity

@@ -1,4 +1,4 @@
-//! A command, and why words are none.
+//! A command, and why words aren't one.
 ghost use Rattle.std.specs.Prelude.{◌≡◌};
 ghost use Rattle.gg_words.specs.declared.command.WordFault.TheVariants.{NoMemory};
 
@@ -9,7 +9,7 @@ use std::alloc::AllocError;
 /// A command, with the names of its files and its numbers.
 #[derive(Debug, Drop)]
 pub enum Cmd {
-    /// `run`: the run of a circuit on a trace.
+    /// `run`: runs a circuit on a trace.
     Run {
         /// The circuit's file.
         circuit: Name,
@@ -19,12 +19,12 @@ pub enum Cmd {
         trace: Name,
         /// The capacity of channels, 1 to 4,096.
         capacity: u32,
-        /// How many workers there are, at most 64.
+        /// The number of workers, at most 64.
         workers: u32,
         /// Whether the circuit is run whole, without a network.
         mono: bool,
     },
-    /// `replay`: the network of a circuit after a list of host steps.
+    /// `replay`: gives the network of a circuit after a list of host steps.
     Replay {
         /// The circuit's file.
         circuit: Name,
@@ -37,7 +37,7 @@ pub enum Cmd {
         /// The capacity of channels, 1 to 4,096.
         capacity: u32,
     },
-    /// `check`: the plan of a partition.
+    /// `check`: gives the plan of a partition.
     Check {
         /// The circuit's file.
         circuit: Name,
@@ -48,15 +48,15 @@ pub enum Cmd {
     },
 }
 
-/// Why words are no command.
+/// Why words aren't a command.
 #[derive(Debug, Drop)]
 pub enum WordFault {
-    /// `clap` refuses them, with this kind. It is never its kind for want of memory.
+    /// `clap` refuses them, with this kind. It is never `clap`'s kind for a failed allocation.
     Refused(ErrorKind),
-    /// `clap` takes them, and this is the first value, in the order of its command's options, that is no number in its
-    /// range.
+    /// `clap` takes them, and this value isn't a number in its range. It is the first such value, in the order of the
+    /// command's options.
     Number(Name),
-    /// Memory ran out.
+    /// An allocation failed.
     NoMemory,
 }
 

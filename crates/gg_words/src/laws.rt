@@ -1,4 +1,4 @@
-//! Laws of the command line.
+//! Laws: facts about the command line. Each is the contract of a function with an empty body.
 ghost use Rattle.std.specs.Prelude.{◌≡◌, ℕ, List, [], Result};
 ghost use Rattle.clap.specs.Simple.{subcommand_of};
 ghost use Rattle.clap.specs.Faults.{fault_of};
@@ -8,17 +8,17 @@ ghost use Rattle.gg_words.specs.Range.{AreInRange};
 ghost use Rattle.gg_words.specs.declared.command.Cmd.{Cmd};
 ghost use Rattle.gg_words.specs.declared.command.WordFault.{WordFault};
 
-/// Where `clap` takes words, it finds a command in them, and each of the command's files is named.
+/// If `clap` takes words, it finds a command in them, and each of the command's files is named.
 pub fn files_are_named()
     ensures { (words : List (List ℕ)) → fault_of golden_app words ≡ [] → NamesFiles (subcommand_of golden_app words) }
 {}
 
-/// The numbers of a command are in their ranges: the capacity is 1 to 4,096, and the number of workers at most 64.
+/// The numbers of a command are in their ranges: the capacity is 1 to 4,096, and the number of workers is at most 64.
 pub fn numbers_are_in_range()
     ensures { (words : List (List ℕ)) (cmd : Cmd) → IsCommand words cmd → AreInRange cmd }
 {}
 
-/// Words mean one thing at most, and words that mean a command have no fault.
+/// Words mean at most one thing. Words that mean a command have no fault.
 pub fn one_meaning()
     ensures once { (words : List (List ℕ)) (one other : Result Cmd (List ℕ)) → Says words one → Says words other → one ≡ other }
     ensures apart { (words : List (List ℕ)) (cmd : Cmd) (fault : WordFault) → IsCommand words cmd → IsWordFault words fault → ⊥ }

@@ -1,13 +1,14 @@
 //! The words of a call, read as a command.
 //!
-//! The command line is defined in the terms of `clap`: `golden_app` is what `clap` reads of it, so `fault_of golden_app`
-//! says which words `clap` refuses, and `subcommand_of golden_app` what it finds in words that it takes. `clap` reads all
-//! values as texts; a number is judged here. The crate promises, of all words:
+//! The command line is defined in the terms of `clap`: `golden_app` is what `clap` reads of it. So
+//! `fault_of golden_app` says which words `clap` refuses, and `subcommand_of golden_app` what it finds in words that
+//! it takes. `clap` reads all values as texts. Numbers are judged in this crate. For all words the crate promises:
 //!
-//! - [`words`] answers the command that they are, refuses words that `clap` refuses with a kind that `clap` gives there,
-//!   or answers the first value that is no number in its range; each exactly where it is so, unless memory runs out;
-//! - words are one command at most, and a command is neither refused by `clap` nor has such a value ([`one_meaning`]);
-//! - where `clap` takes the words, each file of the command is named ([`files_are_named`]);
+//! - [`words`] returns the command, or a kind with which `clap` refuses the words, or the first value that isn't a
+//!   number in its range. It returns each of these exactly when it applies, unless an allocation fails;
+//! - words are at most one command, and a command is neither refused by `clap` nor has such a value
+//!   ([`one_meaning`]);
+//! - if `clap` takes the words, each file of the command is named ([`files_are_named`]);
 //! - the numbers of a command are in their ranges ([`numbers_are_in_range`]).
 #![tactic(auto)]
 

@@ -8,7 +8,7 @@ ghost use Rattle.gg_words.specs.Line.{file_rule, value_rule, flag_rule, run_shap
 use clap::{Arg, ArgAction, Command};
 use std::alloc::{AllocError, Global};
 
-// A file that must be named.
+// A file, which is required.
 fn file<'a>(alloc: Global, id: &'a str) -> Arg<'a>
     ensures rule { rule_of result ≡ file_rule id.entry.now }
     ensures local { result.global ≡ false }
@@ -32,7 +32,7 @@ fn flag<'a>(alloc: Global, name: &'a str) -> Arg<'a>
     Arg::new(alloc, name).long(name).action(ArgAction::SetTrue)
 }
 
-// A command with the files that each command has.
+// A command with the files that all commands have.
 fn with_files<'a>(alloc: Global, name: &'a str) -> Result<Command<'a>, AllocError>
     ensures shape { IfOk result (λ c. app_of c ≡ with_rule (with_rule (new_app name.entry.now) (file_rule (codes "circuit"))) (file_rule (codes "partition"))) }
     ensures local { IfOk result (λ c. (out-Command c).has_globals ≡ false) }

@@ -15,11 +15,11 @@ fn are_digits(text: &str) -> bool
     true
 }
 
-/// The number that a text is, in this range.
+/// The number that a text spells, if it is in this range.
 pub(crate) fn number_in(text: &str, least: u32, most: u32) -> Option<u32>
     ensures { result ≡ number_in least most text.now }
 {
-    // a sign is no digit, though `parse` takes a plus
+    // a sign isn't a digit, though `parse` takes a plus
     if !are_digits(text) {
         return None;
     }

@@ -1,4 +1,4 @@
-//! The words of a call, read.
+//! Reads the words of a call.
 ghost use Rattle.std.specs.Prelude.{◌≡◌, ◌≢◌, ℕ, ◌⊎◌, [], true, List, IfOk, IfErr, IsErr, MatchResult, Result, Ok, Err};
 ghost use Rattle.clap.specs.Walk.{first_of, rows_of};
 ghost use Rattle.clap.specs.Matches.{found_of, has_subcommand};
@@ -38,7 +38,7 @@ fn is_set(matches: &ArgMatches<'_>, id: &str) -> bool
     }
 }
 
-// The fault of a value that is no number in its range.
+// The fault of a value that isn't a number in its range.
 fn no_number(alloc: Global, value: &str) -> WordFault
     ensures { SaysFault {T = ℕ} result (Err value.now) }
 {
@@ -48,7 +48,7 @@ fn no_number(alloc: Global, value: &str) -> WordFault
     }
 }
 
-// The number that an option gives, in its range, or its default.
+// The number that an option gives, if it is in its range, or the option's default.
 fn number_of(
     alloc: Global,
     matches: &ArgMatches<'_>,
@@ -141,7 +141,7 @@ fn refusal_of(error: &Error) -> WordFault
     }
 }
 
-// The words, read.
+// Reads the words.
 fn read_words(alloc: Global, words: &[String]) -> Result<Cmd, WordFault>
     ensures { MatchResult result (IsCommand (texts words.now)) (IfWordFault (texts words.now)) }
 {
@@ -153,30 +153,34 @@ fn read_words(alloc: Global, words: &[String]) -> Result<Cmd, WordFault>
     }
 }
 
-/// The command that these words are. The first of them is the program's own name, and isn't looked at.
+/// The command that these words are. The first word is the program's own name, and is ignored.
 ///
-/// The commands are `run CIRCUIT PARTITION TRACE [--capacity K] [--workers W] [--mono]`,
-/// `replay CIRCUIT PARTITION TRACE STEPS [--capacity K]` and `check CIRCUIT PARTITION [--capacity K]`, as `clap` reads
-/// them: options stand anywhere behind the command's name, at most once each, a value behind `=` or as the next word, and
-/// behind `--` each word is a file. So a file whose name begins with `-` needs `--` before it. K is 1 to 4,096, and 2
-/// where it is left out; W is 0 to 64, and 0 where it is left out. A number is one or more decimal digits, and zeros may
-/// lead.
+/// The commands, as `clap` reads them, are:
+///
+/// - `run CIRCUIT PARTITION TRACE [--capacity K] [--workers W] [--mono]`
+/// - `replay CIRCUIT PARTITION TRACE STEPS [--capacity K]`
+/// - `check CIRCUIT PARTITION [--capacity K]`
+///
+/// Options may be anywhere after the command's name, at most once each. A value is given after `=` or as the next
+/// word. After `--` each word is a file, so a file whose name begins with `-` needs `--` before it. K is 1 to 4,096,
+/// and 2 by default. W is 0 to 64, and 0 by default. A number is one or more decimal digits, and may have leading
+/// zeros.
 ///
 /// # Errors
 ///
-/// `Refused` where `clap` refuses the words, also those that ask for help; else `Number` with the first value, in the order
-/// above, that is no number in its range. `NoMemory` where memory ran out.
+/// Returns `Refused` if `clap` refuses the words, also if they ask for help. Else returns `Number` with the first
+/// value, in the order above, that isn't a number in its range. Returns `NoMemory` if an allocation fails.
 pub fn words(alloc: Global, words: &[String]) -> Result<Cmd, WordFault>
-    // What is answered is the command that the words are.
+    // The result is the command that the words are.
     ensures command { IfOk result (IsCommand (texts words.now)) }
-    // A fault is one of the words, or memory ran out.
+    // A fault is one of the words, or `NoMemory`.
     ensures fault { IfErr result (IfWordFault (texts words.now)) }
-    // A command is read, unless memory runs out.
+    // A command is returned, or `NoMemory`.
     ensures complete { (cmd : Cmd) → IsCommand (texts words.now) cmd →
         MatchResult result (λ given. given ≡ cmd) (λ given. given ≡ WordFault.NoMemory) }
-    // Words with a fault are no command.
+    // Words with a fault aren't a command.
     ensures due { (fault : WordFault) → IsWordFault (texts words.now) fault → IsErr result }
-    // Where a fault other than want of memory is answered, the words are no command.
+    // If a fault other than `NoMemory` is returned, the words aren't a command.
     ensures none { IfErr result (λ given. given ≢ WordFault.NoMemory → (cmd : Cmd) → IsCommand (texts words.now) cmd → ⊥) }
 {
     one_meaning();
