@@ -7,8 +7,8 @@ use std::alloc::{AllocError, AllocFailed};
 use std::error::Error;
 use std::fmt;
 
-/// What is wrong with an input trace. Rows and fields are counted from 0, and the header is no row. Each text, but that of
-/// `NoMemory`, begins with the code that is given here.
+/// What is wrong with an input trace. Rows and fields are counted from 0, and the header is no row. Each text, but that
+/// of `NoMemory`, begins with the code that is given here.
 #[derive(Clone, Copy, Debug, Drop, PartialEq, Eq)]
 pub enum TraceFault {
     /// T1: a field of the header may not stand there, or names are missing.

@@ -83,8 +83,9 @@ fn read_names(alloc: Global, ports: &[Port], rest: &mut Fields) -> Result<Vec<us
 ///
 /// # Errors
 ///
-/// `Heading` of the first field that may not stand there: the first is `cycle`, and each further one is a port's name that
-/// did not stand before. Else, where names are missing, `Heading` of the count of fields. `NoMemory` where memory ran out.
+/// `Heading` of the first field that may not stand there: the first is `cycle`, and each further one is a port's name
+/// that did not stand before. Else, where names are missing, `Heading` of the count of fields. `NoMemory` where memory
+/// ran out.
 pub fn read_header(alloc: Global, ports: &[Port], line: &[u8]) -> Result<Vec<usize>, TraceFault>
     requires { HasDistinctNames ports.now }
     ensures { let header = fields line.now in

@@ -79,9 +79,10 @@ fn is_decimal(text: &[u8], number: u64) -> bool
 ///
 /// # Errors
 ///
-/// The first fault of the row, in this order: `TooManyRows` where the trace has too many rows, `FieldCount` where the line
-/// has another count of fields than the header, `RowNumber` where its first field is not the row's number, and
-/// `NotHexadecimal` or `TooWide` of the first field that is no value of its port. Values before that one may be written.
+/// The first fault of the row, in this order: `TooManyRows` where the trace has too many rows, `FieldCount` where the
+/// line has another count of fields than the header, `RowNumber` where its first field is not the row's number, and
+/// `NotHexadecimal` or `TooWide` of the first field that is no value of its port. Values before that one may be
+/// written.
 pub fn read_row(
     ports: &[Port],
     places: &[usize],

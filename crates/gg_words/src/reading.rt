@@ -164,8 +164,8 @@ fn read_words(alloc: Global, words: &[String]) -> Result<Cmd, WordFault>
 ///
 /// # Errors
 ///
-/// `Refused` where `clap` refuses the words, also those that ask for help; else `WrongNumber` with the first value, in the
-/// order above, that is no number in its range. `NoMemory` where memory ran out.
+/// `Refused` where `clap` refuses the words, also those that ask for help; else `WrongNumber` with the first value, in
+/// the order above, that is no number in its range. `NoMemory` where memory ran out.
 pub fn words(alloc: Global, words: &[String]) -> Result<Cmd, WordFault>
     // What is answered is the command that the words are.
     ensures command { IfOk result (IsCommand (texts words.now)) }
