@@ -55,7 +55,7 @@ pub enum WordFault {
     Refused(ErrorKind),
     /// `clap` takes them, and this value isn't a number in its range. It is the first such value, in the order of the
     /// command's options.
-    Number(Name),
+    WrongNumber(Name),
     /// An allocation failed.
     NoMemory,
 }

@@ -43,7 +43,7 @@ fn no_number(alloc: Global, value: &str) -> WordFault
     ensures { SaysFault {T = ℕ} result (Err value.now) }
 {
     match String::from_str(alloc, value) {
-        Ok(text) => WordFault::Number(Name::from(text)),
+        Ok(text) => WordFault::WrongNumber(Name::from(text)),
         Err(_) => WordFault::NoMemory,
     }
 }
@@ -168,7 +168,7 @@ fn read_words(alloc: Global, words: &[String]) -> Result<Cmd, WordFault>
 ///
 /// # Errors
 ///
-/// Returns `Refused` if `clap` refuses the words, also if they ask for help. Else returns `Number` with the first
+/// Returns `Refused` if `clap` refuses the words, also if they ask for help. Else returns `WrongNumber` with the first
 /// value, in the order above, that isn't a number in its range. Returns `NoMemory` if an allocation fails.
 pub fn words(alloc: Global, words: &[String]) -> Result<Cmd, WordFault>
     // The result is the command that the words are.
