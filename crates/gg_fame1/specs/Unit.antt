@@ -18,6 +18,7 @@ unit_machine program cycle state latches flags =
       behaviour = RunsPiece program.circuit;
       limit = cycle_limit;
       needs = program.needs;
+      port_count = 0;
       ports = [];
       cycle = cycle;
       state = state;

@@ -178,6 +178,11 @@ impl<'a> Host for Unit<'a> {
         0
     }
 
+    fn port_count(&self, thread: u32) -> u32 {
+        let _ = &self.cycle;
+        0
+    }
+
     fn token(&mut self, thread: u32, place: u32) -> u128 {
         self.value(place)
     }

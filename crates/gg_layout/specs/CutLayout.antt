@@ -1,5 +1,5 @@
--- The layout of a cut, said of the circuit: the ends, the capacity and the needs of each channel, and the ports that each machine
--- serves in a cycle, in their order.
+-- The layout of a cut, said of the circuit: the ends, the capacity and the needs of each channel, how many ports each machine has,
+-- and which of them it serves in a cycle, in their order.
 -- Sources: MEMOCODE 2009 for channels, their bounds and what an output of a machine depends on; ICCAD 2019 for memories of a target
 -- that are served port by port.
 use Rattle.std.specs.Prelude.{◌≡◌, ℕ, ◌-◌, ◌<◌, List, [], Bool, ◌==◌, ◌&&◌, if◌then◌else◌, length, map, nat_le, nat_lt, unwrap_or}
@@ -7,7 +7,7 @@ use Rattle.std.specs.List.{range_with_len}
 use Rattle.gg_flat.specs.Circuit.{FlatCircuit, latency_at, readers_at}
 use Rattle.gg_flat.specs.Line.{value_at}
 use Rattle.gg_flat.specs.Scoped.{writers_at}
-use Rattle.gg_flat.specs.Tree.{InstanceTree, memory_at}
+use Rattle.gg_flat.specs.Tree.{InstanceTree, memory_at, port_count}
 use Rattle.gg_order.specs.Design.{Ordered}
 use Rattle.gg_partfile.specs.declared.request.Request.{Request}
 use Rattle.gg_cut.specs.declared.listed.Listed.{Listed}
@@ -57,12 +57,17 @@ memory_of tree listed m = (memory_at tree (value_at listed.memories (m - first_m
 abbrev pub machine_turns : FlatCircuit → InstanceTree → Listed → List Wire → ℕ → List Turn
 machine_turns circuit tree listed wires m = if is_memory listed m then memory_turns circuit wires (memory_of tree listed m) else []
 
+-- how many ports machine m has: those of its memory, where it is a listed one, else none
+abbrev pub machine_ports : FlatCircuit → InstanceTree → Listed → ℕ → ℕ
+machine_ports circuit tree listed m = if is_memory listed m then port_count circuit (memory_of tree listed m) else 0
+
 -- ---- the layout
 
--- A layout of these channels: a link for each, the turns of each machine, and n cycles.
+-- A layout of these channels: a link for each, the ports and the turns of each machine, and n cycles.
 pub record IsLayoutBy (design : Ordered) (request : Request) (default n : ℕ) (listed : Listed) (wires : List Wire) (layout : Layout) : Type 0 where
   pub channels : length layout.links ≡ length wires
   pub link : (c : ℕ) → c < length wires → IsChannelLink design request default listed wires c (link_at layout c)
+  pub ports : layout.port_counts ≡ map (machine_ports design.circuit design.tree listed) (range_with_len 0 (machine_count design.circuit listed))
   pub turns : layout.turns ≡ map (machine_turns design.circuit design.tree listed wires) (range_with_len 0 (machine_count design.circuit listed))
   pub end : layout.end ≡ n
 

@@ -40,6 +40,7 @@ pub record HasLayout (frame : Frame) (layout : Layout) : Type 0 where
   pub machines : length layout.turns ≡ length frame.kinds
   pub channels : length layout.links ≡ length frame.wires
   pub end : layout.end ≡ frame.end
+  pub ports : layout.port_counts ≡ map (λ kind. kind.port_count) frame.kinds
   pub link : (c : ℕ) → c < length frame.wires → IsLinkOf frame c (link_at layout c)
   pub turns : (m : ℕ) → m < length frame.kinds → AreTurnsOf frame m (kind_at frame.kinds m).ports (turns_at layout m)
   pub ins : (c d : ℕ) → c < d → d < length frame.wires → (wire_at frame.wires c).consumer ≡ (wire_at frame.wires d).consumer → (wire_at frame.wires c).place < (wire_at frame.wires d).place

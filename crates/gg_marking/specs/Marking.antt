@@ -4,13 +4,12 @@
 -- (when a node may take, give and finish); ICCAD 2019 for memories that are served port by port. The order in which conditions are
 -- judged is this program's.
 use Rattle.std.specs.Prelude.{ℕ, suc, ◌-◌, ◌==◌, List, [], Bool, true, false, not, if◌then◌else◌, Option, Some, None, length, map, filter, find, replicate, slice_index_or, slice_set, slice_get, nat_lt}
-use Rattle.std.specs.List.{list_any, range_with_len}
+use Rattle.std.specs.List.{range_with_len}
 use Rattle.gg_flat.specs.Line.{value_at}
 use Rattle.gg_net.specs.declared.event.Event.{Event}
 use Rattle.gg_net.specs.declared.event.Event.TheVariants.{Latch, Fire, Serve, Finish}
 use Rattle.gg_net.specs.declared.event.Refusal.{Refusal}
 use Rattle.gg_net.specs.declared.event.Refusal.TheVariants.{Stranger, Ended, Latched, Fired, NoToken, NeedsInput, Full, Order, Unfired, Unserved}
-use Rattle.gg_net.specs.Step.{bound_of}
 
 -- ---- what stays
 
@@ -26,9 +25,11 @@ pub record Turn : Type 0 where
   pub number : ℕ
   pub fields : List ℕ
 
--- The channels by number, for each machine the ports that are served in a cycle, in their order, and how many cycles there are.
+-- The channels by number; for each machine how many ports its memory has, 0 where it isn't a memory that is served, and those of
+-- them that are served in a cycle, in their order; and how many cycles there are.
 pub record Layout : Type 0 where
   pub links : List Link
+  pub port_counts : List ℕ
   pub turns : List (List Turn)
   pub end : ℕ
 
@@ -113,11 +114,12 @@ is_channel layout c = nat_lt c (length layout.links)
 abbrev pub is_machine : Layout → ℕ → Bool
 is_machine layout m = nat_lt m (length layout.turns)
 
-abbrev pub numbers : List Turn → List ℕ
-numbers turns = map (λ turn. turn.number) turns
+-- how many ports the memory of a machine has
+abbrev pub port_count : Layout → ℕ → ℕ
+port_count layout m = value_at layout.port_counts m
 
 abbrev pub has_port : Layout → ℕ → ℕ → Bool
-has_port layout m p = list_any (λ number. number == p) (numbers (turns_at layout m))
+has_port layout m p = nat_lt p (port_count layout m)
 
 -- the port that is due
 abbrev pub due_turn : Layout → Marking → ℕ → Option Turn
@@ -145,9 +147,9 @@ fire_refusal layout marking c =
     (or_next (naming NeedsInput (first_unmarked marking.taken (link_at layout c).needs))
     (unless (nat_lt (held layout marking c) (link_at layout c).capacity) (Full c (held layout marking c))))))
 
--- the port is the one that is due, and its fields are there
+-- the port is the one that is due, and its fields are there; where none is due, the number of the ports is told
 abbrev pub turn_refusal : Layout → Marking → ℕ → ℕ → Option Turn → Option Refusal
-turn_refusal layout marking m p None = Some (Order (bound_of (numbers (turns_at layout m))))
+turn_refusal layout marking m p None = Some (Order (port_count layout m))
 turn_refusal layout marking m p (Some turn) =
     or_next (unless (turn.number == p) (Order turn.number)) (naming NeedsInput (first_unmarked marking.taken turn.fields))
 

@@ -63,7 +63,12 @@ number_by (One Old) readers writers j = j
 number_by (One Undefined) readers writers j = j
 number_by (One New) readers writers j = if nat_lt j writers then readers + j else j - writers
 
--- the ports of the only memory
+-- how many ports the only memory has
+abbrev pub count_of : List Memory → ℕ
+count_of [] = 0
+count_of (memory ∷ memories) = length memory.readers + length memory.writers
+
+-- the ports of the only memory that are served, in their order
 abbrev pub ports_of : List Memory → List Port
 ports_of [] = []
 ports_of (memory ∷ memories) = ports_by memory.latency memory.readers memory.writers
@@ -89,6 +94,7 @@ memory_machine piece limit cycle state served latches flags =
       behaviour = RunsPiece piece;
       limit = limit;
       needs = needs_of piece.memories;
+      port_count = count_of piece.memories;
       ports = ports_of piece.memories;
       cycle = cycle;
       state = state;

@@ -96,12 +96,20 @@ impl MemUnit {
     }
 
     // How many ports are served in a cycle.
-    fn port_count(&self) -> u32
+    fn due_count(&self) -> u32
         ensures { result ≡ length self.now.ports }
     {
         let memory = memory_of(&self.piece);
         let (readers, writers) = (memory.readers.as_slice(), memory.writers.as_slice());
         ports::count(memory.latency, readers, writers)
+    }
+
+    // How many ports the memory has.
+    fn all_ports(&self) -> u32
+        ensures { result ≡ self.now.port_count }
+    {
+        let memory = memory_of(&self.piece);
+        (memory.readers.len() + memory.writers.len()) as u32
     }
 
     // The token of an out.
@@ -185,7 +193,11 @@ impl Host for MemUnit {
     }
 
     fn dues(&self, thread: u32) -> u32 {
-        self.port_count()
+        self.due_count()
+    }
+
+    fn port_count(&self, thread: u32) -> u32 {
+        self.all_ports()
     }
 
     fn token(&mut self, thread: u32, place: u32) -> u128 {

@@ -1,7 +1,7 @@
 -- A network as its program holds it: hosts with their machines, stations, channels and queues.
 -- Source: MEMOCODE 2009 (a network before its first cycle: all queues, latches and flags empty); ICCAD 2019 for
 -- hosts.
-use Rattle.std.specs.Prelude.{◌≡◌, ℕ, ◌-◌, ◌^◌, ◌<◌, ◌≤◌, List, [], None, false, All, length, map, replicate, slice_index_or, ⊤}
+use Rattle.std.specs.Prelude.{◌≡◌, ℕ, ◌^◌, ◌<◌, ◌≤◌, List, [], None, false, All, length, map, replicate, slice_index_or, ⊤}
 use Rattle.gg_flat.specs.Line.{value_at}
 use Rattle.gg_flat.specs.State.{State, opening}
 use Rattle.gg_node.specs.Machine.{Behaviour, RunsPiece, GivesColumn, KeepsValues, Port, Machine, cycle_limit}
@@ -30,8 +30,8 @@ held_at queues c = slice_index_or queues c (record { tokens = []; room = 0 })
 abbrev pub entry_of : Port → ServedPort
 entry_of port = record { number = port.number; fields = fields_of port.access }
 
--- A station lists the channels at the ins and outs of its machine, and the ports that are served; of each kind there
--- are few enough to be named.
+-- A station lists the channels at the ins and outs of its machine, and the ports that are served, which are among the
+-- machine's ports; of ins and outs there are few enough to be named.
 pub record IsListed (wires : List Wire) (m : ℕ) (kind : Kind) (station : Station) : Type 0 where
   pub ins : length station.ins ≡ kind.ins
   pub into : (i : ℕ) → i < kind.ins → IsAtIn wires m i (value_at station.ins i)
@@ -39,7 +39,7 @@ pub record IsListed (wires : List Wire) (m : ℕ) (kind : Kind) (station : Stati
   pub from : (o : ℕ) → o < kind.outs → IsAtOut wires m o (value_at station.outs o)
   pub ports : station.ports ≡ map entry_of kind.ports
   pub few : (kind.ins < 2 ^ 32) × (kind.outs < 2 ^ 32)
-  pub numbers : All (λ port. port.number < 2 ^ 32 - 1) kind.ports
+  pub numbers : All (λ port. port.number < kind.port_count) kind.ports
 
 -- each station lists its own
 abbrev pub AreListed : Frame → List Station → Type 0

@@ -71,12 +71,13 @@ serves net m = length (machine_at net.machines m).ports * (machine_at net.machin
 
 -- ---- what no step changes
 
--- What stays of a machine: what it does, how many cycles it can do, what its outs need, which ports are served, and
--- how many ins and outs it has.
+-- What stays of a machine: what it does, how many cycles it can do, what its outs need, how many ports it has, which of
+-- them are served, and how many ins and outs it has.
 pub record Kind : Type 0 where
   pub behaviour : Behaviour
   pub limit : ℕ
   pub needs : List (List ℕ)
+  pub port_count : ℕ
   pub ports : List Port
   pub ins : ℕ
   pub outs : ℕ
@@ -88,6 +89,7 @@ kind_of machine =
       behaviour = machine.behaviour;
       limit = machine.limit;
       needs = machine.needs;
+      port_count = machine.port_count;
       ports = machine.ports;
       ins = length machine.latches;
       outs = length machine.flags;
@@ -95,7 +97,7 @@ kind_of machine =
 
 -- the kind of a machine that can do nothing
 abbrev pub no_kind : Kind
-no_kind = record { behaviour = KeepsValues; limit = 0; needs = []; ports = []; ins = 0; outs = 0 }
+no_kind = record { behaviour = KeepsValues; limit = 0; needs = []; port_count = 0; ports = []; ins = 0; outs = 0 }
 
 -- the kind at a place
 abbrev pub kind_at : List Kind → ℕ → Kind

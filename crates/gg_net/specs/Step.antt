@@ -2,7 +2,7 @@
 -- Source: MEMOCODE 2009 (a node takes a token from each input queue once in a cycle, gives one to each output queue
 -- as soon as what it depends on is there and the queue has room, and then finishes the cycle); ICCAD 2019 for
 -- memories that are served port by port. The order in which conditions are judged is this program's.
-use Rattle.std.specs.Prelude.{◌≡◌, ℕ, suc, ◌<◌, ◌≤◌, ◌++◌, List, [], ◌∷◌, Option, Some, None, Bool, true, false, IsSome, Contains, length, map, drop, fold, max, slice_set, slice_get}
+use Rattle.std.specs.Prelude.{◌≡◌, ℕ, suc, ◌<◌, ◌≤◌, ◌++◌, List, [], ◌∷◌, Option, Some, None, Bool, true, false, IsSome, length, drop, slice_set, slice_get}
 use Rattle.gg_flat.specs.Line.{value_at}
 use Rattle.gg_flat.specs.State.{State}
 use Rattle.gg_node.specs.Machine.{Port, Machine, machine_at, latch_at, flag_at, first_empty, missing, due}
@@ -15,14 +15,6 @@ use Rattle.gg_net.specs.declared.event.Refusal.TheVariants.{Stranger, Ended, Lat
 use Rattle.gg_net.specs.Network.{Network, wire_at, queue_at, producer_of, consumer_of, IsAtIn, IsAtOut}
 
 -- ---- the parts of conditions
-
--- the numbers of ports
-abbrev pub numbers : List Port → List ℕ
-numbers ports = map (λ port. port.number) ports
-
--- one more than the greatest of these numbers; 0 where there is none
-abbrev pub bound_of : List ℕ → ℕ
-bound_of ns = fold (λ most n. max most (suc n)) 0 ns
 
 -- the ins that the port of this place among those that are served looks at
 abbrev pub fields_at : Option Port → List ℕ
@@ -45,9 +37,9 @@ CanTake net c = (c < length net.wires) × IsBelow net (wire_at net.wires c).cons
 abbrev pub CanGive : Network → ℕ → Type 0
 CanGive net c = (c < length net.wires) × IsBelow net (wire_at net.wires c).producer
 
--- a machine is there, and has a port of this number
+-- a machine is there, and has a port of this number, served or not
 abbrev pub HasPort : Network → ℕ → ℕ → Type 0
-HasPort net m p = (m < length net.machines) × Contains (numbers (machine_at net.machines m).ports) p
+HasPort net m p = (m < length net.machines) × (p < (machine_at net.machines m).port_count)
 
 -- the latch of a channel's consumer
 abbrev pub latch_of : Network → ℕ → Option ℕ
@@ -194,10 +186,10 @@ pub record IsUnlatched (net : Network) (m d : ℕ) : Type 0 where
   pub first : IsFirstEmpty (machine_at net.machines m).latches place
   pub at : IsAtIn net.wires m place d
 
--- the port that is due; where none is, the number of the machine's ports
-abbrev pub due_or_count : List Port → Option ℕ → ℕ
-due_or_count ports None = bound_of (numbers ports)
-due_or_count ports (Some p) = p
+-- the port that is due; where none is, how many ports the machine has
+abbrev pub due_or_count : ℕ → Option ℕ → ℕ
+due_or_count count None = count
+due_or_count count (Some p) = p
 
 -- `Latch` is refused
 abbrev pub LatchRefused : Network → ℕ → Refusal → Type 0
@@ -221,7 +213,7 @@ abbrev pub ServeRefused : Network → ℕ → ℕ → Refusal → Type 0
 ServeRefused net m p Stranger = ¬ HasPort net m p
 ServeRefused net m p Ended = HasPort net m p × ¬ IsBelow net m
 ServeRefused net m p (Unfired d) = HasPort net m p × IsBelow net m × IsUnfired net m d
-ServeRefused net m p (Order q) = HasPort net m p × IsBelow net m × AllFired (machine_at net.machines m) × ¬ (due (machine_at net.machines m) ≡ Some p) × (q ≡ due_or_count (machine_at net.machines m).ports (due (machine_at net.machines m)))
+ServeRefused net m p (Order q) = HasPort net m p × IsBelow net m × AllFired (machine_at net.machines m) × ¬ (due (machine_at net.machines m) ≡ Some p) × (q ≡ due_or_count (machine_at net.machines m).port_count (due (machine_at net.machines m)))
 ServeRefused net m p (NeedsInput d) = HasPort net m p × IsBelow net m × AllFired (machine_at net.machines m) × (due (machine_at net.machines m) ≡ Some p) × IsWanted net m (missing_field net m) d
 ServeRefused net m p refusal = ⊥
 

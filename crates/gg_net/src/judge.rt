@@ -97,7 +97,7 @@ impl<H: Host, Z: Streams> Net<H, Z> {
         if machine as usize >= self.machines() {
             return Err(Refusal::Stranger);
         }
-        if !self.has_port(machine, port) {
+        if port >= self.port_count(machine) {
             return Err(Refusal::Stranger);
         }
         if self.cycle(machine) >= self.end() {
@@ -110,7 +110,7 @@ impl<H: Host, Z: Streams> Net<H, Z> {
         }
         let Some(due) = self.due(machine) else {
             return Err(Refusal::Order {
-                due: self.port_bound(machine),
+                due: self.port_count(machine),
             });
         };
         if due != port {

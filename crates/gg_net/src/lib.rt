@@ -22,7 +22,6 @@ mod event;
 mod judge;
 mod net;
 mod parts;
-mod ports;
 mod queue;
 mod seats;
 mod shape;

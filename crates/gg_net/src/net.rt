@@ -135,6 +135,15 @@ impl<H: Host, Z: Streams> Net<H, Z> {
         seats::dues(&self.hosts, &self.shape.stations[machine as usize])
     }
 
+    /// How many ports the memory of a machine has, those that no step serves among them; 0 where it isn't a memory that is
+    /// served.
+    pub fn port_count(&self, machine: u32) -> u32
+        requires { machine < length self.now.machines }
+        ensures { result ≡ (machine_at self.now.machines machine).port_count }
+    {
+        seats::port_count(&self.hosts, &self.shape.stations[machine as usize])
+    }
+
     // The cycle that a machine is in: within the limit.
     fn counted_cycle(&self, machine: u32) -> u64
         requires { machine < length self.now.machines }

@@ -77,6 +77,14 @@ pub(crate) fn dues<H: Host>(hosts: &[H], station: &Station) -> u32
     host_of(hosts, station).dues(station.thread)
 }
 
+// How many ports the memory of a machine has.
+pub(crate) fn port_count<H: Host>(hosts: &[H], station: &Station) -> u32
+    requires { IsSeated (map H.machines hosts.now) station.now }
+    ensures { result ≡ (seated (map H.machines hosts.now) station.now).port_count }
+{
+    host_of(hosts, station).port_count(station.thread)
+}
+
 // Puts a token into the latch of an in.
 pub(crate) fn latch<H: Host>(hosts: &mut Vec<H>, station: &Station, place: u32, token: u128)
     requires seated { IsSeated (map H.machines hosts.old.items) station.now }

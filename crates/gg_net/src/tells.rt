@@ -1,15 +1,14 @@
 //! What a network tells of its machines and channels, for its steps.
-ghost use Rattle.std.specs.Prelude.{◌≡◌, ◌<◌, Contains, length, map, is_some, Some, MatchOption};
-ghost use Rattle.std.specs.Bool.{Decides};
+ghost use Rattle.std.specs.Prelude.{◌≡◌, ◌<◌, length, is_some, Some, MatchOption};
 ghost use Rattle.gg_node.specs.Machine.{machine_at, latch_at, flag_at, missing, due, first_empty};
 ghost use Rattle.gg_node.specs.Step.{AllFired, AllLatched};
 ghost use Rattle.gg_net.specs.Network.{wire_at, queue_at, IsAtIn, IsAtOut};
-ghost use Rattle.gg_net.specs.Step.{bound_of, numbers, due_fields, IsFirstClear, IsFirstEmpty};
+ghost use Rattle.gg_net.specs.Step.{due_fields, IsFirstClear, IsFirstEmpty};
 
 use crate::net::Net;
 use crate::shape::Wire;
 use crate::streams::Streams;
-use crate::{ports, seats};
+use crate::seats;
 use gg_node::Host;
 
 impl<H: Host, Z: Streams> Net<H, Z> {
@@ -112,21 +111,5 @@ impl<H: Host, Z: Streams> Net<H, Z> {
         let served = seats::served(&self.hosts, station);
         let port = &station.ports.as_slice()[served as usize];
         seats::first_missing(&self.hosts, station, port.fields.as_slice())
-    }
-
-    // Whether a machine has a port of this number.
-    pub(crate) fn has_port(&self, machine: u32, port: u32) -> bool
-        requires { machine < length self.now.machines }
-        ensures { Decides result (Contains (numbers (machine_at self.now.machines machine).ports) port) }
-    {
-        ports::has(self.shape.stations[machine as usize].ports.as_slice(), port)
-    }
-
-    // One more than the greatest number of a machine's ports.
-    pub(crate) fn port_bound(&self, machine: u32) -> u32
-        requires { machine < length self.now.machines }
-        ensures { result ≡ bound_of (numbers (machine_at self.now.machines machine).ports) }
-    {
-        ports::bound(self.shape.stations[machine as usize].ports.as_slice())
     }
 }

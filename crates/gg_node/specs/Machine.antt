@@ -20,14 +20,16 @@ pub record Port : Type 0 where
   pub access : Access
 
 -- A machine. It has ins and outs, named by their places. `limit` is how many cycles it can do; `needs` has for each out the
--- ins that its token depends on; `ports` are those that are served in a cycle, in their order: none but where its piece is
--- a memory that is served. These stay. Then come the cycle that it is in, the state of its piece, how many ports were
--- served in this cycle, the latch of each in, which holds the token of this cycle or nothing, the flag of each out, which
--- says whether it has given the token of this cycle, and the values that it has kept.
+-- ins that its token depends on; `port_count` is how many ports its memory has, and `ports` are those of them that are
+-- served in a cycle, in their order: 0 and none but where its piece is a memory that is served. (A reader that gives its
+-- word in the same cycle is a port that no step serves.) These stay. Then come the cycle that it is in, the state of its
+-- piece, how many ports were served in this cycle, the latch of each in, which holds the token of this cycle or nothing,
+-- the flag of each out, which says whether it has given the token of this cycle, and the values that it has kept.
 pub record Machine : Type 0 where
   pub behaviour : Behaviour
   pub limit : ℕ
   pub needs : List (List ℕ)
+  pub port_count : ℕ
   pub ports : List Port
   pub cycle : ℕ
   pub state : State
@@ -46,7 +48,7 @@ no_state = record { registers = []; banks = [] }
 
 -- a machine that can do nothing
 abbrev pub no_machine : Machine
-no_machine = record { behaviour = KeepsValues; limit = 0; needs = []; ports = []; cycle = 0; state = no_state; served = 0; latches = []; flags = []; kept = [] }
+no_machine = record { behaviour = KeepsValues; limit = 0; needs = []; port_count = 0; ports = []; cycle = 0; state = no_state; served = 0; latches = []; flags = []; kept = [] }
 
 -- the machine at a place
 abbrev pub machine_at : List Machine → ℕ → Machine
@@ -100,8 +102,8 @@ due machine = port_number (slice_get machine.ports machine.served)
 
 -- a machine that gives a column: in a cycle, with the flag of its only out
 abbrev pub source_machine : List ℕ → ℕ → Bool → Machine
-source_machine column cycle fired = record { behaviour = GivesColumn column; limit = length column; needs = [] ∷ []; ports = []; cycle = cycle; state = no_state; served = 0; latches = []; flags = fired ∷ []; kept = [] }
+source_machine column cycle fired = record { behaviour = GivesColumn column; limit = length column; needs = [] ∷ []; port_count = 0; ports = []; cycle = cycle; state = no_state; served = 0; latches = []; flags = fired ∷ []; kept = [] }
 
 -- a machine that keeps values, at most so many: in a cycle, with those that it has kept, and the latch of its only in
 abbrev pub tray_machine : ℕ → ℕ → List ℕ → Option ℕ → Machine
-tray_machine rows cycle kept latch = record { behaviour = KeepsValues; limit = rows; needs = []; ports = []; cycle = cycle; state = no_state; served = 0; latches = latch ∷ []; flags = []; kept = kept }
+tray_machine rows cycle kept latch = record { behaviour = KeepsValues; limit = rows; needs = []; port_count = 0; ports = []; cycle = cycle; state = no_state; served = 0; latches = latch ∷ []; flags = []; kept = kept }

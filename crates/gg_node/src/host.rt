@@ -52,6 +52,11 @@ pub trait Host: Drop + Send {
         requires { thread < length (machines self.now) }
         ensures { result ≡ length (machine_at (machines self.now) thread).ports };
 
+    /// How many ports its memory has, those that no step serves among them; 0 where it isn't a memory that is served.
+    fn port_count(&self, thread: u32) -> u32
+        requires { thread < length (machines self.now) }
+        ensures { result ≡ (machine_at (machines self.now) thread).port_count };
+
     /// The token that an out would give. No machine changes.
     fn token(&mut self, thread: u32, place: u32) -> u128
         requires thread { thread < length (machines self.old) }

@@ -85,6 +85,11 @@ impl Host for Source {
         0
     }
 
+    fn port_count(&self, thread: u32) -> u32 {
+        let _ = &self.cycle;
+        0
+    }
+
     fn token(&mut self, thread: u32, place: u32) -> u128 {
         self.column[self.cycle as usize]
     }

@@ -96,6 +96,11 @@ impl Host for Tray {
         0
     }
 
+    fn port_count(&self, thread: u32) -> u32 {
+        let _ = &self.cycle;
+        0
+    }
+
     fn token(&mut self, thread: u32, place: u32) -> u128 {
         let _ = &self.cycle;
         0

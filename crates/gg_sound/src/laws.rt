@@ -1,5 +1,5 @@
 //! Laws: facts about the definitions, each on a function with an empty body.
-ghost use Rattle.std.specs.Prelude.{ℕ, ◌-◌, ◌^◌, ◌<◌, List, All, length};
+ghost use Rattle.std.specs.Prelude.{ℕ, ◌<◌, List, All, length};
 ghost use Rattle.gg_order.specs.Design.{Ordered};
 ghost use Rattle.gg_partfile.specs.declared.request.Request.{Request};
 ghost use Rattle.gg_cut.specs.declared.plan.Plan.{Plan};
@@ -28,9 +28,9 @@ pub fn plan_has_no_ring()
     ensures { (design : Ordered) (request : Request) (default : ℕ) (plan : Plan) (columns : List (List ℕ)) (n : ℕ) (rows : List (List ℕ)) (machines : List Machine) → IsGiven design request default plan columns n rows → AreBuilt plan columns n machines → HasNoRing (plan_frame plan machines n) }
 {}
 
-/// The ports that a machine serves can be named by 32 bits, with a number to spare, and look at ins that are there.
+/// The ports that a machine serves are among its ports, and look at ins that are there.
 pub fn ports_are_named()
-    ensures numbers { (design : Ordered) (request : Request) (default : ℕ) (plan : Plan) (columns : List (List ℕ)) (n : ℕ) (rows : List (List ℕ)) (machines : List Machine) → IsGiven design request default plan columns n rows → AreBuilt plan columns n machines → (m : ℕ) → m < length plan.machines → All (λ port. port.number < 2 ^ 32 - 1) (kind_at (plan_frame plan machines n).kinds m).ports }
+    ensures numbers { (design : Ordered) (request : Request) (default : ℕ) (plan : Plan) (columns : List (List ℕ)) (n : ℕ) (rows : List (List ℕ)) (machines : List Machine) → IsGiven design request default plan columns n rows → AreBuilt plan columns n machines → (m : ℕ) → m < length plan.machines → All (λ port. port.number < (kind_at (plan_frame plan machines n).kinds m).port_count) (kind_at (plan_frame plan machines n).kinds m).ports }
     ensures fields { (design : Ordered) (request : Request) (default : ℕ) (plan : Plan) (columns : List (List ℕ)) (n : ℕ) (rows : List (List ℕ)) (machines : List Machine) → IsGiven design request default plan columns n rows → AreBuilt plan columns n machines → (m : ℕ) → m < length plan.machines → All (λ port. All (λ i. i < (kind_at (plan_frame plan machines n).kinds m).ins) (fields_of port.access)) (kind_at (plan_frame plan machines n).kinds m).ports }
 {}
 
