@@ -7,11 +7,12 @@ use std::alloc::AllocError;
 use std::error::Error;
 use std::fmt;
 
-/// Why a partition file gave no request.
+/// Why a partition file gave no request. The text of a wrong key begins with the code that is given here.
 #[derive(Debug, Drop)]
 pub enum PartFault {
-    /// The first of the keys `units`, `share`, `memories` and `capacity` whose value is of a wrong shape; else the least
-    /// unknown key; `-` where the file is no JSON text, or no object.
+    /// P1: a key's value is of a wrong shape, or a key is unknown. It is the first of `units`, `share`, `memories` and
+    /// `capacity` whose value is of a wrong shape; else the least unknown key; `-` where the file is no JSON text, or no
+    /// object.
     WrongKey(Name),
     /// Memory was refused.
     NoMemory,

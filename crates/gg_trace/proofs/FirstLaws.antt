@@ -4,7 +4,7 @@ use Rattle.std.proofs.lemmas.List.{ext_get_or}
 use Rattle.std.proofs.lemmas.Bool.{cases_order}
 use Rattle.gg_flat.specs.declared.ports.Port.{Port}
 use Rattle.gg_trace.specs.declared.faults.TraceFault.{TraceFault}
-use Rattle.gg_trace.specs.declared.faults.TraceFault.TheVariants.{T1, T2, T3, T4, T5, T6, NoMemory}
+use Rattle.gg_trace.specs.declared.faults.TraceFault.TheVariants.{Heading, RowNumber, NotHexadecimal, TooWide, FieldCount, TooManyRows, NoMemory}
 use Rattle.gg_trace.specs.Cells.{IsHexadecimal, hexadecimal}
 use Rattle.gg_trace.specs.Ports.{IsNamed, width_at}
 use Rattle.gg_trace.specs.Header.{field, MayStand, IsHeader, HasHeaderFault}
@@ -52,24 +52,24 @@ bad_width ports bytes r f wide value = omega (arith, wide.wide, (value.value wid
 
 -- the header and the rows before a fault's row are good, and that row is not
 abbrev IsAtRow : List Port → List ℕ → TraceFault → Type 0
-IsAtRow ports bytes (T1 f) = Unit {0}
-IsAtRow ports bytes (T2 r) = ReachesRow ports bytes r × (r < length (rows_of bytes)) × ¬ IsRow ports (header_of bytes) r (row_at bytes r)
-IsAtRow ports bytes (T3 r f) = ReachesRow ports bytes r × (r < length (rows_of bytes)) × ¬ IsRow ports (header_of bytes) r (row_at bytes r)
-IsAtRow ports bytes (T4 r f) = ReachesRow ports bytes r × (r < length (rows_of bytes)) × ¬ IsRow ports (header_of bytes) r (row_at bytes r)
-IsAtRow ports bytes (T5 r c) = ReachesRow ports bytes r × (r < length (rows_of bytes)) × ¬ IsRow ports (header_of bytes) r (row_at bytes r)
-IsAtRow ports bytes (T6 r) = ReachesRow ports bytes r × (r < length (rows_of bytes)) × ¬ IsRow ports (header_of bytes) r (row_at bytes r)
+IsAtRow ports bytes (Heading f) = Unit {0}
+IsAtRow ports bytes (RowNumber r) = ReachesRow ports bytes r × (r < length (rows_of bytes)) × ¬ IsRow ports (header_of bytes) r (row_at bytes r)
+IsAtRow ports bytes (NotHexadecimal r f) = ReachesRow ports bytes r × (r < length (rows_of bytes)) × ¬ IsRow ports (header_of bytes) r (row_at bytes r)
+IsAtRow ports bytes (TooWide r f) = ReachesRow ports bytes r × (r < length (rows_of bytes)) × ¬ IsRow ports (header_of bytes) r (row_at bytes r)
+IsAtRow ports bytes (FieldCount r c) = ReachesRow ports bytes r × (r < length (rows_of bytes)) × ¬ IsRow ports (header_of bytes) r (row_at bytes r)
+IsAtRow ports bytes (TooManyRows r) = ReachesRow ports bytes r × (r < length (rows_of bytes)) × ¬ IsRow ports (header_of bytes) r (row_at bytes r)
 IsAtRow ports bytes NoMemory = Unit {0}
 
 at_row : (ports : List Port) (bytes : List ℕ) (fault : TraceFault) → IsFirstFault ports bytes fault → IsAtRow ports bytes fault
-at_row ports bytes (T1 f) h = tt
-at_row ports bytes (T2 r) h = (h.0.limit.row, h.1.0, λ good. h.1.1 good.number)
-at_row ports bytes (T3 r f) h =
+at_row ports bytes (Heading f) h = tt
+at_row ports bytes (RowNumber r) h = (h.0.limit.row, h.1.0, λ good. h.1.1 good.number)
+at_row ports bytes (NotHexadecimal r f) h =
     let reached = h.0.count.limit.row in
     (reached, h.1.0.row, λ good. bad_digits ports bytes r f reached.header h.1.0 h.1.1 (good.values f h.1.0.behind h.1.0.within))
-at_row ports bytes (T4 r f) h =
+at_row ports bytes (TooWide r f) h =
     (h.0.count.limit.row, h.1.0.row, λ good. bad_width ports bytes r f h.1.1 (good.values f h.1.0.behind h.1.0.within))
-at_row ports bytes (T5 r c) h = (h.0.row, h.1.0, λ good. h.1.2 (sym h.1.1 ∙ good.count))
-at_row ports bytes (T6 r) h = (h.0, h.1.0, λ good. omega (arith, good.limit, h.1.1))
+at_row ports bytes (FieldCount r c) h = (h.0.row, h.1.0, λ good. h.1.2 (sym h.1.1 ∙ good.count))
+at_row ports bytes (TooManyRows r) h = (h.0, h.1.0, λ good. omega (arith, good.limit, h.1.1))
 at_row ports bytes NoMemory h = tt
 
 -- two faults are of one row
@@ -109,126 +109,126 @@ one_field ports bytes r s f g e some_f some_g bad_f bad_g here there = by_order 
 digits_clash : (bytes : List ℕ) (r s f g : ℕ) → r ≡ s → f ≡ g → ¬ IsHexadecimal (field (row_at bytes r) f) → IsHexadecimal (field (row_at bytes s) g) → ⊥
 digits_clash bytes r s f g e same none digits = none (subst (λ q. IsHexadecimal (field (row_at bytes q) f)) (sym e) (subst (λ k. IsHexadecimal (field (row_at bytes s) k)) (sym same) digits))
 
-bad_three : (ports : List Port) (bytes : List ℕ) (r f : ℕ) → IsFirstFault ports bytes (T3 r f) → IsValueField ports (header_of bytes) (row_at bytes r) f → ⊥
-bad_three ports bytes r f h = bad_digits ports bytes r f h.0.count.limit.row.header h.1.0 h.1.1
+bad_by_digits : (ports : List Port) (bytes : List ℕ) (r f : ℕ) → IsFirstFault ports bytes (NotHexadecimal r f) → IsValueField ports (header_of bytes) (row_at bytes r) f → ⊥
+bad_by_digits ports bytes r f h = bad_digits ports bytes r f h.0.count.limit.row.header h.1.0 h.1.1
 
-bad_four : (ports : List Port) (bytes : List ℕ) (r f : ℕ) → IsFirstFault ports bytes (T4 r f) → IsValueField ports (header_of bytes) (row_at bytes r) f → ⊥
-bad_four ports bytes r f h = bad_width ports bytes r f h.1.1
+bad_by_width : (ports : List Port) (bytes : List ℕ) (r f : ℕ) → IsFirstFault ports bytes (TooWide r f) → IsValueField ports (header_of bytes) (row_at bytes r) f → ⊥
+bad_by_width ports bytes r f h = bad_width ports bytes r f h.1.1
 
 -- a text has one first fault
 pub one_first_fault : (ports : List Port) (bytes : List ℕ) (a b : TraceFault) → IsFirstFault ports bytes a → IsFirstFault ports bytes b → a ≡ b
-one_first_fault ports bytes (T1 f) (T1 g) h k = ap T1 (one_header_fault ports (header_of bytes) f g h.1 k.1)
-one_first_fault ports bytes (T1 f) (T2 s) h k = absurd (header_good ports (header_of bytes) f h.1 k.0.limit.row.header)
-one_first_fault ports bytes (T1 f) (T3 s g) h k = absurd (header_good ports (header_of bytes) f h.1 k.0.count.limit.row.header)
-one_first_fault ports bytes (T1 f) (T4 s g) h k = absurd (header_good ports (header_of bytes) f h.1 k.0.count.limit.row.header)
-one_first_fault ports bytes (T1 f) (T5 s d) h k = absurd (header_good ports (header_of bytes) f h.1 k.0.row.header)
-one_first_fault ports bytes (T1 f) (T6 s) h k = absurd (header_good ports (header_of bytes) f h.1 k.0.header)
-one_first_fault ports bytes (T2 r) (T1 g) h k = absurd (header_good ports (header_of bytes) g k.1 h.0.limit.row.header)
-one_first_fault ports bytes (T2 r) (T2 s) h k =
-    let e = one_row ports bytes r s (at_row ports bytes (T2 r) h) (at_row ports bytes (T2 s) k) in
-    ap T2 e
-one_first_fault ports bytes (T2 r) (T3 s g) h k =
-    let e = one_row ports bytes r s (at_row ports bytes (T2 r) h) (at_row ports bytes (T3 s g) k) in
+one_first_fault ports bytes (Heading f) (Heading g) h k = ap Heading (one_header_fault ports (header_of bytes) f g h.1 k.1)
+one_first_fault ports bytes (Heading f) (RowNumber s) h k = absurd (header_good ports (header_of bytes) f h.1 k.0.limit.row.header)
+one_first_fault ports bytes (Heading f) (NotHexadecimal s g) h k = absurd (header_good ports (header_of bytes) f h.1 k.0.count.limit.row.header)
+one_first_fault ports bytes (Heading f) (TooWide s g) h k = absurd (header_good ports (header_of bytes) f h.1 k.0.count.limit.row.header)
+one_first_fault ports bytes (Heading f) (FieldCount s d) h k = absurd (header_good ports (header_of bytes) f h.1 k.0.row.header)
+one_first_fault ports bytes (Heading f) (TooManyRows s) h k = absurd (header_good ports (header_of bytes) f h.1 k.0.header)
+one_first_fault ports bytes (RowNumber r) (Heading g) h k = absurd (header_good ports (header_of bytes) g k.1 h.0.limit.row.header)
+one_first_fault ports bytes (RowNumber r) (RowNumber s) h k =
+    let e = one_row ports bytes r s (at_row ports bytes (RowNumber r) h) (at_row ports bytes (RowNumber s) k) in
+    ap RowNumber e
+one_first_fault ports bytes (RowNumber r) (NotHexadecimal s g) h k =
+    let e = one_row ports bytes r s (at_row ports bytes (RowNumber r) h) (at_row ports bytes (NotHexadecimal s g) k) in
     absurd (number_clash bytes r s e h.1.1 k.0.number)
-one_first_fault ports bytes (T2 r) (T4 s g) h k =
-    let e = one_row ports bytes r s (at_row ports bytes (T2 r) h) (at_row ports bytes (T4 s g) k) in
+one_first_fault ports bytes (RowNumber r) (TooWide s g) h k =
+    let e = one_row ports bytes r s (at_row ports bytes (RowNumber r) h) (at_row ports bytes (TooWide s g) k) in
     absurd (number_clash bytes r s e h.1.1 k.0.number)
-one_first_fault ports bytes (T2 r) (T5 s d) h k =
-    let e = one_row ports bytes r s (at_row ports bytes (T2 r) h) (at_row ports bytes (T5 s d) k) in
+one_first_fault ports bytes (RowNumber r) (FieldCount s d) h k =
+    let e = one_row ports bytes r s (at_row ports bytes (RowNumber r) h) (at_row ports bytes (FieldCount s d) k) in
     absurd (count_clash bytes s r d (sym e) k.1.1 k.1.2 h.0.count)
-one_first_fault ports bytes (T2 r) (T6 s) h k =
-    let e = one_row ports bytes r s (at_row ports bytes (T2 r) h) (at_row ports bytes (T6 s) k) in
+one_first_fault ports bytes (RowNumber r) (TooManyRows s) h k =
+    let e = one_row ports bytes r s (at_row ports bytes (RowNumber r) h) (at_row ports bytes (TooManyRows s) k) in
     absurd (limit_clash s r (sym e) k.1.1 h.0.limit.limit)
-one_first_fault ports bytes (T3 r f) (T1 g) h k = absurd (header_good ports (header_of bytes) g k.1 h.0.count.limit.row.header)
-one_first_fault ports bytes (T3 r f) (T2 s) h k =
-    let e = one_row ports bytes r s (at_row ports bytes (T3 r f) h) (at_row ports bytes (T2 s) k) in
+one_first_fault ports bytes (NotHexadecimal r f) (Heading g) h k = absurd (header_good ports (header_of bytes) g k.1 h.0.count.limit.row.header)
+one_first_fault ports bytes (NotHexadecimal r f) (RowNumber s) h k =
+    let e = one_row ports bytes r s (at_row ports bytes (NotHexadecimal r f) h) (at_row ports bytes (RowNumber s) k) in
     absurd (number_clash bytes s r (sym e) k.1.1 h.0.number)
-one_first_fault ports bytes (T3 r f) (T3 s g) h k =
-    let e = one_row ports bytes r s (at_row ports bytes (T3 r f) h) (at_row ports bytes (T3 s g) k) in
-    let same = one_field ports bytes r s f g e h.1.0.behind k.1.0.behind (bad_three ports bytes r f h) (bad_three ports bytes s g k) h.0 k.0 in
+one_first_fault ports bytes (NotHexadecimal r f) (NotHexadecimal s g) h k =
+    let e = one_row ports bytes r s (at_row ports bytes (NotHexadecimal r f) h) (at_row ports bytes (NotHexadecimal s g) k) in
+    let same = one_field ports bytes r s f g e h.1.0.behind k.1.0.behind (bad_by_digits ports bytes r f h) (bad_by_digits ports bytes s g k) h.0 k.0 in
     cc
-one_first_fault ports bytes (T3 r f) (T4 s g) h k =
-    let e = one_row ports bytes r s (at_row ports bytes (T3 r f) h) (at_row ports bytes (T4 s g) k) in
-    let same = one_field ports bytes r s f g e h.1.0.behind k.1.0.behind (bad_three ports bytes r f h) (bad_four ports bytes s g k) h.0 k.0 in
+one_first_fault ports bytes (NotHexadecimal r f) (TooWide s g) h k =
+    let e = one_row ports bytes r s (at_row ports bytes (NotHexadecimal r f) h) (at_row ports bytes (TooWide s g) k) in
+    let same = one_field ports bytes r s f g e h.1.0.behind k.1.0.behind (bad_by_digits ports bytes r f h) (bad_by_width ports bytes s g k) h.0 k.0 in
     absurd (digits_clash bytes r s f g e same h.1.1 k.1.1.digits)
-one_first_fault ports bytes (T3 r f) (T5 s d) h k =
-    let e = one_row ports bytes r s (at_row ports bytes (T3 r f) h) (at_row ports bytes (T5 s d) k) in
+one_first_fault ports bytes (NotHexadecimal r f) (FieldCount s d) h k =
+    let e = one_row ports bytes r s (at_row ports bytes (NotHexadecimal r f) h) (at_row ports bytes (FieldCount s d) k) in
     absurd (count_clash bytes s r d (sym e) k.1.1 k.1.2 h.0.count.count)
-one_first_fault ports bytes (T3 r f) (T6 s) h k =
-    let e = one_row ports bytes r s (at_row ports bytes (T3 r f) h) (at_row ports bytes (T6 s) k) in
+one_first_fault ports bytes (NotHexadecimal r f) (TooManyRows s) h k =
+    let e = one_row ports bytes r s (at_row ports bytes (NotHexadecimal r f) h) (at_row ports bytes (TooManyRows s) k) in
     absurd (limit_clash s r (sym e) k.1.1 h.0.count.limit.limit)
-one_first_fault ports bytes (T4 r f) (T1 g) h k = absurd (header_good ports (header_of bytes) g k.1 h.0.count.limit.row.header)
-one_first_fault ports bytes (T4 r f) (T2 s) h k =
-    let e = one_row ports bytes r s (at_row ports bytes (T4 r f) h) (at_row ports bytes (T2 s) k) in
+one_first_fault ports bytes (TooWide r f) (Heading g) h k = absurd (header_good ports (header_of bytes) g k.1 h.0.count.limit.row.header)
+one_first_fault ports bytes (TooWide r f) (RowNumber s) h k =
+    let e = one_row ports bytes r s (at_row ports bytes (TooWide r f) h) (at_row ports bytes (RowNumber s) k) in
     absurd (number_clash bytes s r (sym e) k.1.1 h.0.number)
-one_first_fault ports bytes (T4 r f) (T3 s g) h k =
-    let e = one_row ports bytes r s (at_row ports bytes (T4 r f) h) (at_row ports bytes (T3 s g) k) in
-    let same = one_field ports bytes r s f g e h.1.0.behind k.1.0.behind (bad_four ports bytes r f h) (bad_three ports bytes s g k) h.0 k.0 in
+one_first_fault ports bytes (TooWide r f) (NotHexadecimal s g) h k =
+    let e = one_row ports bytes r s (at_row ports bytes (TooWide r f) h) (at_row ports bytes (NotHexadecimal s g) k) in
+    let same = one_field ports bytes r s f g e h.1.0.behind k.1.0.behind (bad_by_width ports bytes r f h) (bad_by_digits ports bytes s g k) h.0 k.0 in
     absurd (digits_clash bytes s r g f (sym e) (sym same) k.1.1 h.1.1.digits)
-one_first_fault ports bytes (T4 r f) (T4 s g) h k =
-    let e = one_row ports bytes r s (at_row ports bytes (T4 r f) h) (at_row ports bytes (T4 s g) k) in
-    let same = one_field ports bytes r s f g e h.1.0.behind k.1.0.behind (bad_four ports bytes r f h) (bad_four ports bytes s g k) h.0 k.0 in
+one_first_fault ports bytes (TooWide r f) (TooWide s g) h k =
+    let e = one_row ports bytes r s (at_row ports bytes (TooWide r f) h) (at_row ports bytes (TooWide s g) k) in
+    let same = one_field ports bytes r s f g e h.1.0.behind k.1.0.behind (bad_by_width ports bytes r f h) (bad_by_width ports bytes s g k) h.0 k.0 in
     cc
-one_first_fault ports bytes (T4 r f) (T5 s d) h k =
-    let e = one_row ports bytes r s (at_row ports bytes (T4 r f) h) (at_row ports bytes (T5 s d) k) in
+one_first_fault ports bytes (TooWide r f) (FieldCount s d) h k =
+    let e = one_row ports bytes r s (at_row ports bytes (TooWide r f) h) (at_row ports bytes (FieldCount s d) k) in
     absurd (count_clash bytes s r d (sym e) k.1.1 k.1.2 h.0.count.count)
-one_first_fault ports bytes (T4 r f) (T6 s) h k =
-    let e = one_row ports bytes r s (at_row ports bytes (T4 r f) h) (at_row ports bytes (T6 s) k) in
+one_first_fault ports bytes (TooWide r f) (TooManyRows s) h k =
+    let e = one_row ports bytes r s (at_row ports bytes (TooWide r f) h) (at_row ports bytes (TooManyRows s) k) in
     absurd (limit_clash s r (sym e) k.1.1 h.0.count.limit.limit)
-one_first_fault ports bytes (T5 r c) (T1 g) h k = absurd (header_good ports (header_of bytes) g k.1 h.0.row.header)
-one_first_fault ports bytes (T5 r c) (T2 s) h k =
-    let e = one_row ports bytes r s (at_row ports bytes (T5 r c) h) (at_row ports bytes (T2 s) k) in
+one_first_fault ports bytes (FieldCount r c) (Heading g) h k = absurd (header_good ports (header_of bytes) g k.1 h.0.row.header)
+one_first_fault ports bytes (FieldCount r c) (RowNumber s) h k =
+    let e = one_row ports bytes r s (at_row ports bytes (FieldCount r c) h) (at_row ports bytes (RowNumber s) k) in
     absurd (count_clash bytes r s c e h.1.1 h.1.2 k.0.count)
-one_first_fault ports bytes (T5 r c) (T3 s g) h k =
-    let e = one_row ports bytes r s (at_row ports bytes (T5 r c) h) (at_row ports bytes (T3 s g) k) in
+one_first_fault ports bytes (FieldCount r c) (NotHexadecimal s g) h k =
+    let e = one_row ports bytes r s (at_row ports bytes (FieldCount r c) h) (at_row ports bytes (NotHexadecimal s g) k) in
     absurd (count_clash bytes r s c e h.1.1 h.1.2 k.0.count.count)
-one_first_fault ports bytes (T5 r c) (T4 s g) h k =
-    let e = one_row ports bytes r s (at_row ports bytes (T5 r c) h) (at_row ports bytes (T4 s g) k) in
+one_first_fault ports bytes (FieldCount r c) (TooWide s g) h k =
+    let e = one_row ports bytes r s (at_row ports bytes (FieldCount r c) h) (at_row ports bytes (TooWide s g) k) in
     absurd (count_clash bytes r s c e h.1.1 h.1.2 k.0.count.count)
-one_first_fault ports bytes (T5 r c) (T5 s d) h k =
-    let e = one_row ports bytes r s (at_row ports bytes (T5 r c) h) (at_row ports bytes (T5 s d) k) in
+one_first_fault ports bytes (FieldCount r c) (FieldCount s d) h k =
+    let e = one_row ports bytes r s (at_row ports bytes (FieldCount r c) h) (at_row ports bytes (FieldCount s d) k) in
     let same = sym h.1.1 ∙ ap (λ q. length (row_at bytes q)) e ∙ k.1.1 in
     cc
-one_first_fault ports bytes (T5 r c) (T6 s) h k =
-    let e = one_row ports bytes r s (at_row ports bytes (T5 r c) h) (at_row ports bytes (T6 s) k) in
+one_first_fault ports bytes (FieldCount r c) (TooManyRows s) h k =
+    let e = one_row ports bytes r s (at_row ports bytes (FieldCount r c) h) (at_row ports bytes (TooManyRows s) k) in
     absurd (limit_clash s r (sym e) k.1.1 h.0.limit)
-one_first_fault ports bytes (T6 r) (T1 g) h k = absurd (header_good ports (header_of bytes) g k.1 h.0.header)
-one_first_fault ports bytes (T6 r) (T2 s) h k =
-    let e = one_row ports bytes r s (at_row ports bytes (T6 r) h) (at_row ports bytes (T2 s) k) in
+one_first_fault ports bytes (TooManyRows r) (Heading g) h k = absurd (header_good ports (header_of bytes) g k.1 h.0.header)
+one_first_fault ports bytes (TooManyRows r) (RowNumber s) h k =
+    let e = one_row ports bytes r s (at_row ports bytes (TooManyRows r) h) (at_row ports bytes (RowNumber s) k) in
     absurd (limit_clash r s e h.1.1 k.0.limit.limit)
-one_first_fault ports bytes (T6 r) (T3 s g) h k =
-    let e = one_row ports bytes r s (at_row ports bytes (T6 r) h) (at_row ports bytes (T3 s g) k) in
+one_first_fault ports bytes (TooManyRows r) (NotHexadecimal s g) h k =
+    let e = one_row ports bytes r s (at_row ports bytes (TooManyRows r) h) (at_row ports bytes (NotHexadecimal s g) k) in
     absurd (limit_clash r s e h.1.1 k.0.count.limit.limit)
-one_first_fault ports bytes (T6 r) (T4 s g) h k =
-    let e = one_row ports bytes r s (at_row ports bytes (T6 r) h) (at_row ports bytes (T4 s g) k) in
+one_first_fault ports bytes (TooManyRows r) (TooWide s g) h k =
+    let e = one_row ports bytes r s (at_row ports bytes (TooManyRows r) h) (at_row ports bytes (TooWide s g) k) in
     absurd (limit_clash r s e h.1.1 k.0.count.limit.limit)
-one_first_fault ports bytes (T6 r) (T5 s d) h k =
-    let e = one_row ports bytes r s (at_row ports bytes (T6 r) h) (at_row ports bytes (T5 s d) k) in
+one_first_fault ports bytes (TooManyRows r) (FieldCount s d) h k =
+    let e = one_row ports bytes r s (at_row ports bytes (TooManyRows r) h) (at_row ports bytes (FieldCount s d) k) in
     absurd (limit_clash r s e h.1.1 k.0.limit)
-one_first_fault ports bytes (T6 r) (T6 s) h k =
-    let e = one_row ports bytes r s (at_row ports bytes (T6 r) h) (at_row ports bytes (T6 s) k) in
-    ap T6 e
+one_first_fault ports bytes (TooManyRows r) (TooManyRows s) h k =
+    let e = one_row ports bytes r s (at_row ports bytes (TooManyRows r) h) (at_row ports bytes (TooManyRows s) k) in
+    ap TooManyRows e
 one_first_fault ports bytes NoMemory b h k = absurd h.1
-one_first_fault ports bytes (T1 f) NoMemory h k = absurd k.1
-one_first_fault ports bytes (T2 r) NoMemory h k = absurd k.1
-one_first_fault ports bytes (T3 r f) NoMemory h k = absurd k.1
-one_first_fault ports bytes (T4 r f) NoMemory h k = absurd k.1
-one_first_fault ports bytes (T5 r c) NoMemory h k = absurd k.1
-one_first_fault ports bytes (T6 r) NoMemory h k = absurd k.1
+one_first_fault ports bytes (Heading f) NoMemory h k = absurd k.1
+one_first_fault ports bytes (RowNumber r) NoMemory h k = absurd k.1
+one_first_fault ports bytes (NotHexadecimal r f) NoMemory h k = absurd k.1
+one_first_fault ports bytes (TooWide r f) NoMemory h k = absurd k.1
+one_first_fault ports bytes (FieldCount r c) NoMemory h k = absurd k.1
+one_first_fault ports bytes (TooManyRows r) NoMemory h k = absurd k.1
 
 -- a text with columns has none of the faults
 pub columns_have_no_fault :
     (ports : List Port) (bytes : List ℕ) (n : ℕ) (columns : List (List ℕ)) (fault : TraceFault) → Columns ports bytes n columns → HasFault ports bytes fault → ⊥
-columns_have_no_fault ports bytes n columns (T1 f) good h = header_good ports (header_of bytes) f h good.header
-columns_have_no_fault ports bytes n columns (T2 r) good h = h.1 ((good.rows r (omega (arith, h.0, good.count))).number)
-columns_have_no_fault ports bytes n columns (T3 r f) good h =
+columns_have_no_fault ports bytes n columns (Heading f) good h = header_good ports (header_of bytes) f h good.header
+columns_have_no_fault ports bytes n columns (RowNumber r) good h = h.1 ((good.rows r (omega (arith, h.0, good.count))).number)
+columns_have_no_fault ports bytes n columns (NotHexadecimal r f) good h =
     bad_digits ports bytes r f good.header h.0 h.1
     ((good.rows r (omega (arith, h.0.row, good.count))).values f h.0.behind h.0.within)
-columns_have_no_fault ports bytes n columns (T4 r f) good h =
+columns_have_no_fault ports bytes n columns (TooWide r f) good h =
     bad_width ports bytes r f h.1
     ((good.rows r (omega (arith, h.0.row, good.count))).values f h.0.behind h.0.within)
-columns_have_no_fault ports bytes n columns (T5 r c) good h = h.2 (sym h.1 ∙ (good.rows r (omega (arith, h.0, good.count))).count)
-columns_have_no_fault ports bytes n columns (T6 r) good h = omega (arith, (good.rows r (omega (arith, h.0, good.count))).limit, h.1)
+columns_have_no_fault ports bytes n columns (FieldCount r c) good h = h.2 (sym h.1 ∙ (good.rows r (omega (arith, h.0, good.count))).count)
+columns_have_no_fault ports bytes n columns (TooManyRows r) good h = omega (arith, (good.rows r (omega (arith, h.0, good.count))).limit, h.1)
 columns_have_no_fault ports bytes n columns NoMemory good h = h
 
 -- the value of a port in a row
@@ -267,19 +267,19 @@ one_columns ports bytes m n xs ys p q = ext_get_or [] xs ys (p.width ∙ sym q.w
 
 -- what is answered is the first fault, or want of memory
 pub first_or_memory : (ports : List Port) (bytes : List ℕ) (given first : TraceFault) → IfFirstFault ports bytes given → IsFirstFault ports bytes first → (given ≡ first) ⊎ (given ≡ NoMemory)
-first_or_memory ports bytes (T1 f) first h k = inl (one_first_fault ports bytes (T1 f) first h k)
-first_or_memory ports bytes (T2 r) first h k = inl (one_first_fault ports bytes (T2 r) first h k)
-first_or_memory ports bytes (T3 r f) first h k = inl (one_first_fault ports bytes (T3 r f) first h k)
-first_or_memory ports bytes (T4 r f) first h k = inl (one_first_fault ports bytes (T4 r f) first h k)
-first_or_memory ports bytes (T5 r c) first h k = inl (one_first_fault ports bytes (T5 r c) first h k)
-first_or_memory ports bytes (T6 r) first h k = inl (one_first_fault ports bytes (T6 r) first h k)
+first_or_memory ports bytes (Heading f) first h k = inl (one_first_fault ports bytes (Heading f) first h k)
+first_or_memory ports bytes (RowNumber r) first h k = inl (one_first_fault ports bytes (RowNumber r) first h k)
+first_or_memory ports bytes (NotHexadecimal r f) first h k = inl (one_first_fault ports bytes (NotHexadecimal r f) first h k)
+first_or_memory ports bytes (TooWide r f) first h k = inl (one_first_fault ports bytes (TooWide r f) first h k)
+first_or_memory ports bytes (FieldCount r c) first h k = inl (one_first_fault ports bytes (FieldCount r c) first h k)
+first_or_memory ports bytes (TooManyRows r) first h k = inl (one_first_fault ports bytes (TooManyRows r) first h k)
 first_or_memory ports bytes NoMemory first h k = inr refl
 
 pub columns_or_memory : (ports : List Port) (bytes : List ℕ) (n : ℕ) (columns : List (List ℕ)) (given : TraceFault) → Columns ports bytes n columns → IfFirstFault ports bytes given → given ≡ NoMemory
-columns_or_memory ports bytes n columns (T1 f) good h = absurd (columns_have_no_fault ports bytes n columns (T1 f) good h.1)
-columns_or_memory ports bytes n columns (T2 r) good h = absurd (columns_have_no_fault ports bytes n columns (T2 r) good h.1)
-columns_or_memory ports bytes n columns (T3 r f) good h = absurd (columns_have_no_fault ports bytes n columns (T3 r f) good h.1)
-columns_or_memory ports bytes n columns (T4 r f) good h = absurd (columns_have_no_fault ports bytes n columns (T4 r f) good h.1)
-columns_or_memory ports bytes n columns (T5 r c) good h = absurd (columns_have_no_fault ports bytes n columns (T5 r c) good h.1)
-columns_or_memory ports bytes n columns (T6 r) good h = absurd (columns_have_no_fault ports bytes n columns (T6 r) good h.1)
+columns_or_memory ports bytes n columns (Heading f) good h = absurd (columns_have_no_fault ports bytes n columns (Heading f) good h.1)
+columns_or_memory ports bytes n columns (RowNumber r) good h = absurd (columns_have_no_fault ports bytes n columns (RowNumber r) good h.1)
+columns_or_memory ports bytes n columns (NotHexadecimal r f) good h = absurd (columns_have_no_fault ports bytes n columns (NotHexadecimal r f) good h.1)
+columns_or_memory ports bytes n columns (TooWide r f) good h = absurd (columns_have_no_fault ports bytes n columns (TooWide r f) good h.1)
+columns_or_memory ports bytes n columns (FieldCount r c) good h = absurd (columns_have_no_fault ports bytes n columns (FieldCount r c) good h.1)
+columns_or_memory ports bytes n columns (TooManyRows r) good h = absurd (columns_have_no_fault ports bytes n columns (TooManyRows r) good h.1)
 columns_or_memory ports bytes n columns NoMemory good h = refl

@@ -4,7 +4,7 @@ use Rattle.std.proofs.lemmas.List.{get_or-set_same, get_or-set_other, length-set
 use Rattle.std.proofs.lemmas.Bool.{cases_eq}
 use Rattle.gg_flat.specs.declared.ports.Port.{Port}
 use Rattle.gg_trace.specs.declared.faults.TraceFault.{TraceFault}
-use Rattle.gg_trace.specs.declared.faults.TraceFault.TheVariants.{T1, T2, T3, T4, T5, T6, NoMemory}
+use Rattle.gg_trace.specs.declared.faults.TraceFault.TheVariants.{Heading, RowNumber, NotHexadecimal, TooWide, FieldCount, TooManyRows, NoMemory}
 use Rattle.gg_trace.specs.Cells.{IsCell, IsHexadecimal, hexadecimal}
 use Rattle.gg_trace.specs.Ports.{width_at}
 use Rattle.gg_trace.specs.Header.{field}
@@ -79,16 +79,16 @@ stops ports places cells more x values at row r f reads is_row is_field =
 -- a fault of the next cell is the row's
 pub cell_fault : (ports : List Port) (places : List ℕ) (cells more : List (List ℕ)) (x values : List ℕ) (at row : ℕ) (fault : TraceFault) → ReadsCells ports places cells (x ∷ more) values at
     → HasValueFault (width_at ports (get_or places at 0)) x row (at + 1) fault → HasValuesFault ports places cells row fault
-cell_fault ports places cells more x values at row (T3 r f) reads h =
+cell_fault ports places cells more x values at row (NotHexadecimal r f) reads h =
     (stops ports places cells more x values at row r f reads h.0 h.1, λ digits. h.2 (subst IsHexadecimal (next_item cells more x [] at reads.left).0 digits))
-cell_fault ports places cells more x values at row (T4 r f) reads h = (
+cell_fault ports places cells more x values at row (TooWide r f) reads h = (
   stops ports places cells more x values at row r f reads h.0 h.1,
   subst (λ text. IsHexadecimal text × (2 ^ width_at ports (get_or places at 0) ≤ hexadecimal text)) (sym (next_item cells more x [] at reads.left).0) h.2,
 )
-cell_fault ports places cells more x values at row (T1 f) reads h = h
-cell_fault ports places cells more x values at row (T2 r) reads h = h
-cell_fault ports places cells more x values at row (T5 r c) reads h = h
-cell_fault ports places cells more x values at row (T6 r) reads h = h
+cell_fault ports places cells more x values at row (Heading f) reads h = h
+cell_fault ports places cells more x values at row (RowNumber r) reads h = h
+cell_fault ports places cells more x values at row (FieldCount r c) reads h = h
+cell_fault ports places cells more x values at row (TooManyRows r) reads h = h
 cell_fault ports places cells more x values at row NoMemory reads h = h
 
 -- all cells are read
@@ -113,12 +113,12 @@ row_reads ports places row line cells first values e limit count is read = recor
 -- a fault of its cells is the row's
 pub row_fault : (ports : List Port) (places : List ℕ) (row : ℕ) (line cells : List (List ℕ)) (first : List ℕ) (fault : TraceFault) → line ≡ first ∷ cells → row < row_limit → length line ≡ length places + 1 → first ≡ decimal row
     → HasValuesFault ports places cells row fault → HasRowFault ports places row line fault
-row_fault ports places row line cells first (T3 r f) e limit count is h =
-    (passes places row line cells first e limit count is, subst (λ rest. HasValuesFault ports places rest row (T3 r f)) (sym (ap (drop 1) e)) h)
-row_fault ports places row line cells first (T4 r f) e limit count is h =
-    (passes places row line cells first e limit count is, subst (λ rest. HasValuesFault ports places rest row (T4 r f)) (sym (ap (drop 1) e)) h)
-row_fault ports places row line cells first (T1 f) e limit count is h = absurd h
-row_fault ports places row line cells first (T2 r) e limit count is h = absurd h
-row_fault ports places row line cells first (T5 r c) e limit count is h = absurd h
-row_fault ports places row line cells first (T6 r) e limit count is h = absurd h
+row_fault ports places row line cells first (NotHexadecimal r f) e limit count is h =
+    (passes places row line cells first e limit count is, subst (λ rest. HasValuesFault ports places rest row (NotHexadecimal r f)) (sym (ap (drop 1) e)) h)
+row_fault ports places row line cells first (TooWide r f) e limit count is h =
+    (passes places row line cells first e limit count is, subst (λ rest. HasValuesFault ports places rest row (TooWide r f)) (sym (ap (drop 1) e)) h)
+row_fault ports places row line cells first (Heading f) e limit count is h = absurd h
+row_fault ports places row line cells first (RowNumber r) e limit count is h = absurd h
+row_fault ports places row line cells first (FieldCount r c) e limit count is h = absurd h
+row_fault ports places row line cells first (TooManyRows r) e limit count is h = absurd h
 row_fault ports places row line cells first NoMemory e limit count is h = absurd h

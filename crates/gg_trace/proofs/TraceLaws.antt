@@ -4,7 +4,7 @@ use Rattle.std.proofs.lemmas.List.{get_or-drop, get_or-take, take_all, drop_at, 
 use Rattle.std.proofs.lemmas.Bool.{cases_eq}
 use Rattle.gg_flat.specs.declared.ports.Port.{Port}
 use Rattle.gg_trace.specs.declared.faults.TraceFault.{TraceFault}
-use Rattle.gg_trace.specs.declared.faults.TraceFault.TheVariants.{T1, T2, T3, T4, T5, T6, NoMemory}
+use Rattle.gg_trace.specs.declared.faults.TraceFault.TheVariants.{Heading, RowNumber, NotHexadecimal, TooWide, FieldCount, TooManyRows, NoMemory}
 use Rattle.gg_trace.specs.Cells.{IsHexadecimal, hexadecimal, IsCell}
 use Rattle.gg_trace.specs.Fields.{fields}
 use Rattle.gg_trace.specs.Ports.{IsNamed, HasDistinctNames, width_at}
@@ -135,25 +135,25 @@ value_at_cell ports bytes places rows g heading row within = record { row = row;
 -- the fault of a row is the text's first
 first_of_row : (ports : List Port) (bytes : List ℕ) (places : List ℕ) (rows : ℕ) (fault : TraceFault) → IsHeading ports (header_of bytes) places → HasDistinctNames ports → ReachesRow ports bytes rows
     → rows ≤ row_limit → rows < length (rows_of bytes) → HasRowFault ports places rows (row_at bytes rows) fault → IfFirstFault ports bytes fault
-first_of_row ports bytes places rows (T1 f) heading distinct before limit row h = absurd h
-first_of_row ports bytes places rows (T2 r) heading distinct before limit row h =
-    subst (λ q. IfFirstFault ports bytes (T2 q)) (sym h.0)
+first_of_row ports bytes places rows (Heading f) heading distinct before limit row h = absurd h
+first_of_row ports bytes places rows (RowNumber r) heading distinct before limit row h =
+    subst (λ q. IfFirstFault ports bytes (RowNumber q)) (sym h.0)
     (record { limit = record { row = before; limit = h.1 }; count = h.2 ∙ sym heading.count }, (row, h.3))
-first_of_row ports bytes places rows (T3 r f) heading distinct before limit row h =
+first_of_row ports bytes places rows (NotHexadecimal r f) heading distinct before limit row h =
     let s = h.1.0 in
-    subst (λ q. IfFirstFault ports bytes (T3 q f)) (sym s.is_row)
-    (subst (λ g. IfFirstFault ports bytes (T3 rows g)) (sym s.is_field) (
+    subst (λ q. IfFirstFault ports bytes (NotHexadecimal q f)) (sym s.is_row)
+    (subst (λ g. IfFirstFault ports bytes (NotHexadecimal rows g)) (sym s.is_field) (
       reaches_value ports bytes places rows s.at heading distinct before h.0 (omega (arith, s.within)) s.before,
       (
         value_at_cell ports bytes places rows s.at heading row s.within,
         λ digits. h.1.1 (subst IsHexadecimal (sym (cell_is (row_at bytes rows) s.at)) digits),
       ),
     ))
-first_of_row ports bytes places rows (T4 r f) heading distinct before limit row h =
+first_of_row ports bytes places rows (TooWide r f) heading distinct before limit row h =
     let s = h.1.0 in
     let at = cell_is (row_at bytes rows) s.at in
-    subst (λ q. IfFirstFault ports bytes (T4 q f)) (sym s.is_row)
-    (subst (λ g. IfFirstFault ports bytes (T4 rows g)) (sym s.is_field) (
+    subst (λ q. IfFirstFault ports bytes (TooWide q f)) (sym s.is_row)
+    (subst (λ g. IfFirstFault ports bytes (TooWide rows g)) (sym s.is_field) (
       reaches_value ports bytes places rows s.at heading distinct before h.0 (omega (arith, s.within)) s.before,
       (
         value_at_cell ports bytes places rows s.at heading row s.within,
@@ -165,11 +165,11 @@ first_of_row ports bytes places rows (T4 r f) heading distinct before limit row 
         },
       ),
     ))
-first_of_row ports bytes places rows (T5 r c) heading distinct before limit row h =
-    subst (λ q. IfFirstFault ports bytes (T5 q c)) (sym h.0)
+first_of_row ports bytes places rows (FieldCount r c) heading distinct before limit row h =
+    subst (λ q. IfFirstFault ports bytes (FieldCount q c)) (sym h.0)
     (record { row = before; limit = h.1 }, (row, sym h.2, λ e. h.3 (e ∙ heading.count)))
-first_of_row ports bytes places rows (T6 r) heading distinct before limit row h =
-    subst (λ q. IfFirstFault ports bytes (T6 q)) (sym h.0) (before, (row, omega (arith, h.1)))
+first_of_row ports bytes places rows (TooManyRows r) heading distinct before limit row h =
+    subst (λ q. IfFirstFault ports bytes (TooManyRows q)) (sym h.0) (before, (row, omega (arith, h.1)))
 first_of_row ports bytes places rows NoMemory heading distinct before limit row h = absurd h
 
 pub row_fault : (ports : List Port) (bytes text : List ℕ) (lines : List (List ℕ)) (places values cells : List ℕ) (rows : ℕ) (fault : TraceFault) → ReadsRows ports bytes (text ∷ lines) places values cells rows
@@ -181,12 +181,12 @@ row_fault ports bytes text lines places values cells rows fault reads distinct h
 
 -- the fault of the header is the text's first
 pub header_fault : (ports : List Port) (bytes : List ℕ) (fault : TraceFault) → IfHeaderFault ports (header_of bytes) fault → IfFirstFault ports bytes fault
-header_fault ports bytes (T1 f) h = (tt, h)
-header_fault ports bytes (T2 r) h = absurd h
-header_fault ports bytes (T3 r f) h = absurd h
-header_fault ports bytes (T4 r f) h = absurd h
-header_fault ports bytes (T5 r c) h = absurd h
-header_fault ports bytes (T6 r) h = absurd h
+header_fault ports bytes (Heading f) h = (tt, h)
+header_fault ports bytes (RowNumber r) h = absurd h
+header_fault ports bytes (NotHexadecimal r f) h = absurd h
+header_fault ports bytes (TooWide r f) h = absurd h
+header_fault ports bytes (FieldCount r c) h = absurd h
+header_fault ports bytes (TooManyRows r) h = absurd h
 header_fault ports bytes NoMemory h = tt
 
 -- the value of a port in a row

@@ -5,7 +5,7 @@ use Rattle.std.specs.Char.{digit_value}
 use Rattle.std.proofs.lemmas.Fmt.{decimal_digit}
 use Rattle.gg_bits.specs.declared.types.Kind.TheVariants.{UInt, SInt}
 use Rattle.gg_flat.specs.declared.ports.Port.{Port}
-use Rattle.gg_trace.specs.declared.faults.TraceFault.TheVariants.{T1, T2, T3, T4, T5}
+use Rattle.gg_trace.specs.declared.faults.TraceFault.TheVariants.{Heading, RowNumber, NotHexadecimal, TooWide, FieldCount}
 use Rattle.gg_trace.specs.Cells.{IsHexadecimal, hexadecimal, IsCell}
 use Rattle.gg_trace.specs.Fields.{fields, fields_of_text, text_lines}
 use Rattle.gg_trace.specs.Ports.{IsNamed, width_at}
@@ -218,7 +218,7 @@ small_columns = record { header = header_y_x; count = refl; rows = rows; width =
     values (suc (suc r)) (suc f) i h some within named = absurd (omega arith)
 
 -- Under the header `cycle x`, one row 0 of each fault, and the header that leaves the name out.
-missing_name : IsFirstFault (x ∷ []) (codes "cycle" ++ 10 ∷ []) (T1 1)
+missing_name : IsFirstFault (x ∷ []) (codes "cycle" ++ 10 ∷ []) (Heading 1)
 unfolding fields fields_of_text text_lines
 missing_name = (tt, record { before = before; here = inr (refl, not_header) })
   where
@@ -232,14 +232,14 @@ missing_name = (tt, record { before = before; here = inr (refl, not_header) })
 abbrev one_row : List ℕ → List ℕ
 one_row row = codes "cycle x" ++ 10 ∷ row ++ 10 ∷ []
 
-wrong_number : IsFirstFault (x ∷ []) (one_row (codes "1 0")) (T2 0)
+wrong_number : IsFirstFault (x ∷ []) (one_row (codes "1 0")) (RowNumber 0)
 unfolding fields fields_of_text text_lines
 wrong_number = (
   record { limit = record { row = record { header = header_x; before = λ q h. absurd (omega arith) }; limit = lit≤ tt }; count = refl },
   (lit≤ tt, λ e. other_text (codes "1") (codes "0") (λ h. omega (arith, h)) (e ∙ zero_is)),
 )
 
-not_digits : IsFirstFault (x ∷ []) (one_row (codes "0 g")) (T3 0 1)
+not_digits : IsFirstFault (x ∷ []) (one_row (codes "0 g")) (NotHexadecimal 0 1)
 unfolding fields fields_of_text text_lines IsHexadecimal
 not_digits = (
   record {
@@ -250,7 +250,7 @@ not_digits = (
   (record { row = lit≤ tt; behind = lit≤ tt; within = lit≤ tt }, λ h. omega (arith, h.1.0)),
 )
 
-too_wide : IsFirstFault (x ∷ []) (one_row (codes "0 100")) (T4 0 1)
+too_wide : IsFirstFault (x ∷ []) (one_row (codes "0 100")) (TooWide 0 1)
 unfolding fields fields_of_text text_lines IsHexadecimal hexadecimal
 too_wide = (
   record {
@@ -264,7 +264,7 @@ too_wide = (
   ),
 )
 
-too_many_fields : IsFirstFault (x ∷ []) (one_row (codes "0 0 0")) (T5 0 3)
+too_many_fields : IsFirstFault (x ∷ []) (one_row (codes "0 0 0")) (FieldCount 0 3)
 unfolding fields fields_of_text text_lines
 too_many_fields = (
   record { row = record { header = header_x; before = λ q h. absurd (omega arith) }; limit = lit≤ tt },

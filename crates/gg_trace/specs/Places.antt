@@ -7,8 +7,8 @@ use Rattle.std.specs.declared.hash.BuildHasherDefault.{BuildHasherDefault}
 use denote.Ref.{Bor}
 use Rattle.gg_flat.specs.declared.ports.Port.{Port}
 use Rattle.gg_trace.specs.declared.faults.TraceFault.{TraceFault}
-use Rattle.gg_trace.specs.declared.faults.TraceFault.TheVariants.{T1, T2, T3, T4, T5, T6, NoMemory}
-use Rattle.gg_trace.specs.declared.cells.CellFault.TheVariants.{TooWide}
+use Rattle.gg_trace.specs.declared.faults.TraceFault.TheVariants.{Heading, RowNumber, NotHexadecimal, TooWide, FieldCount, TooManyRows, NoMemory}
+use Rattle.gg_trace.specs.declared.cells.CellFault.TheVariants as cell
 use Rattle.gg_trace.specs.Cells.{IsHexadecimal, hexadecimal, IsCell, HasCellFault}
 use Rattle.gg_trace.specs.Ports.{IsNamed, name_at, width_at}
 use Rattle.gg_trace.specs.Header.{field, IsHeader, HasHeaderFault}
@@ -30,12 +30,12 @@ pub record IsHeading (ports : List Port) (header : List (List ℕ)) (places : Li
 
 -- the fault is the header's, or memory ran out
 abbrev pub IfHeaderFault : List Port → List (List ℕ) → TraceFault → Type 0
-IfHeaderFault ports header (T1 f) = HasHeaderFault ports header f
-IfHeaderFault ports header (T2 r) = ⊥
-IfHeaderFault ports header (T3 r f) = ⊥
-IfHeaderFault ports header (T4 r f) = ⊥
-IfHeaderFault ports header (T5 r c) = ⊥
-IfHeaderFault ports header (T6 r) = ⊥
+IfHeaderFault ports header (Heading f) = HasHeaderFault ports header f
+IfHeaderFault ports header (RowNumber r) = ⊥
+IfHeaderFault ports header (NotHexadecimal r f) = ⊥
+IfHeaderFault ports header (TooWide r f) = ⊥
+IfHeaderFault ports header (FieldCount r c) = ⊥
+IfHeaderFault ports header (TooManyRows r) = ⊥
 IfHeaderFault ports header NoMemory = Unit {0}
 
 -- a name is taken: its port was not named before and is now, or there is no such port
@@ -66,22 +66,22 @@ pub record StopsAt (ports : List Port) (places : List ℕ) (cells : List (List �
 
 -- the fault is of the first cell of the row that is no value
 abbrev pub HasValuesFault : List Port → List ℕ → List (List ℕ) → ℕ → TraceFault → Type 0
-HasValuesFault ports places cells row (T1 f) = ⊥
-HasValuesFault ports places cells row (T2 r) = ⊥
-HasValuesFault ports places cells row (T3 r f) = (s : StopsAt ports places cells row r f) × ¬ IsHexadecimal (field cells s.at)
-HasValuesFault ports places cells row (T4 r f) = (s : StopsAt ports places cells row r f) × HasCellFault (width_at ports (slice_index places s.at)) (field cells s.at) TooWide
-HasValuesFault ports places cells row (T5 r c) = ⊥
-HasValuesFault ports places cells row (T6 r) = ⊥
+HasValuesFault ports places cells row (Heading f) = ⊥
+HasValuesFault ports places cells row (RowNumber r) = ⊥
+HasValuesFault ports places cells row (NotHexadecimal r f) = (s : StopsAt ports places cells row r f) × ¬ IsHexadecimal (field cells s.at)
+HasValuesFault ports places cells row (TooWide r f) = (s : StopsAt ports places cells row r f) × HasCellFault (width_at ports (slice_index places s.at)) (field cells s.at) cell.TooWide
+HasValuesFault ports places cells row (FieldCount r c) = ⊥
+HasValuesFault ports places cells row (TooManyRows r) = ⊥
 HasValuesFault ports places cells row NoMemory = ⊥
 
 -- the fault of one field of a row
 abbrev pub HasValueFault : ℕ → List ℕ → ℕ → ℕ → TraceFault → Type 0
-HasValueFault width text row at (T1 f) = ⊥
-HasValueFault width text row at (T2 r) = ⊥
-HasValueFault width text row at (T3 r f) = (r ≡ row) × (f ≡ at) × ¬ IsHexadecimal text
-HasValueFault width text row at (T4 r f) = (r ≡ row) × (f ≡ at) × HasCellFault width text TooWide
-HasValueFault width text row at (T5 r c) = ⊥
-HasValueFault width text row at (T6 r) = ⊥
+HasValueFault width text row at (Heading f) = ⊥
+HasValueFault width text row at (RowNumber r) = ⊥
+HasValueFault width text row at (NotHexadecimal r f) = (r ≡ row) × (f ≡ at) × ¬ IsHexadecimal text
+HasValueFault width text row at (TooWide r f) = (r ≡ row) × (f ≡ at) × HasCellFault width text cell.TooWide
+HasValueFault width text row at (FieldCount r c) = ⊥
+HasValueFault width text row at (TooManyRows r) = ⊥
 HasValueFault width text row at NoMemory = ⊥
 
 -- the row is below the limit, has the header's count of fields, and begins with its number
@@ -98,12 +98,12 @@ pub record ReadsRow (ports : List Port) (places : List ℕ) (row : ℕ) (line : 
 
 -- the fault is the first of this row
 abbrev pub HasRowFault : List Port → List ℕ → ℕ → List (List ℕ) → TraceFault → Type 0
-HasRowFault ports places row line (T1 f) = ⊥
-HasRowFault ports places row line (T2 r) = (r ≡ row) × (row < row_limit) × (length line ≡ length places + 1) × (field line 0 ≢ decimal row)
-HasRowFault ports places row line (T3 r f) = PassesCycle places row line × HasValuesFault ports places (drop 1 line) row (T3 r f)
-HasRowFault ports places row line (T4 r f) = PassesCycle places row line × HasValuesFault ports places (drop 1 line) row (T4 r f)
-HasRowFault ports places row line (T5 r c) = (r ≡ row) × (row < row_limit) × (c ≡ length line) × (c ≢ length places + 1)
-HasRowFault ports places row line (T6 r) = (r ≡ row) × (row_limit ≤ row)
+HasRowFault ports places row line (Heading f) = ⊥
+HasRowFault ports places row line (RowNumber r) = (r ≡ row) × (row < row_limit) × (length line ≡ length places + 1) × (field line 0 ≢ decimal row)
+HasRowFault ports places row line (NotHexadecimal r f) = PassesCycle places row line × HasValuesFault ports places (drop 1 line) row (NotHexadecimal r f)
+HasRowFault ports places row line (TooWide r f) = PassesCycle places row line × HasValuesFault ports places (drop 1 line) row (TooWide r f)
+HasRowFault ports places row line (FieldCount r c) = (r ≡ row) × (row < row_limit) × (c ≡ length line) × (c ≢ length places + 1)
+HasRowFault ports places row line (TooManyRows r) = (r ≡ row) × (row_limit ≤ row)
 HasRowFault ports places row line NoMemory = ⊥
 
 -- a table by names: a look-up by any bytes finds a port, of the first n, that has this name, or there is none

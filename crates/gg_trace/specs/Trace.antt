@@ -2,7 +2,7 @@
 use Rattle.std.specs.Prelude.{◌≡◌, ◌≢◌, ℕ, ◌<◌, ◌≤◌, ◌^◌, List, [], length, map, drop, decimal, slice_index, slice_index_or}
 use Rattle.gg_flat.specs.declared.ports.Port.{Port}
 use Rattle.gg_trace.specs.declared.faults.TraceFault.{TraceFault}
-use Rattle.gg_trace.specs.declared.faults.TraceFault.TheVariants.{T1, T2, T3, T4, T5, T6, NoMemory}
+use Rattle.gg_trace.specs.declared.faults.TraceFault.TheVariants.{Heading, RowNumber, NotHexadecimal, TooWide, FieldCount, TooManyRows, NoMemory}
 use Rattle.gg_trace.specs.Fields.{fields, text_lines}
 use Rattle.gg_trace.specs.Cells.{IsHexadecimal, hexadecimal, IsCell}
 use Rattle.gg_trace.specs.Ports.{IsNamed, width_at}
@@ -62,12 +62,12 @@ pub record IsTooWide (ports : List Port) (bytes : List ℕ) (r f : ℕ) : Type 0
 
 -- The text has this fault.
 abbrev pub HasFault : List Port → List ℕ → TraceFault → Type 0
-HasFault ports bytes (T1 f) = HasHeaderFault ports (header_of bytes) f
-HasFault ports bytes (T2 r) = (r < length (rows_of bytes)) × (field (row_at bytes r) 0 ≢ decimal r)
-HasFault ports bytes (T3 r f) = HasValueAt bytes r f × ¬ IsHexadecimal (field (row_at bytes r) f)
-HasFault ports bytes (T4 r f) = HasValueAt bytes r f × IsTooWide ports bytes r f
-HasFault ports bytes (T5 r c) = (r < length (rows_of bytes)) × (length (row_at bytes r) ≡ c) × (c ≢ length (header_of bytes))
-HasFault ports bytes (T6 r) = (r < length (rows_of bytes)) × (r ≡ row_limit)
+HasFault ports bytes (Heading f) = HasHeaderFault ports (header_of bytes) f
+HasFault ports bytes (RowNumber r) = (r < length (rows_of bytes)) × (field (row_at bytes r) 0 ≢ decimal r)
+HasFault ports bytes (NotHexadecimal r f) = HasValueAt bytes r f × ¬ IsHexadecimal (field (row_at bytes r) f)
+HasFault ports bytes (TooWide r f) = HasValueAt bytes r f × IsTooWide ports bytes r f
+HasFault ports bytes (FieldCount r c) = (r < length (rows_of bytes)) × (length (row_at bytes r) ≡ c) × (c ≢ length (header_of bytes))
+HasFault ports bytes (TooManyRows r) = (r < length (rows_of bytes)) × (r ≡ row_limit)
 HasFault ports bytes NoMemory = ⊥
 
 -- the header and each row before r are good
@@ -94,12 +94,12 @@ pub record ReachesValue (ports : List Port) (bytes : List ℕ) (r f : ℕ) : Typ
 -- Nothing that comes before this fault is faulty: the header comes before all, then the rows in order, and in a row
 -- the limit, the count of fields, the row's number, and the values from left to right, where digits come before width.
 abbrev pub IsReached : List Port → List ℕ → TraceFault → Type 0
-IsReached ports bytes (T1 f) = Unit {0}
-IsReached ports bytes (T6 r) = ReachesRow ports bytes r
-IsReached ports bytes (T5 r c) = ReachesCount ports bytes r
-IsReached ports bytes (T2 r) = ReachesNumber ports bytes r
-IsReached ports bytes (T3 r f) = ReachesValue ports bytes r f
-IsReached ports bytes (T4 r f) = ReachesValue ports bytes r f
+IsReached ports bytes (Heading f) = Unit {0}
+IsReached ports bytes (TooManyRows r) = ReachesRow ports bytes r
+IsReached ports bytes (FieldCount r c) = ReachesCount ports bytes r
+IsReached ports bytes (RowNumber r) = ReachesNumber ports bytes r
+IsReached ports bytes (NotHexadecimal r f) = ReachesValue ports bytes r f
+IsReached ports bytes (TooWide r f) = ReachesValue ports bytes r f
 IsReached ports bytes NoMemory = ⊥
 
 -- the text has this fault, and nothing before it is faulty
@@ -109,12 +109,12 @@ IsFirstFault ports bytes fault = IsReached ports bytes fault × HasFault ports b
 -- the first fault, or want of memory
 abbrev pub IfFirstFault : List Port → List ℕ → TraceFault → Type 0
 IfFirstFault ports bytes NoMemory = Unit {0}
-IfFirstFault ports bytes (T1 f) = IsFirstFault ports bytes (T1 f)
-IfFirstFault ports bytes (T2 r) = IsFirstFault ports bytes (T2 r)
-IfFirstFault ports bytes (T3 r f) = IsFirstFault ports bytes (T3 r f)
-IfFirstFault ports bytes (T4 r f) = IsFirstFault ports bytes (T4 r f)
-IfFirstFault ports bytes (T5 r c) = IsFirstFault ports bytes (T5 r c)
-IfFirstFault ports bytes (T6 r) = IsFirstFault ports bytes (T6 r)
+IfFirstFault ports bytes (Heading f) = IsFirstFault ports bytes (Heading f)
+IfFirstFault ports bytes (RowNumber r) = IsFirstFault ports bytes (RowNumber r)
+IfFirstFault ports bytes (NotHexadecimal r f) = IsFirstFault ports bytes (NotHexadecimal r f)
+IfFirstFault ports bytes (TooWide r f) = IsFirstFault ports bytes (TooWide r f)
+IfFirstFault ports bytes (FieldCount r c) = IsFirstFault ports bytes (FieldCount r c)
+IfFirstFault ports bytes (TooManyRows r) = IsFirstFault ports bytes (TooManyRows r)
 
 -- each value fits its port's width
 pub record HaveWidths (ports : List Port) (n : ℕ) (columns : List (List ℕ)) : Type 0 where

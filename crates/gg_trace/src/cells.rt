@@ -6,9 +6,9 @@ ghost use Rattle.gg_trace.specs.Cells.{IsCell, AppendsDigit, IsHexadecimal, HasC
 /// What is wrong with the field of a value.
 #[derive(Clone, Copy, Debug, Drop, PartialEq, Eq)]
 pub enum CellFault {
-    /// It is empty, or not all hexadecimal digits.
+    /// The field is empty, or not all hexadecimal digits.
     NotHexadecimal,
-    /// It is a number that the width does not hold.
+    /// The field's number doesn't fit the width.
     TooWide,
 }
 

@@ -7,21 +7,46 @@ use std::alloc::{AllocError, AllocFailed};
 use std::error::Error;
 use std::fmt;
 
-/// What is wrong with an input trace. Rows and fields are counted from 0, and the header is no row.
+/// What is wrong with an input trace. Rows and fields are counted from 0, and the header is no row. Each text, but that
+/// of `NoMemory`, begins with the code that is given here.
 #[derive(Clone, Copy, Debug, Drop, PartialEq, Eq)]
 pub enum TraceFault {
-    /// This field of the header is not what may stand there; or names are missing, and it is the count of fields.
-    T1 { field: u64 },
-    /// Field 0 of this row is not the row's number.
-    T2 { row: u64 },
-    /// This value is empty, or not hexadecimal.
-    T3 { row: u64, field: u64 },
-    /// This value does not fit its input's width.
-    T4 { row: u64, field: u64 },
-    /// This row has this count of fields, which is not the header's.
-    T5 { row: u64, count: u64 },
-    /// There is a row 1,000,000.
-    T6 { row: u64 },
+    /// T1: a field of the header may not stand there, or names are missing.
+    Heading {
+        /// The field; where names are missing, the count of fields.
+        field: u64,
+    },
+    /// T2: field 0 of a row isn't the row's number.
+    RowNumber {
+        /// The row.
+        row: u64,
+    },
+    /// T3: a value is empty, or not hexadecimal.
+    NotHexadecimal {
+        /// The row.
+        row: u64,
+        /// The field.
+        field: u64,
+    },
+    /// T4: a value doesn't fit its input's width.
+    TooWide {
+        /// The row.
+        row: u64,
+        /// The field.
+        field: u64,
+    },
+    /// T5: a row's count of fields isn't the header's.
+    FieldCount {
+        /// The row.
+        row: u64,
+        /// Its count of fields.
+        count: u64,
+    },
+    /// T6: there are more than 1,000,000 rows.
+    TooManyRows {
+        /// The first row above the limit: 1,000,000.
+        row: u64,
+    },
     /// Memory ran out.
     NoMemory,
 }
@@ -51,12 +76,12 @@ impl fmt::Display for TraceFault {
 
     fn fmt<W: fmt::Write>(&self, f: &mut fmt::Formatter<W>) -> fmt::Result {
         match self {
-            TraceFault::T1 { field } => write!(f, "T1 field {field}"),
-            TraceFault::T2 { row } => write!(f, "T2 row {row}"),
-            TraceFault::T3 { row, field } => write!(f, "T3 row {row} field {field}"),
-            TraceFault::T4 { row, field } => write!(f, "T4 row {row} field {field}"),
-            TraceFault::T5 { row, count } => write!(f, "T5 row {row} {count}"),
-            TraceFault::T6 { row } => write!(f, "T6 row {row}"),
+            TraceFault::Heading { field } => write!(f, "T1 field {field}"),
+            TraceFault::RowNumber { row } => write!(f, "T2 row {row}"),
+            TraceFault::NotHexadecimal { row, field } => write!(f, "T3 row {row} field {field}"),
+            TraceFault::TooWide { row, field } => write!(f, "T4 row {row} field {field}"),
+            TraceFault::FieldCount { row, count } => write!(f, "T5 row {row} {count}"),
+            TraceFault::TooManyRows { row } => write!(f, "T6 row {row}"),
             TraceFault::NoMemory => f.write_str("out of memory"),
         }
     }

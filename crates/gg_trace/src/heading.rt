@@ -40,8 +40,8 @@ fn take_name(table: &PortTable, name: &[u8], named: &mut Vec<bool>) -> Option<us
 ///
 /// # Errors
 ///
-/// T1 of the first field that is no port's name or a name that stood before; else, where names are missing, T1 of the
-/// header's count of fields. `NoMemory` where memory ran out.
+/// `Heading` of the first field that is no port's name or a name that stood before; else, where names are missing,
+/// `Heading` of the header's count of fields. `NoMemory` where memory ran out.
 fn take_names(alloc: Global, table: &PortTable, rest: &mut Fields) -> Result<Vec<usize>, TraceFault>
     requires { HasDistinctNames table.now }
     ensures { let header = codes "cycle" ∷ rest.old in
@@ -51,14 +51,14 @@ fn take_names(alloc: Global, table: &PortTable, rest: &mut Fields) -> Result<Vec
     let mut named = vec![in alloc; false; table.len()]?;
     while let Some(name) = rest.next() {
         let Some(place) = take_name(table, name, &mut named) else {
-            return Err(TraceFault::T1 {
+            return Err(TraceFault::Heading {
                 field: places.len() as u64 + 1,
             });
         };
         places.push(place)?;
     }
     if !all_named(&named) {
-        return Err(TraceFault::T1 {
+        return Err(TraceFault::Heading {
             field: places.len() as u64 + 1,
         });
     }
@@ -83,8 +83,9 @@ fn read_names(alloc: Global, ports: &[Port], rest: &mut Fields) -> Result<Vec<us
 ///
 /// # Errors
 ///
-/// T1 of the first field that may not stand there: the first is `cycle`, and each further one is a port's name that did
-/// not stand before. Else, where names are missing, T1 of the count of fields. `NoMemory` where memory ran out.
+/// `Heading` of the first field that may not stand there: the first is `cycle`, and each further one is a port's name
+/// that did not stand before. Else, where names are missing, `Heading` of the count of fields. `NoMemory` where memory
+/// ran out.
 pub fn read_header(alloc: Global, ports: &[Port], line: &[u8]) -> Result<Vec<usize>, TraceFault>
     requires { HasDistinctNames ports.now }
     ensures { let header = fields line.now in
@@ -93,6 +94,6 @@ pub fn read_header(alloc: Global, ports: &[Port], line: &[u8]) -> Result<Vec<usi
     let mut rest = Fields::of(line);
     match rest.next() {
         Some(first) if same_bytes(first, b"cycle") => read_names(alloc, ports, &mut rest),
-        _ => Err(TraceFault::T1 { field: 0 }),
+        _ => Err(TraceFault::Heading { field: 0 }),
     }
 }

@@ -21,7 +21,7 @@ pub const ROW_LIMIT: u64 = 1_000_000;
 ///
 /// # Errors
 ///
-/// T3 where it is not hexadecimal, T4 where its number does not fit the width.
+/// `NotHexadecimal` where it is not hexadecimal, `TooWide` where its number does not fit the width.
 fn read_value(text: &[u8], width: u32, row: u64, at: u64) -> Result<u128, TraceFault>
     requires { width ≤ 128 }
     ensures { MatchResult result
@@ -30,8 +30,8 @@ fn read_value(text: &[u8], width: u32, row: u64, at: u64) -> Result<u128, TraceF
 {
     match value_of(text, width) {
         Ok(value) => Ok(value),
-        Err(CellFault::NotHexadecimal) => Err(TraceFault::T3 { row, field: at }),
-        Err(CellFault::TooWide) => Err(TraceFault::T4 { row, field: at }),
+        Err(CellFault::NotHexadecimal) => Err(TraceFault::NotHexadecimal { row, field: at }),
+        Err(CellFault::TooWide) => Err(TraceFault::TooWide { row, field: at }),
     }
 }
 
@@ -40,7 +40,7 @@ fn read_value(text: &[u8], width: u32, row: u64, at: u64) -> Result<u128, TraceF
 ///
 /// # Errors
 ///
-/// T3 or T4 of the first field that is no value of its port. The values before it are written.
+/// `NotHexadecimal` or `TooWide` of the first field that is no value of its port. The values before it are written.
 fn read_values(
     ports: &[Port],
     places: &[usize],
@@ -79,9 +79,10 @@ fn is_decimal(text: &[u8], number: u64) -> bool
 ///
 /// # Errors
 ///
-/// The first fault of the row, in this order: T6 where the trace has too many rows, T5 where the line has another count
-/// of fields than the header, T2 where its first field is not the row's number, and T3 or T4 of the first field that is no
-/// value of its port. Values before that one may be written.
+/// The first fault of the row, in this order: `TooManyRows` where the trace has too many rows, `FieldCount` where the
+/// line has another count of fields than the header, `RowNumber` where its first field is not the row's number, and
+/// `NotHexadecimal` or `TooWide` of the first field that is no value of its port. Values before that one may be
+/// written.
 pub fn read_row(
     ports: &[Port],
     places: &[usize],
@@ -96,11 +97,11 @@ pub fn read_row(
         (HasRowFault ports.now places.now row (fields line.now)) }
 {
     if row >= ROW_LIMIT {
-        return Err(TraceFault::T6 { row });
+        return Err(TraceFault::TooManyRows { row });
     }
     let count = count_fields(line);
     if count != places.len() + 1 {
-        return Err(TraceFault::T5 {
+        return Err(TraceFault::FieldCount {
             row,
             count: count as u64,
         });
@@ -110,6 +111,6 @@ pub fn read_row(
         Some(first) if is_decimal(first, row) => read_values(
             ports, places, &mut cells, row, values,
         ),
-        _ => Err(TraceFault::T2 { row }),
+        _ => Err(TraceFault::RowNumber { row }),
     }
 }

@@ -97,33 +97,57 @@ static ACCEPTED: [(&str, &[u128]); 6] = [
 ];
 
 static REFUSED: [(&[u8], TraceFault); 21] = [
-    (b"", TraceFault::T1 { field: 0 }),
-    (b"\ncycle reset\n", TraceFault::T1 { field: 0 }),
-    (b"  \n", TraceFault::T1 { field: 0 }),
-    (b"Cycle reset\n", TraceFault::T1 { field: 0 }),
-    (b"cycle\n", TraceFault::T1 { field: 1 }),
-    (b"cycle rst\n", TraceFault::T1 { field: 1 }),
-    (b"cycle reset \n", TraceFault::T1 { field: 2 }),
-    (b"cycle reset reset\n", TraceFault::T1 { field: 2 }),
-    (b"cycle reset\n1 0\n", TraceFault::T2 { row: 0 }),
-    (b"cycle reset\n00 0\n", TraceFault::T2 { row: 0 }),
-    (b"cycle reset\n0 0\n  \n", TraceFault::T2 { row: 1 }),
-    (b"cycle reset\n0 g\n", TraceFault::T3 { row: 0, field: 1 }),
-    (b"cycle reset\n0 \n", TraceFault::T3 { row: 0, field: 1 }),
-    (b"cycle reset\n0 1\r", TraceFault::T3 { row: 0, field: 1 }),
+    (b"", TraceFault::Heading { field: 0 }),
+    (b"\ncycle reset\n", TraceFault::Heading { field: 0 }),
+    (b"  \n", TraceFault::Heading { field: 0 }),
+    (b"Cycle reset\n", TraceFault::Heading { field: 0 }),
+    (b"cycle\n", TraceFault::Heading { field: 1 }),
+    (b"cycle rst\n", TraceFault::Heading { field: 1 }),
+    (b"cycle reset \n", TraceFault::Heading { field: 2 }),
+    (b"cycle reset reset\n", TraceFault::Heading { field: 2 }),
+    (b"cycle reset\n1 0\n", TraceFault::RowNumber { row: 0 }),
+    (b"cycle reset\n00 0\n", TraceFault::RowNumber { row: 0 }),
+    (b"cycle reset\n0 0\n  \n", TraceFault::RowNumber { row: 1 }),
+    (
+        b"cycle reset\n0 g\n",
+        TraceFault::NotHexadecimal { row: 0, field: 1 },
+    ),
+    (
+        b"cycle reset\n0 \n",
+        TraceFault::NotHexadecimal { row: 0, field: 1 },
+    ),
+    (
+        b"cycle reset\n0 1\r",
+        TraceFault::NotHexadecimal { row: 0, field: 1 },
+    ),
     (
         b"cycle reset\n0 \xff\n",
-        TraceFault::T3 { row: 0, field: 1 },
+        TraceFault::NotHexadecimal { row: 0, field: 1 },
     ),
-    (b"cycle reset\n0 0x1\n", TraceFault::T3 { row: 0, field: 1 }),
-    (b"cycle reset\n0 2\n", TraceFault::T4 { row: 0, field: 1 }),
+    (
+        b"cycle reset\n0 0x1\n",
+        TraceFault::NotHexadecimal { row: 0, field: 1 },
+    ),
+    (
+        b"cycle reset\n0 2\n",
+        TraceFault::TooWide { row: 0, field: 1 },
+    ),
     (
         b"cycle reset\n0 0\n1 100000000000000000000000000000000\n",
-        TraceFault::T4 { row: 1, field: 1 },
+        TraceFault::TooWide { row: 1, field: 1 },
     ),
-    (b"cycle reset\n0\n", TraceFault::T5 { row: 0, count: 1 }),
-    (b"cycle reset\n0 0\n\n", TraceFault::T5 { row: 1, count: 0 }),
-    (b"cycle reset\n5 x 2\n", TraceFault::T5 { row: 0, count: 3 }),
+    (
+        b"cycle reset\n0\n",
+        TraceFault::FieldCount { row: 0, count: 1 },
+    ),
+    (
+        b"cycle reset\n0 0\n\n",
+        TraceFault::FieldCount { row: 1, count: 0 },
+    ),
+    (
+        b"cycle reset\n5 x 2\n",
+        TraceFault::FieldCount { row: 0, count: 3 },
+    ),
 ];
 
 #[test]
@@ -154,9 +178,12 @@ fn traces_of_two_inputs(rt: HostRuntime) -> Result<(), Fail> {
     assert!(rt; gives_row(alloc, &ports, Y_AND_X, 1, &[255, 0]));
     // The first field that is faulty is named, and its digits are judged before its width.
     let wide_and_empty = fault_of(alloc, &ports, b"cycle y x\n0 10 -1\n");
-    assert_eq!(rt; wide_and_empty, Some(TraceFault::T4 { row: 0, field: 1 }));
+    assert_eq!(rt;
+        wide_and_empty,
+        Some(TraceFault::TooWide { row: 0, field: 1 })
+    );
     let missing = fault_of(alloc, &ports, b"cycle y\n0 0\n");
-    assert_eq!(rt; missing, Some(TraceFault::T1 { field: 2 }));
+    assert_eq!(rt; missing, Some(TraceFault::Heading { field: 2 }));
     Ok(())
 }
 
@@ -201,7 +228,7 @@ fn a_row_too_many(rt: HostRuntime) -> Result<(), Fail> {
     let alloc = rt.alloc();
     let text = bare_rows(alloc, 1_000_001)?;
     let rows = rows_of(alloc, &no_ports(alloc), text.as_bytes());
-    assert_eq!(rt; rows, Err(TraceFault::T6 { row: 1_000_000 }));
+    assert_eq!(rt; rows, Err(TraceFault::TooManyRows { row: 1_000_000 }));
     Ok(())
 }
 
@@ -252,12 +279,15 @@ fn printed_lines_of_no_ports(rt: HostRuntime) -> Result<(), Fail> {
 }
 
 static FAULTS: [(TraceFault, &str); 7] = [
-    (TraceFault::T1 { field: 2 }, "T1 field 2"),
-    (TraceFault::T2 { row: 3 }, "T2 row 3"),
-    (TraceFault::T3 { row: 3, field: 1 }, "T3 row 3 field 1"),
-    (TraceFault::T4 { row: 0, field: 1 }, "T4 row 0 field 1"),
-    (TraceFault::T5 { row: 0, count: 1 }, "T5 row 0 1"),
-    (TraceFault::T6 { row: 1_000_000 }, "T6 row 1000000"),
+    (TraceFault::Heading { field: 2 }, "T1 field 2"),
+    (TraceFault::RowNumber { row: 3 }, "T2 row 3"),
+    (
+        TraceFault::NotHexadecimal { row: 3, field: 1 },
+        "T3 row 3 field 1",
+    ),
+    (TraceFault::TooWide { row: 0, field: 1 }, "T4 row 0 field 1"),
+    (TraceFault::FieldCount { row: 0, count: 1 }, "T5 row 0 1"),
+    (TraceFault::TooManyRows { row: 1_000_000 }, "T6 row 1000000"),
     (TraceFault::NoMemory, "out of memory"),
 ];
 

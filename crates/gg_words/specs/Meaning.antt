@@ -12,7 +12,7 @@ use Rattle.gg_words.specs.Number.{number_of}
 use Rattle.gg_words.specs.declared.command.Cmd.{Cmd}
 use Rattle.gg_words.specs.declared.command.Cmd.TheVariants.{Run, Replay, Check}
 use Rattle.gg_words.specs.declared.command.WordFault.{WordFault}
-use Rattle.gg_words.specs.declared.command.WordFault.TheVariants.{Refused, Number, NoMemory}
+use Rattle.gg_words.specs.declared.command.WordFault.TheVariants.{Refused, WrongNumber, NoMemory}
 
 -- The text that was given to this argument. Where `clap` takes the words there is one for each file.
 abbrev pub text_of : Text → List Row → Text
@@ -74,19 +74,19 @@ IsCommand words cmd = Says words (Ok cmd)
 -- the words aren't a command, because of this
 abbrev pub IsWordFault : List Text → WordFault → Type 0
 IsWordFault words (Refused kind) = IsAmong kind (fault_of golden_app words)
-IsWordFault words (Number value) = Says words (Err value)
+IsWordFault words (WrongNumber value) = Says words (Err value)
 IsWordFault words NoMemory = ⊥
 
 -- and memory may have run out
 abbrev pub IfWordFault : List Text → WordFault → Type 0
 IfWordFault words (Refused kind) = IsWordFault words (Refused kind)
-IfWordFault words (Number value) = IsWordFault words (Number value)
+IfWordFault words (WrongNumber value) = IsWordFault words (WrongNumber value)
 IfWordFault words NoMemory = ⊤
 
 -- a fault says this of what was found; `clap` refused nothing there
 abbrev pub SaysFault : {T : Type 0} → WordFault → Result T Text → Type 0
 SaysFault (Refused kind) said = ⊥
-SaysFault (Number value) said = said ≡ Err value
+SaysFault (WrongNumber value) said = said ≡ Err value
 SaysFault NoMemory said = ⊤
 
 -- what was found is answered, unless memory runs out

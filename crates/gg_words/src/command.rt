@@ -55,7 +55,7 @@ pub enum WordFault {
     Refused(ErrorKind),
     /// `clap` takes them, and this is the first value, in the order of its command's options, that is no number in its
     /// range.
-    Number(Name),
+    WrongNumber(Name),
     /// Memory ran out.
     NoMemory,
 }

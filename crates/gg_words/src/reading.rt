@@ -43,7 +43,7 @@ fn no_number(alloc: Global, value: &str) -> WordFault
     ensures { SaysFault {T = ℕ} result (Err value.now) }
 {
     match String::from_str(alloc, value) {
-        Ok(text) => WordFault::Number(Name::from(text)),
+        Ok(text) => WordFault::WrongNumber(Name::from(text)),
         Err(_) => WordFault::NoMemory,
     }
 }
@@ -164,8 +164,8 @@ fn read_words(alloc: Global, words: &[String]) -> Result<Cmd, WordFault>
 ///
 /// # Errors
 ///
-/// `Refused` where `clap` refuses the words, also those that ask for help; else `Number` with the first value, in the order
-/// above, that is no number in its range. `NoMemory` where memory ran out.
+/// `Refused` where `clap` refuses the words, also those that ask for help; else `WrongNumber` with the first value, in
+/// the order above, that is no number in its range. `NoMemory` where memory ran out.
 pub fn words(alloc: Global, words: &[String]) -> Result<Cmd, WordFault>
     // What is answered is the command that the words are.
     ensures command { IfOk result (IsCommand (texts words.now)) }

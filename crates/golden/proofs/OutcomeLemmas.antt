@@ -51,13 +51,13 @@ asks-once once words (Check a b k) (Check x y l) asks others = let e = once word
 -- a fault that is no want of memory is one of the words
 pub word-fault : (words : List (List ℕ)) (fault : WordFault) → fault ≢ word.NoMemory → command_line.IfWordFault words fault → command_line.IsWordFault words fault
 word-fault words (word.Refused kind) some h = h
-word-fault words (word.Number value) some h = h
+word-fault words (word.WrongNumber value) some h = h
 word-fault words word.NoMemory some h = absurd (some refl)
 
 -- what is said of words that are no command has status 2
 fault-status : (fault : WordFault) (said : Said) → TellsWords fault said → said.status ≡ 2
 fault-status (word.Refused kind) said tells = ap (λ (s : Said). s.status) tells
-fault-status (word.Number value) said tells = ap (λ (s : Said). s.status) tells
+fault-status (word.WrongNumber value) said tells = ap (λ (s : Said). s.status) tells
 fault-status word.NoMemory said tells = absurd tells
 
 unasked-status : (words : List (List ℕ)) (said : Said) → TellsUnasked words said → said.status ≡ 2

@@ -7,7 +7,7 @@ use Rattle.gg_trace.specs.Ports.{HasDistinctNames}
 use Rattle.gg_trace.specs.Trace.{Columns, HaveWidths, IfFirstFault, IsFirstFault}
 use Rattle.gg_trace.specs.declared.faults.TraceFault.{TraceFault}
 use Rattle.gg_trace.specs.declared.faults.TraceFault.TheVariants as trace
-use Rattle.gg_trace.specs.declared.faults.TraceFault.TheVariants.{T1, T2, T3, T4, T5, T6}
+use Rattle.gg_trace.specs.declared.faults.TraceFault.TheVariants.{Heading, RowNumber, NotHexadecimal, TooWide, FieldCount, TooManyRows}
 use Rattle.gg_flat.specs.Run.{IsColumns}
 use Rattle.golden.specs.declared.endings.Ending.{Ending}
 use Rattle.golden.specs.declared.endings.Ending.TheVariants.{Refused, Unwritten, NoMemory}
@@ -19,12 +19,12 @@ use Rattle.golden.specs.Endings.{IfRefused}
 
 -- a fault that is no want of memory is the trace's first
 pub first-of : (ports : List Port) (bytes : List ℕ) (fault : TraceFault) → fault ≢ trace.NoMemory → IfFirstFault ports bytes fault → IsFirstFault ports bytes fault
-first-of ports bytes (T1 f) some h = h
-first-of ports bytes (T2 r) some h = h
-first-of ports bytes (T3 r f) some h = h
-first-of ports bytes (T4 r f) some h = h
-first-of ports bytes (T5 r c) some h = h
-first-of ports bytes (T6 r) some h = h
+first-of ports bytes (Heading f) some h = h
+first-of ports bytes (RowNumber r) some h = h
+first-of ports bytes (NotHexadecimal r f) some h = h
+first-of ports bytes (TooWide r f) some h = h
+first-of ports bytes (FieldCount r c) some h = h
+first-of ports bytes (TooManyRows r) some h = h
 first-of ports bytes trace.NoMemory some h = absurd (some refl)
 
 -- the first fault for a circuit's ports is that of its inputs

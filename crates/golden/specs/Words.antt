@@ -4,7 +4,7 @@ use Rattle.gg_words.specs.Meaning as command_line
 use Rattle.gg_words.specs.declared.command.Cmd.{Cmd}
 use Rattle.gg_words.specs.declared.command.Cmd.TheVariants as cmd
 use Rattle.gg_words.specs.declared.command.WordFault.{WordFault}
-use Rattle.gg_words.specs.declared.command.WordFault.TheVariants.{Refused, Number, NoMemory}
+use Rattle.gg_words.specs.declared.command.WordFault.TheVariants.{Refused, WrongNumber, NoMemory}
 use Rattle.golden.specs.Lines.{Said, bad_number, no_command}
 use Rattle.golden.specs.Check.{check_order, cut_order}
 use Rattle.golden.specs.Order.{Order}
@@ -35,7 +35,7 @@ AskForCommand words = (command : Command) × Asks words command
 -- this is said of words with this fault; want of memory is no fault of words
 abbrev pub TellsWords : WordFault → Said → Type 0
 TellsWords (Refused kind) said = said ≡ no_command
-TellsWords (Number value) said = said ≡ bad_number value
+TellsWords (WrongNumber value) said = said ≡ bad_number value
 TellsWords NoMemory said = ⊥
 
 -- this is said of words that are no command: their fault

@@ -41,7 +41,7 @@ pub(crate) fn end_at_words(alloc: Global, fault: &WordFault) -> Ending
 {
     match fault {
         WordFault::Refused(_) => end_at_no_command(alloc),
-        WordFault::Number(value) => end_at_number(alloc, value.as_str()),
+        WordFault::WrongNumber(value) => end_at_number(alloc, value.as_str()),
         WordFault::NoMemory => Ending::NoMemory,
     }
 }
