@@ -26,7 +26,7 @@ pub record IsLinkOf (frame : Frame) (c : ℕ) (link : Link) : Type 0 where
   pub taken : AreTaken frame (wire_at frame.wires c).producer link.needs
 
 -- The turn is this port of machine m. It has the port's number, and its fields are the channels at the ins that the
--- port reads, in their order.
+-- port uses, in their order.
 pub record IsTurnOf (frame : Frame) (m : ℕ) (port : Port) (turn : Turn) : Type 0 where
   pub number : turn.number ≡ port.number
   pub fields : places_of frame turn.fields ≡ fields_of port.access
