@@ -68,8 +68,9 @@ pub record IsUnitOf (part : Part) (machine : Machine) : Type 0 where
   pub exact : AreNeedsOfOuts part.piece needs
   pub is : machine ≡ dataflow.opening_unit (record { circuit = part.piece; needs = needs })
 
--- A memory alone: a part of the listed memory's part. It has the in-signals followed by the out-signals, and the
--- memory. It is the piece of a memory unit, which has the in-signals first.
+-- The machine of a listed memory. It is a memory unit, whose piece is a part of the listed memory's part. The piece has
+-- the in-signals followed by the out-signals, and the memory. As the piece of a memory unit it has the in-signals
+-- first.
 pub record IsMemoryOf (part : Part) (machine : Machine) : Type 0 where
   pub alone : Part
   pub is_part : IsPart part.piece alone.piece alone.globals alone.held alone.memories

@@ -1,4 +1,4 @@
-//! Laws: a listed memory can stand alone.
+//! Laws: a listed memory can be a machine of its own.
 ghost use Rattle.std.specs.Prelude.{◌≡◌, ℕ, ◌<◌, ◌++◌, List, [], ◌∷◌, length};
 ghost use Rattle.gg_flat.specs.WellFormed.{IsWellFormed};
 ghost use Rattle.gg_order.specs.Design.{Ordered};

@@ -38,7 +38,7 @@ IfHeaderFault ports header (FieldCount r c) = ⊥
 IfHeaderFault ports header (TooManyRows r) = ⊥
 IfHeaderFault ports header NoMemory = Unit {0}
 
--- a name is read: its port wasn't named before and is named now, or there is no such port
+-- a name was read: its port wasn't named before and is now, or there is no such port
 abbrev pub TakesName : List Port → List ℕ → List Bool → List Bool → Option ℕ → Type 0
 TakesName ports name old new None = (new ≡ old) × ((i : ℕ) → IsNamed ports name i → slice_index_or old i false ≡ true)
 TakesName ports name old new (Some i) = IsNamed ports name i × (slice_index_or old i false ≡ false) × (new ≡ slice_set old i true)

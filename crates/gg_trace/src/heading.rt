@@ -21,7 +21,8 @@ fn all_named(named: &[bool]) -> bool
     !named.contains(&false)
 }
 
-/// The port with this name, which is marked as named. None if there is no such port or it was already named.
+/// The place of the port with this name, which is then marked as named. None if there is no such port or it was already
+/// named.
 fn take_name(table: &PortTable, name: &[u8], named: &mut Vec<bool>) -> Option<usize>
     requires size { vec_len named.old ≡ length table.now }
     requires distinct { HasDistinctNames table.now }
