@@ -2,7 +2,7 @@
 use Rattle.std.specs.Prelude.{◌≡◌, ℕ, List, [], ◌∷◌, length, slice_index_or}
 use Rattle.gg_flat.specs.Circuit.{FlatCircuit}
 
--- Two signals of the top alone: the input `i`, and the output `o`.
+-- A circuit with only the top, which has two signals: the input `i` and the output `o`.
 pub record IsFixture (circuit : FlatCircuit) : Type 0 where
   pub named : circuit.paths ≡ (105 ∷ []) ∷ (111 ∷ []) ∷ []
   pub count : length circuit.signals ≡ 2
@@ -10,7 +10,7 @@ pub record IsFixture (circuit : FlatCircuit) : Type 0 where
   pub outs : circuit.outs ≡ 1 ∷ []
   pub memories : circuit.memories ≡ []
 
--- one column, of n values
+-- one column, with n values
 pub record IsOneColumn (columns : List (List ℕ)) (n : ℕ) : Type 0 where
   pub width : length columns ≡ 1
   pub height : length (slice_index_or columns 0 []) ≡ n

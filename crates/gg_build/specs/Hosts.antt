@@ -1,5 +1,6 @@
--- The host of one machine of a plan, with the ports that it serves; and the hosts and stations of all.
--- Source: ICCAD 2019 (units and memories of a target as models of their own, each on a host; memories that are served port by port).
+-- The host of one machine of a plan, with the ports that it serves, and the hosts and stations of all machines.
+-- Source: ICCAD 2019 (units and memories of a target as models of their own, each on a host; memories that are served
+-- port by port).
 use Rattle.std.specs.Prelude.{◌≡◌, ℕ, ◌<◌, List, [], ◌∷◌, ◌++◌, length, map, slice_index_or, ⊤}
 use Rattle.gg_flat.specs.Line.{value_at}
 use Rattle.gg_flat.specs.WellFormed.{IsWellFormed}
@@ -20,20 +21,20 @@ use Rattle.gg_sound.specs.Built.{IsBuilt, machine_in}
 use Rattle.gg_build.specs.declared.node.Node.{Node}
 use Rattle.gg_build.specs.Node.{machine_of}
 
--- ---- what a machine of a plan must be, so that it can be built
+-- ---- what a machine of a plan must have to be built
 
 -- The part of a unit is well formed, and its signals are in an order of evaluation.
 pub record IsUnitPart (part : Part) : Type 0 where
   pub formed : IsWellFormed part.piece
   pub ordered : IsInOrder part.piece
 
--- The part of a listed memory can be cut once more, so that its memory stands alone.
+-- The part of a listed memory can be cut once more, and then has only the memory.
 pub record IsMemoryPart (part : Part) : Type 0 where
   pub formed : IsWellFormed part.piece
   pub chosen : IsChoice part.piece (part.piece.ins ++ part.piece.outs) part.piece.ins part.piece.outs (0 ∷ [])
   pub alone : (alone : Part) → IsCutAgain part alone → IsMemoryPiece alone.piece
 
--- A source gives a channel, whose number is that of one of the columns.
+-- A source gives a channel, and there is a column with the channel's number.
 pub record IsSourceOf (columns : List (List ℕ)) (outs : List ℕ) : Type 0 where
   pub some : 0 < length outs
   pub known : value_at outs 0 < length columns
@@ -49,14 +50,14 @@ CanBuild columns outs Tray = ⊤
 abbrev pub AllCanBuild : Plan → List (List ℕ) → Type 0
 AllCanBuild plan columns = (m : ℕ) → m < length plan.machines → CanBuild columns (machine_in plan m).outs (machine_in plan m).body
 
--- ---- what is made
+-- ---- what is built
 
--- The machine of a node is such a one, and these are the ports that it serves.
+-- The machine of a node has the property `Is`, and these are the ports that it serves.
 pub record IsHost (Is : Machine → Type 0) (node : Node) (ports : List ServedPort) : Type 0 where
   pub is : Is (machine_of node)
   pub served : ports ≡ map entry_of (machine_of node).ports
 
--- The host and the station of machine m of a plan. Each machine has a host of its own, of the machine's number.
+-- The host and the station of machine m of a plan. Each machine has a host of its own, with the machine's number.
 pub record IsSeat (columns : List (List ℕ)) (n m : ℕ) (own : planned.Machine) (node : Node) (station : Station) : Type 0 where
   pub host : IsHost (IsBuilt columns n own own.body) node station.ports
   pub number : station.host ≡ m
@@ -64,7 +65,7 @@ pub record IsSeat (columns : List (List ℕ)) (n m : ℕ) (own : planned.Machine
   pub ins : station.ins ≡ own.ins
   pub outs : station.outs ≡ own.outs
 
--- The host and the station of machine m were put behind the others.
+-- The host and the station of machine m were appended.
 pub record IsSeated (columns : List (List ℕ)) (n m : ℕ) (own : planned.Machine) (old_nodes nodes : List Node) (old_stations stations : List Station) : Type 0 where
   pub node : Node
   pub station : Station

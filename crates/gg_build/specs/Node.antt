@@ -5,18 +5,18 @@ use Rattle.gg_node.specs.Machine.{KeepsValues, Machine}
 use Rattle.gg_build.specs.declared.node.Node.{Node}
 use Rattle.gg_build.specs.declared.node.Node.TheVariants as node
 
--- the machine of a node, whatever it is
+-- the machine of a node of any kind
 abbrev pub machine_of : Node → Machine
 machine_of (node.Unit machine) = machine
 machine_of (node.Memory machine) = machine
 machine_of (node.Source machine) = machine
 machine_of (node.Tray machine) = machine
 
--- the machines of a node: one
+-- the machines of a node: only one
 abbrev pub machines_of : Node → List Machine
 machines_of node = machine_of node ∷ []
 
--- The values are what a machine that keeps its values has kept.
+-- The machine keeps values, and these are the values that it has kept.
 pub record HasColumn (machine : Machine) (column : List ℕ) : Type 0 where
   pub keeps : machine.behaviour ≡ KeepsValues
   pub is : column ≡ machine.kept

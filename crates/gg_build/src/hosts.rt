@@ -50,7 +50,7 @@ fn cut_host<'a>(alloc: Global, part: &'a Part) -> Result<Hosted<'a>, AllocError>
     }
 }
 
-// A memory that stands alone: a part of a listed memory's part.
+// A part of a listed memory's part, in which the memory is alone.
 fn alone_of(alloc: Global, part: &Part) -> Result<Part, AllocError>
     requires { IsMemoryPart part.now }
     ensures { IfOk result (λ alone. IsCutAgain part.now alone) }
@@ -112,7 +112,7 @@ fn tray_host<'a>(alloc: Global, trace: &Trace) -> Result<Hosted<'a>, AllocError>
 ///
 /// # Errors
 ///
-/// Where memory is refused.
+/// Returns `AllocError` if an allocation fails.
 pub(crate) fn host_of<'a>(
     alloc: Global,
     trace: &Trace,

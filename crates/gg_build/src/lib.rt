@@ -1,17 +1,18 @@
 //! The network of a plan, before its first cycle.
 //!
-//! A plan (gg_cut) names machines and channels; a network (gg_net) has hosts with machines, and channels with queues. The crate
-//! promises:
+//! A plan (gg_cut) names machines and channels. A network (gg_net) has hosts with machines, and channels with queues.
+//! The crate promises:
 //!
-//! - [`build`] makes the network of a plan for an input trace (`IsOpeningOf` in `specs/Build`): each machine of the plan before its first
-//!   cycle, the plan's channels with empty queues, at the ins and outs where its machines list them, and as many cycles to do as the
-//!   trace has rows. The hub and the units run their parts of the circuit, and need just what they depend on; each listed memory stands
-//!   alone, and is served port by port; a source gives the column of its top input; a tray has room for each row.
-//! - A [`Node`] is the host of such a machine, of whatever kind, and hands each call on to it; [`Node::column`] tells what a
-//!   tray has kept.
+//! - [`build`] builds the network of a plan for an input trace (`IsOpeningOf` in `specs/Build`). It has each machine of
+//!   the plan before its first cycle, the plan's channels with empty queues, at the ins and outs where the machines
+//!   list them, and as many cycles to do as the trace has rows. The hub and the units run their parts of the circuit,
+//!   and need exactly what they depend on. Each listed memory is a machine of its own, and its ports are served one by
+//!   one. A source gives the column of its top input. A tray has room for each row.
+//! - A [`Node`] is the host of such a machine, of any kind. It passes each call on to that host. [`Node::column`]
+//!   returns what a tray has kept.
 //!
-//! Each machine has a host of its own. But for the programs of units (gg_program), time and memory are linear in the plan, its
-//! pieces and the trace.
+//! Each machine has a host of its own. Except for the programs of units (gg_program), time and memory are linear in the
+//! plan, its pieces and the trace.
 #![tactic(auto)]
 
 mod hosts;

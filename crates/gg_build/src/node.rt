@@ -23,7 +23,7 @@ pub enum Node<'a> {
 }
 
 impl<'a> Node<'a> {
-    /// What a machine that keeps its values has kept, by cycle: that of a tray. `None` exactly for any other.
+    /// The values that a tray has kept, by cycle. `None` exactly if the machine isn't a tray.
     pub fn column(&self) -> Option<&[u128]>
         ensures { MatchOption result ((machine_of self.now).behaviour ≢ KeepsValues) (λ column. HasColumn (machine_of self.now) column.now) }
     {

@@ -10,14 +10,14 @@ use gg_net::{Net, Shape, Streams};
 use gg_trace::Trace;
 use std::alloc::{AllocError, Global};
 
-/// The network of a plan before its first cycle, whose sources give the columns of a trace: it is to do as many cycles as the
-/// trace has rows. Each machine has a host of its own.
+/// The network of a plan before its first cycle. Its sources give the columns of a trace, and it has as many cycles to
+/// do as the trace has rows. Each machine has a host of its own.
 ///
-/// It takes all the memory that the network will want.
+/// Allocates all the memory that the network will use.
 ///
 /// # Errors
 ///
-/// Where memory is refused.
+/// Returns `AllocError` if an allocation fails.
 pub fn build<'a, Z: Streams>(
     alloc: Global,
     plan: &'a Plan,

@@ -27,7 +27,7 @@ fn add_readers(
     Ok(())
 }
 
-// Adds the ports of these writers, which are numbered after so many readers.
+// Adds the ports of these writers. They are numbered after this many readers.
 fn add_writers(
     alloc: Global,
     readers: u32,
@@ -79,7 +79,7 @@ fn add_ports(
 ///
 /// # Errors
 ///
-/// Where memory is refused.
+/// Returns `AllocError` if an allocation fails.
 pub(crate) fn ports_of(alloc: Global, memory: &Memory) -> Result<Vec<ServedPort>, AllocError>
     requires { length memory.now.readers + length memory.now.writers < 2 ^ 32 }
     ensures { IfOk result (λ ports. ports.items ≡ map entry_of (ports_by memory.now.latency memory.now.readers memory.now.writers)) }

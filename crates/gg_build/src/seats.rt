@@ -24,7 +24,7 @@ fn copied(alloc: Global, numbers: &[u32]) -> Result<Ids, AllocError>
     Ok(Ids::from(Vec::from_slice(alloc, numbers)?))
 }
 
-// The station of a machine of the plan, at the host of its own number.
+// The station of a machine of the plan, at the host with the machine's number.
 fn station_of(
     alloc: Global,
     machine: &Machine,
@@ -48,7 +48,7 @@ fn station_of(
     })
 }
 
-// Adds the host and the station of the machine of this number.
+// Adds the host and the station of the machine with this number.
 fn add_seat<'a>(
     alloc: Global,
     trace: &Trace,
@@ -71,7 +71,7 @@ fn add_seat<'a>(
 ///
 /// # Errors
 ///
-/// Where memory is refused.
+/// Returns `AllocError` if an allocation fails.
 pub(crate) fn seats_of<'a>(
     alloc: Global,
     plan: &'a Plan,

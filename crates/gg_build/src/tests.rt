@@ -1,4 +1,4 @@
-//! What no clause says: that there is a network with ample memory.
+//! What no contract says: a network can be built with ample memory.
 ghost use Rattle.std.specs.Prelude.{◌≡◌, ◌∷◌, [], length, None, true, false, IfOk};
 ghost use Rattle.gg_flat.specs.Circuit.{no_circuit};
 ghost use Rattle.gg_order.proofs.TopLemmas.{lone_tree};
@@ -42,7 +42,7 @@ fn fill(alloc: Global, piece: &mut Piece) -> Result<(), Fail>
     Ok(())
 }
 
-// The tree of the circuit: the top alone.
+// The tree of the circuit, with only the top.
 fn tree(alloc: Global) -> Result<Tree, Fail>
     ensures { IfOk result (λ tree. tree ≡ lone_tree (record { parent = None; «module» = 0; first = 0; end = 2; ports = record { signal = 0; is_input = true } ∷ record { signal = 1; is_input = false } ∷ []; memories = [] })) }
 {
@@ -83,7 +83,7 @@ fn design(alloc: Global) -> Result<Design, Fail>
     }
 }
 
-// A request of nothing.
+// An empty request.
 fn nothing(alloc: Global) -> Request
     ensures { IsSmall result }
 {
@@ -113,14 +113,14 @@ fn opens<Z: Streams>(alloc: Global, plan: &Plan, trace: &Trace) -> bool
     build::<Z>(alloc, plan, trace).is_ok()
 }
 
-// Whether the network of a design can be built, where nothing is cut out of the hub.
+// Whether the network of a design can be built, for a request that cuts nothing out of the hub.
 fn is_built(alloc: Global, design: &Design, request: &Request, trace: &Trace) -> bool
     requires ins { length design.now.circuit.ins ≡ 1 }
     requires small { IsSmall request.now }
     requires rows { trace.now.rows ≡ 0 }
     requires columns { IsOneColumn trace.now.columns 0 }
 {
-    // for what it says of itself
+    // for its invariant
     let _ = design.piece();
     let _ = design.tree();
     let _ = design.order();

@@ -10,14 +10,15 @@ use gg_cut::{Channel, Machine, Plan};
 use gg_net::Wire;
 use std::alloc::{AllocError, Global};
 
-// For each channel its place among those that its producer gives, and its place among those that its consumer takes.
+// For each channel its place among the channels that its producer gives, and its place among the channels that its
+// consumer takes.
 #[derive(Drop)]
 struct Places {
     outs: Vec<u32>,
     ins: Vec<u32>,
 }
 
-// Writes the place of each of these channels among them.
+// Writes for each of these channels its place in this list.
 fn note(channels: &[u32], places: &mut Vec<u32>)
     requires few { length channels.now ≤ 2 ^ 32 }
     requires known { All (λ c. c < length places.old.items) channels.now }
@@ -73,7 +74,7 @@ fn wires_at(
 ///
 /// # Errors
 ///
-/// Where memory is refused.
+/// Returns `AllocError` if an allocation fails.
 pub(crate) fn wires_of(alloc: Global, plan: &Plan) -> Result<Vec<Wire>, AllocError>
     requires { IsFaultless plan.now }
     ensures { IfOk result (λ wires. wires.items ≡ wires_of_plan plan.now) }

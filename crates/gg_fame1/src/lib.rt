@@ -1,12 +1,12 @@
 //! Dataflow units: a piece of a cut circuit as a machine of its own.
 //!
-//! A [`Unit`] runs the program of a piece, its memories included. It gives the token of an out as soon as the ins that the
-//! out needs have theirs, and cleans itself when it finishes a cycle. The crate promises that each of its steps does to its
-//! machine what the definitions of gg_node say: a unit is its piece.
+//! A [`Unit`] runs the program of a piece, including its memories. It gives the token of an out as soon as the ins that
+//! the out needs have their tokens. When it finishes a cycle it empties its latches and clears its flags. The crate
+//! promises that each step of a unit changes its machine as the definitions of gg_node say.
 //!
-//! In a cycle each signal of the piece is worked out at most once, whatever the number of outs that reach it.
+//! In a cycle each signal of the piece is evaluated at most once, even if several outs depend on it.
 //!
-//! No call but the new one takes memory.
+//! Only `new` allocates.
 #![tactic(auto)]
 
 mod unit;

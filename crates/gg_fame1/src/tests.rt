@@ -1,4 +1,4 @@
-//! What no clause says: that there are a program and a unit with ample memory.
+//! What no contract says: a program and a unit can be built with ample memory.
 ghost use Rattle.std.specs.Prelude.{◌≡◌, ◌<◌, length, IfOk};
 ghost use Rattle.gg_flat.specs.Circuit.{no_circuit};
 ghost use Rattle.gg_flat.specs.WellFormed.{IsWellFormed};
@@ -27,7 +27,7 @@ fn add_port(alloc: Global, piece: &mut Piece) -> Result<(), Fail>
     Ok(())
 }
 
-// What the output wants first.
+// The first in that the output is missing.
 fn first_need(alloc: Global, piece: &Piece) -> Result<Option<u32>, NoMemory>
     requires formed { IsWellFormed piece.now }
     requires ordered { IsInOrder piece.now }
@@ -37,7 +37,7 @@ fn first_need(alloc: Global, piece: &Piece) -> Result<Option<u32>, NoMemory>
     Ok(unit.missing(0, 0))
 }
 
-// Whether the output wants the input first.
+// Whether the first in that the output is missing is the input.
 fn wants_it(alloc: Global, piece: &Piece) -> bool
     requires ordered { IsInOrder piece.now }
     requires outs { length piece.now.outs ≡ 1 }

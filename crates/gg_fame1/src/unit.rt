@@ -11,13 +11,13 @@ use gg_program::{NoMemory, Program, Slots};
 use std::alloc::{AllocError, Global};
 use std::marker::Model;
 
-/// A piece of a cut circuit as a machine of its own. It is a host of one thread. Its ins are the piece's in-signals, its
-/// outs the out-signals, both in port order. A contract sees it as this machine.
+/// A piece of a cut circuit as a machine of its own. It is a host of one thread. Its ins are the piece's in-signals,
+/// and its outs are the out-signals, both in port order. A contract sees it as this machine.
 #[derive(Drop)]
 pub struct Unit<'a> {
     program: Program<'a>,
     state: State,
-    // The token of an in stands in the place of its in-signal, too.
+    // The token of an in is also in the slot of its in-signal.
     slots: Slots,
     latches: Vec<Option<u128>>,
     flags: Vec<bool>,
@@ -35,21 +35,21 @@ impl<'a> Model for Unit<'a> {
     ghost invariant = { λ unit. IsOfPiece unit.program.circuit unit.state unit.slots unit.latches.items unit.flags.items };
 }
 
-// So many empty latches.
+// A list with `count` empty latches.
 fn empty_latches(alloc: Global, count: usize) -> Result<Vec<Option<u128>>, AllocError>
     ensures { IfOk result (λ latches. latches.items ≡ replicate count None) }
 {
     vec![in alloc; None; count]
 }
 
-// So many clear flags.
+// A list with `count` clear flags.
 fn clear_flags(alloc: Global, count: usize) -> Result<Vec<bool>, AllocError>
     ensures { IfOk result (λ flags. flags.items ≡ replicate count false) }
 {
     vec![in alloc; false; count]
 }
 
-// The first of these ins that has no token yet.
+// The first of these ins that has no token yet, if there is one.
 fn first_missing(latches: &[Option<u128>], ins: &[u32]) -> Option<u32>
     requires { All (λ i. i < length latches.now) ins.now }
     ensures { result ≡ first_empty latches.now ins.now }
@@ -63,11 +63,11 @@ fn first_missing(latches: &[Option<u128>], ins: &[u32]) -> Option<u32>
 }
 
 impl<'a> Unit<'a> {
-    /// A unit of a program, before the first cycle.
+    /// The unit of a program, before the first cycle.
     ///
     /// # Errors
     ///
-    /// `NoMemory`, where memory is refused.
+    /// Returns `NoMemory` if an allocation fails.
     pub fn new(alloc: Global, program: Program<'a>) -> Result<Unit<'a>, NoMemory>
         ensures { IfOk result (λ unit. unit ≡ opening_unit program.entry) }
     {
@@ -93,7 +93,7 @@ impl<'a> Unit<'a> {
         self.program.piece()
     }
 
-    // The first in that an out needs and that has no token yet.
+    // The first in that an out needs and that has no token yet, if there is one.
     fn missing_of(&self, out: u32) -> Option<u32>
         requires { out < length self.now.flags }
         ensures { result ≡ missing self.now out }
@@ -107,7 +107,7 @@ impl<'a> Unit<'a> {
         ensures token { IsToken self.old out result }
         ensures same { self.new ≡ self.old }
     {
-        // for what the program says of its needs
+        // for the program's invariant on its needs
         let _ = self.program.piece();
         self.program.run_cone(&self.state, &mut self.slots, out)
     }
@@ -117,19 +117,19 @@ impl<'a> Unit<'a> {
         requires { MayLatch self.old place token }
         ensures { self.new ≡ with_latch self.old place token }
     {
-        // for what the program says of its circuit
+        // for the program's invariant on its circuit
         let _ = self.program.piece();
         self.program.put(&mut self.slots, place, token);
         self.latches[place as usize] = Some(token);
     }
 
-    // Goes to the next cycle.
+    // Advances to the next cycle.
     fn next_cycle(&mut self)
         requires { MayFinish self.old }
         ensures next { IsNextState self.old self.new.state }
         ensures step { self.new ≡ finished self.old self.new.state }
     {
-        // for what the program says of its circuit
+        // for the program's invariant on its circuit
         let _ = self.program.piece();
         settled_once();
         self.program.run_next(&mut self.state, &mut self.slots);
@@ -174,6 +174,11 @@ impl<'a> Host for Unit<'a> {
     }
 
     fn dues(&self, thread: u32) -> u32 {
+        let _ = &self.cycle;
+        0
+    }
+
+    fn port_count(&self, thread: u32) -> u32 {
         let _ = &self.cycle;
         0
     }

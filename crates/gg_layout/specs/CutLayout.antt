@@ -1,13 +1,13 @@
--- The layout of a cut, said of the circuit: the ends, the capacity and the needs of each channel, and the ports that each machine
--- serves in a cycle, in their order.
--- Sources: MEMOCODE 2009 for channels, their bounds and what an output of a machine depends on; ICCAD 2019 for memories of a target
--- that are served port by port.
+-- The layout of a cut, in terms of the circuit: the ends, the capacity and the needs of each channel, the number of
+-- ports of each machine, and the ports that it serves in a cycle, in their order.
+-- Sources: MEMOCODE 2009 for channels, their bounds and what an output of a machine depends on; ICCAD 2019 for memories
+-- of a target that are served port by port.
 use Rattle.std.specs.Prelude.{◌≡◌, ℕ, ◌-◌, ◌<◌, List, [], Bool, ◌==◌, ◌&&◌, if◌then◌else◌, length, map, nat_le, nat_lt, unwrap_or}
 use Rattle.std.specs.List.{range_with_len}
 use Rattle.gg_flat.specs.Circuit.{FlatCircuit, latency_at, readers_at}
 use Rattle.gg_flat.specs.Line.{value_at}
 use Rattle.gg_flat.specs.Scoped.{writers_at}
-use Rattle.gg_flat.specs.Tree.{InstanceTree, memory_at}
+use Rattle.gg_flat.specs.Tree.{InstanceTree, memory_at, port_count}
 use Rattle.gg_order.specs.Design.{Ordered}
 use Rattle.gg_partfile.specs.declared.request.Request.{Request}
 use Rattle.gg_cut.specs.declared.listed.Listed.{Listed}
@@ -23,8 +23,8 @@ use Rattle.gg_marking.specs.Marking.{Link, Turn, Layout, link_at}
 
 -- ---- channels
 
--- The link is channel c of the cut: it has the channel's ends, the capacity that the request has for the channel's name, else the
--- default, and just the channels that the channel needs in the circuit, in their order.
+-- The link is channel c of the cut. It has the channel's ends, the capacity that the request gives for the channel's
+-- name, else the default, and exactly the channels that the channel needs in the circuit, in their order.
 pub record IsChannelLink (design : Ordered) (request : Request) (default : ℕ) (listed : Listed) (wires : List Wire) (c : ℕ) (link : Link) : Type 0 where
   pub producer : link.producer ≡ (wire_at wires c).producer
   pub consumer : link.consumer ≡ (wire_at wires c).consumer
@@ -49,24 +49,30 @@ memory_turns circuit wires k = map (turn_of wires) (ports_by (latency_at circuit
 abbrev pub is_memory : Listed → ℕ → Bool
 is_memory listed m = nat_le (first_memory listed) m && nat_lt m (first_source listed)
 
--- the memory of the circuit that machine m is, where it is a listed one
+-- the memory of the circuit that machine m is, if it is a listed memory
 abbrev pub memory_of : InstanceTree → Listed → ℕ → ℕ
 memory_of tree listed m = (memory_at tree (value_at listed.memories (m - first_memory listed))).memory
 
--- the turns of machine m: those of its memory, where it is a listed one, else none
+-- the turns of machine m: those of its memory if it is a listed memory, else none
 abbrev pub machine_turns : FlatCircuit → InstanceTree → Listed → List Wire → ℕ → List Turn
 machine_turns circuit tree listed wires m = if is_memory listed m then memory_turns circuit wires (memory_of tree listed m) else []
 
+-- the number of ports of machine m: that of its memory if it is a listed memory, else 0
+abbrev pub machine_ports : FlatCircuit → InstanceTree → Listed → ℕ → ℕ
+machine_ports circuit tree listed m = if is_memory listed m then port_count circuit (memory_of tree listed m) else 0
+
 -- ---- the layout
 
--- A layout of these channels: a link for each, the turns of each machine, and n cycles.
+-- A layout of these channels: a link for each, the ports and the turns of each machine, and n cycles.
 pub record IsLayoutBy (design : Ordered) (request : Request) (default n : ℕ) (listed : Listed) (wires : List Wire) (layout : Layout) : Type 0 where
   pub channels : length layout.links ≡ length wires
   pub link : (c : ℕ) → c < length wires → IsChannelLink design request default listed wires c (link_at layout c)
+  pub ports : layout.port_counts ≡ map (machine_ports design.circuit design.tree listed) (range_with_len 0 (machine_count design.circuit listed))
   pub turns : layout.turns ≡ map (machine_turns design.circuit design.tree listed wires) (range_with_len 0 (machine_count design.circuit listed))
   pub end : layout.end ≡ n
 
--- the layout of the cut of a design and a request, where channels that the request doesn't name have the default capacity, for n cycles
+-- the layout of the cut of a design and a request for n cycles; channels that the request doesn't name have the default
+-- capacity
 abbrev pub IsLayoutOf : Ordered → Request → ℕ → ℕ → Layout → Type 0
 IsLayoutOf design request default n layout =
     IsLayoutBy design request default n (listed_of design.tree request) (wires_of design.circuit design.tree (listed_of design.tree request)) layout

@@ -1,4 +1,4 @@
-//! Laws: facts about the definitions, each on a function with an empty body.
+//! Laws: facts about the definitions. Each is the contract of a function with an empty body.
 ghost use Rattle.std.specs.Prelude.{◌≡◌, ℕ, List};
 ghost use Rattle.gg_order.specs.Design.{Ordered};
 ghost use Rattle.gg_partfile.specs.declared.request.Request.{Request};
@@ -15,7 +15,7 @@ pub fn plan_has_layout()
     ensures { (design : Ordered) (request : Request) (default : ℕ) (plan : Plan) (columns : List (List ℕ)) (n : ℕ) (rows : List (List ℕ)) (machines : List Machine) → IsGiven design request default plan columns n rows → AreBuilt plan columns n machines → (layout : Layout) × (IsLayoutOf design request default n layout × HasLayout (plan_frame plan machines n) layout) }
 {}
 
-/// The cut of a request has one layout, for all designs that are alike.
+/// For all designs that are alike, the cut of a request has the same layout.
 pub fn one_layout()
     ensures { (one other : Ordered) (request : Request) (default n : ℕ) (layout others : Layout) → AreAlike one other → IsLayoutOf one request default n layout → IsLayoutOf other request default n others → layout ≡ others }
 {}

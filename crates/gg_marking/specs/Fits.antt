@@ -1,5 +1,6 @@
 -- The layout and the marking of a network.
--- Source: MEMOCODE 2009 (the k-th token of each queue is the signal's value in cycle k, so that a network's state follows from counts).
+-- Source: MEMOCODE 2009 (the k-th token of each queue is the signal's value in cycle k, so that a network's state
+-- follows from counts).
 use Rattle.std.specs.Prelude.{◌≡◌, ℕ, ◌<◌, List, All, is_some, length, map, slice_index_or}
 use Rattle.std.specs.List.{range_with_len}
 use Rattle.gg_node.specs.Machine.{Port, needs_at}
@@ -8,15 +9,15 @@ use Rattle.gg_net.specs.Network.{Network, Frame, kind_at, wire_at}
 use Rattle.gg_net.specs.Step.{latch_of, flag_of}
 use Rattle.gg_marking.specs.Marking.{Link, Turn, Layout, Marking, link_at, turns_at}
 
--- the places at which their consumers take channels
+-- for each of these channels, the in at which its consumer takes it
 abbrev pub places_of : Frame → List ℕ → List ℕ
 places_of frame channels = map (λ d. (wire_at frame.wires d).place) channels
 
--- these channels are there, and machine m takes them
+-- these channels exist, and machine m takes them
 abbrev pub AreTaken : Frame → ℕ → List ℕ → Type 0
 AreTaken frame m channels = All (λ d. (d < length frame.wires) × ((wire_at frame.wires d).consumer ≡ m)) channels
 
--- The link is channel c: it needs the channels at just the ins that the channel's out needs, in their order.
+-- The link is channel c. It needs the channels at exactly the ins that the channel's out needs, in their order.
 pub record IsLinkOf (frame : Frame) (c : ℕ) (link : Link) : Type 0 where
   pub producer : link.producer ≡ (wire_at frame.wires c).producer
   pub consumer : link.consumer ≡ (wire_at frame.wires c).consumer
@@ -24,7 +25,8 @@ pub record IsLinkOf (frame : Frame) (c : ℕ) (link : Link) : Type 0 where
   pub needs : places_of frame link.needs ≡ needs_at (kind_at frame.kinds (wire_at frame.wires c).producer).needs (wire_at frame.wires c).out
   pub taken : AreTaken frame (wire_at frame.wires c).producer link.needs
 
--- The turn is this port of machine m: it has its number, and its fields are the channels at the ins that the port looks at, in their order.
+-- The turn is this port of machine m. It has the port's number, and its fields are the channels at the ins that the
+-- port uses, in their order.
 pub record IsTurnOf (frame : Frame) (m : ℕ) (port : Port) (turn : Turn) : Type 0 where
   pub number : turn.number ≡ port.number
   pub fields : places_of frame turn.fields ≡ fields_of port.access
@@ -35,11 +37,13 @@ pub record AreTurnsOf (frame : Frame) (m : ℕ) (ports : List Port) (turns : Lis
   pub count : length turns ≡ length ports
   pub each : (i : ℕ) (port : Port) (turn : Turn) → i < length ports → IsTurnOf frame m (slice_index_or ports i port) (slice_index_or turns i turn)
 
--- The layout is that of a network of this frame. The ins and the outs of a machine stand in the order of their channels.
+-- The layout is that of a network with this frame. The ins and the outs of a machine are in the order of their
+-- channels.
 pub record HasLayout (frame : Frame) (layout : Layout) : Type 0 where
   pub machines : length layout.turns ≡ length frame.kinds
   pub channels : length layout.links ≡ length frame.wires
   pub end : layout.end ≡ frame.end
+  pub ports : layout.port_counts ≡ map (λ kind. kind.port_count) frame.kinds
   pub link : (c : ℕ) → c < length frame.wires → IsLinkOf frame c (link_at layout c)
   pub turns : (m : ℕ) → m < length frame.kinds → AreTurnsOf frame m (kind_at frame.kinds m).ports (turns_at layout m)
   pub ins : (c d : ℕ) → c < d → d < length frame.wires → (wire_at frame.wires c).consumer ≡ (wire_at frame.wires d).consumer → (wire_at frame.wires c).place < (wire_at frame.wires d).place

@@ -1,6 +1,6 @@
 -- Steps one after another on markings: where they lead, or which of them is refused first.
--- Source: Commoner, Holt, Even and Pnueli, "Marked Directed Graphs" (1971) (from marking to marking, one firing after another). That a
--- step which is no event is refused as a stranger, and that steps are numbered, is this program's.
+-- Source: Commoner, Holt, Even and Pnueli, "Marked Directed Graphs" (1971) (from marking to marking, one firing after
+-- another). This program's own: a step that isn't an event is refused as a stranger, and steps are numbered.
 use Rattle.std.specs.Prelude.{ℕ, suc, List, [], ◌∷◌, Option, Some, None, Result, Ok, Err}
 use Rattle.gg_net.specs.declared.event.Event.{Event}
 use Rattle.gg_net.specs.declared.event.Refusal.{Refusal}
@@ -12,7 +12,7 @@ pub record Stopped : Type 0 where
   pub step : ℕ
   pub cause : Refusal
 
--- why a step is refused: one that is no event is a stranger
+-- why a step is refused; one that isn't an event is refused as a stranger
 abbrev pub step_refusal : Layout → Marking → Option Event → Option Refusal
 step_refusal layout marking None = Some Stranger
 step_refusal layout marking (Some event) = refusal layout marking event
@@ -21,12 +21,12 @@ abbrev pub after_step : Layout → Marking → Option Event → Marking
 after_step layout marking None = marking
 after_step layout marking (Some event) = after layout marking event
 
--- go on with the next, or stop
+-- goes on with the next step, or stops
 abbrev pub go_on : ℕ → Option Refusal → Result Marking Stopped → Result Marking Stopped
 go_on k None rest = rest
 go_on k (Some cause) rest = Err (record { step = k; cause = cause })
 
--- steps k, k + 1, .. from a marking on
+-- steps k, k + 1, .., beginning at a marking
 abbrev pub replayed_from : Layout → ℕ → Marking → List (Option Event) → Result Marking Stopped
 replayed_from layout k marking [] = Ok marking
 replayed_from layout k marking (event ∷ events) =

@@ -1,20 +1,20 @@
--- Markings: how far each machine and each channel of a network is, without the values. Whether a step may be done, and why
--- not, depends on the marking alone.
--- Source: Commoner, Holt, Even and Pnueli, "Marked Directed Graphs" (1971), for counts of tokens in place of tokens; MEMOCODE 2009
--- (when a node may take, give and finish); ICCAD 2019 for memories that are served port by port. The order in which conditions are
--- judged is this program's.
+-- Markings: how far each machine and each channel of a network is, without the values. Whether a step may be done, and
+-- why not, depends only on the layout and the marking.
+-- Source: Commoner, Holt, Even and Pnueli, "Marked Directed Graphs" (1971), for counts of tokens in place of tokens;
+-- MEMOCODE 2009 (when a node may take, give and finish); ICCAD 2019 for memories that are served port by port. The
+-- order in which conditions are checked is this program's.
 use Rattle.std.specs.Prelude.{ℕ, suc, ◌-◌, ◌==◌, List, [], Bool, true, false, not, if◌then◌else◌, Option, Some, None, length, map, filter, find, replicate, slice_index_or, slice_set, slice_get, nat_lt}
-use Rattle.std.specs.List.{list_any, range_with_len}
+use Rattle.std.specs.List.{range_with_len}
 use Rattle.gg_flat.specs.Line.{value_at}
 use Rattle.gg_net.specs.declared.event.Event.{Event}
 use Rattle.gg_net.specs.declared.event.Event.TheVariants.{Latch, Fire, Serve, Finish}
 use Rattle.gg_net.specs.declared.event.Refusal.{Refusal}
 use Rattle.gg_net.specs.declared.event.Refusal.TheVariants.{Stranger, Ended, Latched, Fired, NoToken, NeedsInput, Full, Order, Unfired, Unserved}
-use Rattle.gg_net.specs.Step.{bound_of}
 
--- ---- what stays
+-- ---- what never changes
 
--- A channel: the machines at its ends, how many tokens its queue holds at most, and the channels that it needs in a cycle.
+-- A channel: the machines at its ends, the most tokens that its queue may hold, and the channels that it needs in a
+-- cycle.
 pub record Link : Type 0 where
   pub producer : ℕ
   pub consumer : ℕ
@@ -26,9 +26,11 @@ pub record Turn : Type 0 where
   pub number : ℕ
   pub fields : List ℕ
 
--- The channels by number, for each machine the ports that are served in a cycle, in their order, and how many cycles there are.
+-- The channels by number. For each machine the number of ports of its memory, or 0 if it isn't a memory that is served,
+-- and the ports that are served in a cycle, in their order. And the number of cycles.
 pub record Layout : Type 0 where
   pub links : List Link
+  pub port_counts : List ℕ
   pub turns : List (List Turn)
   pub end : ℕ
 
@@ -38,7 +40,7 @@ link_at layout c = slice_index_or layout.links c (record { producer = 0; consume
 abbrev pub turns_at : Layout → ℕ → List Turn
 turns_at layout m = slice_index_or layout.turns m []
 
--- the channels that a machine takes, and those that it gives, by number
+-- the channels that a machine takes, and the channels that it gives, by number
 abbrev pub channels_into : Layout → ℕ → List ℕ
 channels_into layout m = filter (λ c. (link_at layout c).consumer == m) (range_with_len 0 (length layout.links))
 
@@ -47,8 +49,8 @@ channels_out_of layout m = filter (λ c. (link_at layout c).producer == m) (rang
 
 -- ---- what changes
 
--- The cycle of each machine, and how many of its ports were served in it; for each channel whether its consumer has taken, and its
--- producer has given, the token of its own cycle.
+-- The cycle of each machine, and the number of its ports that were served in it. For each channel, whether its consumer
+-- has taken the token of the consumer's cycle, and whether its producer has given the token of the producer's cycle.
 pub record Marking : Type 0 where
   pub cycles : List ℕ
   pub served : List ℕ
@@ -68,12 +70,12 @@ opening_marking layout =
       given = replicate (length layout.links) false;
     }
 
--- one more, where it is so
+-- one more if the flag is true
 abbrev pub and_one : ℕ → Bool → ℕ
 and_one n false = n
 and_one n true = suc n
 
--- how many tokens were put into a channel, were taken from it, and are held
+-- the numbers of tokens that were put into a channel, were taken from it, and are held
 abbrev pub puts : Layout → Marking → ℕ → ℕ
 puts layout marking c = and_one (value_at marking.cycles (link_at layout c).producer) (is_set marking.given c)
 
@@ -90,7 +92,7 @@ abbrev pub or_next : Option Refusal → Option Refusal → Option Refusal
 or_next None later = later
 or_next (Some refusal) later = Some refusal
 
--- a refusal, where a condition fails
+-- a refusal, if a condition fails
 abbrev pub unless : Bool → Refusal → Option Refusal
 unless true refusal = None
 unless false refusal = Some refusal
@@ -113,21 +115,23 @@ is_channel layout c = nat_lt c (length layout.links)
 abbrev pub is_machine : Layout → ℕ → Bool
 is_machine layout m = nat_lt m (length layout.turns)
 
-abbrev pub numbers : List Turn → List ℕ
-numbers turns = map (λ turn. turn.number) turns
+-- the number of ports of a machine's memory
+abbrev pub port_count : Layout → ℕ → ℕ
+port_count layout m = value_at layout.port_counts m
 
 abbrev pub has_port : Layout → ℕ → ℕ → Bool
-has_port layout m p = list_any (λ number. number == p) (numbers (turns_at layout m))
+has_port layout m p = nat_lt p (port_count layout m)
 
 -- the port that is due
 abbrev pub due_turn : Layout → Marking → ℕ → Option Turn
 due_turn layout marking m = slice_get (turns_at layout m) (value_at marking.served m)
 
--- the first channel that a machine gives and hasn't given in its cycle
+-- refuses with the first channel that the machine gives and hasn't given in its cycle
 abbrev pub unfired : Layout → Marking → ℕ → Option Refusal
 unfired layout marking m = naming Unfired (first_unmarked marking.given (channels_out_of layout m))
 
--- `Latch`: the channel is there; its consumer has cycles left; it hasn't taken the token of this cycle; the queue holds one
+-- `Latch`: the channel exists; its consumer has cycles left; the consumer hasn't taken the token of this cycle; the
+-- queue holds one
 abbrev pub latch_refusal : Layout → Marking → ℕ → Option Refusal
 latch_refusal layout marking c =
     or_next (unless (is_channel layout c) Stranger)
@@ -135,8 +139,8 @@ latch_refusal layout marking c =
     (or_next (unless (not (is_set marking.taken c)) Latched)
     (unless (nat_lt 0 (held layout marking c)) (NoToken c))))
 
--- `Fire`: the channel is there; its producer has cycles left; it hasn't given the token of this cycle; it has taken those of the
--- channels that this one needs; the queue has room
+-- `Fire`: the channel exists; its producer has cycles left; the producer hasn't given the token of this cycle; it has
+-- taken the tokens of the channels that this one needs; the queue has room
 abbrev pub fire_refusal : Layout → Marking → ℕ → Option Refusal
 fire_refusal layout marking c =
     or_next (unless (is_channel layout c) Stranger)
@@ -145,13 +149,14 @@ fire_refusal layout marking c =
     (or_next (naming NeedsInput (first_unmarked marking.taken (link_at layout c).needs))
     (unless (nat_lt (held layout marking c) (link_at layout c).capacity) (Full c (held layout marking c))))))
 
--- the port is the one that is due, and its fields are there
+-- the port is the one that is due, and its fields have tokens; if none is due, the refusal has the number of ports
 abbrev pub turn_refusal : Layout → Marking → ℕ → ℕ → Option Turn → Option Refusal
-turn_refusal layout marking m p None = Some (Order (bound_of (numbers (turns_at layout m))))
+turn_refusal layout marking m p None = Some (Order (port_count layout m))
 turn_refusal layout marking m p (Some turn) =
     or_next (unless (turn.number == p) (Order turn.number)) (naming NeedsInput (first_unmarked marking.taken turn.fields))
 
--- `Serve`: the machine is there and has the port; it has cycles left; it has given all its tokens; the port is due; its fields are there
+-- `Serve`: the machine exists and has the port; it has cycles left; it has given all its tokens; the port is due; its
+-- fields have tokens
 abbrev pub serve_refusal : Layout → Marking → ℕ → ℕ → Option Refusal
 serve_refusal layout marking m p =
     or_next (unless (has_port layout m p) Stranger)
@@ -159,12 +164,13 @@ serve_refusal layout marking m p =
     (or_next (unfired layout marking m)
     (turn_refusal layout marking m p (due_turn layout marking m))))
 
--- a port that is due isn't served
+-- refuses with the port that is due and not served
 abbrev pub unserved : Option Turn → Option Refusal
 unserved None = None
 unserved (Some turn) = Some (Unserved turn.number)
 
--- `Finish`: the machine is there and has cycles left; it has given all its tokens; all its ports are served; it has taken all its tokens
+-- `Finish`: the machine exists and has cycles left; it has given all its tokens; all its ports are served; it has taken
+-- all its tokens
 abbrev pub finish_refusal : Layout → Marking → ℕ → Option Refusal
 finish_refusal layout marking m =
     or_next (unless (is_machine layout m) Stranger)
@@ -180,9 +186,9 @@ refusal layout marking (Fire c) = fire_refusal layout marking c
 refusal layout marking (Serve m p) = serve_refusal layout marking m p
 refusal layout marking (Finish m) = finish_refusal layout marking m
 
--- ---- what a step makes
+-- ---- what a step does
 
--- the marks of channels, with those of machine m at this end cleared
+-- the marks of channels; those of the channels with machine m at this end are cleared
 abbrev pub cleared : (Link → ℕ) → Layout → ℕ → List Bool → List Bool
 cleared machine_of layout m marks = map (λ c. if machine_of (link_at layout c) == m then false else is_set marks c) (range_with_len 0 (length layout.links))
 

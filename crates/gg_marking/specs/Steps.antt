@@ -1,6 +1,6 @@
 -- Steps of a network one after another, up to the first that is refused.
--- Source: MEMOCODE 2009 (a network goes on by steps, one node at a time). That a step which is no event is refused as a stranger, and
--- that steps are numbered, is this program's.
+-- Source: MEMOCODE 2009 (a network goes on by steps, one node at a time). This program's own: a step that isn't an
+-- event is refused as a stranger, and steps are numbered.
 use Rattle.std.specs.Prelude.{◌≡◌, ℕ, ◌+◌, List, [], ◌∷◌, Option, Some, None, take, slice_get}
 use Rattle.gg_net.specs.declared.event.Event.{Event}
 use Rattle.gg_net.specs.declared.event.Refusal.{Refusal}
@@ -9,7 +9,7 @@ use Rattle.gg_net.specs.Network.{Network}
 use Rattle.gg_net.specs.Step.{Refused, Step}
 use Rattle.gg_marking.specs.Goes.{Stopped}
 
--- what a step makes of a network; one that is no event is never done
+-- what a step makes of a network; a step that isn't an event is never done
 abbrev pub IsStep : Network → Option Event → Network → Type 0
 IsStep old None new = ⊥
 IsStep old (Some event) new = Step old event new
@@ -24,7 +24,7 @@ abbrev pub Steps : Network → List (Option Event) → Network → Type 0
 Steps old [] new = new ≡ old
 Steps old (event ∷ events) new = (next : Network) × IsStep old event next × Steps next events new
 
--- Of these steps, the first of which has the number k, some are done, which lead to a network, and the one after them is refused.
+-- The first of these steps has number k. Some of them are done and lead to a network, and the next one is refused.
 pub record StopsAt (k : ℕ) (old : Network) (events : List (Option Event)) (new : Network) (stopped : Stopped) : Type 0 where
   pub done : ℕ
   pub steps : Steps old (take done events) new

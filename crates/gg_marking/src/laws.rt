@@ -1,4 +1,4 @@
-//! Laws: facts about the definitions, each on a function with an empty body.
+//! Laws: facts about the definitions. Each is the contract of a function with an empty body.
 ghost use Rattle.std.specs.Prelude.{◌≡◌, ◌≢◌, ℕ, suc, ◌-◌, ◌<◌, ◌≤◌, ◌++◌, List, [], ◌∷◌, Option, Some, None, Ok, Err, All, length, take};
 ghost use Rattle.gg_flat.specs.Line.{value_at};
 ghost use Rattle.gg_node.specs.Machine.{Machine};
@@ -16,8 +16,8 @@ ghost use Rattle.gg_marking.specs.Goes.{Stopped, replayed_from};
 ghost use Rattle.gg_marking.specs.Fits.{HasLayout, marking_of};
 ghost use Rattle.gg_marking.specs.Steps.{IsStep, Steps, StopsAt};
 
-/// A network goes by its marking: just those events may be done of which its marking refuses nothing, and each other is refused for
-/// the marking's cause. A step makes of the marking what its event makes of it, and leaves the layout as it is.
+/// A network agrees with its marking. An event may be done exactly if the marking doesn't refuse it. Every other event
+/// is refused for the marking's cause. A step changes the marking as its event does, and leaves the layout as it is.
 pub fn goes_by_marking()
     ensures ready { (lists : List (List ℕ)) (runs : List (List (List ℕ))) (net : Network) (layout : Layout) (event : Event) → Kept lists runs net → HasLayout (frame_of net) layout → Ready net event → refusal layout (marking_of net) event ≡ None }
     ensures refused { (lists : List (List ℕ)) (runs : List (List (List ℕ))) (net : Network) (layout : Layout) (event : Event) (cause : Refusal) → Kept lists runs net → HasLayout (frame_of net) layout → Refused net event cause → refusal layout (marking_of net) event ≡ Some cause }
@@ -27,14 +27,14 @@ pub fn goes_by_marking()
     ensures frame { (old new : Network) (event : Event) → Step old event new → frame_of new ≡ frame_of old }
 {}
 
-/// Before the first cycle the marking of a network is the opening one, and no token was put.
+/// Before the first cycle the marking of a network is the opening marking, and no token was put.
 pub fn opens_with_marking()
     ensures marking { (machines : List Machine) (wires : List Wire) (end : ℕ) (layout : Layout) → All IsOpening machines → HasLayout (frame_of (opening_net machines wires end)) layout → marking_of (opening_net machines wires end) ≡ opening_marking layout }
     ensures none { (machines : List Machine) (wires : List Wire) (end c : ℕ) → All IsOpening machines → network.puts (opening_net machines wires end) c ≡ 0 }
 {}
 
-/// The counts of a network are those of its marking, and so is the length of each queue. The newest token of a queue is the last of
-/// the values of its channel's list that were put so far.
+/// The counts of a network and the lengths of its queues are those of its marking. The newest token of a queue is the
+/// last of the values of its channel's list that were put so far.
 pub fn counts_by_marking()
     ensures puts { (net : Network) (layout : Layout) (c : ℕ) → HasLayout (frame_of net) layout → c < length net.wires → network.puts net c ≡ puts layout (marking_of net) c }
     ensures takes { (net : Network) (layout : Layout) (c : ℕ) → HasLayout (frame_of net) layout → c < length net.wires → network.takes net c ≡ takes layout (marking_of net) c }
@@ -42,8 +42,9 @@ pub fn counts_by_marking()
     ensures newest { (lists : List (List ℕ)) (runs : List (List (List ℕ))) (net : Network) (c : ℕ) → Kept lists runs net → c < length net.wires → 0 < length (queue_at net.queues c) → value_at (queue_at net.queues c) (length (queue_at net.queues c) - 1) ≡ value_at (list_at lists c) (network.puts net c - 1) }
 {}
 
-/// A token is put into a channel where it is fired, and at no other step; no more are put than the network has cycles. It is then the
-/// newest of the queue, and the tokens put so far are a front part of the channel's list.
+/// A token is put into a channel when the channel is fired, and at no other step. At most as many are put as the
+/// network has cycles. The token is then the newest of the queue, and the tokens put so far are the first values of the
+/// channel's list.
 pub fn puts_by_step()
     ensures fires { (lists : List (List ℕ)) (runs : List (List (List ℕ))) (old new : Network) (c : ℕ) → Kept lists runs old → Step old (Fire c) new → network.puts new c ≡ suc (network.puts old c) }
     ensures others { (lists : List (List ℕ)) (runs : List (List (List ℕ))) (old new : Network) (event : Event) (c : ℕ) → Kept lists runs old → Step old event new → c < length old.wires → event ≢ Fire c → network.puts new c ≡ network.puts old c }
@@ -52,14 +53,14 @@ pub fn puts_by_step()
     ensures front { (lists : List (List ℕ)) (runs : List (List (List ℕ))) (old new : Network) (c : ℕ) → Kept lists runs old → Step old (Fire c) new → take (network.puts new c) (list_at lists c) ≡ take (network.puts old c) (list_at lists c) ++ value_at (queue_at new.queues c) (length (queue_at new.queues c) - 1) ∷ [] }
 {}
 
-/// Steps one after another keep what a network keeps, and leave its layout as it is.
+/// Steps one after another keep the network's invariant `Kept`, and leave its layout as it is.
 pub fn steps_keep()
     ensures kept { (lists : List (List ℕ)) (runs : List (List (List ℕ))) (old new : Network) (events : List (Option Event)) → Kept lists runs old → Steps old events new → Kept lists runs new }
     ensures frame { (old new : Network) (events : List (Option Event)) → Steps old events new → frame_of new ≡ frame_of old }
     ensures more { (old next new : Network) (events : List (Option Event)) (event : Option Event) → Steps old events next → IsStep next event new → Steps old (events ++ event ∷ []) new }
 {}
 
-/// Where steps lead, and which is refused and why, is what they do to the marking.
+/// What steps do to the marking determines where they lead, which step is refused, and why.
 pub fn steps_by_marking()
     ensures done { (lists : List (List ℕ)) (runs : List (List (List ℕ))) (old new : Network) (layout : Layout) (k : ℕ) (events : List (Option Event)) → Kept lists runs old → HasLayout (frame_of old) layout → Steps old events new → replayed_from layout k (marking_of old) events ≡ Ok (marking_of new) }
     ensures stopped { (lists : List (List ℕ)) (runs : List (List (List ℕ))) (old new : Network) (layout : Layout) (k : ℕ) (events : List (Option Event)) (stopped : Stopped) → Kept lists runs old → HasLayout (frame_of old) layout → StopsAt k old events new stopped → replayed_from layout k (marking_of old) events ≡ Err stopped }

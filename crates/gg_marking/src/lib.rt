@@ -1,19 +1,20 @@
 //! Markings: how far each machine and each channel of a network is, without the values.
 //!
-//! Whether a step of a network may be done, and why not, depends on counts alone. A `Layout` has what stays: for each channel its
-//! ends, its capacity and the channels that it needs, for each machine the ports that are served. A `Marking` has what changes: the
-//! cycle of each machine, how many of its ports were served in it, and for each channel whether its token was taken, and whether it
-//! was given, in the cycle of the machine at that end (`specs/Marking`). The crate has no code: it promises, for a network that is
-//! kept and has a layout (`specs/Fits`),
+//! Whether a step of a network may be done, and why not, depends only on counts. A `Layout` has what never changes: for
+//! each channel its ends, its capacity and the channels that it needs, and for each machine the ports that are served.
+//! A `Marking` has what changes: the cycle of each machine, the number of its ports that were served in this cycle, and
+//! for each channel whether its token was taken in its consumer's cycle and whether it was given in its producer's
+//! cycle (`specs/Marking`). The crate has no code. For a network that has a layout (`specs/Fits`) and the invariant
+//! `Kept` of gg_net, it promises:
 //!
-//! - that just those events may be done of which its marking refuses nothing, that each other is refused for the marking's cause, and
-//!   that a step makes of the marking what its event makes of it (`goes_by_marking`);
-//! - that it begins with the opening marking (`opens_with_marking`);
-//! - that how many tokens were put into a channel, were taken from it and are held are those of the marking, and that the newest token
-//!   is its list's (`counts_by_marking`);
-//! - that a token is put just where it is fired, as the next value of its list (`puts_by_step`);
-//! - that where a list of steps leads, or which of them is refused first and why, is what they do to the marking (`steps_keep`,
-//!   `steps_by_marking`).
+//! - an event may be done exactly if the marking doesn't refuse it, every other event is refused for the marking's
+//!   cause, and a step changes the marking as its event does (`goes_by_marking`);
+//! - the network begins with the opening marking (`opens_with_marking`);
+//! - the numbers of tokens that were put into a channel, were taken from it and are held are those of the marking, and
+//!   the newest token is a value of the channel's list (`counts_by_marking`);
+//! - a token is put exactly when the channel is fired, as the next value of the channel's list (`puts_by_step`);
+//! - what a list of steps does to the marking determines where the steps lead, or which of them is refused first and
+//!   why (`steps_keep`, `steps_by_marking`).
 #![tactic(auto)]
 
 mod laws;

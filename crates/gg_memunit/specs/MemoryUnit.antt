@@ -1,4 +1,4 @@
--- A memory as a machine of its own, which is served port by port.
+-- A memory as a machine of its own. Its ports are served one by one.
 -- Source: ICCAD 2019 (a target memory that its host simulates by serving its ports one after another); FIRRTL
 -- Specification, "Memories".
 use Rattle.std.specs.Prelude.{◌≡◌, ℕ, ◌+◌, ◌-◌, ◌<◌, ◌^◌, List, [], ◌∷◌, Option, Some, None, Bool, false, replicate, All, length, map, fold, nat_lt, slice_index_or, if◌then◌else◌}
@@ -17,13 +17,13 @@ use Rattle.gg_flat.specs.WellFormed.{IsWellFormed}
 use Rattle.gg_node.specs.Machine.{RunsPiece, Port, Machine, latched_values, cycle_limit}
 use Rattle.gg_node.specs.Token.{accessed}
 
--- the signals that readers give
+-- the signals of the readers' data
 abbrev pub outs_of : List Memory → List ℕ
 outs_of [] = []
 outs_of (memory ∷ memories) = map (λ reader. reader.word) memory.readers
 
--- A piece that is one memory: its in-signals come first, and are the fields of the memory's ports; its out-signals are the
--- data of the readers, in order.
+-- A piece that is only a memory. Its in-signals come first and are the fields of the memory's ports. Its out-signals
+-- are the data of the readers, in order.
 pub record IsMemoryPiece (piece : FlatCircuit) : Type 0 where
   pub formed : IsWellFormed piece
   pub one : length piece.memories ≡ 1
@@ -47,28 +47,33 @@ ports_by latency readers writers = map (port_of (length readers)) (due_of latenc
 abbrev pub writer_at : List Writer → ℕ → Writer
 writer_at writers w = slice_index_or writers w (record { addr = 0; en = 0; word = 0; mask = 0 })
 
--- the access of the port of a number
+-- the access of the port with a number
 abbrev pub access_of : List Reader → List Writer → ℕ → Access
 access_of readers writers p = if nat_lt p (length readers) then ByReader p (reader_at readers p) else ByWriter (p - length readers) (writer_at writers (p - length readers))
 
--- how many ports are served in a cycle, of so many readers and writers
+-- the number of ports that are served in a cycle, for a memory with this many readers and writers
 abbrev pub count_by : Latency → ℕ → ℕ → ℕ
 count_by Zero readers writers = writers
 count_by (One under) readers writers = readers + writers
 
--- the number of the port that stands at a place of the order
+-- the number of the port at a place of the order
 abbrev pub number_by : Latency → ℕ → ℕ → ℕ → ℕ
 number_by Zero readers writers j = readers + j
 number_by (One Old) readers writers j = j
 number_by (One Undefined) readers writers j = j
 number_by (One New) readers writers j = if nat_lt j writers then readers + j else j - writers
 
--- the ports of the only memory
+-- the number of ports of the only memory
+abbrev pub count_of : List Memory → ℕ
+count_of [] = 0
+count_of (memory ∷ memories) = length memory.readers + length memory.writers
+
+-- the ports of the only memory that are served, in their order
 abbrev pub ports_of : List Memory → List Port
 ports_of [] = []
 ports_of (memory ∷ memories) = ports_by memory.latency memory.readers memory.writers
 
--- the ins that the data of a reader needs: its address and its enable, where it gives the word in the same cycle
+-- the ins that the data of a reader needs: its address and its enable if it gives the word in the same cycle, else none
 abbrev pub needs_by : Latency → Reader → List ℕ
 needs_by Zero reader = reader.addr ∷ reader.en ∷ []
 needs_by (One under) reader = []
@@ -78,17 +83,18 @@ abbrev pub needs_of : List Memory → List (List ℕ)
 needs_of [] = []
 needs_of (memory ∷ memories) = map (needs_by memory.latency) memory.readers
 
--- the state of a memory that stands alone
+-- the state of a piece that is only a memory with this bank
 abbrev pub state_of : Bank → State
 state_of bank = record { registers = []; banks = bank ∷ [] }
 
--- a memory unit with this piece, that can do so many cycles
+-- a memory unit with this piece that can do this many cycles
 abbrev pub memory_machine : FlatCircuit → ℕ → ℕ → State → ℕ → List (Option ℕ) → List Bool → Machine
 memory_machine piece limit cycle state served latches flags =
     record {
       behaviour = RunsPiece piece;
       limit = limit;
       needs = needs_of piece.memories;
+      port_count = count_of piece.memories;
       ports = ports_of piece.memories;
       cycle = cycle;
       state = state;
@@ -106,8 +112,8 @@ accessed_by latches state ports = fold (λ state port. accessed latches state (S
 abbrev pub opening_unit : FlatCircuit → Machine
 opening_unit piece = memory_machine piece cycle_limit 0 (opening piece) 0 (replicate (length piece.ins) None) (replicate (length piece.outs) false)
 
--- What a unit holds is of its piece: there is a read register for each late reader, a latch for each in-signal and a flag
--- for each out-signal; and the inputs are the tokens in the latches.
+-- The fields of a unit belong to its piece: there is a read register for each late reader, a latch for each in-signal
+-- and a flag for each out-signal, and the inputs are the tokens in the latches.
 pub record IsOfPiece (piece : FlatCircuit) (bank : Bank) (inputs : List ℕ) (latches : List (Option ℕ)) (flags : List Bool) : Type 0 where
   pub memory : IsMemoryPiece piece
   pub held : All (λ memory. length bank.reads ≡ read_count memory.latency memory.readers) piece.memories

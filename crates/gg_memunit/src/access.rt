@@ -1,4 +1,4 @@
-//! One access of a memory, where the ins have these tokens.
+//! One access of a memory, if the ins have these tokens.
 ghost use Rattle.std.specs.Prelude.{◌≡◌, ◌+◌, ◌<◌, All, length};
 ghost use Rattle.gg_flat.specs.Memory.{found_word, LooksAmong, WritesAmong};
 ghost use Rattle.gg_flat.specs.Served.{after_access};
@@ -14,7 +14,7 @@ pub(crate) fn find(bank: &Bank, reader: &Reader, inputs: &[u128]) -> u128
     bank.word(inputs[reader.addr as usize], inputs[reader.en as usize])
 }
 
-/// Makes the access of a port: that of a reader of a late memory, or of a writer.
+/// Does the access of a port. The port is a reader of a late memory, or a writer.
 pub(crate) fn serve(bank: &mut Bank, memory: &Memory, port: u32, inputs: &[u128])
     requires readers { All (LooksAmong (length inputs.now)) memory.now.readers }
     requires writers { All (WritesAmong (length inputs.now)) memory.now.writers }

@@ -1,4 +1,4 @@
-//! Laws: facts about the definitions, each on a function with an empty body.
+//! Laws: facts about the definitions. Each is the contract of a function with an empty body.
 ghost use Rattle.std.specs.Prelude.{◌≡◌, ℕ, List, Option};
 ghost use Rattle.gg_flat.specs.Circuit.{FlatCircuit};
 ghost use Rattle.gg_flat.specs.State.{State, IsState, next_state};
@@ -6,8 +6,8 @@ ghost use Rattle.gg_flat.specs.Settled.{Settled};
 ghost use Rattle.gg_node.specs.Machine.{latched_values};
 ghost use Rattle.gg_memunit.specs.MemoryUnit.{IsMemoryPiece, ports_of, accessed_by};
 
-/// A memory that was served through holds what it holds after the cycle in a piece: its state is the next state, where the
-/// tokens in the latches are the inputs.
+/// A memory whose ports were all served has the contents that it would have after the cycle in a piece: its state is
+/// the next state, if the tokens in the latches are the inputs.
 pub fn served_through()
     ensures { (piece : FlatCircuit) (state : State) (latches : List (Option ℕ)) (signals : List ℕ) → IsMemoryPiece piece → IsState piece state → Settled piece state (latched_values latches) signals → accessed_by latches state (ports_of piece.memories) ≡ next_state piece state signals }
 {}

@@ -1,13 +1,14 @@
-//! A memory as a machine of its own, which is served port by port.
+//! A memory as a machine of its own. Its ports are served one by one.
 //!
-//! A memory of a circuit can stand by itself: its machine has the fields of its ports as ins and the data of its readers as
-//! outs, and its host makes one access at a time. The crate promises:
+//! A memory of a circuit can be a machine of its own. The machine's ins are the fields of the memory's ports, and its
+//! outs are the data of the readers. Its host does one access at a time. The crate promises:
 //!
-//! - [`MemUnit`] is such a machine: each step does to it what the definitions of gg_node say, one access a `serve`, in the
-//!   order that a memory wants: late readers of old words, then writers, then late readers of new words;
-//! - a memory that was served through holds what it holds after the cycle in a piece (`served_through`).
+//! - [`MemUnit`] is such a machine. Each step changes it as the definitions of gg_node say. A `serve` does one access,
+//!   in the order that a memory requires: late readers of old words, then writers, then late readers of new words;
+//! - a memory whose ports were all served has the contents that it would have after the cycle in a piece
+//!   (`served_through`).
 //!
-//! No call but the new one takes memory.
+//! Only `new` allocates.
 #![tactic(auto)]
 
 mod access;

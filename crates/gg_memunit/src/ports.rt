@@ -1,4 +1,4 @@
-//! The ports of a memory: what they need, and in which order they are served.
+//! The ports of a memory: what they need, and the order in which they are served.
 ghost use Rattle.std.specs.Prelude.{◌≡◌, ◌+◌, ◌<◌, ◌^◌, length, slice_get};
 ghost use Rattle.gg_flat.specs.Memory.{LooksAmong};
 ghost use Rattle.gg_node.specs.Machine.{first_empty, port_number};
@@ -6,7 +6,7 @@ ghost use Rattle.gg_memunit.specs.MemoryUnit.{needs_by, ports_by, count_by, numb
 
 use gg_flat::{Latency, Reader, UnderWrite, Writer};
 
-/// The first in that the data of a reader needs and that has no token yet.
+/// The first in that the data of a reader needs and that has no token yet, if there is one.
 pub(crate) fn first_missing(
     latches: &[Option<u128>],
     latency: Latency,
@@ -29,7 +29,7 @@ pub(crate) fn first_missing(
     }
 }
 
-/// How many ports are served in a cycle.
+/// The number of ports that are served in a cycle.
 pub(crate) fn count(latency: Latency, readers: &[Reader], writers: &[Writer]) -> u32
     requires { length readers.now + length writers.now < 2 ^ 32 }
     ensures { result ≡ length (ports_by latency readers.now writers.now) }
@@ -41,7 +41,7 @@ pub(crate) fn count(latency: Latency, readers: &[Reader], writers: &[Writer]) ->
 }
 
 #[tactic(auto, using(crate::proofs::PortLemmas::number_at, crate::proofs::PortLemmas::count_ports, crate::proofs::PortLemmas::none_past))]
-/// The number of the port that is due after so many were served.
+/// The number of the port that is due after `served` ports were served, if one is left.
 pub(crate) fn due_after(
     latency: Latency,
     readers: &[Reader],
@@ -58,7 +58,7 @@ pub(crate) fn due_after(
     Some(number(latency, r, w, served))
 }
 
-// The number of the port that stands at a place of the order, of so many readers and writers.
+// The number of the port at a place of the order, for a memory with this many readers and writers.
 fn number(latency: Latency, readers: u32, writers: u32, place: u32) -> u32
     requires few { readers + writers < 2 ^ 32 }
     requires place { place < count_by latency readers writers }

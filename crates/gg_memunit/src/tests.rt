@@ -1,4 +1,4 @@
-//! What no clause says: that there is a memory unit with ample memory.
+//! What no contract says: a memory unit can be built with ample memory.
 ghost use Rattle.std.specs.Prelude.{◌≡◌, ◌∷◌, [], map, IfOk};
 ghost use Rattle.gg_flat.specs.Circuit.{no_circuit};
 
@@ -9,7 +9,7 @@ use gg_node::Host;
 use std::alloc::{AllocError, Global};
 use std::test::Fail;
 
-// The name of a text.
+// A text as a name.
 fn name(alloc: Global, text: &str) -> Result<Name, AllocError> {
     Ok(Name::from(String::from_str(alloc, text)?))
 }

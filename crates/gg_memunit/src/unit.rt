@@ -1,4 +1,4 @@
-//! `MemUnit`: a memory that is served port by port.
+//! `MemUnit`: a memory whose ports are served one by one.
 ghost use Rattle.std.specs.Prelude.{◌≡◌, ℕ, ◌<◌, List, [], ◌∷◌, length, is_some, slice_set, IfOk};
 ghost use Rattle.gg_node.specs.Machine.{RunsPiece, Machine, machine_at, latch_at, flag_at, missing, due};
 ghost use Rattle.gg_node.specs.Token.{IsToken, IsNextState};
@@ -11,13 +11,13 @@ use gg_node::Host;
 use std::alloc::{AllocError, Global};
 use std::marker::Model;
 
-/// A memory as a machine of its own, which is served port by port. It is a host of one thread. Its ins are the fields of the
-/// memory's ports, its outs the data of the readers. A contract sees it as this machine.
+/// A memory as a machine of its own. Its ports are served one by one. It is a host of one thread. Its ins are the
+/// fields of the memory's ports, and its outs are the data of the readers. A contract sees it as this machine.
 #[derive(Drop)]
 pub struct MemUnit {
     piece: Piece,
     bank: Bank,
-    // The token in each latch; 0 where it is empty.
+    // The token in each latch; 0 if the latch is empty.
     inputs: Vec<u128>,
     latches: Vec<Option<u128>>,
     flags: Vec<bool>,
@@ -45,11 +45,11 @@ fn memory_of(piece: &Piece) -> &Memory
 }
 
 impl MemUnit {
-    /// A unit of a piece that is one memory, before the first cycle.
+    /// The unit of a piece that is only a memory, before the first cycle.
     ///
     /// # Errors
     ///
-    /// Where memory is refused.
+    /// Returns `AllocError` if an allocation fails.
     pub fn new(alloc: Global, piece: Piece) -> Result<MemUnit, AllocError>
         requires { IsMemoryPiece piece }
         ensures { IfOk result (λ unit. unit ≡ opening_unit piece) }
@@ -76,7 +76,7 @@ impl MemUnit {
         &self.piece
     }
 
-    // The first in that an out needs and that has no token yet.
+    // The first in that an out needs and that has no token yet, if there is one.
     fn first_missing(&self, place: u32) -> Option<u32>
         requires { place < length self.now.flags }
         ensures { result ≡ missing self.now place }
@@ -86,7 +86,7 @@ impl MemUnit {
         ports::first_missing(self.latches.as_slice(), memory.latency, reader)
     }
 
-    // The number of the port that is due.
+    // The number of the port that is due, if one is left.
     fn port_due(&self) -> Option<u32>
         ensures { result ≡ due self.now }
     {
@@ -95,13 +95,21 @@ impl MemUnit {
         ports::due_after(memory.latency, readers, writers, self.served)
     }
 
-    // How many ports are served in a cycle.
-    fn port_count(&self) -> u32
+    // The number of ports that are served in a cycle.
+    fn due_count(&self) -> u32
         ensures { result ≡ length self.now.ports }
     {
         let memory = memory_of(&self.piece);
         let (readers, writers) = (memory.readers.as_slice(), memory.writers.as_slice());
         ports::count(memory.latency, readers, writers)
+    }
+
+    // The number of ports of the memory.
+    fn all_ports(&self) -> u32
+        ensures { result ≡ self.now.port_count }
+    {
+        let memory = memory_of(&self.piece);
+        (memory.readers.len() + memory.writers.len()) as u32
     }
 
     // The token of an out.
@@ -128,7 +136,7 @@ impl MemUnit {
         self.latches[place as usize] = Some(token);
     }
 
-    // Makes the access of the port that is due.
+    // Does the access of the port that is due.
     fn serve_port(&mut self, port: u32)
         requires { MayServe self.old port }
         ensures { self.new ≡ with_served self.old }
@@ -138,7 +146,7 @@ impl MemUnit {
         self.served += 1;
     }
 
-    // Goes to the next cycle.
+    // Advances to the next cycle.
     fn next_cycle(&mut self)
         requires { MayFinish self.old }
         ensures next { IsNextState self.old self.new.state }
@@ -185,7 +193,11 @@ impl Host for MemUnit {
     }
 
     fn dues(&self, thread: u32) -> u32 {
-        self.port_count()
+        self.due_count()
+    }
+
+    fn port_count(&self, thread: u32) -> u32 {
+        self.all_ports()
     }
 
     fn token(&mut self, thread: u32, place: u32) -> u128 {

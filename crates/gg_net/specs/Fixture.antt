@@ -1,5 +1,5 @@
 -- A network for tests: a source that feeds a tray, for two cycles.
--- Source: MEMOCODE 2009 (two nodes that are joined by one queue).
+-- Source: MEMOCODE 2009 (two nodes that are connected by one queue).
 use Rattle.std.specs.Prelude.{◌≡◌, ℕ, List, [], ◌∷◌, None, false, Result, Ok, Err}
 use Rattle.gg_node.specs.Machine.{Machine, source_machine, tray_machine}
 use Rattle.gg_net.specs.declared.shape.Wire.{Wire}

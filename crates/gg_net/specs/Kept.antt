@@ -1,5 +1,5 @@
--- What holds of a network at all times, for the lists of values that its channels are to carry: each machine is in
--- the state of its run, each latch, flag and queue is what the lists and the counts say.
+-- What holds of a network at all times, given the lists of values that its channels have to carry. Each machine is in
+-- the state of its run. Each latch, flag and queue is what the lists and the counts say.
 -- Source: MEMOCODE 2009 (the k-th token of each queue is the signal's value in cycle k; a queue holds the tokens that
 -- were put and not yet taken, at most its bound; without a ring among dependencies the network can go on); ICCAD 2019
 -- for memories that are served port by port.
@@ -47,7 +47,7 @@ served_by inputs state ports = fold (served_one inputs) state ports
 
 -- ---- the lists solve the network
 
--- Where ports are served, they make the next state of the piece together.
+-- If ports are served, the accesses of all of them together make the next state of the piece.
 abbrev pub ServesRows : FlatCircuit → List (List ℕ) → ℕ → List Port → Type 0
 ServesRows piece rows end [] = ⊤
 ServesRows piece rows end (port ∷ ports) = (t : ℕ) → t < end → served_by (ins_of piece (row_at rows t)) (run_state piece rows t) (port ∷ ports) ≡ run_state piece rows (suc t)
@@ -66,20 +66,20 @@ Runs (RunsPiece piece) kind rows end = RunsRows piece kind rows end
 Runs (GivesColumn column) kind rows end = end ≤ length column
 Runs KeepsValues kind rows end = kind.ins ≡ 1
 
--- a value is that of an out in cycle t
+-- this is the value of an out in cycle t
 abbrev pub Answers : Behaviour → List (List ℕ) → ℕ → ℕ → ℕ → Type 0
 Answers (RunsPiece piece) rows o t value = value_at (row_at rows t) (value_at piece.outs o) ≡ value
 Answers (GivesColumn column) rows o t value = value_at column t ≡ value
 Answers KeepsValues rows o t value = ⊥
 
--- a value is what an in takes in cycle t
+-- this is the value that an in takes in cycle t; a tray takes any
 abbrev pub Asks : Behaviour → List (List ℕ) → ℕ → ℕ → ℕ → Type 0
 Asks (RunsPiece piece) rows i t value = value_at (row_at rows t) (value_at piece.ins i) ≡ value
 Asks (GivesColumn column) rows i t value = ⊥
 Asks KeepsValues rows i t value = ⊤
 
--- The lists and the rows solve a network: each machine can do all cycles, and its rows are a run; each channel's list
--- has a value for each cycle, which is its producer's there, and its consumer's too.
+-- The lists and the rows solve a network. Each machine can do all cycles, and its rows are a run. Each channel's list
+-- has a value for each cycle, which is the value of its producer's out and of its consumer's in in that cycle.
 pub record Solves (lists : List (List ℕ)) (runs : List (List (List ℕ))) (frame : Frame) : Type 0 where
   pub able : (m : ℕ) → m < length frame.kinds → frame.end ≤ (kind_at frame.kinds m).limit
   pub does : (m : ℕ) → m < length frame.kinds → Runs (kind_at frame.kinds m).behaviour (kind_at frame.kinds m) (rows_at runs m) frame.end
@@ -89,8 +89,8 @@ pub record Solves (lists : List (List ℕ)) (runs : List (List (List ℕ))) (fra
 
 -- ---- the wiring
 
--- Each channel leads from an out that is there to an in that is there; each in and each out is at just one channel;
--- needs and fields of ports are ins that are there.
+-- Each channel leads from an out that exists to an in that exists. Each in and each out has exactly one channel. Needs
+-- and fields of ports are ins that exist.
 pub record IsWired (frame : Frame) : Type 0 where
   pub producer : (c : ℕ) → c < length frame.wires → (wire_at frame.wires c).producer < length frame.kinds
   pub out : (c : ℕ) → c < length frame.wires → (wire_at frame.wires c).out < (kind_at frame.kinds (wire_at frame.wires c).producer).outs
@@ -110,7 +110,7 @@ pub record NeedsChannel (frame : Frame) (c d : ℕ) : Type 0 where
   pub needed : Contains (needs_at (kind_at frame.kinds (wire_at frame.wires c).producer).needs (wire_at frame.wires c).out) place
   pub at : IsAtIn frame.wires (wire_at frame.wires c).producer place d
 
--- There is no ring among the needs: each channel has a rank, and needs channels of lower ranks alone.
+-- There is no ring among the needs: each channel has a rank, and needs only channels of lower ranks.
 pub record HasNoRing (frame : Frame) : Type 0 where
   pub ranks : List ℕ
   pub lower : (c d : ℕ) → NeedsChannel frame c d → value_at ranks d < value_at ranks c
@@ -123,27 +123,27 @@ pub record IsSound (lists : List (List ℕ)) (runs : List (List (List ℕ))) (fr
 
 -- ---- a machine
 
--- The state of a machine in a cycle, after the accesses of its first `served` ports: that of its rows.
+-- The state of a machine in a cycle, after the accesses of its first `served` ports, is the state of its rows.
 abbrev pub IsStateOf : Behaviour → List Port → List (List ℕ) → ℕ → ℕ → State → Type 0
 IsStateOf (RunsPiece piece) ports rows cycle served state = state ≡ served_by (ins_of piece (row_at rows cycle)) (run_state piece rows cycle) (take served ports)
 IsStateOf (GivesColumn column) ports rows cycle served state = ⊤
 IsStateOf KeepsValues ports rows cycle served state = ⊤
 
--- The values that a machine kept are those of a list in the cycles before this one.
+-- The values that a machine has kept are those of a list in the cycles before this one.
 pub record HasKept (list : List ℕ) (cycle : ℕ) (kept : List ℕ) : Type 0 where
   pub count : length kept ≡ cycle
   pub is : (t : ℕ) → t < cycle → value_at kept t ≡ value_at list t
 
--- what a machine kept of a channel that it takes
+-- a tray has kept the values of a channel that it takes
 abbrev pub Keeps : Behaviour → List ℕ → ℕ → List ℕ → Type 0
 Keeps (RunsPiece piece) list cycle kept = ⊤
 Keeps (GivesColumn column) list cycle kept = ⊤
 Keeps KeepsValues list cycle kept = HasKept list cycle kept
 
--- A machine may stand at place m: it is of the kind there; it has done at most all cycles; its state is that of its
--- rows; a latch holds its channel's value of this cycle; an out has given its token only where all that it needs was
--- latched; ports were served only after all outs had given theirs, with their fields latched; and a tray has the
--- values of its channel.
+-- This can be the machine at place m. It has the kind of that place. It has done at most all cycles. Its state is that
+-- of its rows. A latch that isn't empty holds its channel's value of this cycle. An out has given its token only if all
+-- that it needs was latched. Ports were served only after all outs had given their tokens, with the ports' fields
+-- latched. A tray has kept the values of its channel.
 pub record MachineAt (lists : List (List ℕ)) (runs : List (List (List ℕ))) (frame : Frame) (m : ℕ) (machine : Machine) : Type 0 where
   pub kind : kind_of machine ≡ kind_at frame.kinds m
   pub within : machine.cycle ≤ frame.end
@@ -157,7 +157,8 @@ pub record MachineAt (lists : List (List ℕ)) (runs : List (List (List ℕ))) (
 
 -- ---- a channel
 
--- A queue is a channel's list from the tokens taken to the tokens put, and no longer than the capacity.
+-- A queue is the part of a channel's list from the number of tokens taken to the number of tokens put. It is no longer
+-- than the capacity.
 pub record BetweenAt (list : List ℕ) (capacity taken put : ℕ) (queue : List ℕ) : Type 0 where
   pub held : taken + length queue ≡ put
   pub room : length queue ≤ capacity
@@ -165,7 +166,7 @@ pub record BetweenAt (list : List ℕ) (capacity taken put : ℕ) (queue : List 
 
 -- ---- a network
 
--- What a network keeps.
+-- What holds of a network at all times.
 pub record Kept (lists : List (List ℕ)) (runs : List (List (List ℕ))) (net : Network) : Type 0 where
   pub queues : length net.queues ≡ length net.wires
   pub sound : IsSound lists runs (frame_of net)

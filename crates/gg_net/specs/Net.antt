@@ -1,7 +1,7 @@
 -- A network as its program holds it: hosts with their machines, stations, channels and queues.
 -- Source: MEMOCODE 2009 (a network before its first cycle: all queues, latches and flags empty); ICCAD 2019 for
 -- hosts.
-use Rattle.std.specs.Prelude.{◌≡◌, ℕ, ◌-◌, ◌^◌, ◌<◌, ◌≤◌, List, [], None, false, All, length, map, replicate, slice_index_or, ⊤}
+use Rattle.std.specs.Prelude.{◌≡◌, ℕ, ◌^◌, ◌<◌, ◌≤◌, List, [], None, false, All, length, map, replicate, slice_index_or, ⊤}
 use Rattle.gg_flat.specs.Line.{value_at}
 use Rattle.gg_flat.specs.State.{State, opening}
 use Rattle.gg_node.specs.Machine.{Behaviour, RunsPiece, GivesColumn, KeepsValues, Port, Machine, cycle_limit}
@@ -30,8 +30,8 @@ held_at queues c = slice_index_or queues c (record { tokens = []; room = 0 })
 abbrev pub entry_of : Port → ServedPort
 entry_of port = record { number = port.number; fields = fields_of port.access }
 
--- A station lists the channels at the ins and outs of its machine, and the ports that are served; of each kind there
--- are few enough to be named.
+-- A station lists the channels at the ins and outs of its machine, and the ports that are served, which are among the
+-- machine's ports. Numbers of 32 bits suffice for ins and outs.
 pub record IsListed (wires : List Wire) (m : ℕ) (kind : Kind) (station : Station) : Type 0 where
   pub ins : length station.ins ≡ kind.ins
   pub into : (i : ℕ) → i < kind.ins → IsAtIn wires m i (value_at station.ins i)
@@ -39,9 +39,9 @@ pub record IsListed (wires : List Wire) (m : ℕ) (kind : Kind) (station : Stati
   pub from : (o : ℕ) → o < kind.outs → IsAtOut wires m o (value_at station.outs o)
   pub ports : station.ports ≡ map entry_of kind.ports
   pub few : (kind.ins < 2 ^ 32) × (kind.outs < 2 ^ 32)
-  pub numbers : All (λ port. port.number < 2 ^ 32 - 1) kind.ports
+  pub numbers : All (λ port. port.number < kind.port_count) kind.ports
 
--- each station lists its own
+-- each station lists the channels and ports of its machine
 abbrev pub AreListed : Frame → List Station → Type 0
 AreListed frame stations = (m : ℕ) (s : Station) → m < length stations → IsListed frame.wires m (kind_at frame.kinds m) (slice_index_or stations m s)
 
@@ -49,14 +49,14 @@ AreListed frame stations = (m : ℕ) (s : Station) → m < length stations → I
 abbrev pub HasRoom : List Wire → List Held → Type 0
 HasRoom wires queues = (c : ℕ) → c < length wires → (wire_at wires c).capacity ≤ (held_at queues c).room
 
--- A network is within the limits: it is to do at most 1,000,000 cycles, and its machines and channels are few enough to be
--- named by numbers of 32 bits.
+-- A network is within the limits: it has at most 1,000,000 cycles to do, and numbers of 32 bits suffice for its
+-- machines and channels.
 pub record IsWithinLimits (frame : Frame) : Type 0 where
   pub cycles : frame.end ≤ cycle_limit
   pub machines : length frame.kinds < 2 ^ 32
   pub channels : length frame.wires < 2 ^ 32
 
--- What a network's parts keep.
+-- What holds of the parts of a network at all times.
 pub record IsNet (lists : List (List ℕ)) (runs : List (List (List ℕ))) (hosts : List (List Machine)) (stations : List Station) (wires : List Wire) (queues : List Held) (end : ℕ) : Type 0 where
   pub seated : AreSeated hosts stations
   pub listed : AreListed (frame_of (net_of hosts stations wires queues end)) stations
@@ -64,7 +64,7 @@ pub record IsNet (lists : List (List ℕ)) (runs : List (List (List ℕ))) (host
   pub limits : IsWithinLimits (frame_of (net_of hosts stations wires queues end))
   pub kept : Kept lists runs (net_of hosts stations wires queues end)
 
--- the network of these hosts' machines, joined in this shape, with these queues
+-- the network of these hosts' machines, connected in this shape, with these queues
 abbrev pub joined : List (List Machine) → Shape → List Held → Network
 joined hosts shape queues = net_of hosts shape.stations.items shape.wires.items queues shape.end
 
@@ -93,8 +93,9 @@ pub record IsOpening (machine : Machine) : Type 0 where
 abbrev pub opening_net : List Machine → List Wire → ℕ → Network
 opening_net machines wires end = record { machines = machines; wires = wires; queues = replicate (length wires) []; end = end }
 
--- These hosts and stations make a network for these lists and rows: each machine stands at a thread of its own,
--- before its first cycle, is joined to its channels as its station lists them, and the lists solve it.
+-- These hosts and stations make a network for these lists and rows. Each machine has a thread of its own, is before its
+-- first cycle, and is connected to its channels as its station lists them. The network is wired and has no ring, and
+-- the lists and rows solve it.
 pub record Opens (lists : List (List ℕ)) (runs : List (List (List ℕ))) (hosts : List (List Machine)) (stations : List Station) (wires : List Wire) (end : ℕ) : Type 0 where
   pub seated : AreSeated hosts stations
   pub opening : All IsOpening (machines_by hosts stations)

@@ -1,5 +1,5 @@
--- A network: machines joined by channels, each with a queue of its own.
--- Source: MEMOCODE 2009 (a bounded dataflow network: nodes joined by queues of a bounded length); ICCAD 2019 (units
+-- A network: machines connected by channels, each with a queue of its own.
+-- Source: MEMOCODE 2009 (a bounded dataflow network: nodes connected by queues of a bounded length); ICCAD 2019 (units
 -- of a target that pass one another a token for each target cycle).
 use Rattle.std.specs.Prelude.{◌≡◌, ℕ, suc, ◌+◌, ◌*◌, ◌<◌, List, [], Option, Some, None, Bool, true, false, length, map, slice_index_or}
 use Rattle.gg_net.specs.declared.shape.Wire.{Wire}
@@ -7,17 +7,17 @@ use Rattle.gg_node.specs.Machine.{Behaviour, KeepsValues, Port, Machine, machine
 
 -- ---- channels
 
--- the channel of a number
+-- the channel with a number
 abbrev pub wire_at : List Wire → ℕ → Wire
 wire_at wires c = slice_index_or wires c (record { producer = 0; out = 0; consumer = 0; place = 0; capacity = 0 })
 
--- Channel c is at the in of a machine.
+-- Channel c is at in i of machine m.
 pub record IsAtIn (wires : List Wire) (m i c : ℕ) : Type 0 where
   pub known : c < length wires
   pub machine : (wire_at wires c).consumer ≡ m
   pub place : (wire_at wires c).place ≡ i
 
--- Channel c is at the out of a machine.
+-- Channel c is at out o of machine m.
 pub record IsAtOut (wires : List Wire) (m o c : ℕ) : Type 0 where
   pub known : c < length wires
   pub machine : (wire_at wires c).producer ≡ m
@@ -25,7 +25,7 @@ pub record IsAtOut (wires : List Wire) (m o c : ℕ) : Type 0 where
 
 -- ---- networks
 
--- A network: its machines, its channels with their queues, the front first, and how many cycles it is to do.
+-- A network: its machines, its channels with their queues, the front first, and the number of cycles that it has to do.
 pub record Network : Type 0 where
   pub machines : List Machine
   pub wires : List Wire
@@ -46,37 +46,38 @@ consumer_of net c = machine_at net.machines (wire_at net.wires c).consumer
 
 -- ---- counts
 
--- how many tokens an out gave up to a cycle, with its flag
+-- the number of tokens that an out has given, in a machine in this cycle, if the out has this flag
 abbrev pub given_by : ℕ → Bool → ℕ
 given_by cycle false = cycle
 given_by cycle true = suc cycle
 
--- how many tokens an in got up to a cycle, with its latch
+-- the number of tokens that an in has got, in a machine in this cycle, if the in has this latch
 abbrev pub got_by : ℕ → Option ℕ → ℕ
 got_by cycle None = cycle
 got_by cycle (Some value) = suc cycle
 
--- how many tokens were put into a channel
+-- the number of tokens that were put into a channel
 abbrev pub puts : Network → ℕ → ℕ
 puts net c = given_by (producer_of net c).cycle (flag_at (producer_of net c).flags (wire_at net.wires c).out)
 
--- how many tokens were taken from a channel
+-- the number of tokens that were taken from a channel
 abbrev pub takes : Network → ℕ → ℕ
 takes net c = got_by (consumer_of net c).cycle (latch_at (consumer_of net c).latches (wire_at net.wires c).place)
 
--- how many ports of a machine were served since the first cycle: all of them in each cycle that it has finished, and those
--- of this one
+-- the number of times that a port of a machine was served since the first cycle: once for each served port in each
+-- finished cycle, and once for each port served in this one
 abbrev pub serves : Network → ℕ → ℕ
 serves net m = length (machine_at net.machines m).ports * (machine_at net.machines m).cycle + (machine_at net.machines m).served
 
 -- ---- what no step changes
 
--- What stays of a machine: what it does, how many cycles it can do, what its outs need, which ports are served, and
--- how many ins and outs it has.
+-- The parts of a machine that never change: what it does, the number of cycles that it can do, what its outs need, the
+-- number of its ports, those that are served, and the numbers of ins and outs.
 pub record Kind : Type 0 where
   pub behaviour : Behaviour
   pub limit : ℕ
   pub needs : List (List ℕ)
+  pub port_count : ℕ
   pub ports : List Port
   pub ins : ℕ
   pub outs : ℕ
@@ -88,6 +89,7 @@ kind_of machine =
       behaviour = machine.behaviour;
       limit = machine.limit;
       needs = machine.needs;
+      port_count = machine.port_count;
       ports = machine.ports;
       ins = length machine.latches;
       outs = length machine.flags;
@@ -95,13 +97,13 @@ kind_of machine =
 
 -- the kind of a machine that can do nothing
 abbrev pub no_kind : Kind
-no_kind = record { behaviour = KeepsValues; limit = 0; needs = []; ports = []; ins = 0; outs = 0 }
+no_kind = record { behaviour = KeepsValues; limit = 0; needs = []; port_count = 0; ports = []; ins = 0; outs = 0 }
 
 -- the kind at a place
 abbrev pub kind_at : List Kind → ℕ → Kind
 kind_at kinds m = slice_index_or kinds m no_kind
 
--- What stays of a network: the kinds of its machines, its channels, and its end.
+-- The parts of a network that never change: the kinds of its machines, its channels, and its end.
 pub record Frame : Type 0 where
   pub kinds : List Kind
   pub wires : List Wire

@@ -1,4 +1,4 @@
--- The machines of a network at their hosts: each stands at a thread of a host.
+-- The machines of a network at their hosts: each is at a thread of a host.
 -- Source: ICCAD 2019 (several units of a target that share one host model, thread by thread).
 use Rattle.std.specs.Prelude.{◌≡◌, ℕ, ◌<◌, List, [], All, length, map, slice_index_or, slice_set}
 use Rattle.gg_flat.specs.State.{State}
@@ -19,21 +19,21 @@ seated hosts station = machine_at (hosted hosts station.host) station.thread
 abbrev pub machines_by : List (List Machine) → List Station → List Machine
 machines_by hosts stations = map (seated hosts) stations
 
--- The host of a station is there, and has its thread.
+-- The host of a station exists, and has the station's thread.
 pub record IsSeated (hosts : List (List Machine)) (station : Station) : Type 0 where
   pub host : station.host < length hosts
   pub thread : station.thread < length (hosted hosts station.host)
 
--- Each station is seated, and no two at one thread.
+-- Each station is seated, and no two are at the same thread.
 pub record AreSeated (hosts : List (List Machine)) (stations : List Station) : Type 0 where
   pub each : All (IsSeated hosts) stations
   pub alone : (m k : ℕ) (s t : Station) → m < length stations → k < length stations → (slice_index_or stations m s).host ≡ (slice_index_or stations k t).host → (slice_index_or stations m s).thread ≡ (slice_index_or stations k t).thread → m ≡ k
 
--- The machine at a station is another now; all others are as they were.
+-- The machine at a station is replaced; all others stay as they were.
 abbrev pub IsReseated : List (List Machine) → List (List Machine) → Station → Machine → Type 0
 IsReseated old new station machine = new ≡ slice_set old station.host (slice_set (hosted old station.host) station.thread machine)
 
--- The machine at a station has finished its cycle; all others are as they were.
+-- The machine at a station has finished its cycle; all others stay as they were.
 pub record HasGoneOn (old new : List (List Machine)) (station : Station) : Type 0 where
   pub state : State
   pub is : IsNextState (seated old station) state

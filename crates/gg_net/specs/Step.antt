@@ -1,8 +1,8 @@
--- The steps of a network: when each may be done, what it makes of the network, and why it is refused.
--- Source: MEMOCODE 2009 (a node takes a token from each input queue once in a cycle, gives one to each output queue
--- as soon as what it depends on is there and the queue has room, and then finishes the cycle); ICCAD 2019 for
--- memories that are served port by port. The order in which conditions are judged is this program's.
-use Rattle.std.specs.Prelude.{◌≡◌, ℕ, suc, ◌<◌, ◌≤◌, ◌++◌, List, [], ◌∷◌, Option, Some, None, Bool, true, false, IsSome, Contains, length, map, drop, fold, max, slice_set, slice_get}
+-- The steps of a network: when each may be done, how it changes the network, and why it is refused.
+-- Source: MEMOCODE 2009 (a node takes a token from each input queue once in a cycle, gives one to each output queue as
+-- soon as what it depends on is there and the queue has room, and then finishes the cycle); ICCAD 2019 for memories
+-- that are served port by port. The order in which conditions are checked is this program's.
+use Rattle.std.specs.Prelude.{◌≡◌, ℕ, suc, ◌<◌, ◌≤◌, ◌++◌, List, [], ◌∷◌, Option, Some, None, Bool, true, false, IsSome, length, drop, slice_set, slice_get}
 use Rattle.gg_flat.specs.Line.{value_at}
 use Rattle.gg_flat.specs.State.{State}
 use Rattle.gg_node.specs.Machine.{Port, Machine, machine_at, latch_at, flag_at, first_empty, missing, due}
@@ -16,20 +16,12 @@ use Rattle.gg_net.specs.Network.{Network, wire_at, queue_at, producer_of, consum
 
 -- ---- the parts of conditions
 
--- the numbers of ports
-abbrev pub numbers : List Port → List ℕ
-numbers ports = map (λ port. port.number) ports
-
--- one more than the greatest of these numbers; 0 where there is none
-abbrev pub bound_of : List ℕ → ℕ
-bound_of ns = fold (λ most n. max most (suc n)) 0 ns
-
--- the ins that the port of this place among those that are served looks at
+-- the ins that a port uses; none if there is no port
 abbrev pub fields_at : Option Port → List ℕ
 fields_at None = []
 fields_at (Some port) = fields_of port.access
 
--- the ins that the port that is due looks at
+-- the ins that the port that is due uses
 abbrev pub due_fields : Machine → List ℕ
 due_fields machine = fields_at (slice_get machine.ports machine.served)
 
@@ -37,17 +29,17 @@ due_fields machine = fields_at (slice_get machine.ports machine.served)
 abbrev pub IsBelow : Network → ℕ → Type 0
 IsBelow net m = (machine_at net.machines m).cycle < net.end
 
--- a channel is there, and its consumer has cycles left
+-- a channel exists, and its consumer has cycles left
 abbrev pub CanTake : Network → ℕ → Type 0
 CanTake net c = (c < length net.wires) × IsBelow net (wire_at net.wires c).consumer
 
--- a channel is there, and its producer has cycles left
+-- a channel exists, and its producer has cycles left
 abbrev pub CanGive : Network → ℕ → Type 0
 CanGive net c = (c < length net.wires) × IsBelow net (wire_at net.wires c).producer
 
--- a machine is there, and has a port of this number
+-- a machine exists, and has a port with this number, served or not
 abbrev pub HasPort : Network → ℕ → ℕ → Type 0
-HasPort net m p = (m < length net.machines) × Contains (numbers (machine_at net.machines m).ports) p
+HasPort net m p = (m < length net.machines) × (p < (machine_at net.machines m).port_count)
 
 -- the latch of a channel's consumer
 abbrev pub latch_of : Network → ℕ → Option ℕ
@@ -57,30 +49,33 @@ latch_of net c = latch_at (consumer_of net c).latches (wire_at net.wires c).plac
 abbrev pub flag_of : Network → ℕ → Bool
 flag_of net c = flag_at (producer_of net c).flags (wire_at net.wires c).out
 
--- the first in that a channel needs and that has no token yet
+-- the first in that a channel needs and that has no token yet, if there is one
 abbrev pub missing_of : Network → ℕ → Option ℕ
 missing_of net c = missing (producer_of net c) (wire_at net.wires c).out
 
--- the first in that the port that is due looks at and that has no token yet
+-- the first in that the port that is due uses and that has no token yet, if there is one
 abbrev pub missing_field : Network → ℕ → Option ℕ
 missing_field net m = first_empty (machine_at net.machines m).latches (due_fields (machine_at net.machines m))
 
 -- ---- when each may be done
 
--- The front token of a channel may be latched: the latch is empty, and the queue holds a token.
+-- The front token of a channel may be latched: the channel exists, its consumer has cycles left, the latch is empty,
+-- and the queue holds a token.
 pub record CanLatch (net : Network) (c : ℕ) : Type 0 where
   pub can : CanTake net c
   pub empty : latch_of net c ≡ None
   pub held : 0 < length (queue_at net.queues c)
 
--- A channel's token may be given: it wasn't in this cycle, all that it needs is latched, and the queue has room.
+-- A channel's token may be given: the channel exists, its producer has cycles left, the token wasn't given in this
+-- cycle, all that it needs is latched, and the queue has room.
 pub record CanFire (net : Network) (c : ℕ) : Type 0 where
   pub can : CanGive net c
   pub clear : flag_of net c ≡ false
   pub needed : missing_of net c ≡ None
   pub room : length (queue_at net.queues c) < (wire_at net.wires c).capacity
 
--- A port may be served: all outs of its machine have given their tokens, it is due, and its fields are latched.
+-- A port may be served: it exists, its machine has cycles left, all outs of the machine have given their tokens, the
+-- port is due, and its fields are latched.
 pub record CanServe (net : Network) (m p : ℕ) : Type 0 where
   pub there : HasPort net m p
   pub below : IsBelow net m
@@ -88,7 +83,8 @@ pub record CanServe (net : Network) (m p : ℕ) : Type 0 where
   pub due : due (machine_at net.machines m) ≡ Some p
   pub fields : missing_field net m ≡ None
 
--- A machine may finish its cycle: all outs have given their tokens, all ports are served, and all ins have theirs.
+-- A machine may finish its cycle: it exists, it has cycles left, all outs have given their tokens, all ports are
+-- served, and all ins have their tokens.
 pub record CanFinish (net : Network) (m : ℕ) : Type 0 where
   pub there : m < length net.machines
   pub below : IsBelow net m
@@ -103,9 +99,9 @@ Ready net (Fire c) = CanFire net c
 Ready net (Serve m p) = CanServe net m p
 Ready net (Finish m) = CanFinish net m
 
--- ---- what each makes of the network
+-- ---- how each changes the network
 
--- with another machine at place m
+-- the network with another machine at place m
 abbrev pub with_machine : Network → ℕ → Machine → Network
 with_machine net m machine = record net { machines = slice_set net.machines m machine }
 
@@ -113,7 +109,7 @@ with_machine net m machine = record net { machines = slice_set net.machines m ma
 abbrev pub front_of : Network → ℕ → ℕ
 front_of net c = value_at (queue_at net.queues c) 0
 
--- the front token of a channel was put into the latch
+-- the network after the front token of a channel was put into the latch
 abbrev pub after_latch : Network → ℕ → Network
 after_latch net c =
     record net {
@@ -121,7 +117,7 @@ after_latch net c =
       queues = slice_set net.queues c (drop 1 (queue_at net.queues c));
     }
 
--- a channel's token was given
+-- the network after a channel's token was given
 abbrev pub after_fire : Network → ℕ → ℕ → Network
 after_fire net c token =
     record net {
@@ -129,43 +125,43 @@ after_fire net c token =
       queues = slice_set net.queues c (queue_at net.queues c ++ token ∷ []);
     }
 
--- a machine made one more access
+-- the network after a machine did one more access
 abbrev pub after_serve : Network → ℕ → Network
 after_serve net m = with_machine net m (with_served (machine_at net.machines m))
 
--- a machine finished its cycle, and is in this state
+-- the network after a machine finished its cycle, now in this state
 abbrev pub after_finish : Network → ℕ → State → Network
 after_finish net m next = with_machine net m (finished (machine_at net.machines m) next)
 
 -- ---- steps
 
--- The token of a channel was given: that of its producer's out.
+-- The token of a channel was given: the token of its producer's out.
 pub record Gives (old : Network) (c : ℕ) (new : Network) : Type 0 where
   pub token : ℕ
   pub is : IsToken (producer_of old c) (wire_at old.wires c).out token
   pub after : new ≡ after_fire old c token
 
--- A machine went to its next state.
+-- A machine advanced to its next state.
 pub record GoesOn (old : Network) (m : ℕ) (new : Network) : Type 0 where
   pub state : State
   pub is : IsNextState (machine_at old.machines m) state
   pub after : new ≡ after_finish old m state
 
--- what an event makes of a network
+-- how an event changes a network
 abbrev pub After : Network → Event → Network → Type 0
 After old (Latch c) new = new ≡ after_latch old c
 After old (Fire c) new = Gives old c new
 After old (Serve m p) new = new ≡ after_serve old m
 After old (Finish m) new = GoesOn old m new
 
--- A step of a network: the event may be done, and this is what it makes.
+-- A step of a network: the event may be done, and this is the network after it.
 pub record Step (old : Network) (event : Event) (new : Network) : Type 0 where
   pub ready : Ready old event
   pub after : After old event new
 
 -- ---- refusals
 
--- Channel d is at the first in of machine m that is wanted; none is where none is wanted.
+-- Channel d is at the in of machine m that is wanted; false if none is wanted.
 abbrev pub IsWanted : Network → ℕ → Option ℕ → ℕ → Type 0
 IsWanted net m None d = ⊥
 IsWanted net m (Some i) d = IsAtIn net.wires m i d
@@ -194,10 +190,10 @@ pub record IsUnlatched (net : Network) (m d : ℕ) : Type 0 where
   pub first : IsFirstEmpty (machine_at net.machines m).latches place
   pub at : IsAtIn net.wires m place d
 
--- the port that is due; where none is, the number of the machine's ports
-abbrev pub due_or_count : List Port → Option ℕ → ℕ
-due_or_count ports None = bound_of (numbers ports)
-due_or_count ports (Some p) = p
+-- the port that is due, or the number of the machine's ports if none is due
+abbrev pub due_or_count : ℕ → Option ℕ → ℕ
+due_or_count count None = count
+due_or_count count (Some p) = p
 
 -- `Latch` is refused
 abbrev pub LatchRefused : Network → ℕ → Refusal → Type 0
@@ -221,7 +217,7 @@ abbrev pub ServeRefused : Network → ℕ → ℕ → Refusal → Type 0
 ServeRefused net m p Stranger = ¬ HasPort net m p
 ServeRefused net m p Ended = HasPort net m p × ¬ IsBelow net m
 ServeRefused net m p (Unfired d) = HasPort net m p × IsBelow net m × IsUnfired net m d
-ServeRefused net m p (Order q) = HasPort net m p × IsBelow net m × AllFired (machine_at net.machines m) × ¬ (due (machine_at net.machines m) ≡ Some p) × (q ≡ due_or_count (machine_at net.machines m).ports (due (machine_at net.machines m)))
+ServeRefused net m p (Order q) = HasPort net m p × IsBelow net m × AllFired (machine_at net.machines m) × ¬ (due (machine_at net.machines m) ≡ Some p) × (q ≡ due_or_count (machine_at net.machines m).port_count (due (machine_at net.machines m)))
 ServeRefused net m p (NeedsInput d) = HasPort net m p × IsBelow net m × AllFired (machine_at net.machines m) × (due (machine_at net.machines m) ≡ Some p) × IsWanted net m (missing_field net m) d
 ServeRefused net m p refusal = ⊥
 

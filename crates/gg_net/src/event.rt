@@ -1,6 +1,6 @@
-//! `Event` and `Refusal`: what a step of a network is to do, and why it isn't done.
+//! `Event` and `Refusal`: what a step of a network does, and why it is refused.
 
-/// A step of a network. Channels, machines and ports are named by their numbers.
+/// A step of a network. Channels, machines and ports are given by their numbers.
 #[derive(Clone, Copy, Debug, PartialEq, Eq, Drop)]
 pub enum Event {
     /// The front token of a channel goes into the latch of its consumer.
@@ -17,33 +17,33 @@ pub enum Event {
     Serve {
         /// The memory's machine.
         machine: u32,
-        /// The port, the readers first, then the writers.
+        /// The port. Readers are numbered first, then writers.
         port: u32,
     },
-    /// A machine ends its cycle.
+    /// A machine finishes its cycle.
     Finish {
         /// The machine.
         machine: u32,
     },
 }
 
-/// Why a step isn't done: the first of its conditions that fails.
+/// Why a step is refused: the first of its conditions that fails.
 #[derive(Clone, Copy, Debug, PartialEq, Eq, Drop)]
 pub enum Refusal {
-    /// The channel, the machine or the port isn't there.
+    /// The channel, the machine or the port doesn't exist.
     Stranger,
     /// The machine has done all its cycles.
     Ended,
-    /// The latch has its token of this cycle.
+    /// The latch already has its token of this cycle.
     Latched,
-    /// The token of this cycle was given.
+    /// The token of this cycle was already given.
     Fired,
     /// The queue of this channel is empty.
     NoToken {
         /// The channel.
         channel: u32,
     },
-    /// The token of this channel is needed, and isn't latched.
+    /// The token of this channel is needed and isn't latched yet.
     NeedsInput {
         /// The channel.
         channel: u32,
@@ -52,20 +52,20 @@ pub enum Refusal {
     Full {
         /// The channel.
         channel: u32,
-        /// How many tokens it holds.
+        /// The number of tokens in the queue.
         len: u32,
     },
-    /// This port is due before; where none is due, the number of the machine's ports.
+    /// The port isn't due: another port is, or none.
     Order {
-        /// The port.
+        /// The port that is due, or the number of the machine's ports if none is due.
         due: u32,
     },
-    /// The token of this channel wasn't given in this cycle.
+    /// The token of this channel wasn't given in this cycle yet.
     Unfired {
         /// The channel.
         channel: u32,
     },
-    /// This port is due, and wasn't served in this cycle.
+    /// This port is due and wasn't served in this cycle yet.
     Unserved {
         /// The port.
         port: u32,

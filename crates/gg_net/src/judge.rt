@@ -1,4 +1,4 @@
-//! Whether an event may be done, and else why not.
+//! Whether an event may be done, and if not, why.
 ghost use Rattle.std.specs.Prelude.{◌≡◌, ◌<◌, ◌≤◌, Some, None, length, MatchOption, MatchResult};
 ghost use Rattle.gg_node.specs.Machine.{machine_at, missing, due};
 ghost use Rattle.gg_net.specs.Network.{wire_at, queue_at};
@@ -10,7 +10,7 @@ use crate::streams::Streams;
 use gg_node::Host;
 
 impl<H: Host, Z: Streams> Net<H, Z> {
-    // How many tokens the queue of a channel holds: no more than its capacity.
+    // The number of tokens in the queue of a channel, which is at most its capacity.
     fn filled(&self, channel: u32) -> usize
         requires { channel < length self.now.wires }
         ensures count { result ≡ length (queue_at self.now.queues channel) }
@@ -20,7 +20,7 @@ impl<H: Host, Z: Streams> Net<H, Z> {
         self.queued(channel)
     }
 
-    // The channel at the first in that an out of a machine needs and that has no token yet.
+    // The channel at the first in that an out of a machine needs and that has no token yet, if there is one.
     fn missing_channel(&self, machine: u32, out: u32) -> Option<u32>
         requires there { machine < length self.now.machines }
         requires within { out < length (machine_at self.now.machines machine).flags }
@@ -33,7 +33,7 @@ impl<H: Host, Z: Streams> Net<H, Z> {
         Some(self.in_channel(machine, place))
     }
 
-    // The channel at the first field of the port that is due that has no token yet.
+    // The channel at the first field of the port that is due that has no token yet, if there is one.
     fn field_channel(&self, machine: u32, port: u32) -> Option<u32>
         requires there { machine < length self.now.machines }
         requires due { due (machine_at self.now.machines machine) ≡ Some port }
@@ -97,7 +97,7 @@ impl<H: Host, Z: Streams> Net<H, Z> {
         if machine as usize >= self.machines() {
             return Err(Refusal::Stranger);
         }
-        if !self.has_port(machine, port) {
+        if port >= self.port_count(machine) {
             return Err(Refusal::Stranger);
         }
         if self.cycle(machine) >= self.end() {
@@ -110,7 +110,7 @@ impl<H: Host, Z: Streams> Net<H, Z> {
         }
         let Some(due) = self.due(machine) else {
             return Err(Refusal::Order {
-                due: self.port_bound(machine),
+                due: self.port_count(machine),
             });
         };
         if due != port {
@@ -148,11 +148,11 @@ impl<H: Host, Z: Streams> Net<H, Z> {
         Ok(())
     }
 
-    /// What `step` would answer.
+    /// Returns what `step` would return. Does no step.
     ///
     /// # Errors
     ///
-    /// The first condition of the event that fails.
+    /// Returns the first condition of the event that fails.
     pub fn test(&self, event: Event) -> Result<(), Refusal>
         ensures { MatchResult result (λ _. Ready self.now event) (Refused self.now event) }
     {

@@ -48,11 +48,12 @@ fn open_queues(alloc: Global, wires: &[Wire]) -> Result<Vec<Queue>, AllocError>
 }
 
 impl<H: Host, Z: Streams> Net<H, Z> {
-    /// A network of these hosts' machines before the first cycle. It takes the room that its queues will want.
+    /// The network of these hosts' machines before the first cycle. Allocates its queues, each with room for its
+    /// capacity.
     ///
     /// # Errors
     ///
-    /// Where memory is refused.
+    /// Returns `AllocError` if an allocation fails.
     pub fn new(alloc: Global, hosts: Vec<H>, shape: Shape) -> Result<Net<H, Z>, AllocError>
         requires { Opens Z.lists Z.runs (map H.machines hosts.items) shape.stations.items shape.wires.items shape.end }
         ensures { IfOk result (λ net. net ≡ opening_net (machines_by (map H.machines hosts.items) shape.stations.items) shape.wires.items shape.end) }
@@ -66,21 +67,21 @@ impl<H: Host, Z: Streams> Net<H, Z> {
         })
     }
 
-    /// What every network keeps.
+    /// Does nothing. Its contract says that every network has the invariant `Kept`.
     pub fn kept(&self)
         ensures { Kept Z.lists Z.runs self.now }
     {
         let _ = &self.shape;
     }
 
-    /// Every network is within the limits.
+    /// Does nothing. Its contract says that every network is within the limits.
     pub fn within_limits(&self)
         ensures { IsWithinLimits (frame_of self.now) }
     {
         let _ = &self.shape;
     }
 
-    /// How its machines are joined.
+    /// How the machines are connected.
     pub fn shape(&self) -> &Shape
         ensures count { length result.now.stations.items ≡ length self.now.machines }
         ensures listed { AreListed (frame_of self.now) result.now.stations.items }
@@ -90,21 +91,21 @@ impl<H: Host, Z: Streams> Net<H, Z> {
         &self.shape
     }
 
-    /// How many cycles it is to do.
+    /// The number of cycles that the network has to do.
     pub fn end(&self) -> u64
         ensures { result ≡ self.now.end }
     {
         self.shape.end
     }
 
-    /// How many machines it has.
+    /// The number of machines.
     pub fn machines(&self) -> usize
         ensures { result ≡ length self.now.machines }
     {
         self.shape.stations.len()
     }
 
-    /// How many channels it has.
+    /// The number of channels.
     pub fn channels(&self) -> usize
         ensures { result ≡ length self.now.wires }
     {
@@ -119,7 +120,7 @@ impl<H: Host, Z: Streams> Net<H, Z> {
         seats::cycle(&self.hosts, &self.shape.stations[machine as usize])
     }
 
-    /// How many ports of a machine were served in this cycle.
+    /// The number of ports of a machine that were served in this cycle.
     pub fn served(&self, machine: u32) -> u32
         requires { machine < length self.now.machines }
         ensures { result ≡ (machine_at self.now.machines machine).served }
@@ -127,7 +128,7 @@ impl<H: Host, Z: Streams> Net<H, Z> {
         seats::served(&self.hosts, &self.shape.stations[machine as usize])
     }
 
-    /// How many ports of a machine are served in a cycle.
+    /// The number of ports of a machine that are served in a cycle.
     pub fn dues(&self, machine: u32) -> u32
         requires { machine < length self.now.machines }
         ensures { result ≡ length (machine_at self.now.machines machine).ports }
@@ -135,7 +136,16 @@ impl<H: Host, Z: Streams> Net<H, Z> {
         seats::dues(&self.hosts, &self.shape.stations[machine as usize])
     }
 
-    // The cycle that a machine is in: within the limit.
+    /// The number of ports of a machine's memory, including those that no step serves; 0 if the machine isn't a memory
+    /// that is served.
+    pub fn port_count(&self, machine: u32) -> u32
+        requires { machine < length self.now.machines }
+        ensures { result ≡ (machine_at self.now.machines machine).port_count }
+    {
+        seats::port_count(&self.hosts, &self.shape.stations[machine as usize])
+    }
+
+    // The cycle that a machine is in, which is within the limit.
     fn counted_cycle(&self, machine: u32) -> u64
         requires { machine < length self.now.machines }
         ensures is { result ≡ (machine_at self.now.machines machine).cycle }
@@ -146,7 +156,7 @@ impl<H: Host, Z: Streams> Net<H, Z> {
         self.cycle(machine)
     }
 
-    /// How many ports of a machine were served since the first cycle.
+    /// The number of times that a port of a machine was served, since the first cycle.
     pub fn serves(&self, machine: u32) -> u64
         requires { machine < length self.now.machines }
         ensures { result ≡ serves self.now machine }
@@ -155,7 +165,7 @@ impl<H: Host, Z: Streams> Net<H, Z> {
         dues * self.counted_cycle(machine) + u64::from(self.served(machine))
     }
 
-    /// How many tokens were put into a channel.
+    /// The number of tokens that were put into a channel.
     pub fn puts(&self, channel: u32) -> u64
         requires { channel < length self.now.wires }
         ensures { result ≡ puts self.now channel }
@@ -171,7 +181,7 @@ impl<H: Host, Z: Streams> Net<H, Z> {
         }
     }
 
-    /// How many tokens were taken from a channel.
+    /// The number of tokens that were taken from a channel.
     pub fn takes(&self, channel: u32) -> u64
         requires { channel < length self.now.wires }
         ensures { result ≡ takes self.now channel }
@@ -187,7 +197,7 @@ impl<H: Host, Z: Streams> Net<H, Z> {
         }
     }
 
-    /// The token that was put into a channel last and not yet taken; none where its queue is empty.
+    /// The last token that was put into a channel, if it is still in the queue; None if the queue is empty.
     pub fn newest(&self, channel: u32) -> Option<u128>
         requires { channel < length self.now.wires }
         ensures { MatchOption result (queue_at self.now.queues channel ≡ []) (λ token. (0 < length (queue_at self.now.queues channel)) × (token ≡ value_at (queue_at self.now.queues channel) (length (queue_at self.now.queues channel) - 1))) }

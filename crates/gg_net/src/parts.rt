@@ -1,4 +1,4 @@
-//! `Parts`: a network taken apart, and joined again.
+//! `Parts`: a network taken apart, and put together again.
 ghost use Rattle.std.specs.Prelude.{◌≡◌, map};
 ghost use Rattle.gg_net.specs.Net.{joined, AreParts};
 
@@ -12,11 +12,11 @@ use std::marker::PhantomData;
 /// The parts of a network.
 #[derive(Drop)]
 pub struct Parts<H> {
-    /// The hosts of its machines.
+    /// The hosts of the machines.
     pub hosts: Vec<H>,
-    /// How the machines are joined.
+    /// How the machines are connected.
     pub shape: Shape,
-    /// The queues of its channels, by number.
+    /// The queues of the channels, by number.
     pub queues: Vec<Queue>,
 }
 
@@ -33,7 +33,7 @@ impl<H: Host, Z: Streams> Net<H, Z> {
         }
     }
 
-    /// Joins the parts of a network.
+    /// Puts the parts of a network together.
     pub fn of(parts: Parts<H>) -> Net<H, Z>
         requires { AreParts Z.lists Z.runs (map H.machines parts.hosts.items) parts.shape parts.queues.items }
         ensures { result ≡ joined (map H.machines parts.hosts.items) parts.shape parts.queues.items }

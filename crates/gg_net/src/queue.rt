@@ -1,4 +1,4 @@
-//! `Queue`: the tokens of a channel, in a room that is reserved.
+//! `Queue`: the tokens of a channel, in reserved memory.
 ghost use Rattle.std.specs.Prelude.{◌≡◌, ◌-◌, ◌<◌, ◌≤◌, ◌++◌, ◌∷◌, [], length, drop, IfOk, Some, None, MatchOption};
 ghost use Rattle.gg_flat.specs.Line.{value_at};
 
@@ -6,7 +6,7 @@ use std::alloc::{AllocError, Global};
 use std::collections::VecDeque;
 use std::marker::Model;
 
-/// The tokens of a channel, the front first, and for how many there is room. No call but the new one takes memory.
+/// The tokens of a channel, the front first. There is room for a number of tokens. Only `new` allocates.
 #[derive(Drop)]
 pub struct Queue {
     tokens: VecDeque<u128>,
@@ -21,11 +21,11 @@ impl Model for Queue {
 }
 
 impl Queue {
-    /// A queue without a token, with room for so many.
+    /// A queue without tokens, with room for at least `capacity` of them.
     ///
     /// # Errors
     ///
-    /// Where memory is refused.
+    /// Returns `AllocError` if an allocation fails.
     pub fn new(alloc: Global, capacity: u32) -> Result<Queue, AllocError>
         ensures { IfOk result (λ queue. (queue.tokens ≡ []) × (capacity ≤ queue.room)) }
     {
@@ -34,14 +34,14 @@ impl Queue {
         })
     }
 
-    /// How many tokens there are.
+    /// The number of tokens.
     pub fn len(&self) -> usize
         ensures { result ≡ length self.now.tokens }
     {
         self.tokens.len()
     }
 
-    /// The token at the back.
+    /// The token at the back, if there is one.
     pub fn newest(&self) -> Option<u128>
         ensures { MatchOption result (self.now.tokens ≡ []) (λ token. (0 < length self.now.tokens) × (token ≡ value_at self.now.tokens (length self.now.tokens - 1))) }
     {
@@ -58,7 +58,7 @@ impl Queue {
         self.tokens.pop_front().unwrap_or(0)
     }
 
-    /// Puts a token to the back.
+    /// Puts a token at the back.
     pub fn put(&mut self, token: u128)
         requires { length self.old.tokens < self.old.room }
         ensures tokens { self.new.tokens ≡ self.old.tokens ++ token ∷ [] }

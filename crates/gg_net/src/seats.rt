@@ -1,4 +1,4 @@
-//! The machines of a network at their hosts: what they tell, and their steps.
+//! The machines of a network at their hosts: facts about them, and their steps.
 ghost use Rattle.std.specs.Prelude.{◌≡◌, ◌^◌, ◌<◌, All, length, map, is_some, MatchOption};
 ghost use Rattle.gg_node.specs.Machine.{machine_at, latch_at, flag_at, first_empty, missing, due};
 ghost use Rattle.gg_node.specs.Token.{IsToken};
@@ -44,7 +44,7 @@ pub(crate) fn fired<H: Host>(hosts: &[H], station: &Station, place: u32) -> bool
     host_of(hosts, station).fired(station.thread, place)
 }
 
-// The first in that an out of a machine needs and that has no token yet.
+// The first in that an out of a machine needs and that has no token yet, if there is one.
 pub(crate) fn missing<H: Host>(hosts: &[H], station: &Station, place: u32) -> Option<u32>
     requires seated { IsSeated (map H.machines hosts.now) station.now }
     requires there { place < length (seated (map H.machines hosts.now) station.now).flags }
@@ -53,7 +53,7 @@ pub(crate) fn missing<H: Host>(hosts: &[H], station: &Station, place: u32) -> Op
     host_of(hosts, station).missing(station.thread, place)
 }
 
-// The port of a machine that is to be served next.
+// The number of the port of a machine that has to be served next, if one is left.
 pub(crate) fn due<H: Host>(hosts: &[H], station: &Station) -> Option<u32>
     requires { IsSeated (map H.machines hosts.now) station.now }
     ensures { result ≡ due (seated (map H.machines hosts.now) station.now) }
@@ -61,7 +61,7 @@ pub(crate) fn due<H: Host>(hosts: &[H], station: &Station) -> Option<u32>
     host_of(hosts, station).due(station.thread)
 }
 
-// How many ports of a machine were served in this cycle.
+// The number of ports of a machine that were served in this cycle.
 pub(crate) fn served<H: Host>(hosts: &[H], station: &Station) -> u32
     requires { IsSeated (map H.machines hosts.now) station.now }
     ensures { result ≡ (seated (map H.machines hosts.now) station.now).served }
@@ -69,12 +69,20 @@ pub(crate) fn served<H: Host>(hosts: &[H], station: &Station) -> u32
     host_of(hosts, station).served(station.thread)
 }
 
-// How many ports of a machine are served in a cycle.
+// The number of ports of a machine that are served in a cycle.
 pub(crate) fn dues<H: Host>(hosts: &[H], station: &Station) -> u32
     requires { IsSeated (map H.machines hosts.now) station.now }
     ensures { result ≡ length (seated (map H.machines hosts.now) station.now).ports }
 {
     host_of(hosts, station).dues(station.thread)
+}
+
+// The number of ports of a machine's memory.
+pub(crate) fn port_count<H: Host>(hosts: &[H], station: &Station) -> u32
+    requires { IsSeated (map H.machines hosts.now) station.now }
+    ensures { result ≡ (seated (map H.machines hosts.now) station.now).port_count }
+{
+    host_of(hosts, station).port_count(station.thread)
 }
 
 // Puts a token into the latch of an in.
@@ -114,7 +122,7 @@ pub(crate) fn finish<H: Host>(hosts: &mut Vec<H>, station: &Station)
     hosts[station.host as usize].finish(station.thread);
 }
 
-// The first out of a machine that hasn't given its token of this cycle.
+// The first out of a machine that hasn't given its token of this cycle, if there is one.
 pub(crate) fn first_unfired<H: Host>(hosts: &[H], station: &Station) -> Option<u32>
     requires seated { IsSeated (map H.machines hosts.now) station.now }
     requires outs { length station.now.outs ≡ length (seated (map H.machines hosts.now) station.now).flags }
@@ -130,7 +138,7 @@ pub(crate) fn first_unfired<H: Host>(hosts: &[H], station: &Station) -> Option<u
     None
 }
 
-// The first in of a machine that has no token of this cycle.
+// The first in of a machine that has no token of this cycle, if there is one.
 pub(crate) fn first_unlatched<H: Host>(hosts: &[H], station: &Station) -> Option<u32>
     requires seated { IsSeated (map H.machines hosts.now) station.now }
     requires ins { length station.now.ins ≡ length (seated (map H.machines hosts.now) station.now).latches }
@@ -146,7 +154,7 @@ pub(crate) fn first_unlatched<H: Host>(hosts: &[H], station: &Station) -> Option
     None
 }
 
-// The first of these ins of a machine that has no token of this cycle.
+// The first of these ins of a machine that has no token of this cycle, if there is one.
 pub(crate) fn first_missing<H: Host>(hosts: &[H], station: &Station, places: &[u32]) -> Option<u32>
     requires seated { IsSeated (map H.machines hosts.now) station.now }
     requires there { All (λ i. i < length (seated (map H.machines hosts.now) station.now).latches) places.now }

@@ -1,52 +1,52 @@
-//! `Shape`: how the machines of a network are joined.
+//! `Shape`: how the machines of a network are connected.
 use gg_bits::{Ids, Items};
 
-/// A channel. Machines are named by their numbers, ins and outs by their places.
+/// A channel. Machines are given by their numbers, ins and outs by their places.
 #[derive(Clone, Copy, Debug, PartialEq, Eq, Drop)]
 pub struct Wire {
-    /// The machine that gives its tokens.
+    /// The machine that gives the channel's tokens.
     pub producer: u32,
-    /// The place of the out there.
+    /// The place of the producer's out.
     pub out: u32,
-    /// The machine that takes its tokens.
+    /// The machine that takes the channel's tokens.
     pub consumer: u32,
-    /// The place of the in there.
+    /// The place of the consumer's in.
     pub place: u32,
-    /// How many tokens its queue holds at most.
+    /// The most tokens that the channel's queue may hold.
     pub capacity: u32,
 }
 
 /// A port that is served.
 #[derive(Drop)]
 pub struct ServedPort {
-    /// Its number, the readers first, then the writers.
+    /// The port's number. Readers are numbered first, then writers.
     pub number: u32,
-    /// The places of its fields among the ins of its machine.
+    /// The places of the port's fields among the ins of its machine.
     pub fields: Ids,
 }
 
-/// Where a machine stands, and which channels are at its ins and outs.
+/// The host and the thread of a machine, and the channels at its ins and outs.
 #[derive(Drop)]
 pub struct Station {
-    /// The number of its host.
+    /// The number of the host.
     pub host: u32,
     /// The thread of the host.
     pub thread: u32,
-    /// The channels at its ins, by place.
+    /// The channels at the ins, by place.
     pub ins: Ids,
-    /// The channels at its outs, by place.
+    /// The channels at the outs, by place.
     pub outs: Ids,
     /// The ports that are served in a cycle, in their order.
     pub ports: Items<ServedPort>,
 }
 
-/// The machines and channels of a network, by number, and how many cycles it is to do.
+/// The machines and channels of a network, by number, and the number of cycles that it has to do.
 #[derive(Drop)]
 pub struct Shape {
     /// The machines.
     pub stations: Vec<Station>,
     /// The channels.
     pub wires: Vec<Wire>,
-    /// How many cycles it is to do.
+    /// The number of cycles that the network has to do.
     pub end: u64,
 }

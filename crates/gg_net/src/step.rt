@@ -1,4 +1,4 @@
-//! `step`: what an event makes of a network.
+//! `step`: how an event changes a network.
 ghost use Rattle.std.specs.Prelude.{◌≡◌, MatchResult};
 ghost use Rattle.gg_net.specs.Step.{CanLatch, CanFire, CanServe, CanFinish, after_latch, after_serve, Gives, GoesOn, Step, Refused, LatchRefused, FireRefused, ServeRefused, FinishRefused};
 ghost use Rattle.gg_net.specs.declared.event.Event.TheVariants.{Latch, Fire, Serve, Finish};
@@ -59,7 +59,7 @@ impl<H: Host, Z: Streams> Net<H, Z> {
         seats::finish(&mut self.hosts, &self.shape.stations[machine as usize]);
     }
 
-    // Latches the front token of a channel, where that may be done.
+    // Latches the front token of a channel, if that may be done.
     fn try_latch(&mut self, channel: u32) -> Result<(), Refusal>
         ensures { MatchResult result (λ _. Step self.old (Latch channel) self.new) (λ refusal. LatchRefused self.old channel refusal × (self.new ≡ self.old)) }
     {
@@ -68,7 +68,7 @@ impl<H: Host, Z: Streams> Net<H, Z> {
         Ok(())
     }
 
-    // Gives the token of a channel, where that may be done.
+    // Gives the token of a channel, if that may be done.
     fn try_fire(&mut self, channel: u32) -> Result<(), Refusal>
         ensures { MatchResult result (λ _. Step self.old (Fire channel) self.new) (λ refusal. FireRefused self.old channel refusal × (self.new ≡ self.old)) }
     {
@@ -77,7 +77,7 @@ impl<H: Host, Z: Streams> Net<H, Z> {
         Ok(())
     }
 
-    // Serves a port, where that may be done.
+    // Serves a port, if that may be done.
     fn try_serve(&mut self, machine: u32, port: u32) -> Result<(), Refusal>
         ensures { MatchResult result (λ _. Step self.old (Serve machine port) self.new) (λ refusal. ServeRefused self.old machine port refusal × (self.new ≡ self.old)) }
     {
@@ -86,7 +86,7 @@ impl<H: Host, Z: Streams> Net<H, Z> {
         Ok(())
     }
 
-    // Finishes the cycle of a machine, where that may be done.
+    // Finishes the cycle of a machine, if that may be done.
     fn try_finish(&mut self, machine: u32) -> Result<(), Refusal>
         ensures { MatchResult result (λ _. Step self.old (Finish machine) self.new) (λ refusal. FinishRefused self.old machine refusal × (self.new ≡ self.old)) }
     {
@@ -95,11 +95,11 @@ impl<H: Host, Z: Streams> Net<H, Z> {
         Ok(())
     }
 
-    /// Does an event, where it may be done.
+    /// Does an event, if it may be done.
     ///
     /// # Errors
     ///
-    /// The first condition of the event that fails; the network is as it was then.
+    /// Returns the first condition of the event that fails. The network then stays as it was.
     pub fn step(&mut self, event: Event) -> Result<(), Refusal>
         ensures { MatchResult result (λ _. Step self.old event self.new) (λ refusal. Refused self.old event refusal × (self.new ≡ self.old)) }
     {

@@ -1,10 +1,10 @@
-//! `Streams`: the values that the channels of a network are to carry.
+//! `Streams`: the values that the channels of a network have to carry.
 ghost use Rattle.std.specs.Prelude.{ℕ, List, []};
 
 use std::marker::Brand;
 
-/// The values that the channels of a network are to carry, and the rows of its machines. No code reads them: they
-/// stand in the type of a network, so that a contract can speak of them.
+/// The values that the channels of a network have to carry, and the rows of its machines. They are part of the type of
+/// a network, so that contracts can name them. No code reads them.
 pub trait Streams: Send {
     // For each channel the list of its values, by cycle.
     ghost lists: { List (List ℕ) };

@@ -1,19 +1,18 @@
-//! What a network tells of its machines and channels, for its steps.
-ghost use Rattle.std.specs.Prelude.{◌≡◌, ◌<◌, Contains, length, map, is_some, Some, MatchOption};
-ghost use Rattle.std.specs.Bool.{Decides};
+//! Facts about the machines and channels of a network, for its steps.
+ghost use Rattle.std.specs.Prelude.{◌≡◌, ◌<◌, length, is_some, Some, MatchOption};
 ghost use Rattle.gg_node.specs.Machine.{machine_at, latch_at, flag_at, missing, due, first_empty};
 ghost use Rattle.gg_node.specs.Step.{AllFired, AllLatched};
 ghost use Rattle.gg_net.specs.Network.{wire_at, queue_at, IsAtIn, IsAtOut};
-ghost use Rattle.gg_net.specs.Step.{bound_of, numbers, due_fields, IsFirstClear, IsFirstEmpty};
+ghost use Rattle.gg_net.specs.Step.{due_fields, IsFirstClear, IsFirstEmpty};
 
 use crate::net::Net;
 use crate::shape::Wire;
 use crate::streams::Streams;
-use crate::{ports, seats};
+use crate::seats;
 use gg_node::Host;
 
 impl<H: Host, Z: Streams> Net<H, Z> {
-    // The channel of a number.
+    // The channel with a number.
     pub(crate) fn wire(&self, channel: u32) -> Wire
         requires { channel < length self.now.wires }
         ensures is { result ≡ wire_at self.now.wires channel }
@@ -25,7 +24,7 @@ impl<H: Host, Z: Streams> Net<H, Z> {
         self.shape.wires[channel as usize]
     }
 
-    // How many tokens the queue of a channel holds.
+    // The number of tokens in the queue of a channel.
     pub(crate) fn queued(&self, channel: u32) -> usize
         requires { channel < length self.now.wires }
         ensures { result ≡ length (queue_at self.now.queues channel) }
@@ -51,7 +50,7 @@ impl<H: Host, Z: Streams> Net<H, Z> {
         seats::fired(&self.hosts, &self.shape.stations[machine as usize], place)
     }
 
-    // The first in that an out of a machine needs and that has no token yet.
+    // The first in that an out of a machine needs and that has no token yet, if there is one.
     pub(crate) fn missing(&self, machine: u32, place: u32) -> Option<u32>
         requires there { machine < length self.now.machines }
         requires within { place < length (machine_at self.now.machines machine).flags }
@@ -60,7 +59,7 @@ impl<H: Host, Z: Streams> Net<H, Z> {
         seats::missing(&self.hosts, &self.shape.stations[machine as usize], place)
     }
 
-    // The port of a machine that is to be served next.
+    // The number of the port of a machine that has to be served next, if one is left.
     pub(crate) fn due(&self, machine: u32) -> Option<u32>
         requires { machine < length self.now.machines }
         ensures { result ≡ due (machine_at self.now.machines machine) }
@@ -86,7 +85,7 @@ impl<H: Host, Z: Streams> Net<H, Z> {
         self.shape.stations[machine as usize].outs.as_slice()[place as usize]
     }
 
-    // The first out of a machine that hasn't given its token of this cycle.
+    // The first out of a machine that hasn't given its token of this cycle, if there is one.
     pub(crate) fn first_unfired(&self, machine: u32) -> Option<u32>
         requires { machine < length self.now.machines }
         ensures { MatchOption result (AllFired (machine_at self.now.machines machine)) (IsFirstClear (machine_at self.now.machines machine).flags) }
@@ -94,7 +93,7 @@ impl<H: Host, Z: Streams> Net<H, Z> {
         seats::first_unfired(&self.hosts, &self.shape.stations[machine as usize])
     }
 
-    // The first in of a machine that has no token of this cycle.
+    // The first in of a machine that has no token of this cycle, if there is one.
     pub(crate) fn first_unlatched(&self, machine: u32) -> Option<u32>
         requires { machine < length self.now.machines }
         ensures { MatchOption result (AllLatched (machine_at self.now.machines machine)) (IsFirstEmpty (machine_at self.now.machines machine).latches) }
@@ -102,7 +101,7 @@ impl<H: Host, Z: Streams> Net<H, Z> {
         seats::first_unlatched(&self.hosts, &self.shape.stations[machine as usize])
     }
 
-    // The first in that the port that is due looks at and that has no token yet.
+    // The first in that the port that is due uses and that has no token yet, if there is one.
     pub(crate) fn missing_field(&self, machine: u32, port: u32) -> Option<u32>
         requires there { machine < length self.now.machines }
         requires due { due (machine_at self.now.machines machine) ≡ Some port }
@@ -112,21 +111,5 @@ impl<H: Host, Z: Streams> Net<H, Z> {
         let served = seats::served(&self.hosts, station);
         let port = &station.ports.as_slice()[served as usize];
         seats::first_missing(&self.hosts, station, port.fields.as_slice())
-    }
-
-    // Whether a machine has a port of this number.
-    pub(crate) fn has_port(&self, machine: u32, port: u32) -> bool
-        requires { machine < length self.now.machines }
-        ensures { Decides result (Contains (numbers (machine_at self.now.machines machine).ports) port) }
-    {
-        ports::has(self.shape.stations[machine as usize].ports.as_slice(), port)
-    }
-
-    // One more than the greatest number of a machine's ports.
-    pub(crate) fn port_bound(&self, machine: u32) -> u32
-        requires { machine < length self.now.machines }
-        ensures { result ≡ bound_of (numbers (machine_at self.now.machines machine).ports) }
-    {
-        ports::bound(self.shape.stations[machine as usize].ports.as_slice())
     }
 }

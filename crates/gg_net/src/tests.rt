@@ -1,4 +1,4 @@
-//! What no clause says: that there is a network with ample memory.
+//! What no contract says: a network can be built with ample memory.
 ghost use Rattle.std.specs.Prelude.{◌≡◌, ◌∷◌, [], length, map, is_some, slice_set, IfOk};
 ghost use Rattle.gg_node.specs.Machine.{machine_at, latch_at, flag_at, missing, due};
 ghost use Rattle.gg_node.specs.Token.{IsToken, IsNextState};
@@ -124,7 +124,7 @@ fn hosts(alloc: Global) -> Result<Vec<Edge>, AllocError>
     Ok(vec![in alloc; source, tray]?)
 }
 
-// The source feeds the tray, for two cycles.
+// A shape in which the source feeds the tray, for two cycles.
 fn shape(alloc: Global) -> Result<Shape, AllocError>
     ensures stations { IfOk result (λ shape. shape.stations.items ≡ fed_stations) }
     ensures wires { IfOk result (λ shape. shape.wires.items ≡ fed_wires) }
@@ -166,7 +166,7 @@ fn does_a_cycle<Z: Streams>(net: &mut Net<Edge, Z>) -> bool {
         && net.step(Event::Finish { machine: 1 }).is_ok()
 }
 
-// Whether the network tells that all its cycles are done.
+// Whether the network reports that all its cycles are done.
 fn tells_the_end<Z: Streams>(net: &Net<Edge, Z>) -> bool {
     if net.machines() != 2 || net.channels() != 1 {
         return false;
@@ -183,7 +183,7 @@ fn tells_the_end<Z: Streams>(net: &Net<Edge, Z>) -> bool {
         && net.test(Event::Finish { machine: 0 }) == Err(Refusal::Ended)
 }
 
-// Whether the network can be run to its end, taken apart and joined again.
+// Whether the network can be run to its end, taken apart and put together again.
 fn runs<Z: Streams>(alloc: Global, hosts: Vec<Edge>, shape: Shape) -> Result<bool, AllocError>
     requires { IsFed Z.lists Z.runs (map (λ edge. machine_of edge.host ∷ []) hosts.items) shape.stations.items shape.wires.items shape.end }
 {

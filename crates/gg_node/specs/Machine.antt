@@ -1,33 +1,37 @@
--- Machines: the parts of a circuit that stand by themselves and pass one another a token for each cycle.
+-- Machines: parts of a circuit that run separately and pass one another a token for each cycle.
 -- Source: MEMOCODE 2009 (a bounded dataflow network: primitive nodes with a latch for each input and a flag for each
--- output that was given in this cycle); ICCAD 2019 (units of a target in separate models; memories that a host serves port
--- by port).
+-- output that was given in this cycle); ICCAD 2019 (units of a target in separate models; memories that a host serves
+-- port by port).
 use Rattle.std.specs.Prelude.{ℕ, List, [], ◌∷◌, Option, Some, None, Bool, false, length, map, slice_index_or, slice_get}
 use Rattle.gg_flat.specs.Circuit.{FlatCircuit}
 use Rattle.gg_flat.specs.State.{State}
 use Rattle.gg_flat.specs.Served.{Access}
 
--- What a machine does: it runs a flat circuit, gives the values of a column one by one, or keeps the values that it gets.
+-- What a machine does. It runs a flat circuit, gives the values of a column one by one, or keeps the values that it
+-- gets.
 pub data Behaviour : Type 0 where
   RunsPiece : FlatCircuit → Behaviour
   GivesColumn : List ℕ → Behaviour
   KeepsValues : Behaviour
 
--- A port of a memory that is served port by port: its number, the readers first, then the writers; and its access, whose
--- fields are named by their places among the ins.
+-- A port of a memory that is served port by port: its number and its access. Readers are numbered first, then writers.
+-- The access gives its fields by their places among the ins.
 pub record Port : Type 0 where
   pub number : ℕ
   pub access : Access
 
--- A machine. It has ins and outs, named by their places. `limit` is how many cycles it can do; `needs` has for each out the
--- ins that its token depends on; `ports` are those that are served in a cycle, in their order: none but where its piece is
--- a memory that is served. These stay. Then come the cycle that it is in, the state of its piece, how many ports were
--- served in this cycle, the latch of each in, which holds the token of this cycle or nothing, the flag of each out, which
--- says whether it has given the token of this cycle, and the values that it has kept.
+-- A machine. It has ins and outs, given by their places. These fields never change: `limit` is the number of cycles
+-- that it can do. `needs` has for each out the ins that its token depends on. `port_count` is the number of ports of
+-- its memory, and `ports` are the ports that are served in a cycle, in their order; if the piece isn't a memory that is
+-- served there are 0 and none. (A reader that gives its word in the same cycle is a port that no step serves.) The
+-- other fields change: the cycle that it is in, the state of its piece, the number of ports that were served in this
+-- cycle, the latch of each in, which holds the token of this cycle or nothing, the flag of each out, which says whether
+-- it has given the token of this cycle, and the values that it has kept.
 pub record Machine : Type 0 where
   pub behaviour : Behaviour
   pub limit : ℕ
   pub needs : List (List ℕ)
+  pub port_count : ℕ
   pub ports : List Port
   pub cycle : ℕ
   pub state : State
@@ -36,7 +40,7 @@ pub record Machine : Type 0 where
   pub flags : List Bool
   pub kept : List ℕ
 
--- how many cycles a machine with a piece can do: this program's limit
+-- the number of cycles that a machine with a piece can do: this program's limit
 abbrev pub cycle_limit : ℕ
 cycle_limit = 1000000
 
@@ -46,25 +50,25 @@ no_state = record { registers = []; banks = [] }
 
 -- a machine that can do nothing
 abbrev pub no_machine : Machine
-no_machine = record { behaviour = KeepsValues; limit = 0; needs = []; ports = []; cycle = 0; state = no_state; served = 0; latches = []; flags = []; kept = [] }
+no_machine = record { behaviour = KeepsValues; limit = 0; needs = []; port_count = 0; ports = []; cycle = 0; state = no_state; served = 0; latches = []; flags = []; kept = [] }
 
 -- the machine at a place
 abbrev pub machine_at : List Machine → ℕ → Machine
 machine_at machines t = slice_index_or machines t no_machine
 
--- the latch of an in; empty past the end
+-- the latch of an in; past the end it is empty
 abbrev pub latch_at : List (Option ℕ) → ℕ → Option ℕ
 latch_at latches i = slice_index_or latches i None
 
--- the flag of an out; clear past the end
+-- the flag of an out; past the end it is clear
 abbrev pub flag_at : List Bool → ℕ → Bool
 flag_at flags o = slice_index_or flags o false
 
--- the ins that an out needs; none past the end
+-- the ins that an out needs; past the end there are none
 abbrev pub needs_at : List (List ℕ) → ℕ → List ℕ
 needs_at needs o = slice_index_or needs o []
 
--- the token in a latch; 0 where it is empty
+-- the token in a latch; 0 if the latch is empty
 abbrev pub latched_value : Option ℕ → ℕ
 latched_value None = 0
 latched_value (Some value) = value
@@ -73,7 +77,7 @@ latched_value (Some value) = value
 abbrev pub latched_values : List (Option ℕ) → List ℕ
 latched_values latches = map latched_value latches
 
--- an in, where its latch is empty; else `rest`
+-- an in if its latch is empty, else `rest`
 abbrev pub empty_or : Option ℕ → ℕ → Option ℕ → Option ℕ
 empty_or None i rest = Some i
 empty_or (Some value) i rest = rest
@@ -83,7 +87,7 @@ abbrev pub first_empty : List (Option ℕ) → List ℕ → Option ℕ
 first_empty latches [] = None
 first_empty latches (i ∷ ins) = empty_or (latch_at latches i) i (first_empty latches ins)
 
--- the first in that an out needs and that has no token yet
+-- the first in that an out needs and that has no token yet, if there is one
 abbrev pub missing : Machine → ℕ → Option ℕ
 missing machine o = first_empty machine.latches (needs_at machine.needs o)
 
@@ -92,16 +96,17 @@ abbrev pub port_number : Option Port → Option ℕ
 port_number None = None
 port_number (Some port) = Some port.number
 
--- the number of the port that is to be served next; none where none is left
+-- the number of the port that has to be served next; None if no port is left
 abbrev pub due : Machine → Option ℕ
 due machine = port_number (slice_get machine.ports machine.served)
 
 -- ---- the two machines without a piece
 
--- a machine that gives a column: in a cycle, with the flag of its only out
+-- a machine that gives a column; it is in this cycle, and its only out has this flag
 abbrev pub source_machine : List ℕ → ℕ → Bool → Machine
-source_machine column cycle fired = record { behaviour = GivesColumn column; limit = length column; needs = [] ∷ []; ports = []; cycle = cycle; state = no_state; served = 0; latches = []; flags = fired ∷ []; kept = [] }
+source_machine column cycle fired = record { behaviour = GivesColumn column; limit = length column; needs = [] ∷ []; port_count = 0; ports = []; cycle = cycle; state = no_state; served = 0; latches = []; flags = fired ∷ []; kept = [] }
 
--- a machine that keeps values, at most so many: in a cycle, with those that it has kept, and the latch of its only in
+-- a machine that keeps at most this many values; it is in this cycle, has kept these values, and its only in has this
+-- latch
 abbrev pub tray_machine : ℕ → ℕ → List ℕ → Option ℕ → Machine
-tray_machine rows cycle kept latch = record { behaviour = KeepsValues; limit = rows; needs = []; ports = []; cycle = cycle; state = no_state; served = 0; latches = latch ∷ []; flags = []; kept = kept }
+tray_machine rows cycle kept latch = record { behaviour = KeepsValues; limit = rows; needs = []; port_count = 0; ports = []; cycle = cycle; state = no_state; served = 0; latches = latch ∷ []; flags = []; kept = kept }

@@ -1,6 +1,6 @@
--- The steps of a machine: when each may be done, and what it makes of the machine.
--- Source: MEMOCODE 2009 (a node takes a token for each input, gives one for each output when what it needs is there, and
--- finishes the cycle when it has done both); ICCAD 2019 for memories that are served port by port.
+-- The steps of a machine: when each may be done, and how it changes the machine.
+-- Source: MEMOCODE 2009 (a node takes a token for each input, gives one for each output when what it needs is there,
+-- and finishes the cycle when it has done both); ICCAD 2019 for memories that are served port by port.
 use Rattle.std.specs.Prelude.{◌≡◌, ℕ, suc, ◌<◌, ◌++◌, List, [], ◌∷◌, Option, Some, None, true, false, IsSome, IfSome, All, length, replicate, slice_set, slice_get, ⊤}
 use Rattle.gg_bits.specs.Shape.{Fits}
 use Rattle.gg_flat.specs.Line.{shape_at}
@@ -10,27 +10,27 @@ use Rattle.gg_flat.specs.Served.{Access, ByReader, ByWriter}
 use Rattle.gg_node.specs.Machine.{Behaviour, RunsPiece, GivesColumn, KeepsValues, Port, Machine, latch_at, flag_at, latched_value, missing, due}
 use Rattle.gg_node.specs.Token.{accessed}
 
--- ---- what each makes of the machine
+-- ---- how each changes the machine
 
--- with a token in the latch of an in
+-- the machine with a token in the latch of an in
 abbrev pub with_latch : Machine → ℕ → ℕ → Machine
 with_latch machine i value = record machine { latches = slice_set machine.latches i (Some value) }
 
--- with the flag of an out set
+-- the machine with the flag of an out set
 abbrev pub with_flag : Machine → ℕ → Machine
 with_flag machine o = record machine { flags = slice_set machine.flags o true }
 
--- after one more access
+-- the machine after one more access
 abbrev pub with_served : Machine → Machine
 with_served machine = record machine { state = accessed machine.latches machine.state (slice_get machine.ports machine.served); served = suc machine.served }
 
--- the values kept after a cycle: with the token of the only in, where the machine keeps them
+-- the values kept after a cycle; a machine that keeps values adds the token of its only in
 abbrev pub kept_after : Behaviour → List (Option ℕ) → List ℕ → List ℕ
 kept_after (RunsPiece piece) latches kept = kept
 kept_after (GivesColumn column) latches kept = kept
 kept_after KeepsValues latches kept = kept ++ latched_value (latch_at latches 0) ∷ []
 
--- in its next cycle, with this state, and with all latches empty and all flags clear
+-- the machine in its next cycle, with this state, all latches empty and all flags clear
 abbrev pub finished : Machine → State → Machine
 finished machine next =
     record machine {
@@ -44,13 +44,13 @@ finished machine next =
 
 -- ---- when each may be done
 
--- a value is of the type of an in
+-- a value has the type of an in
 abbrev pub FitsIn : Behaviour → ℕ → ℕ → Type 0
 FitsIn (RunsPiece piece) i value = Fits (shape_at (in_shapes piece) i) value
 FitsIn (GivesColumn column) i value = ⊤
 FitsIn KeepsValues i value = ⊤
 
--- An in may take this token: its latch is empty.
+-- An in may take this token: its latch is empty, and the token has the in's type.
 pub record MayLatch (machine : Machine) (i value : ℕ) : Type 0 where
   pub there : i < length machine.latches
   pub empty : latch_at machine.latches i ≡ None
@@ -62,7 +62,7 @@ HasValueAt (RunsPiece piece) cycle = ⊤
 HasValueAt (GivesColumn column) cycle = cycle < length column
 HasValueAt KeepsValues cycle = ⊤
 
--- An out may give its token: it hasn't in this cycle, and each in that it needs has its own.
+-- An out may give its token: it hasn't given it in this cycle, and each in that it needs has its token.
 pub record MayFire (machine : Machine) (o : ℕ) : Type 0 where
   pub there : o < length machine.flags
   pub clear : flag_at machine.flags o ≡ false
@@ -77,22 +77,23 @@ AllFired machine = All (λ flag. flag ≡ true) machine.flags
 abbrev pub AllLatched : Machine → Type 0
 AllLatched machine = All (λ latch. IsSome latch) machine.latches
 
--- the ins that an access looks at
+-- the ins that an access uses
 abbrev pub fields_of : Access → List ℕ
 fields_of (ByReader r reader) = reader.addr ∷ reader.en ∷ []
 fields_of (ByWriter w writer) = writer.addr ∷ writer.en ∷ writer.word ∷ writer.mask ∷ []
 
--- each in that a port looks at has its token
+-- each in that a port uses has its token
 abbrev pub HasFields : List (Option ℕ) → Port → Type 0
 HasFields latches port = All (λ i. IsSome (latch_at latches i)) (fields_of port.access)
 
--- A port may be served: all outs have given their tokens, it is the one that is due, and its fields are there.
+-- A port may be served: all outs have given their tokens, the port is the one that is due, and its fields have tokens.
 pub record MayServe (machine : Machine) (p : ℕ) : Type 0 where
   pub fired : AllFired machine
   pub due : due machine ≡ Some p
   pub fields : IfSome (slice_get machine.ports machine.served) (HasFields machine.latches)
 
--- The cycle may be finished: all outs have given their tokens, all ports are served, and all ins have their tokens.
+-- The cycle may be finished: all outs have given their tokens, all ports are served, all ins have their tokens, and the
+-- cycle is below the machine's limit.
 pub record MayFinish (machine : Machine) : Type 0 where
   pub fired : AllFired machine
   pub served : machine.served ≡ length machine.ports

@@ -1,16 +1,16 @@
-//! `Host`: what holds machines, and does their steps.
+//! `Host`: holds machines and does their steps.
 ghost use Rattle.std.specs.Prelude.{◌≡◌, ℕ, ◌<◌, List, length, is_some, slice_set};
 ghost use Rattle.gg_node.specs.Machine.{Machine, machine_at, latch_at, flag_at, missing, due};
 ghost use Rattle.gg_node.specs.Token.{IsToken, IsNextState};
 ghost use Rattle.gg_node.specs.Step.{MayLatch, MayFire, MayServe, MayFinish, with_latch, with_flag, with_served, finished};
 
-/// Holds machines, one for each of its threads, and does their steps. Threads, ins and outs are named by their places. A
-/// call that does a step changes the machine of its thread, and leaves every other as it was. No call takes memory.
+/// Holds machines, one for each of its threads, and does their steps. Threads, ins and outs are given by their places.
+/// A call that does a step changes the machine of its thread, and no other. No call allocates.
 pub trait Host: Drop + Send {
     // The machines of its threads.
     ghost machines: { Self → List Machine };
 
-    /// How many threads there are.
+    /// The number of threads.
     fn threads(&self) -> u32
         ensures { result ≡ length (machines self.now) };
 
@@ -31,28 +31,34 @@ pub trait Host: Drop + Send {
         requires place { place < length (machine_at (machines self.now) thread).flags }
         ensures { result ≡ flag_at (machine_at (machines self.now) thread).flags place };
 
-    /// The first in that an out needs and that has no token yet.
+    /// The first in that an out needs and that has no token yet, if there is one.
     fn missing(&self, thread: u32, place: u32) -> Option<u32>
         requires thread { thread < length (machines self.now) }
         requires place { place < length (machine_at (machines self.now) thread).flags }
         ensures { result ≡ missing (machine_at (machines self.now) thread) place };
 
-    /// The port that is to be served next; none where none is left.
+    /// The number of the port that has to be served next; None if no port is left.
     fn due(&self, thread: u32) -> Option<u32>
         requires { thread < length (machines self.now) }
         ensures { result ≡ due (machine_at (machines self.now) thread) };
 
-    /// How many ports were served in this cycle.
+    /// The number of ports that were served in this cycle.
     fn served(&self, thread: u32) -> u32
         requires { thread < length (machines self.now) }
         ensures { result ≡ (machine_at (machines self.now) thread).served };
 
-    /// How many ports are served in a cycle.
+    /// The number of ports that are served in a cycle.
     fn dues(&self, thread: u32) -> u32
         requires { thread < length (machines self.now) }
         ensures { result ≡ length (machine_at (machines self.now) thread).ports };
 
-    /// The token that an out would give. No machine changes.
+    /// The number of ports of the machine's memory, including those that no step serves; 0 if it isn't a memory that is
+    /// served.
+    fn port_count(&self, thread: u32) -> u32
+        requires { thread < length (machines self.now) }
+        ensures { result ≡ (machine_at (machines self.now) thread).port_count };
+
+    /// The token that an out would give. Changes no machine.
     fn token(&mut self, thread: u32, place: u32) -> u128
         requires thread { thread < length (machines self.old) }
         requires may { MayFire (machine_at (machines self.old) thread) place }
@@ -72,13 +78,13 @@ pub trait Host: Drop + Send {
         ensures token { IsToken (machine_at (machines self.old) thread) place result }
         ensures step { machines self.new ≡ slice_set (machines self.old) thread (with_flag (machine_at (machines self.old) thread) place) };
 
-    /// Serves the port that is due: one access.
+    /// Serves the port that is due, with one access.
     fn serve(&mut self, thread: u32, port: u32)
         requires thread { thread < length (machines self.old) }
         requires may { MayServe (machine_at (machines self.old) thread) port }
         ensures { machines self.new ≡ slice_set (machines self.old) thread (with_served (machine_at (machines self.old) thread)) };
 
-    /// Finishes the cycle: the machine goes to its next state, its latches are emptied and its flags cleared.
+    /// Finishes the cycle: the machine advances to its next state, its latches are emptied and its flags cleared.
     fn finish(&mut self, thread: u32)
         requires thread { thread < length (machines self.old) }
         requires may { MayFinish (machine_at (machines self.old) thread) }

@@ -7,7 +7,7 @@ ghost use Rattle.gg_node.specs.Step.{MayLatch, MayFire, MayServe, MayFinish, wit
 use crate::host::Host;
 use std::marker::Model;
 
-/// Gives the values of a column, one in each cycle. It is a host of one thread, whose machine has one out and no in. A
+/// Gives the values of a column, one in each cycle. It is a host of one thread, whose machine has one out and no ins. A
 /// contract sees it as this machine.
 #[derive(Debug, Drop)]
 pub struct Source {
@@ -25,7 +25,7 @@ impl Model for Source {
 }
 
 impl Source {
-    /// A source that is to give the values of this column.
+    /// A source of the values of this column, before the first cycle.
     pub fn new(column: Vec<u128>) -> Source
         ensures { result ≡ source_machine column.items 0 false }
     {
@@ -81,6 +81,11 @@ impl Host for Source {
     }
 
     fn dues(&self, thread: u32) -> u32 {
+        let _ = &self.cycle;
+        0
+    }
+
+    fn port_count(&self, thread: u32) -> u32 {
         let _ = &self.cycle;
         0
     }

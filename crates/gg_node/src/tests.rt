@@ -1,4 +1,4 @@
-//! What no clause says: that there is a tray with ample memory.
+//! What no contract says: a tray can be built with ample memory.
 use super::*;
 use std::test::Fail;
 

@@ -8,11 +8,11 @@ use crate::host::Host;
 use std::alloc::{AllocError, Global};
 use std::marker::Model;
 
-/// Keeps the values that it gets, one in each cycle. It is a host of one thread, whose machine has one in and no out. A
-/// contract sees it as this machine.
+/// Keeps the values that it gets, one in each cycle. It is a host of one thread, whose machine has one in and no outs.
+/// A contract sees it as this machine.
 #[derive(Debug, Drop)]
 pub struct Tray {
-    // A place for each cycle; those before the cycle hold what was kept.
+    // A place for each cycle. Those before the current cycle hold what was kept.
     values: Vec<u128>,
     cycle: u64,
     latch: Option<u128>,
@@ -34,7 +34,7 @@ impl Tray {
     ///
     /// # Errors
     ///
-    /// Where memory is refused.
+    /// Returns `AllocError` if an allocation fails.
     pub fn new(alloc: Global, rows: u64) -> Result<Tray, AllocError>
         ensures { IfOk result (λ tray. tray ≡ tray_machine rows 0 [] None) }
     {
@@ -92,6 +92,11 @@ impl Host for Tray {
     }
 
     fn dues(&self, thread: u32) -> u32 {
+        let _ = &self.cycle;
+        0
+    }
+
+    fn port_count(&self, thread: u32) -> u32 {
         let _ = &self.cycle;
         0
     }

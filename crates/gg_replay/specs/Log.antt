@@ -10,12 +10,12 @@ use Rattle.gg_marking.specs.Steps.{IsStep}
 abbrev pub tokens_at : List (List ℕ) → ℕ → List ℕ
 tokens_at log c = slice_index_or log c []
 
--- The log has for each channel the front of its list of values: as many as were put into it.
+-- The log has for each channel the first values of its list, as many as were put into it.
 pub record AreFronts (lists : List (List ℕ)) (net : Network) (log : List (List ℕ)) : Type 0 where
   pub count : length log ≡ length net.wires
   pub each : (c : ℕ) → c < length net.wires → tokens_at log c ≡ take (puts net c) (list_at lists c)
 
--- The log is a step behind: it is that of the network as it was before this step.
+-- The log is one step late: it is that of the network before this step.
 pub record IsBehind (lists : List (List ℕ)) (runs : List (List (List ℕ))) (step : Option Event) (net : Network) (log : List (List ℕ)) : Type 0 where
   pub before : Network
   pub kept : Kept lists runs before

@@ -1,6 +1,6 @@
 -- Why the steps of a network stop before their end.
--- Source: MEMOCODE 2009 (a network goes on by steps, one node at a time). That steps count from 1, and that no step is done behind one
--- that is refused, is this program's.
+-- Source: MEMOCODE 2009 (a network goes on by steps, one node at a time). This program's own: steps count from 1, and
+-- no step is done after one that is refused.
 use Rattle.std.specs.Prelude.{ℕ, List, Option, ⊤}
 use Rattle.gg_net.specs.declared.event.Event.{Event}
 use Rattle.gg_net.specs.Network.{Network}
@@ -9,13 +9,13 @@ use Rattle.gg_replay.specs.Log.{AreFronts}
 use Rattle.gg_replay.specs.declared.stop.Stop.{Stop}
 use Rattle.gg_replay.specs.declared.stop.Stop.TheVariants.{Refused, NoMemory}
 
--- The steps stop for this cause, and the network is the new one then: it has done those before the one that is refused. Nothing is
--- said where memory is refused.
+-- The steps stop for this cause. The network is then the new one: the steps before the refused one are done. `NoMemory`
+-- implies nothing.
 abbrev pub IsStop : Network → List (Option Event) → Network → Stop → Type 0
 IsStop old steps new (Refused step cause) = StopsAt 1 old steps new (record { step = step; cause = cause })
 IsStop old steps new NoMemory = ⊤
 
--- the log is that of the network where a step is refused
+-- the log is that of the network, if a step was refused
 abbrev pub KeepsLog : List (List ℕ) → Network → List (List ℕ) → Stop → Type 0
 KeepsLog lists net log (Refused step cause) = AreFronts lists net log
 KeepsLog lists net log NoMemory = ⊤

@@ -1,14 +1,16 @@
 //! Replays: the steps of a file, done one after another, with a log of the tokens.
 //!
-//! - [`replay`] does a list of steps of a network in their order. It ends with the network that they lead to, or stops at the first
-//!   that is refused, with its number, counted from 1, and its cause; the network is then as it was after the steps before that one,
-//!   and none behind it is done. A step that is no event is refused as a stranger.
-//! - A [`Log`] has for each channel the tokens that were put into it, in their order. With a log that is right before the steps, it is
-//!   right after them, and where a step is refused: for each channel the front of its list of values, as many as were put.
-//!   Before the first cycle a log without a token is right ([`opens_with_empty_log`]).
-//! - [`channel_line`] is the exact line of a channel: its name, its counts and its tokens.
+//! - [`replay`] does a list of steps of a network in their order. It ends with the network that they lead to, or stops
+//!   at the first step that is refused, with the step's number, counted from 1, and its cause. The network is then as
+//!   it was after the steps before that one, and no later step is done. A step that isn't an event is refused as a
+//!   stranger.
+//! - A [`Log`] has for each channel the tokens that were put into it, in their order. It is right if for each channel
+//!   these are the first values of the channel's list, as many as were put. If the log is right before the steps, it is
+//!   right after them, also if a step is refused. Before the first cycle a log without tokens is right
+//!   ([`opens_with_empty_log`]).
+//! - [`channel_line`] returns the exact line of a channel: its name, its counts and its tokens.
 //!
-//! The only other answer is that memory is refused.
+//! Any call that allocates may return `AllocError` or `Stop::NoMemory`.
 #![tactic(auto)]
 
 mod laws;

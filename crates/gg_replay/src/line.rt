@@ -7,7 +7,7 @@ ghost use Rattle.gg_replay.specs.ReplayText.{channel_line};
 use itoa::Buffer;
 use std::alloc::{AllocError, Global};
 
-// The hexadecimal digit of a value at a place, counted from the last.
+// The hexadecimal digit of a value at a place, counted from the last digit.
 fn digit_at(value: u128, place: u32) -> u32
     ensures { result ≡ value / 2 ^ (4 * place) % 16 }
 {
@@ -26,14 +26,14 @@ fn digit_of(digit: u32) -> char
     char::from_digit(digit, 16).unwrap()
 }
 
-// How many digits a value of this width has.
+// The number of digits of a value with this width.
 fn count_of(width: u32) -> u32
     ensures { result ≡ digit_count width }
 {
     width.div_ceil(4)
 }
 
-// Writes the last digits of a value at the end of a line.
+// Writes the last `digits` digits of a value at the end of a line.
 fn push_digits(line: &mut String, value: u128, digits: u32) -> Result<(), AllocError>
     ensures { OnOk result (string_bytes line.new ≡ string_bytes line.old ++ hex_digits digits value) }
 {
@@ -66,13 +66,13 @@ fn line_front(alloc: Global, name: &str, puts: u64, takes: u64) -> Result<String
     Ok(line)
 }
 
-/// The line of a channel: its name, a blank, how many tokens were put into it, a slash, how many were taken from it, then the tokens in
-/// their order, a blank before each, and a line feed. A token is written in lower-case hexadecimal with a quarter of the channel's
-/// width in digits, rounded up.
+/// The line of a channel: its name, a blank, the number of tokens that were put into it, a slash, the number of tokens
+/// that were taken from it, the tokens in their order with a blank before each, and a line feed. A token is written in
+/// lower-case hexadecimal with a quarter of the channel's width in digits, rounded up.
 ///
 /// # Errors
 ///
-/// Where memory is refused.
+/// Returns `AllocError` if an allocation fails.
 pub fn channel_line(
     alloc: Global,
     name: &str,

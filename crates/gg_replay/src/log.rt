@@ -5,7 +5,7 @@ ghost use Rattle.gg_replay.specs.Log.{tokens_at};
 use std::alloc::{AllocError, Global};
 use std::marker::Model;
 
-/// For each channel the tokens that were put into it, the first before the others. A contract sees it as these lists.
+/// For each channel the tokens that were put into it, in their order. A contract sees it as these lists.
 #[derive(Drop)]
 pub struct Log {
     lists: Vec<Vec<u128>>,
@@ -20,11 +20,11 @@ impl Model for Log {
 }
 
 impl Log {
-    /// A log for this many channels, without a token.
+    /// A log for this many channels, without tokens.
     ///
     /// # Errors
     ///
-    /// Where memory is refused.
+    /// Returns `AllocError` if an allocation fails.
     pub fn new(alloc: Global, channels: usize) -> Result<Log, AllocError>
         ensures { IfOk result (λ log. log ≡ replicate channels []) }
     {
@@ -43,7 +43,7 @@ impl Log {
         self.lists[channel as usize].as_slice()
     }
 
-    // Adds a token to those of a channel.
+    // Appends a token to those of a channel.
     pub(crate) fn push(&mut self, channel: u32, token: u128) -> Result<(), AllocError>
         requires { channel < length self.old }
         ensures { OnOk result (self.new ≡ slice_set self.old channel (tokens_at self.old channel ++ token ∷ [])) }

@@ -11,7 +11,7 @@ use gg_net::{Event, Net, Refusal, Streams};
 use gg_node::Host;
 use std::alloc::AllocError;
 
-// Does a step, where it is an event that may be done.
+// Does a step, if it is an event that may be done.
 fn try_step<H: Host, Z: Streams>(net: &mut Net<H, Z>, step: Option<Event>) -> Result<(), Refusal>
     ensures { MatchResult result (λ _. IsStep net.old step net.new) (λ cause. StepRefused net.old step cause × (net.new ≡ net.old)) }
 {
@@ -21,7 +21,7 @@ fn try_step<H: Host, Z: Streams>(net: &mut Net<H, Z>, step: Option<Event>) -> Re
     }
 }
 
-// Adds the newest token of a channel whose token was just given.
+// Adds the newest token of a channel, whose token was just given, to the log.
 fn add_newest<H: Host, Z: Streams>(
     net: &Net<H, Z>,
     channel: u32,
@@ -36,7 +36,7 @@ fn add_newest<H: Host, Z: Streams>(
     }
 }
 
-// Adds the token that was put by the event just done, if one was.
+// Adds the token that the event just done has put, if it has put one, to the log.
 fn note_event<H: Host, Z: Streams>(
     net: &Net<H, Z>,
     event: Event,
@@ -51,7 +51,7 @@ fn note_event<H: Host, Z: Streams>(
     }
 }
 
-// Adds the token that was put by the step just done, if one was.
+// Adds the token that the step just done has put, if it has put one, to the log.
 fn note<H: Host, Z: Streams>(
     net: &Net<H, Z>,
     step: Option<Event>,
@@ -70,8 +70,8 @@ fn note<H: Host, Z: Streams>(
 ///
 /// # Errors
 ///
-/// The first step that is refused, with its number, from 1 on, and its cause; no step is done then behind those before it. Or memory
-/// is refused.
+/// Returns `Refused` with the number, counted from 1, and the cause of the first step that is refused. The steps before
+/// it are then done, and no others. Returns `NoMemory` if an allocation fails.
 pub fn replay<H: Host, Z: Streams>(
     net: &mut Net<H, Z>,
     steps: &[Option<Event>],

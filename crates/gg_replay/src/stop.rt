@@ -8,14 +8,14 @@ use std::alloc::AllocError;
 /// Why a replay stops.
 #[derive(Clone, Copy, Debug, PartialEq, Eq, Drop)]
 pub enum Stop {
-    /// A step is refused.
+    /// A step was refused.
     Refused {
-        /// Its number, from 1 on.
+        /// The step's number, counted from 1.
         step: u64,
-        /// The first of its conditions that fails.
+        /// The first of the step's conditions that fails.
         cause: Refusal,
     },
-    /// Memory is refused.
+    /// An allocation failed.
     NoMemory,
 }
 

@@ -1,4 +1,4 @@
-//! What no clause says: that a log is made and a line is written where there is memory.
+//! What no contract says: a log can be built and a line can be written with ample memory.
 
 use crate::*;
 use std::alloc::{AllocError, Global};

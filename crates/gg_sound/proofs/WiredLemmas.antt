@@ -14,13 +14,13 @@ use Rattle.gg_sound.proofs.LinkLemmas.{AreLinks, linked, length-wires}
 use Rattle.gg_sound.proofs.ListedLemmas.{taken-placed, given-placed, at-in, at-out}
 
 -- A machine of this kind has an in for each channel that machine m of the plan takes, and an out for each that it gives; what its
--- outs need and its ports look at are ins that are there; and its ports can be named.
+-- outs need and its ports look at are ins that are there; and the ports that it serves are among its ports.
 pub record IsFitting (links : List Link) (m : ℕ) (kind : Kind) : Type 0 where
   pub ins : kind.ins ≡ length (channels_to links m)
   pub outs : kind.outs ≡ length (channels_from links m)
   pub needs : (o i : ℕ) → Contains (needs_at kind.needs o) i → i < kind.ins
   pub fields : All (λ port. All (λ i. i < kind.ins) (fields_of port.access)) kind.ports
-  pub numbers : All (λ port. port.number < 2 ^ 32 - 1) kind.ports
+  pub numbers : All (λ port. port.number < kind.port_count) kind.ports
 
 -- so many machines are of these kinds
 pub record AreFitting (links : List Link) (count : ℕ) (kinds : List Kind) : Type 0 where

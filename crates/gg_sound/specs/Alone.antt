@@ -1,4 +1,4 @@
--- The part of a listed memory, cut once more, so that the memory stands alone.
+-- The part of a listed memory, cut once more, so that only the memory is left.
 -- Source: ICCAD 2019 (memories of a target as models of their own); FIRRTL Specification, "Memories".
 use Rattle.std.specs.Prelude.{◌≡◌, [], ◌∷◌, ◌++◌, map}
 use Rattle.gg_flat.specs.Line.{value_at}
@@ -6,8 +6,8 @@ use Rattle.gg_part.specs.Part.{IsPart}
 use Rattle.gg_part.specs.Building.{AreHeld}
 use Rattle.gg_part.specs.declared.part.Part.{Part}
 
--- A part of this part: its in-signals and then its out-signals, which are those of the new part too, just the registers that these
--- hold, and its first memory.
+-- A part of this part. It has the in-signals followed by the out-signals, which are the in-signals and out-signals of
+-- the new part too, exactly the registers that these signals hold, and the first memory.
 pub record IsCutAgain (part alone : Part) : Type 0 where
   pub is_part : IsPart part.piece alone.piece alone.globals alone.held alone.memories
   pub globals : alone.globals ≡ part.piece.ins ++ part.piece.outs

@@ -1,7 +1,7 @@
--- The network of a plan: its channels, its machines before the first cycle, and the rows of its machines. (The values that its
--- channels carry are gg_cut's `columns_of`.)
--- Source: MEMOCODE 2009 (a synchronous circuit as a network of its parts, whose streams are the circuit's own); ICCAD 2019 (units
--- and memories of a target as models of their own, with sources for its inputs and sinks for its outputs).
+-- The network of a plan: its channels, its machines before the first cycle, and the rows of its machines. The values
+-- that its channels carry are gg_cut's `columns_of`.
+-- Source: MEMOCODE 2009 (a synchronous circuit as a network of its parts, whose streams are the circuit's own); ICCAD
+-- 2019 (units and memories of a target as models of their own, with sources for its inputs and sinks for its outputs).
 use Rattle.std.specs.Prelude.{◌≡◌, ℕ, suc, ◌^◌, ◌<◌, ◌≤◌, ◌==◌, ◌++◌, List, [], ◌∷◌, None, false, length, map, slice_index_or, unwrap_or}
 use Rattle.gg_flat.specs.Line.{value_at}
 use Rattle.gg_flat.specs.Run.{IsRun, IsColumns}
@@ -40,7 +40,7 @@ machine_in plan m = slice_index_or plan.machines m nameless
 abbrev pub place_in : List ℕ → ℕ → ℕ
 place_in channels c = unwrap_or (first_place (λ d. d == c) channels) 0
 
--- a channel of the network, which is this channel of the plan, of number c
+-- the channel of the network for a channel of the plan, which has number c
 abbrev pub wire_of : Plan → ℕ → Channel → Wire
 wire_of plan c channel =
     record {
@@ -62,14 +62,15 @@ wires_of_plan plan = wires_from plan 0 plan.channels
 
 -- ---- machines before the first cycle
 
--- A unit that runs a part of the circuit: each of its outs needs the ins that it depends on.
+-- A unit that runs a part of the circuit. Each of its outs needs the ins that it depends on.
 pub record IsUnitOf (part : Part) (machine : Machine) : Type 0 where
   pub needs : List (List ℕ)
   pub exact : AreNeedsOfOuts part.piece needs
   pub is : machine ≡ dataflow.opening_unit (record { circuit = part.piece; needs = needs })
 
--- A memory that stands alone: a part of the listed memory's part, which has its in-signals and then its out-signals, and its
--- memory; as the piece of a memory unit it has the in-signals first.
+-- The machine of a listed memory. It is a memory unit, whose piece is a part of the listed memory's part. The piece has
+-- the in-signals followed by the out-signals, and the memory. As the piece of a memory unit it has the in-signals
+-- first.
 pub record IsMemoryOf (part : Part) (machine : Machine) : Type 0 where
   pub alone : Part
   pub is_part : IsPart part.piece alone.piece alone.globals alone.held alone.memories
@@ -80,8 +81,8 @@ pub record IsMemoryOf (part : Part) (machine : Machine) : Type 0 where
   pub is_memory : memory.IsMemoryPiece alone.piece
   pub is : machine ≡ memory.opening_unit alone.piece
 
--- A machine of the network, which is this machine of the plan. `columns` are those of the top's inputs, by number of channel: the
--- channels of the top's inputs come first.
+-- The machine of the network for a machine of the plan. `columns` are the columns of the top's inputs, by number of
+-- channel: the channels of the top's inputs come first.
 abbrev pub IsBuilt : List (List ℕ) → ℕ → planned.Machine → Body → Machine → Type 0
 IsBuilt columns n own (Cut part) machine = IsUnitOf part machine
 IsBuilt columns n own (Memory part) machine = IsMemoryOf part machine
@@ -95,12 +96,13 @@ pub record AreBuilt (plan : Plan) (columns : List (List ℕ)) (n : ℕ) (machine
 
 -- ---- the network
 
--- what stays of the network of a plan with these machines, which is to do n cycles
+-- the frame, which never changes, of the network of a plan with these machines and n cycles to do
 abbrev pub plan_frame : Plan → List Machine → ℕ → Frame
 plan_frame plan machines n = frame_of (opening_net machines (wires_of_plan plan) n)
 
--- Machine m of the network, of this kind, has an in for each channel that the plan's machine m takes and an out for each that it
--- gives, in the plan's order; each channel stands there; and they are few enough to be named.
+-- Machine m of the network, which has this kind, has an in for each channel that the plan's machine m takes and an out
+-- for each channel that it gives, in the plan's order. Each channel is connected there. Numbers of 32 bits suffice for
+-- ins and outs.
 pub record IsListedAt (plan : Plan) (m : ℕ) (kind : Kind) : Type 0 where
   pub ins : length (machine_in plan m).ins ≡ kind.ins
   pub into : (i : ℕ) → i < kind.ins → IsAtIn (wires_of_plan plan) m i (value_at (machine_in plan m).ins i)
@@ -108,9 +110,9 @@ pub record IsListedAt (plan : Plan) (m : ℕ) (kind : Kind) : Type 0 where
   pub from : (o : ℕ) → o < kind.outs → IsAtOut (wires_of_plan plan) m o (value_at (machine_in plan m).outs o)
   pub few : (kind.ins < 2 ^ 32) × (kind.outs < 2 ^ 32)
 
--- ---- what the network is to do
+-- ---- what the network has to do
 
--- the rows of a machine, from those of the circuit
+-- the rows of a machine, from the rows of the circuit
 abbrev pub body_rows : Body → List (List ℕ) → List (List ℕ)
 body_rows (Cut part) rows = part_rows part.globals rows
 body_rows (Memory part) rows = part_rows (map (value_at part.globals) (part.piece.ins ++ part.piece.outs)) rows
@@ -121,7 +123,8 @@ body_rows Tray rows = []
 abbrev pub rows_of : Plan → List (List ℕ) → List (List (List ℕ))
 rows_of plan rows = map (λ machine. body_rows machine.body rows) plan.machines
 
--- A design, a request that has no fault for it, their plan, and the circuit's run of n cycles on the columns of its inputs.
+-- A design, a request that has no fault for it, their plan, and the circuit's run of n cycles on the columns of its
+-- inputs.
 pub record IsGiven (design : Ordered) (request : Request) (default : ℕ) (plan : Plan) (columns : List (List ℕ)) (n : ℕ) (rows : List (List ℕ)) : Type 0 where
   pub design_is : IsDesign design
   pub faultless : first_fault design request ≡ None

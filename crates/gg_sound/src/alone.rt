@@ -1,4 +1,4 @@
-//! Laws: a listed memory can stand alone.
+//! Laws: a listed memory can be a machine of its own.
 ghost use Rattle.std.specs.Prelude.{◌≡◌, ℕ, ◌<◌, ◌++◌, List, [], ◌∷◌, length};
 ghost use Rattle.gg_flat.specs.WellFormed.{IsWellFormed};
 ghost use Rattle.gg_order.specs.Design.{Ordered};
@@ -11,8 +11,9 @@ ghost use Rattle.gg_memunit.specs.MemoryUnit.{IsMemoryPiece};
 ghost use Rattle.gg_sound.specs.Built.{IsGiven, machine_in};
 ghost use Rattle.gg_sound.specs.Alone.{IsCutAgain};
 
-/// The part of a listed memory is well formed; its in-signals, its out-signals and its memory can be chosen of it as a
-/// part; and what such a choice makes is one memory, with the in-signals first.
+/// The part of a listed memory is well formed. Its in-signals, its out-signals and its memory can be chosen from it as
+/// a part. If it is cut again in this way (`IsCutAgain`), the result is the piece of a memory unit, with the in-signals
+/// first.
 pub fn memory_is_chosen()
     ensures formed { (design : Ordered) (request : Request) (default : ℕ) (plan : Plan) (columns : List (List ℕ)) (n : ℕ) (rows : List (List ℕ)) → IsGiven design request default plan columns n rows → (m : ℕ) (part : Part) → m < length plan.machines → (machine_in plan m).body ≡ Memory part → IsWellFormed part.piece }
     ensures chosen { (design : Ordered) (request : Request) (default : ℕ) (plan : Plan) (columns : List (List ℕ)) (n : ℕ) (rows : List (List ℕ)) → IsGiven design request default plan columns n rows → (m : ℕ) (part : Part) → m < length plan.machines → (machine_in plan m).body ≡ Memory part → IsChoice part.piece (part.piece.ins ++ part.piece.outs) part.piece.ins part.piece.outs (0 ∷ []) }

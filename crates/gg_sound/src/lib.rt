@@ -1,28 +1,30 @@
-//! The network of a plan is wired, has no ring, and is solved by the circuit's own run.
+//! Facts about the network of a plan: it is wired, has no ring, and is solved by the circuit's own run.
 //!
-//! A plan (`IsPlan` of gg_cut) names machines and channels. Its network (`specs/Built`) has a machine for each of them before its first
-//! cycle, joined by the plan's channels. The crate has no code: it promises, for the plan of a design and of a request without a
-//! fault, and for such machines,
+//! A plan (`IsPlan` of gg_cut) names machines and channels. Its network (`specs/Built`) has a machine for each of the
+//! plan's machines, before its first cycle, and the plan's channels between them. The crate has no code. For the plan
+//! of a design and of a request without a fault, and for such machines, it promises:
 //!
-//! - that a machine has an in and an out for each channel that the plan lists at it, and that these channels stand there
+//! - a machine has an in or an out for each channel that the plan lists for it, and the channel is connected there
 //!   (`plan_is_listed`);
-//! - that the network is wired: each in and each out is at just one channel, and what outs need and ports look at are ins that are there
-//!   (`plan_is_wired`);
-//! - that there is no ring among what channels need (`plan_has_no_ring`);
-//! - that the columns of the circuit's own run solve the network, with the rows of each machine in it (`plan_is_solved`), so that the
-//!   network is sound, as `Net::new` of gg_net wants it (`plan_is_sound`);
-//! - that the ports that are served can be named (`ports_are_named`), and that the machines are before their first cycle
-//!   (`machines_are_opening`);
-//! - that its machines can be built: a unit's signals are in an order of evaluation (`unit_is_ordered`), a source's channel has a column
-//!   (`source_has_column`), and a listed memory's part can be cut once more, and is then one memory that can stand alone
+//! - the network is wired: each in and each out has exactly one channel, and the ins that outs need and ports read
+//!   exist (`plan_is_wired`);
+//! - there is no ring among the needs of channels (`plan_has_no_ring`);
+//! - the columns of the circuit's own run solve the network, with the rows of each machine in that run
+//!   (`plan_is_solved`), so the network is sound, as `Net::new` of gg_net requires (`plan_is_sound`);
+//! - the ports that a machine serves are among its ports (`ports_are_named`), and the machines are before their first
+//!   cycle (`machines_are_opening`);
+//! - the machines can be built: a unit's signals are in an order of evaluation (`unit_is_ordered`), a source's channel
+//!   has a column (`source_has_column`), and a listed memory's part can be cut once more to give a memory alone
 //!   (`memory_is_chosen`).
 //!
-//! Why there is no ring: an out needs an in where its signal reaches the in's by a path of reads in the machine's piece. The piece is a
-//! part of the circuit, so the path is one of the circuit, and the in's signal stands before the out's in the order of evaluation.
-//! They are two signals, since no channel joins a machine with itself.
+//! Why there is no ring: an out needs an in if the out's signal reaches the in's signal by a path of reads in the
+//! machine's piece. The piece is a part of the circuit, so the path is also one of the circuit. So the in's signal
+//! comes before the out's signal in the order of evaluation. The two signals differ, since no channel connects a
+//! machine with itself.
 //!
-//! Why the circuit's run solves it: the rows of a part of a run are a run of the part, on the columns of its own in-signals; a memory
-//! whose ports are all served is in its next state; and a channel's two ends show its signal's value.
+//! Why the circuit's run solves the network: the rows of a part in a run are a run of the part, on the columns of its
+//! own in-signals. A memory whose ports are all served is in its next state. Both ends of a channel have its signal's
+//! value.
 #![tactic(auto)]
 
 mod alone;

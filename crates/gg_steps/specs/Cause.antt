@@ -1,5 +1,6 @@
--- The words in which it is told why a step isn't done.
--- Source: this program's own form: the cause's name, and behind a blank each what it speaks of, by the names of a steps file.
+-- The text of the cause for which a step wasn't done.
+-- Source: this program's own form. It is the cause's name, followed by what the cause is about, each after a blank,
+-- with the names of a steps file.
 use Rattle.std.specs.Prelude.{ℕ, List, [], ◌∷◌, ◌++◌, Option, Some, None, codes, decimal, slice_get}
 use Rattle.gg_net.specs.declared.event.Event.{Event}
 use Rattle.gg_net.specs.declared.event.Event.TheVariants.{Latch, Fire, Serve, Finish}
@@ -7,7 +8,7 @@ use Rattle.gg_net.specs.declared.event.Refusal.{Refusal}
 use Rattle.gg_net.specs.declared.event.Refusal.TheVariants.{Stranger, Ended, Latched, Fired, NoToken, NeedsInput, Full, Order, Unfired, Unserved}
 use Rattle.gg_steps.specs.Naming.{Naming, name_at, ports_at}
 
--- the names of the ports of the machine that a step names; none where it names no machine
+-- the names of the ports of the machine that a step names; none if it names no machine
 abbrev pub step_ports : Naming → Option Event → List (List ℕ)
 step_ports naming None = []
 step_ports naming (Some (Latch channel)) = []
@@ -15,12 +16,12 @@ step_ports naming (Some (Fire channel)) = []
 step_ports naming (Some (Serve machine port)) = ports_at naming machine
 step_ports naming (Some (Finish machine)) = ports_at naming machine
 
--- the name of the port that is due; `-` where the number is no port's, which is so where none is due
+-- the name of the port that is due; `-` if the number isn't that of a port, which means that no port is due
 abbrev pub due_name : Option (List ℕ) → List ℕ
 due_name None = codes "-"
 due_name (Some name) = name
 
--- The text of a cause. A port is one of the machine that the step names.
+-- The text of a cause. Ports are those of the machine that the step names.
 abbrev pub cause_text : Naming → Option Event → Refusal → List ℕ
 cause_text naming step Stranger = codes "Stranger"
 cause_text naming step Ended = codes "Ended"

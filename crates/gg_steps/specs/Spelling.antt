@@ -1,4 +1,4 @@
--- A step and its line as a relation: what `step_of` computes is the one step that it allows.
+-- A step and its line as a relation. It allows only the step that `step_of` computes.
 -- Source: this program's own form of a steps file.
 use Rattle.std.specs.Prelude.{◌≡◌, ◌≢◌, ℕ, ◌<◌, ◌≤◌, List, ◌∷◌, ◌++◌, Some, codes, length, slice_get, slice_index}
 use Rattle.gg_net.specs.declared.event.Event.{Event}
@@ -9,7 +9,7 @@ use Rattle.gg_steps.specs.Naming.{Naming, ports_at}
 abbrev pub HasNoBlank : List ℕ → Type 0
 HasNoBlank word = (k : ℕ) → k < length word → slice_index word k ≢ 32
 
--- A number goes by a name: it has the name, and no smaller number has it; and the name is a word.
+-- A number goes by a name: it has the name, no smaller number has it, and the name isn't empty and has no blank.
 pub record GoesBy (names : List (List ℕ)) (number : ℕ) (name : List ℕ) : Type 0 where
   pub has : slice_get names number ≡ Some name
   pub first : (k : ℕ) → slice_get names k ≡ Some name → number ≤ k

@@ -1,10 +1,10 @@
 -- The words of a line of a steps file.
--- Source: this program's own form: one blank stands between words.
+-- Source: this program's own form: there is one blank between words.
 use Rattle.std.specs.Prelude.{ℕ, List, [], ◌==◌, Option, Some, None}
 use Rattle.std.specs.List.{slice_split}
 
--- The words of a line: what stands before, between and behind its blanks. So beside two blanks in a row, and beside one at
--- an end of the line, there is a word of no bytes.
+-- The words of a line: the parts before, between and after its blanks. So there is an empty word between two blanks in
+-- a row, and beside a blank at an end of the line.
 unfoldable pub words : List ℕ → List (List ℕ)
 words line = slice_split (λ byte. byte == 32) line
 

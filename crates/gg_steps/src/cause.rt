@@ -1,4 +1,4 @@
-//! The words of the causes for which a step isn't done.
+//! The text of the cause for which a step wasn't done.
 
 ghost use Rattle.std.specs.Prelude.{◌≡◌, IfOk, string_bytes};
 ghost use Rattle.gg_steps.specs.Cause.{cause_text};
@@ -7,15 +7,16 @@ use crate::naming::StepNames;
 use gg_net::{Event, Refusal};
 use std::alloc::{AllocError, Global};
 
-/// The text of the cause for which a step isn't done.
+/// The text of the cause for which a step wasn't done.
 ///
-/// It is the cause's name, and behind a blank each what it speaks of: a channel, or a port of the machine that the step
-/// names, by its name; for a full queue also how many tokens it holds, in decimal. Where a number has no name, nothing stands
-/// for it, but for the port that is due `-`: no port is due then.
+/// It is the cause's name, followed by the name of what the cause is about, after a blank: a channel, or a port of the
+/// machine that the step names. For a full queue the number of tokens in it follows, after a blank, in decimal. A
+/// channel or port without a name is written with no bytes. The exception is the port that is due: without a name it is
+/// written `-`, which means that no port is due.
 ///
 /// # Errors
 ///
-/// `AllocError` where memory is refused.
+/// Returns `AllocError` if an allocation fails.
 pub fn cause_text(
     alloc: Global,
     names: &StepNames<'_>,

@@ -1,13 +1,14 @@
-//! Steps files, and the words of the causes for which a step isn't done.
+//! Steps files, and the text of the cause for which a step wasn't done.
 //!
-//! A steps file tells a network, line by line, what to do. The crate promises:
+//! A steps file lists the steps of a network, one on each line. The crate promises:
 //!
-//! - [`read_steps`] answers the step of each line, and none for a line that is no step. No file is refused. A line is a step
-//!   exactly where it spells that step ([`steps_are_spelt`]).
-//! - [`cause_text`] answers the exact text of a cause, by the names of the channels, machines and ports.
-//! - [`StepNames`] holds those names. A word names the first of equal names.
+//! - [`read_steps`] returns the step of each line, or None for a line that isn't a step. It refuses no file. A line is
+//!   a step exactly if it spells that step ([`steps_are_spelt`]).
+//! - [`cause_text`] returns the exact text of a cause, with the names of the channels and ports.
+//! - [`StepNames`] holds the names of channels, machines and ports. If several names equal a word, it names the first.
 //!
-//! Only want of memory is free. The time for a file grows with its length and not with the count of names.
+//! Any call that allocates may return `AllocError`. The time to read a file grows with its length and not with the
+//! number of names.
 #![tactic(auto)]
 
 mod cause;

@@ -11,7 +11,7 @@ use std::alloc::{AllocError, Global};
 use std::marker::Model;
 
 /// The names of a network's channels, of its machines, and of each machine's ports, by their numbers. A contract sees
-/// their lists.
+/// the lists of names.
 #[derive(Drop)]
 pub struct StepNames<'a> {
     alloc: Global,
@@ -30,7 +30,7 @@ impl<'a> Model for StepNames<'a> {
 }
 
 impl<'a> StepNames<'a> {
-    /// No names.
+    /// Returns a value without names.
     pub fn new(alloc: Global) -> StepNames<'a>
         ensures { result ≡ record { channels = []; machines = []; ports = [] } }
     {
@@ -46,7 +46,7 @@ impl<'a> StepNames<'a> {
     ///
     /// # Errors
     ///
-    /// `AllocError` where memory is refused; the names are as they were.
+    /// Returns `AllocError` if an allocation fails. The names then stay as they were.
     pub fn add_channel(&mut self, name: &'a str) -> Result<(), AllocError>
         requires { length self.old.channels < 2 ^ 32 }
         ensures ok { OnOk result (self.new ≡ record self.old { channels = self.old.channels ++ name.now ∷ [] }) }
@@ -55,11 +55,11 @@ impl<'a> StepNames<'a> {
         self.channels.push(name)
     }
 
-    /// Adds the name of the next machine, and those of its ports.
+    /// Adds the name of the next machine, and the names of its ports.
     ///
     /// # Errors
     ///
-    /// `AllocError` where memory is refused; the names are as they were.
+    /// Returns `AllocError` if an allocation fails. The names then stay as they were.
     pub fn add_machine(&mut self, name: &'a str, ports: &'a [Name]) -> Result<(), AllocError>
         requires machines { length self.old.machines < 2 ^ 32 }
         requires ports { length ports.now < 2 ^ 32 }
@@ -101,7 +101,7 @@ impl<'a> StepNames<'a> {
         self.ports.get(machine as usize)?.place(word)
     }
 
-    /// The name of a channel; empty where there is none of this number.
+    /// The name of a channel; empty if there is none with this number.
     pub(crate) fn channel_name(&self, channel: u32) -> &'a str
         ensures { result.now ≡ name_at self.now.channels channel }
     {
@@ -111,7 +111,7 @@ impl<'a> StepNames<'a> {
         }
     }
 
-    /// The name of a port of the machine that a step names, if there is one of this number.
+    /// The name of a port of the machine that a step names, if there is one with this number.
     pub(crate) fn port_name(&self, step: Option<Event>, port: u32) -> Option<&'a str>
         ensures { option_map (λ name. name.now) result ≡ slice_get (step_ports self.now step) port }
     {

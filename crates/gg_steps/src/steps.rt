@@ -10,7 +10,7 @@ use gg_net::Event;
 use gg_trace::Lines;
 use std::alloc::{AllocError, Global};
 
-/// The step of a word and one name.
+/// The step that a word and one name give.
 fn named_step(names: &StepNames<'_>, word: &[u8], name: &[u8]) -> Option<Event>
     ensures { result ≡ named_step names.now word.now name.now }
 {
@@ -37,7 +37,7 @@ fn served_step(names: &StepNames<'_>, machine: &[u8], port: &[u8]) -> Option<Eve
     Some(Event::Serve { machine, port })
 }
 
-/// The step that a line is. Its bytes needn't be UTF-8: a name is, so a line that isn't names nothing.
+/// The step that a line is. Its bytes needn't be UTF-8: names are, so a line that isn't UTF-8 names nothing.
 fn step_of(names: &StepNames<'_>, line: &[u8]) -> Option<Event>
     ensures { result ≡ step_of names.now line.now }
 {
@@ -55,11 +55,12 @@ fn step_of(names: &StepNames<'_>, line: &[u8]) -> Option<Event>
 
 /// The steps of a file, one for each line.
 ///
-/// A line that is no step is `None`: it is empty, has a blank too many or too few, or names what isn't there.
+/// A line that isn't a step gives `None`: it is empty, has too many or too few blanks, or has a word or a name that
+/// doesn't exist.
 ///
 /// # Errors
 ///
-/// `AllocError` where memory is refused.
+/// Returns `AllocError` if an allocation fails.
 pub fn read_steps(
     alloc: Global,
     names: &StepNames<'_>,

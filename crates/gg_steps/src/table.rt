@@ -1,4 +1,4 @@
-//! A list of names, with the places at which they stand.
+//! A list of names, with their places.
 
 ghost use Rattle.std.specs.Prelude.{◌≡◌, ℕ, List, [], ◌∷◌, ◌++◌, ◌<◌, ◌^◌, length, slice_get, option_map, IfOk, OnOk, OnErr};
 ghost use Rattle.gg_steps.specs.Naming.{first_place};
@@ -9,7 +9,7 @@ use std::alloc::{AllocError, Global};
 use std::collections::HashMap;
 use std::marker::Model;
 
-/// Names by their numbers, with a table that finds the first of each. A contract sees their list.
+/// Names by their numbers, with a table that finds the first place of each name. A contract sees the list of names.
 #[derive(Drop)]
 pub(crate) struct NameTable<'a> {
     names: Vec<&'a str>,
@@ -27,7 +27,7 @@ impl<'a> Model for NameTable<'a> {
     ghost invariant = { λ table. TellsNames (map (λ name. name.now) table.names.items) table.places };
 }
 
-/// Notes that the name stands at this place of a list, unless it stands at an earlier one.
+/// Adds a name's place in a list to the table, unless the name has an earlier place.
 fn note_place<'a>(
     places: &mut HashMap<&'a [u8], u32>,
     name: &'a [u8],
@@ -45,7 +45,7 @@ fn note_place<'a>(
 }
 
 impl<'a> NameTable<'a> {
-    /// No names.
+    /// Returns a table without names.
     pub fn new(alloc: Global) -> NameTable<'a>
         ensures { result ≡ [] }
     {
@@ -55,7 +55,7 @@ impl<'a> NameTable<'a> {
         }
     }
 
-    /// Puts a name behind the others. After an `Err` the names are as they were.
+    /// Appends a name. If an allocation fails the names stay as they were.
     pub fn push(&mut self, name: &'a str) -> Result<(), AllocError>
         requires { length self.old < 2 ^ 32 }
         ensures ok { OnOk result (self.new ≡ self.old ++ name.now ∷ []) }

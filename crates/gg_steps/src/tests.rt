@@ -1,4 +1,4 @@
-//! What no clause says: that with ample memory each call succeeds.
+//! What no contract says: each call succeeds with ample memory.
 ghost use Rattle.std.specs.Prelude.{◌≡◌, IfOk, length};
 
 use super::*;
@@ -19,7 +19,7 @@ fn two_ports(alloc: Global) -> Result<Vec<Name>, AllocError>
     Ok(ports)
 }
 
-// The names of two channels and of a memory with these two ports.
+// The names of two channels, and of a memory with these two ports.
 fn named<'a>(alloc: Global, ports: &'a [Name]) -> Result<StepNames<'a>, AllocError>
     requires { length ports.now ≡ 2 }
 {
@@ -49,7 +49,7 @@ fn are_read(steps: &[Option<Event>]) -> bool {
     }
 }
 
-// Whether the cause for which port 1 isn't served is told so.
+// Whether this is the text of the cause for which port 1 wasn't served.
 fn is_told(
     alloc: Global,
     names: &StepNames<'_>,

@@ -9,7 +9,7 @@ use std::marker::Model;
 /// The words of a line that are still to be read. A contract sees the list of them.
 #[derive(Drop)]
 pub(crate) struct Words<'a> {
-    // what follows the last blank that was read, or nothing where the last word was read
+    // what follows the last blank that was read, or None if the last word was read
     rest: Option<&'a [u8]>,
 }
 
@@ -24,7 +24,7 @@ impl<'a> Model for Words<'a> {
     ghost view = { λ a. words_left (option_copied a.rest) };
 }
 
-/// How many bytes stand before the first blank.
+/// The number of bytes before the first blank.
 fn word_len(line: &[u8]) -> usize
     ensures within { result ≤ length line.now }
     ensures before { (k : ℕ) → k < result → slice_index line.now k ≢ 32 }
@@ -38,7 +38,7 @@ fn word_len(line: &[u8]) -> usize
     line.len()
 }
 
-/// The first word, and what follows the blank behind it, if there is one.
+/// The first word, and what follows the blank after it, if there is a blank.
 fn cut_word(line: &[u8]) -> (&[u8], Option<&[u8]>)
     ensures { words line.now ≡ result.0.now ∷ words_left (option_copied result.1) }
 {
@@ -58,7 +58,7 @@ impl<'a> Words<'a> {
         Words { rest: Some(line) }
     }
 
-    /// The next word, if one is left.
+    /// The next word, or None if no word is left.
     pub fn next(&mut self) -> Option<&'a [u8]>
         ensures { MatchOption result
             ((self.old ≡ []) × (self.new ≡ []))

@@ -22,7 +22,7 @@ abbrev pub HasCellFault : ℕ → List ℕ → CellFault → Type 0
 HasCellFault width field NotHexadecimal = ¬ IsHexadecimal field
 HasCellFault width field TooWide = IsHexadecimal field × (2 ^ width ≤ hexadecimal field)
 
--- the value with one more digit at its end, and none where it or that one does not fit 128 bits
+-- the value with one more digit at its end; None if the value is None or the result doesn't fit 128 bits
 abbrev pub AppendsDigit : Option ℕ → ℕ → Option ℕ → Type 0
 AppendsDigit None digit new = new ≡ None
 AppendsDigit (Some value) digit new = SomeIff new (value * 16 + digit < 2 ^ 128) (value * 16 + digit)

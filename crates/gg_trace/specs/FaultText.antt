@@ -1,9 +1,9 @@
--- A fault of a trace in words, as the program prints it.
+-- The text of a fault of a trace, as the program prints it.
 use Rattle.std.specs.Prelude.{ℕ, List, ◌++◌, codes, decimal}
 use Rattle.gg_trace.specs.declared.faults.TraceFault.{TraceFault}
 use Rattle.gg_trace.specs.declared.faults.TraceFault.TheVariants.{Heading, RowNumber, NotHexadecimal, TooWide, FieldCount, TooManyRows, NoMemory}
 
--- the fault's code, and what it carries
+-- the fault's code and its numbers
 abbrev pub fault_words : TraceFault → List ℕ
 fault_words (Heading f) = codes "T1 field " ++ decimal f
 fault_words (RowNumber r) = codes "T2 row " ++ decimal r

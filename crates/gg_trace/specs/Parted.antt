@@ -1,4 +1,4 @@
--- A line and its fields as a relation: what `fields` computes is the one list that it allows.
+-- A line and its fields as a relation. It allows only the list that `fields` computes.
 use Rattle.std.specs.Prelude.{◌≡◌, ℕ, ◌<◌, true, false, List, [], ◌∷◌, ◌++◌, length, slice_index}
 use Rattle.gg_trace.specs.Fields.{is_blank}
 
@@ -11,7 +11,7 @@ pub record IsGap (gap : List ℕ) : Type 0 where
   pub some : 0 < length gap
   pub blanks : (k : ℕ) → k < length gap → is_blank (slice_index gap k) ≡ true
 
--- text is a first field, a gap, and then rest, which begins with no blank
+-- the text is a first field, followed by a gap and the rest, which doesn't begin with a blank
 pub record IsCut (text field rest : List ℕ) : Type 0 where
   pub gap : List ℕ
   pub whole : text ≡ field ++ (gap ++ rest)
@@ -19,13 +19,13 @@ pub record IsCut (text field rest : List ℕ) : Type 0 where
   pub is_gap : IsGap gap
   pub ends : 0 < length rest → is_blank (slice_index rest 0) ≡ false
 
--- text is these fields, parted by gaps
+-- the text is these fields, with gaps between them
 abbrev pub IsParted : List ℕ → List (List ℕ) → Type 0
 IsParted text [] = ⊥
 IsParted text (f ∷ []) = (text ≡ f) × HasNoBlank f
 IsParted text (f ∷ g ∷ fs) = (rest : List ℕ) × IsCut text f rest × IsParted rest (g ∷ fs)
 
--- these are the fields of the line: an empty line has none
+-- these are the fields of the line; an empty line has none
 abbrev pub AreFields : List ℕ → List (List ℕ) → Type 0
 AreFields [] fs = fs ≡ []
 AreFields (b ∷ line) fs = IsParted (b ∷ line) fs

@@ -1,4 +1,4 @@
--- What is kept of a header: the port that each field after the first names.
+-- What is kept from a header: the port that each field after the first names.
 use Rattle.std.specs.Prelude.{◌≡◌, ◌≢◌, ℕ, ◌+◌, ◌<◌, ◌≤◌, decimal, drop, length, slice_index, slice_index_or, slice_set, Bool, true, false, Option, None, Some, MatchOption, List}
 use Rattle.std.specs.HashMap.{HashMap, get_by}
 use Rattle.std.specs.Str.{bytes_eq}
@@ -20,7 +20,7 @@ pub record IsPlace (places : List ℕ) (i : ℕ) : Type 0 where
   pub within : at < length places
   pub is : slice_index places at ≡ i
 
--- The header is one of these ports, and its field g + 1 names the port at place g of the list.
+-- The header is one for these ports, and its field g + 1 names the port at place g of the list.
 pub record IsHeading (ports : List Port) (header : List (List ℕ)) (places : List ℕ) : Type 0 where
   pub is_header : IsHeader ports header
   pub count : length header ≡ length places + 1
@@ -28,7 +28,7 @@ pub record IsHeading (ports : List Port) (header : List (List ℕ)) (places : Li
   pub distinct : (g h : ℕ) → g < h → h < length places → slice_index places g ≢ slice_index places h
   pub all : (i : ℕ) → i < length ports → IsPlace places i
 
--- the fault is the header's, or memory ran out
+-- the fault is the header's, or `NoMemory`
 abbrev pub IfHeaderFault : List Port → List (List ℕ) → TraceFault → Type 0
 IfHeaderFault ports header (Heading f) = HasHeaderFault ports header f
 IfHeaderFault ports header (RowNumber r) = ⊥
@@ -38,12 +38,12 @@ IfHeaderFault ports header (FieldCount r c) = ⊥
 IfHeaderFault ports header (TooManyRows r) = ⊥
 IfHeaderFault ports header NoMemory = Unit {0}
 
--- a name is taken: its port was not named before and is now, or there is no such port
+-- a name was read: its port wasn't named before and is now, or there is no such port
 abbrev pub TakesName : List Port → List ℕ → List Bool → List Bool → Option ℕ → Type 0
 TakesName ports name old new None = (new ≡ old) × ((i : ℕ) → IsNamed ports name i → slice_index_or old i false ≡ true)
 TakesName ports name old new (Some i) = IsNamed ports name i × (slice_index_or old i false ≡ false) × (new ≡ slice_set old i true)
 
--- the places are of ports, and no two are one
+-- the places are those of ports, and no two are the same
 pub record ArePlaces (ports : List Port) (places : List ℕ) : Type 0 where
   pub within : (g : ℕ) → g < length places → slice_index places g < length ports
   pub distinct : (g h : ℕ) → g < h → h < length places → slice_index places g ≢ slice_index places h
@@ -52,7 +52,7 @@ pub record ArePlaces (ports : List Port) (places : List ℕ) : Type 0 where
 pub record AreCells (ports : List Port) (places : List ℕ) (cells : List (List ℕ)) (n : ℕ) : Type 0 where
   pub each : (g : ℕ) → g < n → IsCell (width_at ports (slice_index places g)) (field cells g)
 
--- the first n cells give these values, each at its port's place
+-- the first n cells give these values, each value at its port's place
 pub record AreValues (places : List ℕ) (cells : List (List ℕ)) (values : List ℕ) (n : ℕ) : Type 0 where
   pub each : (g : ℕ) → g < n → slice_index values (slice_index places g) ≡ hexadecimal (field cells g)
 
@@ -64,7 +64,7 @@ pub record StopsAt (ports : List Port) (places : List ℕ) (cells : List (List �
   pub within : at < length places
   pub before : AreCells ports places cells at
 
--- the fault is of the first cell of the row that is no value
+-- the fault is that of the first cell of the row that isn't a value
 abbrev pub HasValuesFault : List Port → List ℕ → List (List ℕ) → ℕ → TraceFault → Type 0
 HasValuesFault ports places cells row (Heading f) = ⊥
 HasValuesFault ports places cells row (RowNumber r) = ⊥
@@ -106,7 +106,7 @@ HasRowFault ports places row line (FieldCount r c) = (r ≡ row) × (row < row_l
 HasRowFault ports places row line (TooManyRows r) = (r ≡ row) × (row_limit ≤ row)
 HasRowFault ports places row line NoMemory = ⊥
 
--- a table by names: a look-up by any bytes finds a port, of the first n, that has this name, or there is none
+-- a table by names: a look-up of any bytes finds one of the first n ports that has this name, or none if no port has it
 abbrev pub TellsPorts : List Port → ℕ → HashMap (Bor (List ℕ)) ℕ (BuildHasherDefault FoldHasher) → Type 0
 TellsPorts ports n table = (name : List ℕ) → MatchOption (get_by (λ k. bytes_eq name k.now) table)
     ((i : ℕ) → i < n → name_at ports i ≢ name)

@@ -27,6 +27,6 @@ pub record IsNamed (ports : List Port) (name : List ℕ) (i : ℕ) : Type 0 wher
 abbrev pub NamesNone : List Port → List ℕ → Type 0
 NamesNone ports name = (i : ℕ) → i < length ports → name_at ports i ≢ name
 
--- no two ports have one name
+-- no two ports have the same name
 abbrev pub HasDistinctNames : List Port → Type 0
 HasDistinctNames ports = (i j : ℕ) → i < length ports → j < length ports → name_at ports i ≡ name_at ports j → i ≡ j

@@ -5,20 +5,20 @@ use Rattle.std.specs.Char.{digit_char}
 use Rattle.gg_flat.specs.declared.ports.Port.{Port}
 use Rattle.gg_trace.specs.Table.{row_of}
 
--- so many hexadecimal digits of a value, in lower case: that of the highest place first
+-- the lowest hexadecimal digits of a value, this many, in lower case, the highest digit first
 abbrev pub hex_digits : ℕ → ℕ → List ℕ
 hex_digits zero value = []
 hex_digits (suc k) value = digit_char (value / 16 ^ k % 16) ∷ hex_digits k value
 
--- how many hexadecimal digits a value of this many bits has: a quarter, rounded up
+-- the number of hexadecimal digits of a value with this many bits: a quarter, rounded up
 abbrev pub digit_count : ℕ → ℕ
 digit_count width = (width + 3) / 4
 
--- the header: `cycle` and the names, a space before each, and a line feed
+-- the header: `cycle`, the names with a space before each, and a line feed
 abbrev pub header_line : List Port → List ℕ
 header_line ports = codes "cycle" ++ flat_map (λ p. 32 ∷ p.name) ports ++ 10 ∷ []
 
--- the values of a row, a space before each
+-- the values of a row, with a space before each
 abbrev pub values_text : List Port → List ℕ → List ℕ
 values_text [] values = []
 values_text (p ∷ ports) [] = []
@@ -28,7 +28,7 @@ values_text (p ∷ ports) (v ∷ values) = (32 ∷ hex_digits (digit_count p.ty.
 abbrev pub row_line : List Port → ℕ → List ℕ → List ℕ
 row_line ports cycle values = decimal cycle ++ values_text ports values ++ 10 ∷ []
 
--- The text of a trace: the header, and a row for each of the first n cycles.
+-- The text of a trace: the header, then a row for each of the first n cycles.
 abbrev pub trace_text : List Port → List (List ℕ) → ℕ → List ℕ
 trace_text ports columns zero = header_line ports
 trace_text ports columns (suc n) = trace_text ports columns n ++ row_line ports n (row_of columns n)

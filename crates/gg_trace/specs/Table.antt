@@ -2,7 +2,7 @@
 use Rattle.std.specs.Prelude.{ℕ, ◌+◌, ◌*◌, List, map, slice_index}
 use Rattle.std.specs.List.{range_with_len}
 
--- a trace has fewer rows than any that is numbered so: rows are counted from 0
+-- the limit of rows: each row's number is below it, counted from 0
 abbrev pub row_limit : ℕ
 row_limit = 1000000
 
@@ -15,7 +15,7 @@ pub record Table : Type 0 where
 abbrev pub row_of : List (List ℕ) → ℕ → List ℕ
 row_of columns r = map (λ column. slice_index column r) columns
 
--- the table whose rows, of this many values each, stand one after another
+-- the table whose rows, of this many values each, are in the list, one after another
 abbrev pub table_of : ℕ → ℕ → List ℕ → Table
 table_of rows width cells = record {
   rows = rows;

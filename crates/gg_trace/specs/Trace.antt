@@ -13,7 +13,7 @@ use Rattle.gg_trace.specs.Table.{row_limit}
 abbrev pub line_fields : List ℕ → List (List (List ℕ))
 line_fields bytes = map fields (text_lines bytes)
 
--- the fields of the first line, and none where there is no line
+-- the fields of the first line; none if there is no line
 abbrev pub header_of : List ℕ → List (List ℕ)
 header_of bytes = slice_index_or (line_fields bytes) 0 []
 
@@ -36,8 +36,8 @@ pub record IsRow (ports : List Port) (header : List (List ℕ)) (r : ℕ) (row :
   pub number : field row 0 ≡ decimal r
   pub values : (f : ℕ) → 0 < f → f < length header → IsValueField ports header row f
 
--- The text has a header and n rows, and gives these columns: in row r the value of port i is the number that the
--- field below the port's name writes.
+-- The text has a header and n rows, and gives these columns: in row r the value of port i is the number written in the
+-- field below the port's name.
 pub record Columns (ports : List Port) (bytes : List ℕ) (n : ℕ) (columns : List (List ℕ)) : Type 0 where
   pub header : IsHeader ports (header_of bytes)
   pub count : length (rows_of bytes) ≡ n
@@ -53,7 +53,7 @@ pub record HasValueAt (bytes : List ℕ) (r f : ℕ) : Type 0 where
   pub behind : 0 < f
   pub within : f < length (header_of bytes)
 
--- a value of row r that is hexadecimal is too great for its port's width
+-- field f of row r is hexadecimal, and its number is too great for its port's width
 pub record IsTooWide (ports : List Port) (bytes : List ℕ) (r f : ℕ) : Type 0 where
   pub port : ℕ
   pub named : IsNamed ports (field (header_of bytes) f) port
@@ -70,29 +70,30 @@ HasFault ports bytes (FieldCount r c) = (r < length (rows_of bytes)) × (length 
 HasFault ports bytes (TooManyRows r) = (r < length (rows_of bytes)) × (r ≡ row_limit)
 HasFault ports bytes NoMemory = ⊥
 
--- the header and each row before r are good
+-- the header and each row before r are right
 pub record ReachesRow (ports : List Port) (bytes : List ℕ) (r : ℕ) : Type 0 where
   pub header : IsHeader ports (header_of bytes)
   pub before : (q : ℕ) → q < r → IsRow ports (header_of bytes) q (row_at bytes q)
 
--- and row r is below the limit
+-- the same, and row r is below the limit
 pub record ReachesCount (ports : List Port) (bytes : List ℕ) (r : ℕ) : Type 0 where
   pub row : ReachesRow ports bytes r
   pub limit : r < row_limit
 
--- and has the header's count of fields
+-- the same, and row r has as many fields as the header
 pub record ReachesNumber (ports : List Port) (bytes : List ℕ) (r : ℕ) : Type 0 where
   pub limit : ReachesCount ports bytes r
   pub count : length (row_at bytes r) ≡ length (header_of bytes)
 
--- and begins with its number, and each value before field f is good
+-- the same, and row r begins with its number, and each value before field f is right
 pub record ReachesValue (ports : List Port) (bytes : List ℕ) (r f : ℕ) : Type 0 where
   pub count : ReachesNumber ports bytes r
   pub number : field (row_at bytes r) 0 ≡ decimal r
   pub before : (g : ℕ) → 0 < g → g < f → IsValueField ports (header_of bytes) (row_at bytes r) g
 
--- Nothing that comes before this fault is faulty: the header comes before all, then the rows in order, and in a row
--- the limit, the count of fields, the row's number, and the values from left to right, where digits come before width.
+-- Nothing that comes before this fault is faulty. The header comes before all, then the rows come in order. In a row
+-- the limit comes first, then the count of fields, the row's number, and the values from left to right. In a value the
+-- digits come before the width.
 abbrev pub IsReached : List Port → List ℕ → TraceFault → Type 0
 IsReached ports bytes (Heading f) = Unit {0}
 IsReached ports bytes (TooManyRows r) = ReachesRow ports bytes r
@@ -106,7 +107,7 @@ IsReached ports bytes NoMemory = ⊥
 abbrev pub IsFirstFault : List Port → List ℕ → TraceFault → Type 0
 IsFirstFault ports bytes fault = IsReached ports bytes fault × HasFault ports bytes fault
 
--- the first fault, or want of memory
+-- the first fault, or `NoMemory`
 abbrev pub IfFirstFault : List Port → List ℕ → TraceFault → Type 0
 IfFirstFault ports bytes NoMemory = Unit {0}
 IfFirstFault ports bytes (Heading f) = IsFirstFault ports bytes (Heading f)

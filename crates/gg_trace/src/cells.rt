@@ -20,7 +20,7 @@ fn fits(value: u128, width: u32) -> bool
     width == 128 || value < 1 << width
 }
 
-/// The value with one more hexadecimal digit at its end, as far as it fits 128 bits.
+/// The value with one more hexadecimal digit at its end. None if `value` is None or the result doesn't fit 128 bits.
 fn with_digit(value: Option<u128>, digit: u32) -> Option<u128>
     requires { digit < 16 }
     ensures { AppendsDigit value digit result }
@@ -28,7 +28,8 @@ fn with_digit(value: Option<u128>, digit: u32) -> Option<u128>
     value?.checked_mul(16)?.checked_add(u128::from(digit))
 }
 
-/// The value that the digits of a field give, as far as it fits 128 bits; an error where they are not all digits.
+/// The value that the digits of a field give, or None if it doesn't fit 128 bits. Returns an error if the field isn't
+/// one or more digits.
 fn digits_of(field: &[u8]) -> Result<Option<u128>, CellFault>
     ensures { MatchResult result
         (λ value. IsHexadecimal field.now
@@ -48,7 +49,7 @@ fn digits_of(field: &[u8]) -> Result<Option<u128>, CellFault>
     Ok(value)
 }
 
-/// The value that a field gives in this width.
+/// The value that a field gives, if it fits this width.
 pub fn value_of(field: &[u8], width: u32) -> Result<u128, CellFault>
     requires { width ≤ 128 }
     ensures { MatchResult result

@@ -7,13 +7,13 @@ use std::alloc::{AllocError, AllocFailed};
 use std::error::Error;
 use std::fmt;
 
-/// What is wrong with an input trace. Rows and fields are counted from 0, and the header is no row. Each text, but that
-/// of `NoMemory`, begins with the code that is given here.
+/// What is wrong with an input trace. Rows and fields are counted from 0. The header isn't a row. The text of each
+/// fault begins with the code given here, except that `NoMemory` has no code.
 #[derive(Clone, Copy, Debug, Drop, PartialEq, Eq)]
 pub enum TraceFault {
-    /// T1: a field of the header may not stand there, or names are missing.
+    /// T1: a field of the header is invalid at its position, or names are missing.
     Heading {
-        /// The field; where names are missing, the count of fields.
+        /// The field, or the count of fields if names are missing.
         field: u64,
     },
     /// T2: field 0 of a row isn't the row's number.
@@ -35,7 +35,7 @@ pub enum TraceFault {
         /// The field.
         field: u64,
     },
-    /// T5: a row's count of fields isn't the header's.
+    /// T5: a row doesn't have as many fields as the header.
     FieldCount {
         /// The row.
         row: u64,
@@ -47,7 +47,7 @@ pub enum TraceFault {
         /// The first row above the limit: 1,000,000.
         row: u64,
     },
-    /// Memory ran out.
+    /// An allocation failed.
     NoMemory,
 }
 
@@ -67,7 +67,7 @@ impl<T: Drop> From<AllocFailed<T>> for TraceFault {
     }
 }
 
-/// The fault's code, and what it carries, as the program prints it behind `golden: trace: `.
+/// The fault's code and its numbers, as the program prints them after `golden: trace: `.
 impl fmt::Display for TraceFault {
     ghost use Rattle.std.specs.Prelude.{Some};
     ghost use Rattle.gg_trace.specs.FaultText.{fault_words};

@@ -10,7 +10,7 @@ use std::marker::Model;
 /// The fields of a line that are still to be read. A contract sees the list of them.
 #[derive(Drop)]
 pub struct Fields<'a> {
-    // what follows the last run of blanks, or nothing where the last field was read
+    // what follows the last run of blanks, or None if the last field was read
     rest: Option<&'a [u8]>,
 }
 
@@ -31,7 +31,7 @@ fn is_blank(byte: u8) -> bool
     byte == b' ' || byte == b'\t'
 }
 
-/// How many bytes at the front are all blanks, or all none.
+/// The number of bytes before the first byte that isn't a blank, or before the first blank if `blank` is false.
 fn run_len(text: &[u8], blank: bool) -> usize
     ensures within { result ≤ length text.now }
     ensures same { (k : ℕ) → k < result → is_blank (slice_index text.now k) ≡ blank }
@@ -45,7 +45,7 @@ fn run_len(text: &[u8], blank: bool) -> usize
     text.len()
 }
 
-/// The first field, and what follows the blanks behind it, if there are any.
+/// The first field, and what follows the blanks after it, if there are any.
 fn cut_field(text: &[u8]) -> (&[u8], Option<&[u8]>)
     ensures { fields_of_text text.now ≡ result.0.now ∷ fields_left (option_copied result.1) }
 {
@@ -70,7 +70,7 @@ impl<'a> Fields<'a> {
         }
     }
 
-    /// The next field, if one is left.
+    /// The next field, or None if no field is left.
     pub fn next(&mut self) -> Option<&'a [u8]>
         ensures { MatchOption result
             ((self.old ≡ []) × (self.new ≡ []))
@@ -82,7 +82,7 @@ impl<'a> Fields<'a> {
     }
 }
 
-/// How many fields a line has.
+/// The number of fields of a line.
 #[tactic(auto, using(crate::proofs::FieldLaws::field_count))]
 pub fn count_fields(line: &[u8]) -> usize
     ensures { result ≡ length (fields line.now) }
@@ -95,7 +95,7 @@ pub fn count_fields(line: &[u8]) -> usize
     count
 }
 
-/// The fields of a line are the one list of fields that parts it.
+/// The fields of a line are the only list of fields into which it can be divided.
 pub fn fields_part_their_line()
     ensures are { (line : List ℕ) → AreFields line (fields line) }
     ensures only { (line : List ℕ) (others : List (List ℕ)) →

@@ -21,7 +21,8 @@ fn all_named(named: &[bool]) -> bool
     !named.contains(&false)
 }
 
-/// The port with this name, which is marked as named; none where there is no such port or it was named before.
+/// The place of the port with this name, which is then marked as named. None if there is no such port or it was already
+/// named.
 fn take_name(table: &PortTable, name: &[u8], named: &mut Vec<bool>) -> Option<usize>
     requires size { vec_len named.old ≡ length table.now }
     requires distinct { HasDistinctNames table.now }
@@ -35,13 +36,13 @@ fn take_name(table: &PortTable, name: &[u8], named: &mut Vec<bool>) -> Option<us
     Some(place)
 }
 
-/// The places of the ports that the fields behind `cycle` name, field by field. `rest` are these fields: `cycle` and
-/// they are the whole header.
+/// The places of the ports that the fields after `cycle` name, field by field. `rest` has these fields. The header is
+/// `cycle` followed by them.
 ///
 /// # Errors
 ///
-/// `Heading` of the first field that is no port's name or a name that stood before; else, where names are missing,
-/// `Heading` of the header's count of fields. `NoMemory` where memory ran out.
+/// Returns `Heading` with the first field that isn't a port's name or repeats an earlier name. Else, if names are
+/// missing, returns `Heading` with the header's count of fields. Returns `NoMemory` if an allocation fails.
 fn take_names(alloc: Global, table: &PortTable, rest: &mut Fields) -> Result<Vec<usize>, TraceFault>
     requires { HasDistinctNames table.now }
     ensures { let header = codes "cycle" ∷ rest.old in
@@ -65,11 +66,11 @@ fn take_names(alloc: Global, table: &PortTable, rest: &mut Fields) -> Result<Vec
     Ok(places)
 }
 
-/// The places of the ports that the fields behind `cycle` name, as `take_names` answers them over a table.
+/// The places of the ports that the fields after `cycle` name, as `take_names` returns them. Builds the table.
 ///
 /// # Errors
 ///
-/// Those of `take_names`.
+/// The errors of `take_names`.
 fn read_names(alloc: Global, ports: &[Port], rest: &mut Fields) -> Result<Vec<usize>, TraceFault>
     requires { HasDistinctNames ports.now }
     ensures { let header = codes "cycle" ∷ rest.old in
@@ -79,13 +80,13 @@ fn read_names(alloc: Global, ports: &[Port], rest: &mut Fields) -> Result<Vec<us
     take_names(alloc, &table, rest)
 }
 
-/// The places of the ports that the header names behind its first field, field by field.
+/// The places of the ports that the header names after its first field, field by field.
 ///
 /// # Errors
 ///
-/// `Heading` of the first field that may not stand there: the first is `cycle`, and each further one is a port's name
-/// that did not stand before. Else, where names are missing, `Heading` of the count of fields. `NoMemory` where memory
-/// ran out.
+/// Returns `Heading` with the first field that is invalid at its position: the first field has to be `cycle`, and each
+/// further one the name of a port that wasn't named before. Else, if names are missing, returns `Heading` with the
+/// count of fields. Returns `NoMemory` if an allocation fails.
 pub fn read_header(alloc: Global, ports: &[Port], line: &[u8]) -> Result<Vec<usize>, TraceFault>
     requires { HasDistinctNames ports.now }
     ensures { let header = fields line.now in

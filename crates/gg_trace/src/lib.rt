@@ -1,10 +1,10 @@
-//! Input traces read, and output traces printed, exactly.
+//! Reads input traces and prints output traces, exactly.
 //!
-//! An input trace gives a value for each port of a circuit's top in each cycle. `read_trace` answers the columns that
-//! the whole text gives, or the first thing that is wrong with it, and no other: a text that has columns is read, and a
-//! text that has a fault is refused with its first one, unless memory runs out. `header_text` and `row_text` give the
-//! exact bytes of the lines of an output trace, and what is printed there is read again as the same value.
-//! `Lines` gives the lines of any text, one after another.
+//! An input trace gives a value for each port of a circuit's top in each cycle. `read_trace` returns the columns that
+//! the whole text gives, or the first fault. Unless an allocation fails, a text that has columns is read, and a text
+//! that has a fault is refused with its first fault. `header_text` and `row_text` return the exact bytes of the lines
+//! of an output trace. A value that is printed is read again as the same value. `Lines` gives the lines of any text,
+//! one after another.
 #![tactic(auto)]
 
 mod cells;

@@ -23,7 +23,7 @@ impl<'a> Model for Lines<'a> {
     ghost view = { λ a. text_lines a.rest.now };
 }
 
-/// How many bytes stand before the first line feed.
+/// The number of bytes before the first line feed.
 fn line_len(text: &[u8]) -> usize
     ensures within { result ≤ length text.now }
     ensures before { (k : ℕ) → k < result → slice_index text.now k ≢ 10 }
@@ -47,7 +47,7 @@ fn without_return(line: &[u8]) -> &[u8]
     }
 }
 
-/// The first line, and the text behind its line end.
+/// The first line, and the text after its line end.
 fn cut_line(text: &[u8]) -> (&[u8], &[u8])
     requires { 0 < length text.now }
     ensures { text_lines text.now ≡ result.0.now ∷ text_lines result.1.now }
@@ -68,7 +68,7 @@ impl<'a> Lines<'a> {
         Lines { rest: text }
     }
 
-    /// The next line, if one is left.
+    /// The next line, or None if no line is left.
     pub fn next(&mut self) -> Option<&'a [u8]>
         ensures { MatchOption result
             ((self.old ≡ []) × (self.new ≡ []))
@@ -83,7 +83,7 @@ impl<'a> Lines<'a> {
     }
 }
 
-/// The lines of a text are the one list of lines that it is made of.
+/// The lines of a text are the only list of lines into which it can be divided.
 pub fn lines_part_their_text()
     ensures are { (text : List ℕ) → AreLines text (text_lines text) }
     ensures only { (text : List ℕ) (others : List (List ℕ)) →

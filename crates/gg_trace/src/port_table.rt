@@ -28,7 +28,7 @@ impl<'a> Model for PortTable<'a> {
     ghost invariant = { λ table. TellsPorts table.ports.now (length table.ports.now) table.places };
 }
 
-/// The place of each port by its name, where the last of some ports with one name counts.
+/// The place of each port by its name. If several ports have the same name, the last one counts.
 fn places_of(alloc: Global, ports: &[Port]) -> Result<HashMap<&[u8], usize>, AllocError>
     ensures { IfOk result (TellsPorts ports.now (length ports.now)) }
 {
@@ -48,14 +48,14 @@ impl<'a> PortTable<'a> {
         Ok(PortTable { ports, places })
     }
 
-    /// How many ports there are.
+    /// The number of ports.
     pub fn len(&self) -> usize
         ensures { result ≡ length self.now }
     {
         self.ports.len()
     }
 
-    /// The place of the port with this name.
+    /// The place of the port with this name, if there is one.
     pub fn place(&self, name: &[u8]) -> Option<usize>
         ensures { MatchOption result (NamesNone self.now name.now) (IsNamed self.now name.now) }
     {

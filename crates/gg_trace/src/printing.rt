@@ -18,7 +18,7 @@ fn digit_of(digit: u32) -> char
     char::from_digit(digit, 16).unwrap()
 }
 
-/// Writes the last digits of a value at the end of a text, in hexadecimal.
+/// Writes the last `digits` digits of a value at the end of a text, in hexadecimal.
 fn push_digits(text: &mut String, value: u128, digits: u32) -> Result<(), AllocError>
     requires { digits ≤ 32 }
     ensures { OnOk result (string_bytes text.new ≡ string_bytes text.old ++ hex_digits digits value) }
@@ -48,11 +48,11 @@ fn push_name(text: &mut String, name: &Name) -> Result<(), AllocError>
     text.push_str(name.as_str())
 }
 
-/// The header of a trace of these ports: `cycle` and their names, one space before each, and a line feed.
+/// The header of a trace of these ports: `cycle` and the names, with one space before each name, and a line feed.
 ///
 /// # Errors
 ///
-/// Memory ran out.
+/// Returns `AllocError` if an allocation fails.
 pub fn header_text(alloc: Global, ports: &Ports) -> Result<Name, AllocError>
     ensures { IfOk result (λ text. text ≡ header_line ports.now) }
 {
@@ -64,15 +64,15 @@ pub fn header_text(alloc: Global, ports: &Ports) -> Result<Name, AllocError>
     Ok(Name::from(text))
 }
 
-/// A row of a trace of these ports: the cycle in decimal, then each port's value in lower-case hexadecimal with a
-/// quarter of its width in digits, rounded up; one space before each value, and a line feed.
+/// A row of a trace of these ports: the cycle in decimal, the values in lower-case hexadecimal with one space before
+/// each value, and a line feed. A value has a quarter of its port's width in digits, rounded up.
 ///
-/// Each value is one of its port's type, below 2 to the port's width. Of a greater one only so many lowest digits are
-/// written as the width has.
+/// Each value should be below 2 to its port's width. Of a greater value only its lowest digits are written, as many as
+/// the width has.
 ///
 /// # Errors
 ///
-/// Memory ran out.
+/// Returns `AllocError` if an allocation fails.
 pub fn row_text(alloc: Global, ports: &Ports, row: u64, values: &[u128]) -> Result<Name, AllocError>
     requires { length values.now ≡ length ports.now }
     ensures { IfOk result (λ text. text ≡ row_line ports.now row values.now) }
@@ -86,7 +86,7 @@ pub fn row_text(alloc: Global, ports: &Ports, row: u64, values: &[u128]) -> Resu
     Ok(Name::from(text))
 }
 
-/// A value that is printed in its width is read again as it was.
+/// A value that is printed in its width is read again as the same value.
 pub fn printed_values_are_read()
     ensures { (width value : ℕ) → 0 < width → value < 2 ^ width →
         IsCell width (hex_digits (digit_count width) value) × (hexadecimal (hex_digits (digit_count width) value) ≡ value) }

@@ -14,7 +14,7 @@ use crate::trace_table::Trace;
 use gg_flat::{Port, Ports};
 use std::alloc::Global;
 
-/// The first line, and an empty one where there is none.
+/// The first line, or an empty line if there is none.
 fn first_line<'a>(lines: &mut Lines<'a>) -> &'a [u8]
     ensures header { slice_index_or (map fields lines.old) 0 [] ≡ fields result.now }
     ensures rows { drop 1 (map fields lines.old) ≡ map fields lines.new }
@@ -47,24 +47,25 @@ fn read_lines(alloc: Global, ports: &[Port], bytes: &[u8]) -> Result<Trace, Trac
 
 /// Reads an input trace: the columns that its text gives, one for each port, or its first fault.
 ///
-/// The header is `cycle` and the names of all ports, each once, in any order. Row r is r in decimal, and then a value
-/// for each port in hexadecimal. The first fault is that of the header; else of the first faulty row; in a row the
-/// limit of rows comes first, then the count of fields, the row's number, and the values from left to right.
+/// The header is `cycle` and the names of all ports, each once, in any order. Row r is r in decimal, followed by a
+/// value for each port in hexadecimal. The first fault is the header's fault, if it has one, else the first fault of
+/// the first faulty row. In a row the limit of rows comes first, then the count of fields, the row's number, and the
+/// values from left to right.
 ///
-/// The ports have different names.
+/// The ports have to have different names.
 pub fn read_trace(alloc: Global, ports: &Ports, bytes: &[u8]) -> Result<Trace, TraceFault>
     requires { HasDistinctNames ports.now }
-    // What is read are the columns of the text, and each value fits its port.
+    // The trace has the columns of the text, and each value fits its port.
     ensures columns { IfOk result (λ trace. Columns ports.now bytes.now trace.rows trace.columns) }
     ensures widths { IfOk result (λ trace. HaveWidths ports.now trace.rows trace.columns) }
-    // What is read has none of the faults.
+    // A text that is read has none of the faults.
     ensures clean { IfOk result (λ _. (fault : TraceFault) → ¬ HasFault ports.now bytes.now fault) }
-    // A fault is the text's first, or memory ran out.
+    // A fault is the text's first, or `NoMemory`.
     ensures fault { IfErr result (IfFirstFault ports.now bytes.now) }
-    // A text with columns is read, unless memory runs out.
+    // A text with columns is read, unless an allocation fails.
     ensures complete { (n : ℕ) (columns : List (List ℕ)) → Columns ports.now bytes.now n columns →
         MatchResult result (λ trace. (trace.rows ≡ n) × (trace.columns ≡ columns)) (λ given. given ≡ TraceFault.NoMemory) }
-    // A text with a first fault is refused with it, unless memory runs out.
+    // A text with a first fault is refused with it, unless an allocation fails.
     ensures due { (first : TraceFault) → IsFirstFault ports.now bytes.now first →
         MatchResult result (λ _. ⊥) (λ given. (given ≡ first) ⊎ (given ≡ TraceFault.NoMemory)) }
 {

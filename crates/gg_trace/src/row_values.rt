@@ -14,14 +14,14 @@ use crate::texts::same_bytes;
 use gg_flat::Port;
 use itoa::Buffer;
 
-/// A trace has at most this many rows.
+/// The limit of a trace's rows: it has at most this many.
 pub const ROW_LIMIT: u64 = 1_000_000;
 
 /// The value of a field, which is field `at` of row `row`.
 ///
 /// # Errors
 ///
-/// `NotHexadecimal` where it is not hexadecimal, `TooWide` where its number does not fit the width.
+/// Returns `NotHexadecimal` if the field isn't hexadecimal, or `TooWide` if its number doesn't fit the width.
 fn read_value(text: &[u8], width: u32, row: u64, at: u64) -> Result<u128, TraceFault>
     requires { width ≤ 128 }
     ensures { MatchResult result
@@ -35,12 +35,13 @@ fn read_value(text: &[u8], width: u32, row: u64, at: u64) -> Result<u128, TraceF
     }
 }
 
-/// Writes the values that the fields behind a row's number give, each at its port's place: the field at place g gives
-/// that of port `places[g]`. A fault carries `row`.
+/// Writes the values of the fields after a row's number, each at its port's place: the field at place g gives the value
+/// of port `places[g]`. A fault carries `row`.
 ///
 /// # Errors
 ///
-/// `NotHexadecimal` or `TooWide` of the first field that is no value of its port. The values before it are written.
+/// Returns `NotHexadecimal` or `TooWide` with the first field that isn't a value of its port. The values before it are
+/// written.
 fn read_values(
     ports: &[Port],
     places: &[usize],
@@ -74,14 +75,14 @@ fn is_decimal(text: &[u8], number: u64) -> bool
     same_bytes(text, buffer.format(number).as_bytes())
 }
 
-/// Writes the values of row `row`, whose text is `line`, each at its port's place: field g + 1 gives that of port
+/// Writes the values of row `row`, whose text is `line`, each at its port's place: field g + 1 gives the value of port
 /// `places[g]`.
 ///
 /// # Errors
 ///
-/// The first fault of the row, in this order: `TooManyRows` where the trace has too many rows, `FieldCount` where the
-/// line has another count of fields than the header, `RowNumber` where its first field is not the row's number, and
-/// `NotHexadecimal` or `TooWide` of the first field that is no value of its port. Values before that one may be
+/// Returns the first fault of the row, in this order: `TooManyRows` if the trace has too many rows, `FieldCount` if the
+/// line doesn't have as many fields as the header, `RowNumber` if its first field isn't the row's number, and
+/// `NotHexadecimal` or `TooWide` with the first field that isn't a value of its port. Values before that field may be
 /// written.
 pub fn read_row(
     ports: &[Port],

@@ -1,4 +1,5 @@
-//! What no clause says: texts and their columns or faults by hand, and that each call succeeds where there is memory.
+//! What no contract says: texts with their columns or faults, worked by hand, and that each call succeeds with ample
+//! memory.
 ghost use Rattle.std.specs.Prelude.{◌≡◌, ◌≤◌, IfOk};
 ghost use Rattle.gg_trace.specs.Ports.{HasDistinctNames};
 
@@ -9,7 +10,7 @@ use itoa::Buffer;
 use std::alloc::{AllocError, Global};
 use std::test::Fail;
 
-/// A port of this name and type.
+/// A port with this name and type.
 fn port(alloc: Global, name: &str, kind: Kind, width: u32) -> Result<Port, AllocError>
     requires low { 1 ≤ width }
     requires high { width ≤ 128 }
@@ -40,14 +41,14 @@ fn x_and_y(alloc: Global) -> Result<Ports, AllocError>
     Ok(Ports::from(ports))
 }
 
-/// The first fault of a text, or nothing where it is read or memory runs out.
+/// The first fault of a text. None if it is read or an allocation fails.
 fn fault_of(alloc: Global, ports: &Ports, text: &[u8]) -> Option<TraceFault>
     requires { HasDistinctNames ports.now }
 {
     read_trace(alloc, ports, text).err()
 }
 
-/// Whether a trace has as many rows as there are values, and these in the column of the port at a place.
+/// Whether a trace has as many rows as there are values, and has these values in the column of the port at a place.
 fn has_column(
     alloc: Global,
     trace: &Trace,
@@ -166,7 +167,7 @@ fn traces_of_a_counter(rt: HostRuntime) -> Result<(), Fail> {
     Ok(())
 }
 
-/// A trace whose names stand in another order than the ports.
+/// A trace whose names are in another order than the ports.
 static Y_AND_X: &[u8] = b"cycle y x\n0 f 0A\n1 00 ff";
 
 #[test]
@@ -176,7 +177,7 @@ fn traces_of_two_inputs(rt: HostRuntime) -> Result<(), Fail> {
     assert!(rt; gives(alloc, &ports, Y_AND_X, 0, &[10, 255])?);
     assert!(rt; gives(alloc, &ports, Y_AND_X, 1, &[15, 0])?);
     assert!(rt; gives_row(alloc, &ports, Y_AND_X, 1, &[255, 0]));
-    // The first field that is faulty is named, and its digits are judged before its width.
+    // The first faulty field is reported, and its digits are checked before its width.
     let wide_and_empty = fault_of(alloc, &ports, b"cycle y x\n0 10 -1\n");
     assert_eq!(rt;
         wide_and_empty,
@@ -194,7 +195,7 @@ fn no_ports(alloc: Global) -> Ports
     Ports::from(Vec::new(alloc))
 }
 
-/// A trace of no ports with this many rows.
+/// A trace without ports, with this many rows.
 fn bare_rows(alloc: Global, rows: u64) -> Result<String, AllocError> {
     let mut text = String::from_str(alloc, "cycle\n")?;
     for row in 0..rows {
@@ -204,7 +205,7 @@ fn bare_rows(alloc: Global, rows: u64) -> Result<String, AllocError> {
     Ok(text)
 }
 
-/// How many rows a text has, or its first fault.
+/// The number of rows of a text, or its first fault.
 fn rows_of(alloc: Global, ports: &Ports, text: &[u8]) -> Result<u64, TraceFault>
     requires { HasDistinctNames ports.now }
 {

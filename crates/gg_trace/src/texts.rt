@@ -1,4 +1,4 @@
-//! Texts compared.
+//! Comparison of texts.
 
 ghost use Rattle.std.specs.Prelude.{◌≡◌, ◌≢◌};
 ghost use Rattle.std.specs.Bool.{OnTrue, OnFalse};
@@ -8,6 +8,6 @@ pub fn same_bytes(one: &[u8], other: &[u8]) -> bool
     ensures same { OnTrue result (one.now ≡ other.now) }
     ensures differ { OnFalse result (one.now ≢ other.now) }
 {
-    // a function of its own, so that its callers see equal lists in place of `==` on slices
+    // a function of its own: contracts of its callers then see equal lists instead of `==` on slices
     one == other
 }

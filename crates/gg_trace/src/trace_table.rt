@@ -7,13 +7,13 @@ ghost use Rattle.gg_trace.specs.Table.{row_limit, row_of, table_of};
 use std::alloc::{AllocError, Global};
 use std::marker::Model;
 
-/// An input trace: for each port, in port order, a column of one value a row. A contract sees the count of rows and
-/// the columns.
+/// An input trace: for each port, in port order, a column with one value for each row. A contract sees the count of
+/// rows and the columns.
 #[derive(Debug, Drop)]
 pub struct Trace {
     rows: usize,
     inputs: usize,
-    // row by row, in each a value for each port
+    // row by row, each with a value for each port
     cells: Vec<u128>,
 }
 
@@ -29,7 +29,7 @@ impl Model for Trace {
 }
 
 impl Trace {
-    /// The trace whose rows, of `inputs` values each, stand one after another.
+    /// The trace whose rows, of `inputs` values each, are in `cells`, one after another.
     pub(crate) fn of(rows: usize, inputs: usize, cells: Vec<u128>) -> Trace
         requires size { length cells.items ≡ rows * inputs }
         requires limit { rows ≤ row_limit }
@@ -42,7 +42,7 @@ impl Trace {
         }
     }
 
-    /// How many rows there are: at most 1,000,000.
+    /// The number of rows, at most 1,000,000.
     pub fn rows(&self) -> u64
         ensures count { result ≡ self.now.rows }
         ensures limit { result ≤ row_limit }
@@ -50,7 +50,7 @@ impl Trace {
         self.rows as u64
     }
 
-    /// How many ports there are.
+    /// The number of ports.
     pub fn inputs(&self) -> usize
         ensures { result ≡ length self.now.columns }
     {
@@ -73,7 +73,7 @@ impl Trace {
     ///
     /// # Errors
     ///
-    /// Memory ran out.
+    /// Returns `AllocError` if an allocation fails.
     pub fn column(&self, alloc: Global, input: usize) -> Result<Vec<u128>, AllocError>
         requires { input < length self.now.columns }
         ensures { IfOk result (λ column. column.items ≡ slice_index_or self.now.columns input []) }
@@ -82,7 +82,7 @@ impl Trace {
     }
 }
 
-/// Every value at place `input` of a row.
+/// The value at place `input` of each row.
 fn column_of(
     alloc: Global,
     cells: &[u128],

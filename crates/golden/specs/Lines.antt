@@ -1,11 +1,11 @@
--- What a call says where it doesn't write its whole text: its status, and a line on the error sink.
--- They are this program's own words; the lines are those of docs/FORMATS.md.
+-- What a call reports if it doesn't write its whole text: its status, and a line on the error output. Source: this
+-- program's own. The lines are those of docs/FORMATS.md.
 use Rattle.std.specs.Prelude.{◌≡◌, ◌≢◌, ℕ, List, [], ◌∷◌, ◌++◌, codes, decimal}
 use Rattle.gg_read.specs.FaultText.{fault_text}
 use Rattle.gg_read.specs.declared.text.ReadFault.{ReadFault}
 use Rattle.gg_read.specs.declared.text.ReadFault.TheVariants.{NoMemory}
 
--- what a refusal says: its status and its line
+-- what is reported: a status and a line
 pub record Said : Type 0 where
   pub status : ℕ
   pub line : List ℕ
@@ -14,43 +14,43 @@ pub record Said : Type 0 where
 abbrev pub line_of : List ℕ → List ℕ
 line_of text = text ++ 10 ∷ []
 
--- the words are no command: `golden: words` and this
+-- the words aren't a command: `golden: words` followed by this text
 abbrev pub words_said : List ℕ → Said
 words_said text = record { status = 2; line = line_of (codes "golden: words" ++ text) }
 
--- the words are none of the commands
+-- the words aren't any of the commands
 abbrev pub no_command : Said
 no_command = words_said (codes ": the commands are run CIRCUIT PARTITION TRACE [--capacity K] [--workers W] [--mono], replay CIRCUIT PARTITION TRACE STEPS [--capacity K] and check CIRCUIT PARTITION [--capacity K]")
 
--- this value of an option is no number in its range
+-- this value of an option isn't a number in its range
 abbrev pub bad_number : List ℕ → Said
 bad_number value = words_said (codes ": '" ++ value ++ codes "' is not a number in its range: --capacity takes 1 to 4096, --workers 0 to 64")
 
--- the circuit has this fault
+-- the circuit has the fault with this text
 abbrev pub circuit_fault : List ℕ → Said
 circuit_fault text = record { status = 1; line = line_of (codes "golden: circuit: " ++ text) }
 
--- this is said of a circuit's text with this fault of reading; want of memory is no fault of a text
+-- this is reported for a circuit's text with this fault of reading; `NoMemory` isn't a fault of a text
 abbrev pub TellsUnread : ReadFault → Said → Type 0
 TellsUnread fault said = (fault ≢ NoMemory) × (said ≡ circuit_fault (fault_text fault))
 
--- the partition has a fault, in these words
+-- the partition has the fault with this text
 abbrev pub partition_fault : List ℕ → Said
 partition_fault text = record { status = 6; line = line_of (codes "golden: partition: " ++ text) }
 
--- the trace has a fault, in these words
+-- the trace has the fault with this text
 abbrev pub trace_fault : List ℕ → Said
 trace_fault text = record { status = 7; line = line_of (codes "golden: trace: " ++ text) }
 
--- step k, counted from 1, is refused, in these words
+-- step k, counted from 1, is refused for the cause with this text
 abbrev pub step_fault : ℕ → List ℕ → Said
 step_fault k text = record { status = 9; line = line_of (codes "golden: step " ++ decimal k ++ codes ": " ++ text) }
 
--- the file of this name can't be loaded
+-- the file with this name can't be loaded
 abbrev pub cannot_load : List ℕ → Said
 cannot_load name = record { status = 3; line = line_of (codes "golden: cannot load " ++ name) }
 
--- the file of this name has more bytes than this limit
+-- the file with this name has more bytes than this limit
 abbrev pub is_over : List ℕ → ℕ → Said
 is_over name limit = record { status = 8; line = line_of (codes "golden: " ++ name ++ (codes " is over " ++ decimal limit ++ codes " bytes")) }
 
@@ -58,6 +58,6 @@ is_over name limit = record { status = 8; line = line_of (codes "golden: " ++ na
 abbrev pub cannot_write : Said
 cannot_write = record { status = 4; line = line_of (codes "golden: cannot write") }
 
--- memory ran out
+-- an allocation failed
 abbrev pub out_of_memory : Said
 out_of_memory = record { status = 5; line = line_of (codes "golden: out of memory") }

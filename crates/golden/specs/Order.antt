@@ -1,11 +1,12 @@
--- The one order of refusals of a command: its files, one after the other, each loaded and then judged, and then its text.
--- It says nothing of how a file is judged. A new command is a new order, a new fault of a file a new case of `refuses`.
+-- The order of a command: its files, one after another, each loaded and then checked, and then its text. So it is also
+-- the order of refusals. It doesn't say how a file is checked. A new command is a new order, a new fault of a file is a
+-- new case of `refuses`.
 use Rattle.std.specs.Prelude.{◌≡◌, ℕ, ◌<◌, ◌≤◌, List, length, ◌⊎◌}
 use Rattle.gg_io.specs.Told.{Told, Holds, CanHold, CanBeOver}
 use Rattle.golden.specs.Lines.{Said, cannot_load, is_over}
 
--- A file of a command: its name, how many bytes it may have, the status with which its bytes are refused, which bytes are
--- accepted, and what is said of bytes that are refused.
+-- A file of a command: its name, the most bytes that it may have, the status with which its bytes are refused, which
+-- bytes are accepted, and what is reported for bytes that are refused.
 pub record File : Type 1 where
   pub name : List ℕ
   pub limit : ℕ
@@ -13,7 +14,7 @@ pub record File : Type 1 where
   pub accepts : List ℕ → Type 0
   pub refuses : List ℕ → Said → Type 0
 
--- A command's order: a file is loaded, and what comes next depends on its bytes; or a text is written.
+-- A command's order. Either a file is loaded, and what comes next depends on its bytes; or a text is written.
 pub data Order : Type 1 where
   Load : (file : File) (next : List ℕ → Order) → Order
   Write : (IsText : List ℕ → Type 0) → Order
@@ -22,47 +23,48 @@ pub data Order : Type 1 where
 abbrev pub IsJudgement : ℕ → Type 0
 IsJudgement status = (status ≡ 1) ⊎ ((status ≡ 6) ⊎ ((status ≡ 7) ⊎ (status ≡ 9)))
 
--- Nothing is said of the bytes of a file that are accepted, and all that is said of the others has the file's own status.
--- More than one line may be right: where a circuit has several loops, any of them may be told.
+-- Nothing is reported for accepted bytes of a file, and all that is reported for other bytes has the file's own status.
+-- More than one line may be right: if a circuit has several loops, any of them may be reported.
 pub record IsExactFile (file : File) : Type 0 where
   pub apart : (bytes : List ℕ) (said : Said) → file.accepts bytes → file.refuses bytes said → ⊥
   pub status : (bytes : List ℕ) (said : Said) → file.refuses bytes said → said.status ≡ file.status
   pub judges : IsJudgement file.status
 
--- and so for each file of an order
+-- the same for each file of an order
 abbrev pub IsExact : Order → Type 0
 IsExact (Load file next) = IsExactFile file × ((bytes : List ℕ) → IsExact (next bytes))
 IsExact (Write IsText) = Unit {0}
 
--- Of the bytes of a file one thing is said at most, its line included.
+-- For the bytes of a file at most one thing is reported, including its line.
 abbrev pub IsUniqueFile : File → Type 0
 IsUniqueFile file = (bytes : List ℕ) (said other : Said) → file.refuses bytes said → file.refuses bytes other → said ≡ other
 
--- and so for each file of an order
+-- the same for each file of an order
 abbrev pub IsUnique : Order → Type 0
 IsUnique (Load file next) = IsUniqueFile file × ((bytes : List ℕ) → IsUnique (next bytes))
 IsUnique (Write IsText) = Unit {0}
 
--- `files` tells what the shelf holds under each name; `lost` that a load failed, and `cut` that one was cut at its limit.
+-- `files` has what is known of the file of each name. `lost` means that a load failed, and `cut` that a load was cut at
+-- its limit.
 module _ (files : List ℕ → Told) where
   -- these can be the bytes of the file, and they are within its limit
   pub record CanBe (file : File) (bytes : List ℕ) : Type 0 where
     pub held : CanHold (files file.name) bytes
     pub within : length bytes ≤ file.limit
 
-  -- the load of the file says this: it failed, or the file is too long
+  -- this is reported for the load of the file: it failed, or the file is too long
   abbrev pub LoadSays : (lost cut : Type 0) → File → Said → Type 0
   LoadSays lost cut file said =
       (lost × (said ≡ cannot_load file.name))
       ⊎ (cut × CanBeOver (files file.name) file.limit × (said ≡ is_over file.name file.limit))
 
-  -- this is said of the file: by its load, or of its bytes
+  -- this is reported for the file: for its load, or for its bytes
   abbrev pub IsRefused : (lost cut : Type 0) → File → Said → Type 0
   IsRefused lost cut file said =
       LoadSays lost cut file said
       ⊎ ((bytes : List ℕ) × CanBe file bytes × file.refuses bytes said)
 
-  -- Some file is refused with this, and each file before it is accepted.
+  -- Some file is refused with this report, and each file before it is accepted.
   abbrev pub StopsAt : (lost cut : Type 0) → Order → Said → Type 0
   StopsAt lost cut (Load file next) said =
       IsRefused lost cut file said
@@ -74,23 +76,23 @@ module _ (files : List ℕ → Told) where
   IsWritten (Load file next) text = (bytes : List ℕ) × CanBe file bytes × file.accepts bytes × IsWritten (next bytes) text
   IsWritten (Write IsText) text = IsText text
 
-  -- the file is told: these are its bytes
+  -- the file is known: these are its bytes
   abbrev pub IsTold : File → List ℕ → Type 0
   IsTold file bytes = files file.name ≡ Holds bytes
 
-  -- of told bytes: they are too many, or they are refused
+  -- this is reported for known bytes: they are too many, or they are refused
   abbrev pub IsDueOf : File → List ℕ → Said → Type 0
   IsDueOf file bytes said =
       ((file.limit < length bytes) × (said ≡ is_over file.name file.limit))
       ⊎ ((length bytes ≤ file.limit) × file.refuses bytes said)
 
-  -- The files are told up to one that is refused with this, and each file before it is accepted.
+  -- The files are known up to one that is refused with this report, and each file before it is accepted.
   abbrev pub DueAt : Order → Said → Type 0
   DueAt (Load file next) said = (bytes : List ℕ) × IsTold file bytes
       × (IsDueOf file bytes said ⊎ ((length bytes ≤ file.limit) × file.accepts bytes × DueAt (next bytes) said))
   DueAt (Write IsText) said = ⊥
 
-  -- Each file is told, within its limit and accepted: nothing is to be refused.
+  -- Each file is known, within its limit and accepted. So nothing may be refused.
   abbrev pub IsDueAccepted : Order → Type 0
   IsDueAccepted (Load file next) = (bytes : List ℕ) × IsTold file bytes × (length bytes ≤ file.limit) × file.accepts bytes
       × IsDueAccepted (next bytes)

@@ -1,6 +1,7 @@
 -- The partition of a command: what its file holds, and which fault it has for a circuit.
--- Sources: RFC 8259 and ICCAD 2019, for what is named in the crates that read a partition and judge it; this program's own are the
--- numbers of the faults. P1 is a fault of the file, P2 to P9 are faults of the request that it holds, for a design.
+-- Sources: RFC 8259 and ICCAD 2019, as named in the crates that read a partition and check it. The numbers of the
+-- faults are this program's own: P1 is a fault of the file, P2 to P9 are faults, for a design, of the request that it
+-- holds.
 use Rattle.std.specs.Prelude.{◌≡◌, ℕ, List, Some, None}
 use Rattle.gg_cut.specs.Fault as cut
 use Rattle.gg_cut.specs.declared.fault.CutFault.{CutFault}
@@ -18,8 +19,8 @@ pub record Cuts (design : Ordered) (bytes : List ℕ) (request : Request) : Type
   pub asks : IsPartition bytes request
   pub faultless : cut.first_fault design request ≡ None
 
--- The bytes have this fault, in words: they hold no request (P1), or the request that they hold has it for the design, as its
--- first (P2 to P9).
+-- The bytes have the fault with this text: they hold no request (P1), or this is the first fault that the request that
+-- they hold has for the design (P2 to P9).
 pub data HasFault (design : Ordered) (bytes text : List ℕ) : Type 0 where
   OfFile : (key : List ℕ) (wrong : file.IsRefused bytes key) (is : text ≡ file.fault_text (WrongKey key)) → HasFault design bytes text
   OfRequest : (request : Request) (asks : IsPartition bytes request) (fault : CutFault) (first : cut.first_fault design request ≡ Some fault) (is : text ≡ cut.fault_text fault) → HasFault design bytes text
@@ -28,7 +29,7 @@ pub data HasFault (design : Ordered) (bytes text : List ℕ) : Type 0 where
 abbrev pub IsPartitionOf : (design : Ordered) (bytes : List ℕ) → Type 0
 IsPartitionOf design bytes = (request : Request) × Cuts design bytes request
 
--- and this is said of one with a fault
+-- this is reported for a partition with a fault for a design
 abbrev pub TellsPartitionOf : (design : Ordered) (bytes : List ℕ) → Said → Type 0
 TellsPartitionOf design bytes said = (text : List ℕ) × HasFault design bytes text × (said ≡ partition_fault text)
 
@@ -36,18 +37,18 @@ TellsPartitionOf design bytes said = (text : List ℕ) × HasFault design bytes 
 abbrev pub partition_file : (name : List ℕ) (IsGood : List ℕ → Type 0) (TellsFault : List ℕ → Said → Type 0) → File
 partition_file name IsGood TellsFault = record { name = name; limit = 1048576; status = 6; accepts = IsGood; refuses = TellsFault }
 
--- that of a partition of a design
+-- the file of a partition of a design
 abbrev pub partition_file_of : (design : Ordered) (name : List ℕ) → File
 partition_file_of design name = partition_file name (IsPartitionOf design) (TellsPartitionOf design)
 
--- a partition of the circuit that these bytes are
+-- a partition of the circuit that these bytes mean
 abbrev pub IsPartitionFor : (circuit bytes : List ℕ) → Type 0
 IsPartitionFor circuit bytes = (design : Ordered) × MeansDesign circuit design × IsPartitionOf design bytes
 
--- and this is said of one with a fault
+-- this is reported for a partition with a fault for that circuit
 abbrev pub TellsPartitionFor : (circuit bytes : List ℕ) → Said → Type 0
 TellsPartitionFor circuit bytes said = (design : Ordered) × MeansDesign circuit design × TellsPartitionOf design bytes said
 
--- its file
+-- the file of a partition of that circuit
 abbrev pub partition_file_for : (circuit name : List ℕ) → File
 partition_file_for circuit name = partition_file name (IsPartitionFor circuit) (TellsPartitionFor circuit)

@@ -1,6 +1,6 @@
 -- The command `replay`: its four files, and the text that it writes.
--- Sources: MEMOCODE 2009 (the k-th token of each channel is the value of its signal in cycle k, whatever the order of steps); the lines and
--- the forms of a steps file are this program's own.
+-- Sources: MEMOCODE 2009 (the k-th token of each channel is the value of its signal in cycle k, in any order of steps).
+-- The lines and the forms of a steps file are this program's own.
 use Rattle.std.specs.Prelude.{◌≡◌, ℕ, ◌-◌, List, [], None, Option, Result, Ok, Err, flat_map, if◌then◌else◌, length, map, slice_index_or, take}
 use Rattle.std.specs.List.{range_with_len}
 use Rattle.gg_flat.specs.Circuit.{signal_shapes}
@@ -30,9 +30,10 @@ use Rattle.golden.specs.Partition.{Cuts, partition_file_for}
 use Rattle.golden.specs.Run.{circuit_file, trace_file_for}
 use Rattle.golden.specs.RunText.{Feeds}
 
--- ---- what a circuit, a partition and a trace are
+-- ---- what a circuit, a partition and a trace mean
 
--- A design, a request, the columns of the top's inputs for some cycles, the circuit's run on them, and the layout of the request's cut.
+-- A design, a request, the columns of the top's inputs for some cycles, the circuit's run on them, and the layout of
+-- the request's cut.
 pub record Setting : Type 0 where
   pub design : Ordered
   pub request : Request
@@ -41,7 +42,8 @@ pub record Setting : Type 0 where
   pub rows : List (List ℕ)
   pub layout : Layout
 
--- The bytes of a circuit, a partition and a trace mean this. The capacity is that of channels which the request doesn't name.
+-- The bytes of a circuit, a partition and a trace mean this. `capacity` is that of the channels that the request
+-- doesn't name.
 pub record IsSetting (circuit partition trace : List ℕ) (capacity : ℕ) (setting : Setting) : Type 0 where
   pub means : MeansDesign circuit setting.design
   pub cuts : Cuts setting.design partition setting.request
@@ -51,11 +53,12 @@ pub record IsSetting (circuit partition trace : List ℕ) (capacity : ℕ) (sett
 
 -- ---- names
 
--- the names of a machine's ports, by number: of a listed memory its readers' and then its writers'
+-- the names of a machine's ports, by number: for a listed memory those of its readers, then those of its writers; else
+-- none
 abbrev pub port_names : InstanceTree → Listed → ℕ → List (List ℕ)
 port_names tree listed m = if is_memory listed m then (memory_at tree (value_at listed.memories (m - first_memory listed))).ports else []
 
--- what the steps of a cut can name
+-- the names that the steps of a cut can use
 abbrev pub naming_by : Ordered → Request → Listed → List Wire → Naming
 naming_by design request listed wires =
     record {
@@ -69,7 +72,7 @@ naming_of design request = naming_by design request (listed_of design.tree reque
 
 -- ---- where the steps lead
 
--- the steps of a file, done one after another from the beginning: where they lead, or the first that is refused
+-- the steps of a file, done one after another from the opening marking: where they lead, or the first that is refused
 abbrev pub replayed : Setting → (steps : List ℕ) → Result Marking Stopped
 replayed setting steps = replayed_from setting.layout 1 (opening_marking setting.layout) (steps_of (naming_of setting.design setting.request) steps)
 
@@ -78,14 +81,14 @@ abbrev pub AreDone : (circuit partition trace : List ℕ) (capacity : ℕ) (step
 AreDone circuit partition trace capacity steps =
     (setting : Setting) × IsSetting circuit partition trace capacity setting × ((marking : Marking) × (replayed setting steps ≡ Ok marking))
 
--- what is said of a step that is refused: its number, from 1 on, and the cause, by the names of the cut
+-- what is reported for a refused step: its number, counted from 1, and the cause, with the names of the cut
 abbrev pub stopped_by : Naming → (events : List (Option Event)) → Stopped → Said
 stopped_by naming events stopped = step_fault stopped.step (cause_text naming (slice_index_or events (stopped.step - 1) None) stopped.cause)
 
 abbrev pub stopped_said : Setting → (steps : List ℕ) → Stopped → Said
 stopped_said setting steps stopped = stopped_by (naming_of setting.design setting.request) (steps_of (naming_of setting.design setting.request) steps) stopped
 
--- this is said of steps of which one is refused
+-- this is reported for steps of which one is refused
 abbrev pub TellsSteps : (circuit partition trace : List ℕ) (capacity : ℕ) (steps : List ℕ) → Said → Type 0
 TellsSteps circuit partition trace capacity steps said =
     (setting : Setting) × IsSetting circuit partition trace capacity setting
@@ -98,7 +101,8 @@ steps_file_for circuit partition trace capacity name =
 
 -- ---- the text
 
--- The line of channel c: its counts, and the tokens that were put so far, which are the first values of its signal in the circuit's run.
+-- The line of channel c: its counts, and the tokens that were put so far, which are the first values of its signal in
+-- the circuit's run.
 abbrev pub channel_told : Setting → Marking → List Wire → ℕ → List ℕ
 channel_told setting marking wires c =
     channel_line (channel_name setting.design.circuit wires c) (shape_at (signal_shapes setting.design.circuit) (wire_at wires c).signal).width
@@ -113,33 +117,33 @@ abbrev pub replay_text : Setting → Marking → List ℕ
 replay_text setting marking =
     lines_told setting marking (wires_of setting.design.circuit setting.design.tree (listed_of setting.design.tree setting.request))
 
--- the text of `replay`: where the steps lead
+-- the text of `replay`, for the marking that the steps lead to
 abbrev pub IsReplayText : (circuit partition trace : List ℕ) (capacity : ℕ) (steps text : List ℕ) → Type 0
 IsReplayText circuit partition trace capacity steps text =
     (setting : Setting) × IsSetting circuit partition trace capacity setting
     × ((marking : Marking) × (replayed setting steps ≡ Ok marking) × (text ≡ replay_text setting marking))
 
--- It is such a text, and each such text is this one.
+-- This is such a text, and the only one.
 pub record IsOnlyReplayText (circuit partition trace : List ℕ) (capacity : ℕ) (steps text : List ℕ) : Type 0 where
   pub is : IsReplayText circuit partition trace capacity steps text
   pub only : (other : List ℕ) → IsReplayText circuit partition trace capacity steps other → other ≡ text
 
 -- ---- the order of refusals
 
--- what is left where the circuit's, the partition's and the trace's bytes are known
+-- the rest of the order, after a circuit, a partition and a trace with these bytes
 abbrev pub steps_order : (circuit partition trace : List ℕ) (capacity : ℕ) (steps : List ℕ) → Order
 steps_order circuit partition trace capacity steps =
     Load (steps_file_for circuit partition trace capacity steps) (λ s. Write (IsOnlyReplayText circuit partition trace capacity s))
 
--- what is left where the circuit's and the partition's are known
+-- the rest of the order, after a circuit and a partition with these bytes
 abbrev pub fed_order : (circuit partition : List ℕ) (trace steps : List ℕ) (capacity : ℕ) → Order
 fed_order circuit partition trace steps capacity = Load (trace_file_for circuit trace) (λ t. steps_order circuit partition t capacity steps)
 
--- what is left where the circuit's are known
+-- the rest of the order, after a circuit with these bytes
 abbrev pub network_order : (circuit : List ℕ) (partition trace steps : List ℕ) (capacity : ℕ) → Order
 network_order circuit partition trace steps capacity = Load (partition_file_for circuit partition) (λ p. fed_order circuit p trace steps capacity)
 
--- The order of `replay`: the circuit, the partition, the trace and the steps are loaded and judged, each before the next; then the text is
--- written.
+-- The order of `replay`: the circuit, the partition, the trace and the steps are loaded and checked, each before the
+-- next is loaded. Then the text is written.
 abbrev pub replay_order : (circuit partition trace steps : List ℕ) (capacity : ℕ) → Order
 replay_order circuit partition trace steps capacity = Load (circuit_file circuit) (λ c. network_order c partition trace steps capacity)

@@ -1,4 +1,5 @@
--- How `replay` has ended: over the network of a plan, and over a design, a request and the columns of a trace.
+-- How `replay` has ended, in terms of the network of a plan, and in terms of a design, a request and the columns of a
+-- trace.
 use Rattle.std.specs.Prelude.{◌≡◌, ℕ, ◌<◌, ◌^◌, List, Option, Result, Ok, Err, flat_map, length, map, take}
 use Rattle.std.specs.List.{range_with_len}
 use Rattle.gg_flat.specs.Along.{rows_along}
@@ -39,7 +40,7 @@ plan_naming plan tree listed =
       ports = map (port_names tree listed) (range_with_len 0 (length plan.machines));
     }
 
--- These names are few enough for 32 bits.
+-- Numbers of 32 bits suffice for these names.
 pub record AreFewNames (plan : Plan) (tree : InstanceTree) (listed : Listed) : Type 0 where
   pub channels : length plan.channels < 2 ^ 32
   pub machines : length plan.machines < 2 ^ 32
@@ -54,22 +55,23 @@ name_in plan c = path_at (map (λ channel. channel.name) plan.channels) c
 abbrev pub width_in : Plan → ℕ → ℕ
 width_in plan c = value_at (map (λ channel. channel.ty.width) plan.channels) c
 
--- the line of channel c, where the channels carry these lists of values
+-- the line of channel c, if the channels carry these lists of values
 abbrev pub net_line : Plan → (lists : List (List ℕ)) → Network → ℕ → List ℕ
 net_line plan lists net c = channel_line (name_in plan c) (width_in plan c) (puts net c) (takes net c) (take (puts net c) (list_at lists c))
 
--- and those of all channels
+-- the lines of all channels
 abbrev pub net_text : Plan → (lists : List (List ℕ)) → Network → List ℕ
 net_text plan lists net = flat_map (net_line plan lists net) (range_with_len 0 (length plan.channels))
 
--- What its channels carry and the rows of its machines, in the circuit's run on these columns, which is worked out along the design's order.
+-- What the plan's channels carry, and the rows of its machines, in the circuit's run on these columns. The run is
+-- computed along the design's order.
 abbrev pub lists_along : Ordered → Plan → List (List ℕ) → ℕ → List (List ℕ)
 lists_along design plan columns n = columns_of plan (rows_along design.circuit design.order columns n)
 
 abbrev pub runs_along_rows : Ordered → Plan → List (List ℕ) → ℕ → List (List (List ℕ))
 runs_along_rows design plan columns n = rows_of plan (rows_along design.circuit design.order columns n)
 
--- the plan's network can be opened for them
+-- the plan's network can be built for them
 abbrev pub IsToReplay : Ordered → Plan → List (List ℕ) → ℕ → Type 0
 IsToReplay design plan columns n = IsToRun plan columns n (lists_along design plan columns n) (runs_along_rows design plan columns n)
 
@@ -78,8 +80,8 @@ pub record Opened (plan : Plan) (columns : List (List ℕ)) (n : ℕ) (lists : L
   pub built : AreBuilt plan columns n machines
   pub kept : Kept lists runs (opening_net machines (wires_of_plan plan) n)
 
--- How these steps of a plan's network have ended: done, and the text of where they lead was put; or stopped at one, of which it is told;
--- or memory ran out before anything was put.
+-- How these steps of a plan's network have ended. They are done, and the text of the network that they lead to was
+-- printed (`Prints`); or they stopped at one, which is reported; or an allocation failed before anything was written.
 pub data NetEnds {T : Type 0} (plan : Plan) (columns : List (List ℕ)) (n : ℕ) (lists : List (List ℕ)) (runs : List (List (List ℕ))) (naming : Naming) (events : List (Option Event)) (before now : Option (List ℕ)) (failed : Type 0) (result : Result T Ending) : Type 0 where
   NetWent : (machines : List Machine) (opened : Opened plan columns n lists runs machines) (net : Network) (steps : Steps (opening_net machines (wires_of_plan plan) n) events net) (prints : Prints before now failed (net_text plan lists net) result) → NetEnds plan columns n lists runs naming events before now failed result
   NetStops : (machines : List Machine) (opened : Opened plan columns n lists runs machines) (net : Network) (stopped : Stopped) (stops : StopsAt 1 (opening_net machines (wires_of_plan plan) n) events net stopped) (ending : Ending) (ends : result ≡ Err ending) (says : IfRefused (λ said. said ≡ stopped_by naming events stopped) ending) (none : now ≡ before) → NetEnds plan columns n lists runs naming events before now failed result
@@ -87,7 +89,7 @@ pub data NetEnds {T : Type 0} (plan : Plan) (columns : List (List ℕ)) (n : ℕ
 
 -- ---- a design, a request and the columns of a trace
 
--- with a run and a layout they are a setting
+-- the setting that has these, a run and a layout
 abbrev pub setting_of : Ordered → Request → ℕ → (columns rows : List (List ℕ)) → Layout → Setting
 setting_of design request n columns rows layout = record { design = design; request = request; cycles = n; columns = columns; rows = rows; layout = layout }
 
@@ -96,7 +98,7 @@ pub record AreSet (design : Ordered) (request : Request) (default n : ℕ) (colu
   pub run : IsRun design.circuit columns n rows
   pub laid : IsLayoutOf design request default n layout
 
--- How `replay` of a steps file has ended there.
+-- How `replay` of a steps file has ended for these.
 pub data ReplayEnds {T : Type 0} (design : Ordered) (request : Request) (default n : ℕ) (columns : List (List ℕ)) (steps : List ℕ) (before now : Option (List ℕ)) (failed : Type 0) (result : Result T Ending) : Type 0 where
   Went : (rows : List (List ℕ)) (layout : Layout) (are : AreSet design request default n columns rows layout) (marking : Marking) (leads : replayed (setting_of design request n columns rows layout) steps ≡ Ok marking) (prints : Prints before now failed (replay_text (setting_of design request n columns rows layout) marking) result) → ReplayEnds design request default n columns steps before now failed result
   Stops : (rows : List (List ℕ)) (layout : Layout) (are : AreSet design request default n columns rows layout) (stopped : Stopped) (leads : replayed (setting_of design request n columns rows layout) steps ≡ Err stopped) (ending : Ending) (ends : result ≡ Err ending) (says : IfRefused (λ said. said ≡ stopped_said (setting_of design request n columns rows layout) steps stopped) ending) (none : now ≡ before) → ReplayEnds design request default n columns steps before now failed result

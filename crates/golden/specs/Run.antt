@@ -15,7 +15,8 @@ use Rattle.golden.specs.Order.{File, Order, Load, Write}
 use Rattle.golden.specs.Partition.{partition_file_for}
 use Rattle.golden.specs.RunText.{IsTraceOf, IsRunText}
 
--- This is said of the bytes of a circuit's file: their fault of reading, or the first fault of the circuit that they spell.
+-- This is reported for the bytes of a circuit's file: their fault of reading, or the first fault of the circuit that
+-- they spell.
 abbrev pub TellsCircuit : (bytes : List ℕ) → Said → Type 0
 TellsCircuit bytes said =
     (fault : FrontFault) × HasFrontFault bytes fault × (fault ≢ front.NoMemory) × (said ≡ circuit_fault (front_text fault))
@@ -24,7 +25,7 @@ TellsCircuit bytes said =
 abbrev pub circuit_file : (name : List ℕ) → File
 circuit_file name = record { name = name; limit = 4194304; status = 1; accepts = IsAcceptedText; refuses = TellsCircuit }
 
--- This is said of the bytes of a trace of a circuit's inputs: their first fault.
+-- This is reported for the bytes of a trace of a circuit's inputs: their first fault.
 abbrev pub TellsTraceOf : (flat : FlatCircuit) (trace : List ℕ) → Said → Type 0
 TellsTraceOf flat trace said = (fault : TraceFault) × IsFirstFault (in_ports flat) trace fault × (said ≡ trace_fault (fault_words fault))
 
@@ -32,19 +33,19 @@ TellsTraceOf flat trace said = (fault : TraceFault) × IsFirstFault (in_ports fl
 abbrev pub trace_file : (name : List ℕ) (IsTrace : List ℕ → Type 0) (TellsFault : List ℕ → Said → Type 0) → File
 trace_file name IsTrace TellsFault = record { name = name; limit = 67108864; status = 7; accepts = IsTrace; refuses = TellsFault }
 
--- that of a trace of a circuit's inputs
+-- the file of a trace of a circuit's inputs
 abbrev pub trace_file_of : (flat : FlatCircuit) (name : List ℕ) → File
 trace_file_of flat name = trace_file name (IsTraceOf flat) (TellsTraceOf flat)
 
--- a trace of the inputs of the circuit that these bytes are
+-- a trace of the inputs of the circuit that these bytes mean
 abbrev pub IsTraceFor : (circuit trace : List ℕ) → Type 0
 IsTraceFor circuit trace = (flat : FlatCircuit) × Means circuit flat × IsTraceOf flat trace
 
--- and this is said of one with a fault
+-- this is reported for a trace with a fault for that circuit
 abbrev pub TellsTraceFor : (circuit trace : List ℕ) → Said → Type 0
 TellsTraceFor circuit trace said = (flat : FlatCircuit) × Means circuit flat × TellsTraceOf flat trace said
 
--- its file
+-- the file of a trace for that circuit
 abbrev pub trace_file_for : (circuit name : List ℕ) → File
 trace_file_for circuit name = trace_file name (IsTraceFor circuit) (TellsTraceFor circuit)
 
@@ -52,22 +53,22 @@ trace_file_for circuit name = trace_file name (IsTraceFor circuit) (TellsTraceFo
 abbrev pub IsTextOf : (circuit trace text : List ℕ) → Type 0
 IsTextOf circuit trace text = (flat : FlatCircuit) × Means circuit flat × IsRunText flat trace text
 
--- The text of the circuit's own run on the trace: it is the text of such a run, and each text of such a run is this one,
--- whichever flat circuit the bytes are taken to mean.
+-- The text of the circuit's own run on the trace. It is the text of such a run, and the only one, for any flat circuit
+-- that the bytes mean.
 pub record IsOnlyText (circuit trace text : List ℕ) : Type 0 where
   pub is : IsTextOf circuit trace text
   pub only : (other : List ℕ) → IsTextOf circuit trace other → other ≡ text
 
--- what is left of the order where the circuit's bytes are known and its partition was accepted
+-- the rest of the order, after a circuit with these bytes and an accepted partition
 abbrev pub trace_order : (circuit trace : List ℕ) → Order
 trace_order circuit trace = Load (trace_file_for circuit trace) (λ t. Write (IsOnlyText circuit t))
 
--- and where its partition is still to be loaded
+-- the rest of the order, after a circuit with these bytes
 abbrev pub partition_order : (circuit partition trace : List ℕ) → Order
 partition_order circuit partition trace = Load (partition_file_for circuit partition) (λ _. trace_order circuit trace)
 
--- The order of `run`: the circuit, the partition and the trace are loaded and judged, each before the next is loaded, the
--- partition for the circuit and the trace for its inputs; then the text of the circuit's run on the trace is written, whatever
--- the partition asks.
+-- The order of `run`: the circuit, the partition and the trace are loaded and checked, each before the next is loaded.
+-- The partition is checked for the circuit, and the trace for its inputs. Then the text of the circuit's run on the
+-- trace is written, for any accepted partition.
 abbrev pub run_order : (circuit partition trace : List ℕ) → Order
 run_order circuit partition trace = Load (circuit_file circuit) (λ c. partition_order c partition trace)

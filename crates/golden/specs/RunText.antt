@@ -24,8 +24,8 @@ pub record FeedsOnly (circuit : FlatCircuit) (trace : List ℕ) (n : ℕ) (colum
 abbrev pub IsTraceOf : FlatCircuit → List ℕ → Type 0
 IsTraceOf circuit trace = (n : ℕ) × (columns : List (List ℕ)) × Feeds circuit trace n columns
 
--- The text of the circuit's run: the trace gives its inputs for n cycles, `rows` is its run on them, and the text is a
--- header and a row for each cycle, of the outputs' columns in the run.
+-- The text of the circuit's run. The trace gives the columns of its inputs for some cycles, and `rows` is its run on
+-- them. The text is a header and a row for each cycle, with the columns of the outputs in the run.
 pub record IsRunText (circuit : FlatCircuit) (trace text : List ℕ) : Type 0 where
   pub cycles : ℕ
   pub columns : List (List ℕ)

@@ -19,7 +19,7 @@ use gg_io::{Gate, Shelf, Sink};
 use gg_words::{Cmd, numbers_are_in_range, one_meaning, words};
 use std::alloc::Global;
 
-// A command of the command line, done.
+// Does a command of the command line.
 fn do_command<S: Shelf, K: Sink>(
     alloc: Global,
     cmd: &Cmd,
@@ -79,7 +79,7 @@ fn do_command<S: Shelf, K: Sink>(
     }
 }
 
-// The command that the words ask for.
+// Does the command that the words ask for.
 fn command<S: Shelf, K: Sink>(
     alloc: Global,
     given: &[String],
@@ -98,8 +98,8 @@ fn command<S: Shelf, K: Sink>(
     }
 }
 
-// Puts the line on how a command ended, if it didn't write its whole text, and gives its status. Where the line can't
-// be put the status is the same.
+// Writes the line on how a command ended, if it didn't write its whole text. Returns the command's status, even if the
+// line can't be written.
 fn status_of<E: Sink>(ended: &Result<(), Ending>, err: &mut E) -> u8
     ensures status { result ≡ (said_by ended.now).status }
     ensures line { Reports (E.written err.old) (E.written err.new) (HasTrouble (E.faults err.old) (E.faults err.new) (E.refused err.old) (E.refused err.new)) (said_by ended.now).line }
@@ -111,7 +111,7 @@ fn status_of<E: Sink>(ended: &Result<(), Ending>, err: &mut E) -> u8
     }
 }
 
-// What the words ask for is done, and how it ended is told.
+// Does what the words ask for, and reports how it ended.
 fn answer<S: Shelf, K: Sink, E: Sink>(
     alloc: Global,
     words: &[String],
@@ -131,29 +131,30 @@ fn answer<S: Shelf, K: Sink, E: Sink>(
     status_of(&ended, err)
 }
 
-/// A call of the program: what its words ask for, with files from `shelf`, the text on `out` and at most one line on
-/// `err`; the status is the answer. The first of the words is the program's own name. All memory comes from `alloc`: the
-/// files, one at a time, what is made of them, and the lines of refusals; where it is refused the status is 5. The gate
-/// isn't called yet.
+/// A call of the program. Does what the words ask for, with files from `shelf`. Writes the text to `out`, and at most
+/// one line to `err`. Returns the status. The first word is the program's own name. All memory comes from `alloc`: the
+/// files, one at a time, what is built from them, and the lines of refusals. If an allocation fails the status is 5.
+/// The gate isn't called yet.
 ///
 /// `run CIRCUIT PARTITION TRACE` writes the text of the circuit's own run on the trace: a header, then a row for each
-/// cycle. `replay CIRCUIT PARTITION TRACE STEPS` does the steps of a file, one after another, on the network of the cut before its
-/// first cycle, and writes a line for each channel: how many tokens were put and were taken, and those that were put. `check CIRCUIT
-/// PARTITION` writes a line for each machine of the cut, then one for each channel. Statuses:
+/// cycle. `replay CIRCUIT PARTITION TRACE STEPS` does the steps of a file, one after another, on the network of the
+/// cut, beginning before its first cycle. It writes a line for each channel, with the number of tokens that were put,
+/// the number that were taken, and the tokens that were put. `check CIRCUIT PARTITION` writes a line for each machine
+/// of the cut, then one for each channel. Statuses:
 ///
 /// - 0: the text was written whole;
 /// - 1: the circuit has a fault; nothing was written;
-/// - 2: the words are no command; nothing was written;
+/// - 2: the words aren't a command; nothing was written;
 /// - 3: a load failed, which the shelf counts as a fault; nothing was written;
-/// - 4: a put on `out` failed, which it counts as a fault; a front part of the text stands there;
-/// - 5: memory ran out; nothing or a front part of the text stands there;
+/// - 4: a put on `out` failed, which `out` counts as a fault; a first part of the text was written;
+/// - 5: an allocation failed; nothing or a first part of the text was written;
 /// - 6: the partition has a fault for the circuit, which has none; nothing was written;
 /// - 7: the trace has a fault, and the files before it have none; nothing was written;
 /// - 8: a file is longer than its limit; nothing was written;
-/// - 9: a step of the steps file may not be done behind those before it, and the files before it have no fault; nothing was
-///   written.
+/// - 9: a step of the steps file may not be done after those before it, and the files before it have no fault; nothing
+///   was written.
 ///
-/// Where the files are told and no load or put fails, the files and the words decide the status, want of memory aside.
+/// If the files are known and no load or put fails, the files and the words determine the status, unless it is 5.
 pub fn golden<S: Shelf, K: Sink, E: Sink, G: Gate>(
     alloc: Global,
     words: &[String],

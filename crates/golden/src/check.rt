@@ -21,8 +21,8 @@ use gg_partfile::Request;
 use gg_plan::cut;
 use std::alloc::Global;
 
-// Prints the cut of a request that has no fault for the design. Where memory runs out before there is a plan, nothing is
-// printed.
+// Prints the cut of a request that has no fault for the design. If an allocation fails before there is a plan, nothing
+// is printed.
 fn print_cut<K: Sink>(
     alloc: Global,
     design: &Design,
@@ -46,7 +46,7 @@ fn print_cut<K: Sink>(
     }
 }
 
-// `check`, where the circuit is read.
+// `check`, after the circuit was read.
 fn check_design<S: Shelf, K: Sink>(
     alloc: Global,
     design: &Design,

@@ -1,4 +1,4 @@
-//! Printing a plan: a line for each machine, and one for each channel.
+//! Printing of a plan: a line for each machine, then a line for each channel.
 ghost use Rattle.std.specs.Prelude.{ℕ, flat_map};
 ghost use Rattle.gg_check.specs.PlanText.{channel_names, line_of_channel, line_of_machine, machine_names, plan_text};
 ghost use Rattle.gg_io.specs.Count.{Rose};
@@ -12,7 +12,7 @@ use gg_cut::{Channel, Machine, Plan};
 use gg_io::Sink;
 use std::alloc::Global;
 
-// Puts the line of a machine.
+// Writes the line of a machine.
 fn print_machine<K: Sink>(alloc: Global, machine: &Machine, out: &mut K) -> Result<(), Ending>
     ensures prints { Prints (K.written out.old) (K.written out.new) (Rose (K.faults out.old) (K.faults out.new)) (line_of_machine machine.now) result }
     ensures out { SinkWentOn (K.faults out.old) (K.faults out.new) (K.refused out.old) (K.refused out.new) }
@@ -21,7 +21,7 @@ fn print_machine<K: Sink>(alloc: Global, machine: &Machine, out: &mut K) -> Resu
     put(out, line.as_bytes())
 }
 
-// Puts the line of a channel.
+// Writes the line of a channel.
 fn print_channel<K: Sink>(
     alloc: Global,
     machines: &[Machine],
@@ -36,7 +36,7 @@ fn print_channel<K: Sink>(
     put(out, line.as_bytes())
 }
 
-// Puts the lines of all machines.
+// Writes the lines of all machines.
 fn print_machines<K: Sink>(alloc: Global, machines: &[Machine], out: &mut K) -> Result<(), Ending>
     ensures prints { Prints (K.written out.old) (K.written out.new) (Rose (K.faults out.old) (K.faults out.new)) (flat_map line_of_machine machines.now) result }
     ensures out { SinkWentOn (K.faults out.old) (K.faults out.new) (K.refused out.old) (K.refused out.new) }
@@ -47,7 +47,7 @@ fn print_machines<K: Sink>(alloc: Global, machines: &[Machine], out: &mut K) -> 
     Ok(())
 }
 
-// Puts the lines of all channels.
+// Writes the lines of all channels.
 fn print_channels<K: Sink>(
     alloc: Global,
     machines: &[Machine],
@@ -63,7 +63,7 @@ fn print_channels<K: Sink>(
     Ok(())
 }
 
-/// Prints a plan: the lines of its machines, and then those of its channels.
+/// Prints a plan: the lines of its machines, then the lines of its channels.
 pub(crate) fn print_plan<K: Sink>(alloc: Global, plan: &Plan, out: &mut K) -> Result<(), Ending>
     ensures prints { Prints (K.written out.old) (K.written out.new) (Rose (K.faults out.old) (K.faults out.new)) (plan_text plan.now) result }
     ensures out { SinkWentOn (K.faults out.old) (K.faults out.new) (K.refused out.old) (K.refused out.new) }

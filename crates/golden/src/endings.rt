@@ -1,4 +1,4 @@
-//! Why a command stops, and what is said then.
+//! Why a command stops, and what is then reported.
 ghost use Rattle.std.specs.Prelude.{◌≡◌, ◌++◌, IfOk, MatchResult, codes, decimal, string_bytes};
 ghost use Rattle.golden.specs.Lines.{line_of, cannot_load, is_over};
 ghost use Rattle.golden.specs.Endings.{IfRefused, said_of};
@@ -8,7 +8,7 @@ use itoa::Buffer;
 use std::alloc::{AllocError, Global};
 use std::marker::Model;
 
-/// What a refusal says: its status, and its line on the error sink.
+/// What a refusal reports: its status, and its line on the error output.
 #[derive(Debug, Drop)]
 pub struct Refusal {
     status: u8,
@@ -43,11 +43,11 @@ impl Refusal {
 /// Why a command stops before its whole text is written.
 #[derive(Debug, Drop)]
 pub enum Ending {
-    /// The words or a file are refused. Nothing was written.
+    /// The words or a file were refused. Nothing was written.
     Refused(Refusal),
-    /// The output can't be written. A front part of the text may stand there.
+    /// The output can't be written. A first part of the text may have been written.
     Unwritten,
-    /// Memory ran out. Nothing or a front part of the text may have been written.
+    /// An allocation failed. Nothing or a first part of the text was written.
     NoMemory,
 }
 
@@ -63,7 +63,7 @@ impl Ending {
         }
     }
 
-    /// The line on the error sink. It takes no memory.
+    /// The line on the error output, with the line feed that ends it. Does not allocate.
     pub fn line(&self) -> &[u8]
         ensures { result.now ≡ (said_of self.now).line }
     {
@@ -108,7 +108,7 @@ pub(crate) fn make_refusal(
     Ok(Refusal { status, line })
 }
 
-/// The ending with this refusal, or for want of memory.
+/// The ending with this refusal, or `NoMemory` if it couldn't be allocated.
 pub(crate) fn end_with(refusal: Result<Refusal, AllocError>) -> Ending
     ensures { MatchResult refusal (λ said. IfRefused (λ given. given ≡ said) result) (λ _. result ≡ Ending.NoMemory) }
 {
@@ -118,14 +118,14 @@ pub(crate) fn end_with(refusal: Result<Refusal, AllocError>) -> Ending
     }
 }
 
-/// The ending at a file that can't be loaded.
+/// The ending for a file that can't be loaded.
 pub(crate) fn end_cannot_load(alloc: Global, name: &str) -> Ending
     ensures { IfRefused (λ said. said ≡ cannot_load name.now) result }
 {
     end_with(make_refusal(alloc, 3, "golden: cannot load ", name, ""))
 }
 
-/// A text with a number behind it.
+/// A text followed by a number.
 pub(crate) fn text_with_number(
     alloc: Global,
     before: &str,
@@ -139,7 +139,7 @@ pub(crate) fn text_with_number(
     Ok(text)
 }
 
-// The end of the line on a file that is longer than this limit.
+// The end of the line for a file that is longer than this limit.
 fn over_text(alloc: Global, limit: u64) -> Result<String, AllocError>
     ensures { IfOk result (λ text. string_bytes text ≡ codes " is over " ++ decimal limit ++ codes " bytes") }
 {
@@ -148,7 +148,7 @@ fn over_text(alloc: Global, limit: u64) -> Result<String, AllocError>
     Ok(text)
 }
 
-/// The ending at a file that is longer than this limit.
+/// The ending for a file that is longer than this limit.
 pub(crate) fn end_over(alloc: Global, name: &str, limit: u64) -> Ending
     ensures { IfRefused (λ said. said ≡ is_over name.now limit) result }
 {

@@ -1,4 +1,4 @@
-//! A law of the order of refusals.
+//! Laws: a fact about what is reported for files. It is the contract of a function.
 ghost use Rattle.std.specs.Prelude.{◌≡◌, ℕ, List};
 ghost use Rattle.gg_read.specs.Text.{HasReadFault};
 ghost use Rattle.gg_read.specs.declared.text.ReadFault.{ReadFault};
@@ -12,8 +12,9 @@ use gg_partfile::one_answer;
 use gg_read::one_fault_line;
 use gg_trace::one_first_fault;
 
-/// Nothing is said of the bytes of a command's file that are accepted, and all that is said of others has the file's own
-/// status. Of a partition, of a trace and of steps one thing is said at most, and of a circuit with a fault of reading just that.
+/// Nothing is reported for accepted bytes of a command's file, and all that is reported for other bytes has the file's
+/// own status. For a partition, a trace and steps at most one thing is reported. For a circuit with a fault of reading
+/// only that fault is reported.
 pub fn refusals_are_exact()
     ensures exact { (command : Command) → IsExact (order_of command) }
     ensures unique { (command : Command) (circuit : List ℕ) → IsUnique (order_behind command circuit) }

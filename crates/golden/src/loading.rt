@@ -1,4 +1,4 @@
-//! Loading a file.
+//! Loading of a file.
 ghost use Rattle.std.specs.Prelude.{◌≡◌, ◌-◌, ◌^◌, ◌<◌, ◌≤◌, ◌⊎◌, IfOk, IfErr, length};
 ghost use Rattle.gg_io.specs.Count.{Rose};
 ghost use Rattle.gg_io.specs.Told.{CanHold, CanBeOver};
@@ -10,7 +10,7 @@ use crate::endings::{Ending, end_cannot_load, end_over};
 use gg_io::{LoadFail, Shelf};
 use std::alloc::Global;
 
-/// The bytes of a file.
+/// The bytes of a file, at most `limit` of them.
 pub(crate) fn load<S: Shelf>(
     alloc: Global,
     shelf: &mut S,

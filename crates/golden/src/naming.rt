@@ -1,4 +1,4 @@
-//! The names by which the steps of a cut speak of its channels, machines and ports.
+//! The names that the steps of a cut use for its channels, machines and ports.
 ghost use Rattle.std.specs.Prelude.{◌≡◌, ◌+◌, ◌++◌, ◌<◌, ◌^◌, ℕ, IfOk, OnOk, length, map};
 ghost use Rattle.std.specs.List.{range_with_len};
 ghost use Rattle.golden.specs.Replay.{port_names};
@@ -10,7 +10,7 @@ use gg_flat::Tree;
 use gg_steps::StepNames;
 use std::alloc::{AllocError, Global};
 
-// The names of a machine's ports: none where it isn't a listed memory.
+// The names of a machine's ports; none if it isn't a listed memory.
 fn port_names<'a>(tree: &'a Tree, listed: &Listed, machine: usize) -> &'a [Name]
     ensures { result.now ≡ port_names tree.now listed.now machine }
 {

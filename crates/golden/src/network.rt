@@ -21,7 +21,7 @@ use gg_steps::{StepNames, cause_text};
 use gg_trace::Trace;
 use std::alloc::{AllocError, Global};
 
-// Puts the line of a channel.
+// Writes the line of a channel.
 fn print_channel<Z: Streams, K: Sink>(
     alloc: Global,
     plan: &Plan,
@@ -48,7 +48,7 @@ fn print_channel<Z: Streams, K: Sink>(
     put(out, line.as_bytes())
 }
 
-// Puts the lines of all channels.
+// Writes the lines of all channels.
 fn print_net<Z: Streams, K: Sink>(
     alloc: Global,
     plan: &Plan,
@@ -68,7 +68,7 @@ fn print_net<Z: Streams, K: Sink>(
     Ok(())
 }
 
-// The front of a refused step's line, and the text of its cause.
+// The first part of a refused step's line, and the text of the step's cause.
 fn step_texts(
     alloc: Global,
     names: &StepNames<'_>,
@@ -83,7 +83,7 @@ fn step_texts(
     Ok((front, text))
 }
 
-// The step of this number, counted from 1.
+// The step with this number, counted from 1.
 fn event_at(events: &[Option<Event>], step: u64) -> Option<Event>
     ensures { result ≡ slice_index_or events.now (step - 1) None }
 {
@@ -93,7 +93,7 @@ fn event_at(events: &[Option<Event>], step: u64) -> Option<Event>
     }
 }
 
-// The ending at a step that is refused.
+// The ending for a refused step.
 fn end_at_step(
     alloc: Global,
     names: &StepNames<'_>,

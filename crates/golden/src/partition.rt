@@ -1,4 +1,4 @@
-//! Reading the partition's file, and judging it for a circuit.
+//! Reading of the partition's file, and its check for a circuit.
 ghost use Rattle.std.specs.Prelude.{◌≡◌, ◌≢◌, ◌≤◌, ◌++◌, ℕ, List, IfOk, IfErr, Some, None, codes, length, string_bytes};
 ghost use Rattle.gg_cut.specs.Fault as cut;
 ghost use Rattle.gg_cut.specs.declared.fault.CutFault.{CutFault};
@@ -21,24 +21,24 @@ use gg_order::Design;
 use gg_partfile::{PartFault, Request};
 use std::alloc::{AllocError, Global};
 
-// How many bytes a partition may have.
+// The most bytes that a partition may have.
 const PARTITION_LIMIT: u64 = 1_048_576;
 
-// The ending at a partition with the fault that this text tells.
+// The ending for a partition with the fault that has this text.
 fn end_at_fault(alloc: Global, text: &str) -> Ending
     ensures { IfRefused (λ said. said ≡ partition_fault text.now) result }
 {
     end_with(make_refusal(alloc, 6, "golden: partition: ", text, ""))
 }
 
-// The words of a fault of a partition's file.
+// The text of a fault of a partition's file.
 fn file_text(alloc: Global, fault: &PartFault) -> Result<String, AllocError>
     ensures { IfOk result (λ text. string_bytes text ≡ file.fault_text fault.now) }
 {
     format!(in alloc; "{fault}")
 }
 
-// The ending at a partition of whose file this is told.
+// The ending for a partition whose file has this fault.
 fn end_at_file(alloc: Global, fault: &PartFault) -> Ending
     ensures { IfRefused (λ said. (fault.now ≢ file_fault.NoMemory) × (said ≡ partition_fault (file.fault_text fault.now))) result }
 {
@@ -51,14 +51,14 @@ fn end_at_file(alloc: Global, fault: &PartFault) -> Ending
     }
 }
 
-// The words of a fault of a request.
+// The text of a fault of a request.
 fn request_text(alloc: Global, fault: &CutFault) -> Result<String, AllocError>
     ensures { IfOk result (λ text. string_bytes text ≡ cut.fault_text fault.now) }
 {
     format!(in alloc; "{fault}")
 }
 
-// The ending at a partition of whose request this is told.
+// The ending for a partition whose request has this fault.
 fn end_at_request(alloc: Global, fault: &CutFault) -> Ending
     ensures { IfRefused (λ said. (fault.now ≢ cut_fault.NoMemory) × (said ≡ partition_fault (cut.fault_text fault.now))) result }
 {
@@ -84,7 +84,7 @@ fn request_of(alloc: Global, bytes: &[u8]) -> Result<Request, Ending>
     }
 }
 
-// Judges a request for a design.
+// Checks that a request has no fault for a design.
 fn judge_request(alloc: Global, design: &Design, request: &Request) -> Result<(), Ending>
     requires { cut.IsSmall request.now }
     ensures faultless { IfOk result (λ _. cut.first_fault design.now request.now ≡ None) }
@@ -96,7 +96,7 @@ fn judge_request(alloc: Global, design: &Design, request: &Request) -> Result<()
     }
 }
 
-/// The request that the partition's file holds, which has no fault for the design.
+/// The request that the partition's file holds, if it has no fault for the design.
 pub(crate) fn read_partition<S: Shelf>(
     alloc: Global,
     shelf: &mut S,

@@ -1,4 +1,4 @@
-//! Printing the run of a circuit.
+//! Printing of the run of a circuit.
 ghost use Rattle.std.specs.Prelude.{◌≡◌, ℕ, List, length, Option};
 ghost use Rattle.std.specs.Io.KnownBytes.{append_known};
 ghost use Rattle.gg_flat.specs.Order.{IsOrder};
@@ -22,7 +22,7 @@ use gg_refsim::Mono;
 use gg_trace::{Trace, header_text, row_text};
 use std::alloc::Global;
 
-// One cycle, and its row.
+// Advances by one cycle, and writes its row.
 fn print_row<K: Sink>(
     alloc: Global,
     mono: &mut Mono<'_>,
@@ -45,7 +45,7 @@ fn print_row<K: Sink>(
     put(out, text.as_bytes())
 }
 
-// The rows of a run, behind its header.
+// Writes the rows of a run, after its header.
 fn print_rows<K: Sink>(
     alloc: Global,
     mono: &mut Mono<'_>,
@@ -71,7 +71,7 @@ fn print_rows<K: Sink>(
     Ok(())
 }
 
-// The header and the rows of a run.
+// Writes the header and the rows of a run.
 fn print_all<K: Sink>(
     alloc: Global,
     mono: &mut Mono<'_>,
@@ -105,7 +105,7 @@ pub(crate) fn print_run<K: Sink>(
     ensures out { SinkWentOn (K.faults out.old) (K.faults out.new) (K.refused out.old) (K.refused out.new) }
 {
     runs_along();
-    // for what the design says of its order
+    // for the design's invariant on its order
     let _ = design.order();
     let piece = design.piece();
     let ports = piece.out_ports(alloc)?;

@@ -1,4 +1,4 @@
-//! Reading a circuit and a trace.
+//! Reading of a circuit and a trace.
 ghost use Rattle.std.specs.Prelude.{◌≡◌, ◌≢◌, ℕ, List, IfOk, IfErr, string_bytes};
 ghost use Rattle.gg_io.specs.Count.{Rose};
 ghost use Rattle.gg_front.specs.Fault.{front_text};
@@ -22,19 +22,19 @@ use gg_order::Design;
 use gg_trace::{Trace, TraceFault, read_trace};
 use std::alloc::{AllocError, Global};
 
-// How many bytes a circuit and a trace may have.
+// The most bytes that a circuit and a trace may have.
 const CIRCUIT_LIMIT: u64 = 4_194_304;
 
 const TRACE_LIMIT: u64 = 67_108_864;
 
-// The words of a fault of a circuit.
+// The text of a fault of a circuit.
 fn fault_text(alloc: Global, fault: &FrontFault) -> Result<String, AllocError>
     ensures { IfOk result (λ text. string_bytes text ≡ front_text fault.now) }
 {
     format!(in alloc; "{fault}")
 }
 
-// The ending at a circuit of which the front end answers this.
+// The ending for a circuit with this fault of the front end.
 fn end_at_circuit(alloc: Global, fault: &FrontFault) -> Ending
     ensures { IfRefused (λ said. (fault.now ≢ front.NoMemory) × (said ≡ circuit_fault (front_text fault.now))) result }
 {
@@ -65,7 +65,7 @@ pub(crate) fn read_circuit<S: Shelf>(
     }
 }
 
-// The ending at a trace with this fault.
+// The ending for a trace with this fault.
 fn end_at_trace(alloc: Global, fault: TraceFault) -> Ending
     ensures { IfRefused (λ said. (fault ≢ NoMemory) × (said ≡ trace_fault (fault_words fault))) result }
 {

@@ -30,7 +30,7 @@ use gg_trace::Trace;
 use std::alloc::Global;
 use std::marker::Brand;
 
-// How many bytes a steps file may have.
+// The most bytes that a steps file may have.
 const STEPS_LIMIT: u64 = 67_108_864;
 
 // Does the steps of a file on the network of a plan.
@@ -73,7 +73,7 @@ fn replay_request<K: Sink>(
     ensures ended { ReplayEnds design.now request.now capacity inputs.now.rows inputs.now.columns steps.now (K.written out.old) (K.written out.new) (Rose (K.faults out.old) (K.faults out.new)) result }
     ensures out { SinkWentOn (K.faults out.old) (K.faults out.new) (K.refused out.old) (K.refused out.new) }
 {
-    // for what the design says of its parts
+    // for the design's invariant on its parts
     let _ = design.order();
     let _ = design.piece();
     let _ = design.tree();
@@ -87,7 +87,7 @@ fn replay_request<K: Sink>(
     }
 }
 
-// `replay`, where the circuit, the partition and the trace are read.
+// `replay`, after the circuit, the partition and the trace were read.
 fn replay_steps<S: Shelf, K: Sink>(
     alloc: Global,
     design: &Design,
@@ -114,7 +114,7 @@ fn replay_steps<S: Shelf, K: Sink>(
     one_run();
     ports_agree();
     run_once();
-    // for what the design says of its order
+    // for the design's invariant on its order
     let _ = design.order();
     let bytes = load(alloc, shelf, steps, STEPS_LIMIT)?;
     replay_request(
@@ -128,7 +128,7 @@ fn replay_steps<S: Shelf, K: Sink>(
     )
 }
 
-// `replay`, where the circuit and the partition are read.
+// `replay`, after the circuit and the partition were read.
 fn replay_trace<S: Shelf, K: Sink>(
     alloc: Global,
     design: &Design,
@@ -153,7 +153,7 @@ fn replay_trace<S: Shelf, K: Sink>(
     replay_steps(alloc, design, request, capacity, &inputs, steps, shelf, out)
 }
 
-// `replay`, where the circuit is read.
+// `replay`, after the circuit was read.
 fn replay_design<S: Shelf, K: Sink>(
     alloc: Global,
     design: &Design,
@@ -176,8 +176,8 @@ fn replay_design<S: Shelf, K: Sink>(
     replay_trace(alloc, design, &request, trace, steps, capacity, shelf, out)
 }
 
-/// `replay`: reads the circuit, the partition, the trace and the steps, does the steps on the network, and writes a line for each
-/// channel.
+/// `replay`: reads the circuit, the partition, the trace and the steps, does the steps on the network, and writes a
+/// line for each channel.
 pub(crate) fn replay<S: Shelf, K: Sink>(
     alloc: Global,
     circuit: &str,

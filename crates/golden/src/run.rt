@@ -16,7 +16,7 @@ use gg_io::{Shelf, Sink};
 use gg_order::Design;
 use std::alloc::Global;
 
-// `run`, where the circuit is read and the partition is accepted.
+// `run`, after the circuit was read and the partition was accepted.
 fn run_trace<S: Shelf, K: Sink>(
     alloc: Global,
     design: &Design,
@@ -33,13 +33,13 @@ fn run_trace<S: Shelf, K: Sink>(
     ports_agree();
     one_run();
     run_once();
-    // for what the design says of its order
+    // for the design's invariant on its order
     let _ = design.order();
     let inputs = read_inputs(alloc, shelf, trace, design)?;
     print_run(alloc, design, &inputs, out)
 }
 
-// `run`, where the circuit is read.
+// `run`, after the circuit was read.
 fn run_design<S: Shelf, K: Sink>(
     alloc: Global,
     design: &Design,

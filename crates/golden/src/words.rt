@@ -1,4 +1,4 @@
-//! The words of a call that are no command.
+//! The words of a call that aren't a command.
 ghost use Rattle.std.specs.Prelude.{◌≡◌, ◌≢◌};
 ghost use Rattle.golden.specs.Endings.{IfRefused};
 ghost use Rattle.golden.specs.Lines.{bad_number, no_command};
@@ -9,7 +9,7 @@ use crate::endings::{Ending, end_with, make_refusal};
 use gg_words::WordFault;
 use std::alloc::Global;
 
-// The ending at words that are none of the commands.
+// The ending for words that aren't any of the commands.
 fn end_at_no_command(alloc: Global) -> Ending
     ensures { IfRefused (λ said. said ≡ no_command) result }
 {
@@ -22,7 +22,7 @@ fn end_at_no_command(alloc: Global) -> Ending
     ))
 }
 
-// The ending at a value that is no number in its range.
+// The ending for a value that isn't a number in its range.
 fn end_at_number(alloc: Global, value: &str) -> Ending
     ensures { IfRefused (λ said. said ≡ bad_number value.now) result }
 {
@@ -35,7 +35,7 @@ fn end_at_number(alloc: Global, value: &str) -> Ending
     ))
 }
 
-/// The ending at words with this fault.
+/// The ending for words with this fault.
 pub(crate) fn end_at_words(alloc: Global, fault: &WordFault) -> Ending
     ensures { IfRefused (λ said. (fault.now ≢ WordFault.NoMemory) × TellsWords fault.now said) result }
 {

@@ -1,4 +1,4 @@
-//! Writing text.
+//! Writing of text.
 ghost use Rattle.std.specs.Prelude.{◌≡◌};
 ghost use Rattle.gg_io.specs.Count.{Rose};
 ghost use Rattle.golden.specs.Endings.{Prints, said_of};
@@ -8,7 +8,7 @@ ghost use Rattle.golden.specs.WentOn.{SinkWentOn};
 use crate::endings::Ending;
 use gg_io::{PutFail, Sink};
 
-/// Puts one piece of the text.
+/// Writes one part of the text.
 pub(crate) fn put<K: Sink>(out: &mut K, piece: &[u8]) -> Result<(), Ending>
     ensures prints { Prints (K.written out.old) (K.written out.new) (Rose (K.faults out.old) (K.faults out.new)) piece.now result }
     ensures out { SinkWentOn (K.faults out.old) (K.faults out.new) (K.refused out.old) (K.refused out.new) }
@@ -20,7 +20,7 @@ pub(crate) fn put<K: Sink>(out: &mut K, piece: &[u8]) -> Result<(), Ending>
     }
 }
 
-/// Puts the line on why a command stopped, and gives its status. Where the line can't be put the status is the same.
+/// Writes the line on why a command stopped. Returns its status, even if the line can't be written.
 pub(crate) fn report<E: Sink>(ending: &Ending, err: &mut E) -> u8
     ensures status { result ≡ (said_of ending.now).status }
     ensures line { Reports (E.written err.old) (E.written err.new) (HasTrouble (E.faults err.old) (E.faults err.new) (E.refused err.old) (E.refused err.new)) (said_of ending.now).line }

@@ -1,5 +1,5 @@
-//! The program golden: makes the words of the call, takes the system's files and streams, and ends with the status
-//! that `golden` gives.
+//! The program golden. It builds the words of the call, uses the system's files and streams, and ends with the status
+//! that `golden` returns.
 #![tactic(auto)]
 
 use gg_io::{FileShelf, NoGate, Sink, StreamSink};
@@ -8,13 +8,13 @@ use std::alloc::Global;
 use std::process::ExitCode;
 use std::{env, io};
 
-// The status and the line where the words find no memory: those of `out_of_memory` in golden's specs, written again since
-// `golden` can't be called without words.
+// The status and the line for a call whose words can't be allocated. They are those of `out_of_memory` in golden's
+// specs, repeated here since `golden` needs the words.
 const OUT_OF_MEMORY: u8 = 5;
 
 const OUT_OF_MEMORY_LINE: &[u8] = b"golden: out of memory\n";
 
-// The words of the call: the program's own name, and then what it was called with.
+// The words of the call: the program's own name, then the arguments.
 fn words(rt: &HostRuntime, alloc: Global) -> io::Result<Vec<String>> {
     let mut words = Vec::new(alloc);
     words.push(String::from_str(alloc, "golden")?)?;
@@ -33,7 +33,7 @@ fn main(rt: HostRuntime) -> ExitCode {
             let _ = err.put(OUT_OF_MEMORY_LINE);
             return ExitCode::from(OUT_OF_MEMORY);
         }
-        // A word that isn't UTF-8: no words are a command either.
+        // An argument isn't UTF-8. `golden` gets no words, which aren't a command either.
         Err(_) => Vec::new(alloc),
     };
     let mut shelf = FileShelf::new(rt);
