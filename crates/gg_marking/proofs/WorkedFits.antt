@@ -21,7 +21,7 @@ no-turns frame m = record { count = refl; each = λ i port turn lt. absurd (omeg
 -- ---- a counter: the hub 0, a source 1, a tray 2; channel 0 goes from the source to the hub, channel 1 from the hub to the tray
 
 abbrev hub : Option ℕ → Bool → Machine
-hub latch flag = record { behaviour = RunsPiece no_circuit; limit = 10; needs = [] ∷ []; ports = []; cycle = 0; state = no_state; served = 0; latches = latch ∷ []; flags = flag ∷ []; kept = [] }
+hub latch flag = record { behaviour = RunsPiece no_circuit; limit = 10; needs = [] ∷ []; port_count = 0; ports = []; cycle = 0; state = no_state; served = 0; latches = latch ∷ []; flags = flag ∷ []; kept = [] }
 
 abbrev net : Option ℕ → Bool → Bool → List ℕ → List ℕ → Network
 net latch flag fired to_hub to_tray =
@@ -135,7 +135,7 @@ abbrev needy : Frame
 needy =
     record {
       kinds = record { behaviour = RunsPiece no_circuit; limit = 10; needs = (1 ∷ 0 ∷ []) ∷ []; ports = reader ∷ []; ins = 2; outs = 1 }
-          ∷ record { behaviour = KeepsValues; limit = 10; needs = [] ∷ [] ∷ []; ports = []; ins = 1; outs = 2 }
+          ∷ record { behaviour = KeepsValues; limit = 10; needs = [] ∷ [] ∷ []; port_count = 0; ports = []; ins = 1; outs = 2 }
           ∷ [];
       wires = record { producer = 1; out = 0; consumer = 0; place = 0; capacity = 1 }
           ∷ record { producer = 1; out = 1; consumer = 0; place = 1; capacity = 1 }

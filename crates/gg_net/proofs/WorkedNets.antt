@@ -48,10 +48,10 @@ abbrev holds : ℕ → State
 holds v = record { registers = v ∷ []; banks = [] }
 
 abbrev a : ℕ → ℕ → Option ℕ → Bool → Machine
-a cycle v latch flag = record { behaviour = RunsPiece held; limit = 10; needs = [] ∷ []; ports = []; cycle = cycle; state = holds v; served = 0; latches = latch ∷ []; flags = flag ∷ []; kept = [] }
+a cycle v latch flag = record { behaviour = RunsPiece held; limit = 10; needs = [] ∷ []; port_count = 0; ports = []; cycle = cycle; state = holds v; served = 0; latches = latch ∷ []; flags = flag ∷ []; kept = [] }
 
 abbrev b : Option ℕ → Bool → Machine
-b latch flag = record { behaviour = RunsPiece passed; limit = 10; needs = (0 ∷ []) ∷ []; ports = []; cycle = 0; state = no_state; served = 0; latches = latch ∷ []; flags = flag ∷ []; kept = [] }
+b latch flag = record { behaviour = RunsPiece passed; limit = 10; needs = (0 ∷ []) ∷ []; port_count = 0; ports = []; cycle = 0; state = no_state; served = 0; latches = latch ∷ []; flags = flag ∷ []; kept = [] }
 
 abbrev wires : List Wire
 wires = record { producer = 0; out = 0; consumer = 1; place = 0; capacity = 1 } ∷ record { producer = 1; out = 0; consumer = 0; place = 0; capacity = 2 } ∷ []
