@@ -258,7 +258,7 @@ reader-there : ServeRefused (alone (at_once 0 true)) 0 0 Stranger → ⊥
 reader-there refused = refused (lit< tt, lit< tt)
 
 not-none-due : ServeRefused (alone (at_once 0 true)) 0 0 (Order 2) → ⊥
-not-none-due refused = let is : ◌≡◌ {A = ℕ} 2 1 = refused.2.2.2.2 in omega (arith, is)
+not-none-due refused = let is : ◌≡◌ {A = ℕ} 2 1 = refused.4 in omega (arith, is)
 
 -- ---- a memory that is only read, in the same cycle: none of its ports is served
 
