@@ -172,7 +172,7 @@ module _ (lists : List (List ℕ)) (runs : List (List (List ℕ))) (net : Networ
         inr (NeedsInput channel.0, (has, below, fired, this, subst (λ o. IsWanted net m o channel.0) (sym is) channel.1))
 
     serve-other : HasPort net m p → IsBelow net m → AllFired (machine_at net.machines m) → (due (machine_at net.machines m) ≡ Some p → ⊥) → CanServe net m p ⊎ ((cause : Refusal) × ServeRefused net m p cause)
-    serve-other has below fired other = inr (Order (due_or_count (machine_at net.machines m).ports (due (machine_at net.machines m))), (has, below, fired, other, refl))
+    serve-other has below fired other = inr (Order (due_or_count (machine_at net.machines m).port_count (due (machine_at net.machines m))), (has, below, fired, other, refl))
 
     serve-due : (port : Option ℕ) → due (machine_at net.machines m) ≡ port → HasPort net m p → IsBelow net m → AllFired (machine_at net.machines m) → CanServe net m p ⊎ ((cause : Refusal) × ServeRefused net m p cause)
     serve-due None is has below fired = serve-other has below fired (λ this. some-is-no-none p (sym this ∙ is))
