@@ -6,7 +6,7 @@ ghost use Rattle.gg_net.specs.Step.{missing_field, IsWanted, Ready, Refused, Can
 
 use crate::event::{Event, Refusal};
 use crate::net::Net;
-use crate::streams::Streams;
+use gg_flat::Streams;
 use gg_node::Host;
 
 impl<H: Host, Z: Streams> Net<H, Z> {

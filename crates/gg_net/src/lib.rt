@@ -26,7 +26,6 @@ mod queue;
 mod seats;
 mod shape;
 mod step;
-mod streams;
 mod tells;
 
 pub use event::{Event, Refusal};
@@ -34,7 +33,7 @@ pub use net::Net;
 pub use parts::Parts;
 pub use queue::Queue;
 pub use shape::{ServedPort, Shape, Station, Wire};
-pub use streams::Streams;
+pub use gg_flat::Streams;
 
 #[cfg(test)]
 mod tests;

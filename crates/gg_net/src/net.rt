@@ -10,7 +10,7 @@ ghost use Rattle.gg_net.specs.Net.{AreListed, AreOpen, IsWithinLimits, Opens, op
 use crate::queue::Queue;
 use crate::seats;
 use crate::shape::{Shape, Wire};
-use crate::streams::Streams;
+use gg_flat::Streams;
 use gg_node::Host;
 use std::alloc::{AllocError, Global};
 use std::marker::{Model, PhantomData};

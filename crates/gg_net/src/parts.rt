@@ -5,7 +5,7 @@ ghost use Rattle.gg_net.specs.Net.{joined, AreParts};
 use crate::net::Net;
 use crate::queue::Queue;
 use crate::shape::Shape;
-use crate::streams::Streams;
+use gg_flat::Streams;
 use gg_node::Host;
 use std::marker::PhantomData;
 

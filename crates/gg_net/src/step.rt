@@ -6,7 +6,7 @@ ghost use Rattle.gg_net.specs.declared.event.Event.TheVariants.{Latch, Fire, Ser
 use crate::event::{Event, Refusal};
 use crate::net::Net;
 use crate::seats;
-use crate::streams::Streams;
+use gg_flat::Streams;
 use gg_node::Host;
 
 impl<H: Host, Z: Streams> Net<H, Z> {

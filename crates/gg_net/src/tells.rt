@@ -7,7 +7,7 @@ ghost use Rattle.gg_net.specs.Step.{due_fields, IsFirstClear, IsFirstEmpty};
 
 use crate::net::Net;
 use crate::shape::Wire;
-use crate::streams::Streams;
+use gg_flat::Streams;
 use crate::seats;
 use gg_node::Host;
 
