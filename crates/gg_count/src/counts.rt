@@ -1,9 +1,9 @@
 //! The counts of a circuit and their limits.
-ghost use Rattle.std.specs.Prelude.{◌≡◌, ◌<◌, ◌^◌, IfOk, length, map, replicate, ◌-◌, slice_index_or, sum_by};
+ghost use Rattle.std.specs.Prelude.{◌≡◌, ◌<◌, ◌^◌, None, nat_lt, if◌then◌else◌, IfOk, length, map, replicate, ◌-◌, slice_index_or, sum_by};
 ghost use Rattle.gg_walk.specs.Graph.{IsOrderOf};
 ghost use Rattle.gg_count.specs.Sites.{HoldsModule, module_at, all_sites};
 ghost use Rattle.gg_count.specs.Graph.{value_below};
-ghost use Rattle.gg_count.specs.Counts.{capped, depth_of_fields, words_of_kind, words_in, deep_in, deep_place, deep_places, deep_at, deep_from, deepest, is_reached, counts_of, first_excess};
+ghost use Rattle.gg_count.specs.Counts.{capped, depth_of_fields, words_of_kind, words_in, deep_in, deep_place, deep_places, deep_at, deep_from, deepest, is_reached, counts_of, excess_of, memory_or, first_excess};
 
 use crate::pass::{Gathering, gather, gather_over};
 use gg_ast::{Circuit, Field, MemoryField, Module, Stmt, StmtKind};
@@ -53,37 +53,35 @@ impl Counts {
     pub fn excess(&self) -> Option<Excess>
         ensures { result ≡ first_excess self.now }
     {
-        if self.depth > 32 {
-            return Some(Excess {
-                measure: Measure::Depth,
-                count: self.depth,
-            });
-        }
-        if self.signals > 200_000 {
-            return Some(Excess {
-                measure: Measure::Signals,
-                count: self.signals,
-            });
-        }
-        if let Some(depth) = self.memory {
-            return Some(Excess {
-                measure: Measure::Memory,
-                count: u64::from(depth),
-            });
-        }
-        if self.words > 1_048_576 {
-            return Some(Excess {
-                measure: Measure::Words,
-                count: self.words,
-            });
-        }
-        if self.instances > 1_000_000 {
-            return Some(Excess {
-                measure: Measure::Instances,
-                count: self.instances,
-            });
-        }
+        above(Measure::Depth, self.depth, 32)
+            .or(above(Measure::Signals, self.signals, 200_000))
+            .or(too_deep(self.memory))
+            .or(above(Measure::Words, self.words, 1_048_576))
+            .or(above(Measure::Instances, self.instances, 1_000_000))
+    }
+}
+
+// The excess of a count, where it is above this limit.
+fn above(measure: Measure, count: u64, limit: u64) -> Option<Excess>
+    ensures { result ≡ (if nat_lt limit count then excess_of measure count else None) }
+{
+    if count > limit {
+        Some(Excess { measure, count })
+    } else {
         None
+    }
+}
+
+// The excess of a memory's depth that is above its limit, if there is one.
+fn too_deep(depth: Option<u32>) -> Option<Excess>
+    ensures { result ≡ memory_or depth None }
+{
+    match depth {
+        Some(depth) => Some(Excess {
+            measure: Measure::Memory,
+            count: u64::from(depth),
+        }),
+        None => None,
     }
 }
 

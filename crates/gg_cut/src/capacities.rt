@@ -1,7 +1,6 @@
 //! Channels by name, and the faults of capacities.
-ghost use Rattle.std.specs.Prelude.{◌≡◌, ℕ, ◌==◌, ◌<◌, false, length, All, IfOk};
+ghost use Rattle.std.specs.Prelude.{◌≡◌, ◌==◌, ◌<◌, length, All};
 ghost use Rattle.std.specs.List.{list_any};
-ghost use Rattle.gg_order.specs.Marks.{is_marked};
 ghost use Rattle.gg_cut.specs.Listed.{AreMarks, is_among};
 ghost use Rattle.gg_cut.specs.Channels.{channel_names};
 ghost use Rattle.gg_cut.specs.Fault.{Tells, unknown_channel, range_fault};
@@ -11,49 +10,9 @@ ghost use Rattle.gg_cut.specs.declared.fault.CutFault.TheVariants.{UnknownChanne
 use crate::fault::CutFault;
 use gg_bits::Name;
 use gg_flat::Piece;
-use std::alloc::{AllocError, Global};
 
 /// The most tokens that a channel holds.
 const MOST_CAPACITY: u64 = 4096;
-
-/// Marks on the signals of channels, by the signals' numbers.
-///
-/// # Errors
-///
-/// Returns `AllocError` if an allocation fails.
-pub(crate) fn channel_marks(
-    alloc: Global,
-    count: usize,
-    signals: &[u32],
-) -> Result<Vec<bool>, AllocError>
-    requires { All (λ s. s < count) signals.now }
-    ensures marks { IfOk result (λ marks. AreMarks signals.now marks.items) }
-    ensures count { IfOk result (λ marks. length marks.items ≡ count) }
-{
-    let mut marks = unmarked(alloc, count)?;
-    mark_all(&mut marks, signals);
-    Ok(marks)
-}
-
-// A list without marks.
-fn unmarked(alloc: Global, count: usize) -> Result<Vec<bool>, AllocError>
-    ensures none { IfOk result (λ marks. (k : ℕ) → is_marked marks.items k ≡ false) }
-    ensures count { IfOk result (λ marks. length marks.items ≡ count) }
-{
-    vec![in alloc; false; count]
-}
-
-// Marks signals, in a list without marks.
-fn mark_all(marks: &mut [bool], signals: &[u32])
-    requires known { All (λ s. s < length marks.old) signals.now }
-    requires none { (k : ℕ) → is_marked marks.old k ≡ false }
-    ensures marks { AreMarks signals.now marks.new }
-    ensures count { length marks.new ≡ length marks.old }
-{
-    for signal in signals {
-        marks[*signal as usize] = true;
-    }
-}
 
 /// Checks that each name is that of a channel. The channels have these signals.
 ///

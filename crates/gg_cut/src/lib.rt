@@ -24,6 +24,7 @@ mod entries;
 mod fault;
 mod laws;
 mod listed;
+mod marks;
 mod overlap;
 mod owners;
 mod paths;

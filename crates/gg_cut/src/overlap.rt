@@ -1,18 +1,19 @@
 //! Units that are in one another.
-ghost use Rattle.std.specs.Prelude.{◌≡◌, ℕ, List, ◌<◌, ◌||◌, false, length, option_map, IfOk, IfErr};
+ghost use Rattle.std.specs.Prelude.{◌≡◌, ℕ, List, ◌<◌, ◌||◌, false, length, option_map};
 ghost use Rattle.std.specs.List.{list_any};
 ghost use Rattle.gg_flat.specs.Tree.{instance_at};
 ghost use Rattle.gg_order.specs.Marks.{is_marked};
 ghost use Rattle.gg_cut.specs.Listed.{ParentsBefore, AreMarks, instance_of, lies};
-ghost use Rattle.gg_cut.specs.Fault.{Tells, IsTold, overlapping};
+ghost use Rattle.gg_cut.specs.Fault.{Tells, overlapping};
 ghost use Rattle.gg_cut.specs.declared.fault.CutFault.TheVariants.{Doubled};
 
 use crate::entries::doubled;
 use crate::fault::CutFault;
+use crate::marks::unmarked;
 use crate::paths::instance;
 use gg_bits::Name;
 use gg_flat::Tree;
-use std::alloc::{AllocError, Global};
+use std::alloc::Global;
 
 /// Checks that no unit holds an earlier one, is in an earlier one or equals one.
 ///
@@ -68,14 +69,6 @@ fn overlaps(tree: &Tree, own: &[bool], above: &[bool], place: u32) -> bool
     ensures { (units : List ℕ) → AreMarks units own.now → result ≡ (list_any (lies tree.now place) units || is_marked above.now place) }
 {
     lies_in_marked(tree, own, place) || above[place as usize]
-}
-
-// A list without marks.
-fn unmarked(alloc: Global, count: usize) -> Result<Vec<bool>, AllocError>
-    ensures none { IfOk result (λ marks. (k : ℕ) → is_marked marks.items k ≡ false) }
-    ensures count { IfOk result (λ marks. length marks.items ≡ count) }
-{
-    vec![in alloc; false; count]
 }
 
 /// The place of the instance with a path, or of the top if there is none.

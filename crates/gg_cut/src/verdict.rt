@@ -7,13 +7,14 @@ ghost use Rattle.gg_cut.specs.Channels.{channel_signals};
 ghost use Rattle.gg_cut.specs.Fault.{IsSmall, Tells, entry_fault, kind_fault, channel_fault, fault_in, first_fault, too_many_channels, most_units};
 ghost use Rattle.gg_cut.specs.declared.fault.CutFault.TheVariants.{TooManyUnits, TooManyChannels, NoMemory};
 
-use crate::capacities::{capacities_in_range, channel_marks, channels_exist};
+use crate::capacities::{capacities_in_range, channels_exist};
 use crate::counterparts::memories_matched;
 use crate::entries::{
     memories_exist, none_repeated, one_module_each, shared_are_units, shared_once, units_exist,
 };
 use crate::fault::CutFault;
 use crate::listed::Listed;
+use crate::marks::channel_marks;
 use crate::overlap::none_overlap;
 use crate::signals::{listed_memories, listed_units, signals_of};
 use gg_bits::Ids;

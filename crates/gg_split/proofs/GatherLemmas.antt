@@ -1,10 +1,14 @@
 -- What machines have, gathered machine by machine.
-use Rattle.std.proofs.Common.{◌≡◌, ◌≢◌, ℕ, ◌+◌, ◌<◌, ◌≤◌, List, [], ◌∷◌, ◌++◌, length, set, refl, sym, ◌∙◌, ap, subst, inl, inr, ◌⊎◌, arith}
+use Rattle.std.proofs.Common.{◌≡◌, ◌≢◌, ℕ, ◌+◌, ◌<◌, ◌≤◌, List, [], ◌∷◌, ◌++◌, length, set, take, drop, refl, sym, ◌∙◌, ap, subst, inl, inr, ◌⊎◌, arith}
 use Rattle.std.specs.Prelude.{slice_index_or}
 use Rattle.std.proofs.lemmas.Bool.{cases_lt}
-use Rattle.std.proofs.lemmas.List.{get_or-set_other, length-set, length_push, get_or_append_left, get_or_push}
+use Rattle.std.proofs.lemmas.List.{get_or-set_other, length-set, length_push, get_or_append_left, get_or_push, take-append-le, take_all}
 use Rattle.gg_split.specs.declared.share.Share.{Share}
 use Rattle.gg_split.specs.IsShare.{IsGathered, AreGathered}
+
+-- what a vector holds after a slice of all of it was written
+pub written : {A : Type 0} (n : ℕ) (new old : List A) → length new ≡ n → take n (new ++ drop (length new) old) ≡ new
+written n new old many = take-append-le n new (drop (length new) old) (omega arith) ∙ take_all n new (omega arith)
 
 -- lists of which those of the machines before m are given away
 pub record LeftFrom (m : ℕ) (old lists : List (List ℕ)) : Type 0 where

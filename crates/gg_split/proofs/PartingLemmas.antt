@@ -5,11 +5,8 @@ use Rattle.std.proofs.lemmas.List.{get_or_default}
 use Rattle.std.proofs.lemmas.List.Elements.{Contains-get_or}
 use Rattle.gg_flat.specs.Line.{value_at}
 use Rattle.gg_flat.specs.Circuit.{FlatCircuit}
-use Rattle.gg_flat.specs.WellFormed.{IsWellFormed}
 use Rattle.gg_flat.specs.Tree.{InstanceTree, IsTree}
-use Rattle.gg_flat.specs.Scoped.{IsScoped}
-use Rattle.gg_flat.specs.Order.{IsOrder}
-use Rattle.gg_order.specs.Design.{Ordered}
+use Rattle.gg_order.specs.Design.{Ordered, IsDesign}
 use Rattle.gg_partfile.specs.declared.request.Request.{Request}
 use Rattle.gg_cut.specs.declared.wires.Wire.{Wire}
 use Rattle.gg_cut.specs.declared.listed.Listed.{Listed}
@@ -19,7 +16,7 @@ use Rattle.gg_cut.specs.Channels.{wires_of, machine_count}
 use Rattle.gg_cut.specs.Plan.{channels_to, channels_from, memory_owner}
 use Rattle.gg_split.specs.declared.share.Share.{Share}
 use Rattle.gg_closed.specs.Apart.{AreApart}
-use Rattle.gg_closed.specs.Apart.{AreFew}
+use Rattle.gg_split.specs.CanSplit.{CanSplit}
 use Rattle.gg_split.specs.IsShare.{IsShare, AreShares, AreGathered}
 use Rattle.gg_closed.specs.Apart.{AreEnds}
 use Rattle.gg_split.specs.Spread.{AreLists, EachList, AreChannels, signals_among, memories_below, AreSignals, AreMemories}
@@ -58,15 +55,15 @@ module _ (circuit : FlatCircuit) (tree : InstanceTree) (listed : Listed) (fits :
             (memories-are circuit tree listed fits machines owns m);
       }
 
-module _ (circuit : FlatCircuit) (tree : InstanceTree) (order : List ℕ) (listed : Listed) (formed : IsWellFormed circuit) (fits : IsTree circuit tree) (scoped : IsScoped circuit tree) (ordered : IsOrder circuit order) (apart : AreApart tree listed) where
+module _ (circuit : FlatCircuit) (tree : InstanceTree) (order : List ℕ) (listed : Listed) (sound : CanSplit circuit tree order listed) where
   pub wires-known : (wires : List Wire) (n : ℕ) → wires ≡ wires_of circuit tree listed → n ≡ length circuit.signals → All (λ w. w.signal < n) wires
   wires-known wires n is many k d lt =
       subst (λ j. (get_or wires k d).signal < j) (sym many)
-      (wire-known circuit tree listed formed fits scoped apart (get_or wires k d) (subst (λ (l : List Wire). Contains l (get_or wires k d)) is (Contains-get_or wires k d lt)))
+      (wire-known circuit tree listed sound.formed sound.fitting sound.scoped sound.apart (get_or wires k d) (subst (λ (l : List Wire). Contains l (get_or wires k d)) is (Contains-get_or wires k d lt)))
 
   pub order-known : (owners now : List ℕ) → now ≡ owners → length owners ≡ length circuit.signals → All (λ s. s < length now) order
   order-known owners now is many k d lt =
-      let known = ordered.signals k lt in
+      let known = sound.ordered.signals k lt in
       let read = get_or_default order k d 0 lt in
       let same = ap length is in
       omega (arith, known, read, same, many)
@@ -77,7 +74,7 @@ module _ (circuit : FlatCircuit) (tree : InstanceTree) (order : List ℕ) (liste
         many = are.many;
         each = λ m lt.
             subst (AreSignals circuit tree order listed m) (sym (are.each m lt ∙ ap (λ (w : List Wire). signals_among w now_owners now_channels order m) is ∙ ap₂ (λ (o : List ℕ) (l : List (Option ℕ)). signals_among (wires_of circuit tree listed) o l order m) is_owners is_channels))
-            (signals-are circuit tree order listed formed fits scoped ordered apart owners channels owns (subst (λ (w : List Wire). AreChannels w channels) is marked) many m);
+            (signals-are circuit tree order listed sound.formed sound.fitting sound.scoped sound.ordered sound.apart owners channels owns (subst (λ (w : List Wire). AreChannels w channels) is marked) many m);
       }
 
   pub all-shares : (ins outs globals memories now_ins now_outs now_globals now_memories : List (List ℕ)) (count : ℕ) (shares : List Share) (wires : List Wire) → wires ≡ wires_of circuit tree listed → count ≡ machine_count circuit listed → AreLists (channels_to wires) count ins → AreLists (channels_from wires) count outs → EachList (AreSignals circuit tree order listed) count globals → EachList (AreMemories tree listed) count memories → now_ins ≡ ins → now_outs ≡ outs → now_globals ≡ globals → now_memories ≡ memories → AreGathered now_ins now_outs now_globals now_memories (length now_ins) shares → AreShares (record { circuit = circuit; tree = tree; order = order }) listed shares
@@ -92,7 +89,7 @@ module _ (circuit : FlatCircuit) (tree : InstanceTree) (order : List ℕ) (liste
           let at = gathered.each m any (omega (arith, lt, machines)) in
           let share = slice_index_or shares m any in
           let low : m < count = omega (arith, lt, many) in
-          shared circuit tree order listed formed fits scoped ordered apart m share.ins share.outs share.globals share.memories
+          shared circuit tree order listed sound.formed sound.fitting sound.scoped sound.ordered sound.apart m share.ins share.outs share.globals share.memories
           (at.takes ∙ ap (λ (l : List (List ℕ)). slice_index_or l m []) i ∙ takes.each m low ∙ ap (λ (w : List Wire). channels_to w m) is)
           (at.gives ∙ ap (λ (l : List (List ℕ)). slice_index_or l m []) o ∙ gives.each m low ∙ ap (λ (w : List Wire). channels_from w m) is)
           (subst (AreSignals circuit tree order listed m) (sym (at.signals ∙ ap (λ (l : List (List ℕ)). slice_index_or l m []) g)) (signals.each m low))
@@ -100,13 +97,20 @@ module _ (circuit : FlatCircuit) (tree : InstanceTree) (order : List ℕ) (liste
 
 -- ---- a design and its request
 
-pub apart-of : (design : Ordered) (request : Request) (tree : InstanceTree) (listed : Listed) → tree ≡ design.tree → listed ≡ listed_of design.tree request → IsTree design.circuit design.tree → first_fault design request ≡ None → AreApart tree listed
-apart-of design request tree listed is lists fits none =
-    subst (λ t. AreApart t listed) (sym is) (subst (AreApart design.tree) (sym lists) (faultless-apart design request none fits))
-
-pub few-of : (design : Ordered) (request : Request) (circuit : FlatCircuit) (tree : InstanceTree) (listed : Listed) → circuit ≡ design.circuit → tree ≡ design.tree → listed ≡ listed_of design.tree request → first_fault design request ≡ None → AreFew circuit tree listed
-few-of design request circuit tree listed is fits lists none =
-    subst (λ k. AreFew k tree listed) (sym is) (subst (λ t. AreFew design.circuit t listed) (sym fits) (subst (AreFew design.circuit design.tree) (sym lists) (faultless-few design request none)))
+pub can-split : (design : Ordered) (request : Request) (circuit : FlatCircuit) (tree : InstanceTree) (order : List ℕ) (listed : Listed) → circuit ≡ design.circuit → tree ≡ design.tree → order ≡ design.order → listed ≡ listed_of design.tree request → IsDesign design → first_fault design request ≡ None → CanSplit circuit tree order listed
+can-split design request circuit tree order listed is fits along lists ready none =
+    subst (λ k. CanSplit k tree order listed) (sym is)
+    (subst (λ t. CanSplit design.circuit t order listed) (sym fits)
+    (subst (λ o. CanSplit design.circuit design.tree o listed) (sym along)
+    (subst (CanSplit design.circuit design.tree design.order) (sym lists)
+    (record {
+      formed = ready.formed;
+      fitting = ready.fitting;
+      scoped = ready.scoped;
+      ordered = ready.ordered;
+      apart = faultless-apart design request none ready.fitting;
+      few = faultless-few design request none;
+    }))))
 
 pub shares-of : (design : Ordered) (circuit : FlatCircuit) (tree : InstanceTree) (order : List ℕ) (listed : Listed) (shares : List Share) → circuit ≡ design.circuit → tree ≡ design.tree → order ≡ design.order → AreShares (record { circuit = circuit; tree = tree; order = order }) listed shares → AreShares design listed shares
 shares-of design circuit tree order listed shares is fits along are =

@@ -1,3 +1,4 @@
+pub mod CanSplit
 pub mod Share
 pub mod IsShare
 pub mod Spread

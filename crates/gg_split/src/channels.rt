@@ -50,11 +50,7 @@ fn push_sources(wires: &mut Vec<Wire>, ins: &[u32], first: u32) -> Result<(), Al
     ensures { OnOk result (wires.new.items ≡ wires.old.items ++ numbered source_wires first ins.now) }
 {
     for place in 0..ins.len() {
-        wires.push(Wire {
-            signal: ins[place],
-            producer: first + place as u32,
-            consumer: 0,
-        })?;
+        wires.push(to(ins[place], first + place as u32, 0))?;
     }
     Ok(())
 }
@@ -65,11 +61,7 @@ fn push_trays(wires: &mut Vec<Wire>, outs: &[u32], first: u32) -> Result<(), All
     ensures { OnOk result (wires.new.items ≡ wires.old.items ++ numbered tray_wires first outs.now) }
 {
     for place in 0..outs.len() {
-        wires.push(Wire {
-            signal: outs[place],
-            producer: 0,
-            consumer: first + place as u32,
-        })?;
+        wires.push(to(outs[place], 0, first + place as u32))?;
     }
     Ok(())
 }
@@ -131,15 +123,10 @@ fn push_ports(
 fn wire_of(port: &InstancePort, outside: u32, unit: u32) -> Wire
     ensures { result ≡ port_wire outside unit port.now }
 {
-    let (producer, consumer) = if port.is_input {
-        (outside, unit)
+    if port.is_input {
+        to(port.signal, outside, unit)
     } else {
-        (unit, outside)
-    };
-    Wire {
-        signal: port.signal,
-        producer,
-        consumer,
+        to(port.signal, unit, outside)
     }
 }
 

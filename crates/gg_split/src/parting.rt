@@ -1,22 +1,19 @@
 //! The split: the channels of a cut, and what each machine has.
 ghost use Rattle.std.specs.Prelude.{◌≡◌, ℕ, ◌<◌, None, List, [], length, set, slice_index_or, IfOk};
 ghost use Rattle.gg_flat.specs.Line.{value_at};
-ghost use Rattle.gg_flat.specs.WellFormed.{IsWellFormed};
 ghost use Rattle.gg_flat.specs.Tree.{IsTree};
-ghost use Rattle.gg_flat.specs.Scoped.{IsScoped};
-ghost use Rattle.gg_flat.specs.Order.{IsOrder};
 ghost use Rattle.gg_cut.specs.Listed.{listed_of, owner_of_instance};
 ghost use Rattle.gg_cut.specs.Fault.{first_fault};
 ghost use Rattle.gg_cut.specs.Channels.{wires_of, machine_count};
-ghost use Rattle.gg_cut.specs.Plan.{channels_to, channels_from};
 ghost use Rattle.gg_closed.specs.Apart.{AreApart, AreFew};
-ghost use Rattle.gg_split.specs.Spread.{AreLists, EachList, AreSignals, AreMemories};
+ghost use Rattle.gg_split.specs.Spread.{EachList, AreSignals, AreMemories};
+ghost use Rattle.gg_split.specs.CanSplit.{CanSplit};
 ghost use Rattle.gg_split.specs.IsShare.{AreShares, IsGathered, AreGathered};
 
 use crate::channels::channels;
-use crate::pile::Pile;
+use crate::pile::{Pile, piles};
 use crate::share::{Share, Split};
-use crate::spread::{given, memories, spread, taken};
+use crate::spread::{memories, put_channels, spread};
 use crate::tables::{channels_of, memory_owners, signal_owners};
 use gg_bits::{Ids, Items};
 use gg_cut::{Listed, Wire, owners_of};
@@ -54,12 +51,7 @@ fn split_all(
     order: &[u32],
     listed: &Listed,
 ) -> Result<Split, AllocError>
-    requires formed { IsWellFormed piece.now }
-    requires fitting { IsTree piece.now tree.now }
-    requires scoped { IsScoped piece.now tree.now }
-    requires ordered { IsOrder piece.now order.now }
-    requires apart { AreApart tree.now listed.now }
-    requires few { AreFew piece.now tree.now listed.now }
+    requires { CanSplit piece.now tree.now order.now listed.now }
     ensures wires { IfOk result (λ split. split.wires ≡ wires_of piece.now tree.now listed.now) }
     ensures shares { IfOk result (λ split. AreShares (record { circuit = piece.now; tree = tree.now; order = order.now }) listed.now split.shares) }
 {
@@ -82,20 +74,16 @@ fn shares(
     owners: &[u32],
     wires: &[Wire],
 ) -> Result<Items<Share>, AllocError>
-    requires formed { IsWellFormed piece.now }
-    requires fitting { IsTree piece.now tree.now }
-    requires scoped { IsScoped piece.now tree.now }
-    requires ordered { IsOrder piece.now order.now }
-    requires apart { AreApart tree.now listed.now }
-    requires few { AreFew piece.now tree.now listed.now }
+    requires sound { CanSplit piece.now tree.now order.now listed.now }
     requires count { length owners.now ≡ length tree.now.instances }
     requires owners { (k : ℕ) → k < length tree.now.instances → value_at owners.now k ≡ owner_of_instance tree.now listed.now.units k }
     requires wires { wires.now ≡ wires_of piece.now tree.now listed.now }
     ensures { IfOk result (λ shares. AreShares (record { circuit = piece.now; tree = tree.now; order = order.now }) listed.now shares) }
 {
     let count = machines(piece, tree, listed);
-    let mut ins = taken(alloc, wires, count)?;
-    let mut outs = given(alloc, wires, count)?;
+    let mut ins = piles(alloc, count)?;
+    let mut outs = piles(alloc, count)?;
+    put_channels(wires, &mut ins, &mut outs)?;
     let mut globals = signals_of(alloc, piece, tree, order, listed, wires, count)?;
     let mut memories = memories_of(alloc, piece, tree, listed, owners, count)?;
     let shares = gather(alloc, &mut ins, &mut outs, &mut globals, &mut memories)?;
@@ -123,12 +111,7 @@ fn signals_of(
     wires: &[Wire],
     count: usize,
 ) -> Result<Vec<Pile>, AllocError>
-    requires formed { IsWellFormed piece.now }
-    requires fitting { IsTree piece.now tree.now }
-    requires scoped { IsScoped piece.now tree.now }
-    requires ordered { IsOrder piece.now order.now }
-    requires apart { AreApart tree.now listed.now }
-    requires few { AreFew piece.now tree.now listed.now }
+    requires sound { CanSplit piece.now tree.now order.now listed.now }
     requires wires { wires.now ≡ wires_of piece.now tree.now listed.now }
     requires count { count ≡ machine_count piece.now listed.now }
     ensures { IfOk result (λ lists. EachList (AreSignals piece.now tree.now order.now listed.now) count lists.items) }
@@ -149,7 +132,6 @@ fn memories_of(
     owners: &[u32],
     count: usize,
 ) -> Result<Vec<Pile>, AllocError>
-    requires formed { IsWellFormed piece.now }
     requires fitting { IsTree piece.now tree.now }
     requires apart { AreApart tree.now listed.now }
     requires few { AreFew piece.now tree.now listed.now }

@@ -9,58 +9,28 @@ use gg_cut::Wire;
 use gg_flat::Tree;
 use std::alloc::{AllocError, Global};
 
-/// The channels that each machine takes, in order. `count` is the number of machines.
+/// Adds each channel to the list of its consumer among `ins` and to the list of its producer among `outs`. At first all
+/// lists are empty.
 ///
 /// # Errors
 ///
 /// Returns `AllocError` if an allocation fails.
-pub(crate) fn taken(alloc: Global, wires: &[Wire], count: usize) -> Result<Vec<Pile>, AllocError>
+pub(crate) fn put_channels(
+    wires: &[Wire],
+    ins: &mut [Pile],
+    outs: &mut [Pile],
+) -> Result<(), AllocError>
     requires few { length wires.now < 2 ^ 32 }
-    requires ends { All (AreEnds count) wires.now }
-    ensures { IfOk result (λ lists. AreLists (channels_to wires.now) count lists.items) }
-{
-    let mut lists = piles(alloc, count)?;
-    put_taken(wires, &mut lists)?;
-    Ok(lists)
-}
-
-// Adds each channel to the list of its consumer. At first all lists are empty.
-fn put_taken(wires: &[Wire], lists: &mut [Pile]) -> Result<(), AllocError>
-    requires few { length wires.now < 2 ^ 32 }
-    requires ends { All (AreEnds (length lists.old)) wires.now }
-    requires empty { (m : ℕ) → slice_index_or lists.old m [] ≡ [] }
-    ensures { OnOk result (AreLists (channels_to wires.now) (length lists.old) lists.new) }
+    requires same { length outs.old ≡ length ins.old }
+    requires ends { All (AreEnds (length ins.old)) wires.now }
+    requires no_ins { (m : ℕ) → slice_index_or ins.old m [] ≡ [] }
+    requires no_outs { (m : ℕ) → slice_index_or outs.old m [] ≡ [] }
+    ensures ins { OnOk result (AreLists (channels_to wires.now) (length ins.old) ins.new) }
+    ensures outs { OnOk result (AreLists (channels_from wires.now) (length outs.old) outs.new) }
 {
     for channel in 0..wires.len() {
-        put(lists, wires[channel].consumer, channel as u32)?;
-    }
-    Ok(())
-}
-
-/// The channels that each machine gives, in order. `count` is the number of machines.
-///
-/// # Errors
-///
-/// Returns `AllocError` if an allocation fails.
-pub(crate) fn given(alloc: Global, wires: &[Wire], count: usize) -> Result<Vec<Pile>, AllocError>
-    requires few { length wires.now < 2 ^ 32 }
-    requires ends { All (AreEnds count) wires.now }
-    ensures { IfOk result (λ lists. AreLists (channels_from wires.now) count lists.items) }
-{
-    let mut lists = piles(alloc, count)?;
-    put_given(wires, &mut lists)?;
-    Ok(lists)
-}
-
-// Adds each channel to the list of its producer. At first all lists are empty.
-fn put_given(wires: &[Wire], lists: &mut [Pile]) -> Result<(), AllocError>
-    requires few { length wires.now < 2 ^ 32 }
-    requires ends { All (AreEnds (length lists.old)) wires.now }
-    requires empty { (m : ℕ) → slice_index_or lists.old m [] ≡ [] }
-    ensures { OnOk result (AreLists (channels_from wires.now) (length lists.old) lists.new) }
-{
-    for channel in 0..wires.len() {
-        put(lists, wires[channel].producer, channel as u32)?;
+        put(ins, wires[channel].consumer, channel as u32)?;
+        put(outs, wires[channel].producer, channel as u32)?;
     }
     Ok(())
 }

@@ -1,11 +1,10 @@
-use Rattle.gg_split.proofs.PartingLemmas.{apart-of, few-of, shares-of}
+use Rattle.gg_split.proofs.PartingLemmas.{can-split, shares-of}
 use Rattle.gg_split.proofs.parting.split.Goals as goal
 
-pub split_all-requires-clause-apart : goal.split_all-requires-clause-apart
-split_all-requires-clause-apart c = apart-of c.args.design.now c.args.request.now c.tree.result.now c.args.listed.now c.tree.ensures.tree c.requires.listed c.tree.ensures.fitting c.requires.faultless
-
-pub split_all-requires-clause-few : goal.split_all-requires-clause-few
-split_all-requires-clause-few c = few-of c.args.design.now c.args.request.now c.piece.result.now c.tree.result.now c.args.listed.now c.piece.ensures.circuit c.tree.ensures.tree c.requires.listed c.requires.faultless
+pub split_all-requires : goal.split_all-requires
+split_all-requires c =
+    can-split c.args.design.now c.args.request.now c.piece.result.now c.tree.result.now c.order.result.now c.args.listed.now c.piece.ensures.circuit c.tree.ensures.tree c.order.ensures.order c.requires.listed
+    (record { formed = c.piece.ensures.formed; fitting = c.tree.ensures.fitting; scoped = c.tree.ensures.scoped; ordered = c.order.ensures.ordered }) c.requires.faultless
 
 pub returns-clause-shares : goal.returns-clause-shares
 returns-clause-shares c =
