@@ -1,10 +1,8 @@
 -- Of a network that is kept each event may be done or is refused.
 use Rattle.std.proofs.Common.{◌≡◌, ℕ, zero, suc, ◌<◌, ◌≤◌, List, [], ◌∷◌, Option, None, Some, Bool, true, false, length, map, refl, sym, ap, subst, ◌∙◌, ⊎_elim, inl, inr, arith}
-use Rattle.std.specs.Prelude.{◌⊎◌, All, Contains, IsSome, slice_index_or, ◌==◌}
-use Rattle.std.specs.List.{Any, list_any}
-use Rattle.std.proofs.lemmas.Bool.{cases_Bool, cases_eq, cases_lt, eq-eqb, eqb-true}
+use Rattle.std.specs.Prelude.{◌⊎◌, All, IsSome, slice_index_or}
+use Rattle.std.proofs.lemmas.Bool.{cases_eq, cases_lt}
 use Rattle.std.proofs.lemmas.List.{length-map}
-use Rattle.std.proofs.lemmas.List.Folds.{Any-from_list_any, list_any_at}
 use Rattle.std.proofs.lemmas.Option.{same_Some}
 use Rattle.std.proofs.Math.ListN as exact
 use Rattle.gg_node.specs.Machine.{Machine, no_machine, machine_at, latch_at, flag_at, due}
@@ -14,9 +12,9 @@ use Rattle.gg_net.specs.declared.event.Event.TheVariants.{Latch, Fire, Serve, Fi
 use Rattle.gg_net.specs.declared.event.Refusal.{Refusal}
 use Rattle.gg_net.specs.declared.event.Refusal.TheVariants.{Stranger, Ended, Latched, Fired, NoToken, NeedsInput, Full, Order, Unfired, Unserved}
 use Rattle.gg_net.specs.Network.{Network, Kind, IsAtIn, IsAtOut, wire_at, queue_at, kind_of, kind_at}
-use Rattle.gg_net.specs.Step.{IsBelow, HasPort, CanTake, CanGive, CanLatch, CanFire, CanServe, CanFinish, Ready, IsWanted, IsFirstClear, IsFirstEmpty, IsUnfired, IsUnlatched, LatchRefused, FireRefused, ServeRefused, FinishRefused, Refused, latch_of, flag_of, missing_of, missing_field, numbers, due_or_count}
+use Rattle.gg_net.specs.Step.{IsBelow, HasPort, CanTake, CanGive, CanLatch, CanFire, CanServe, CanFinish, Ready, IsWanted, IsFirstClear, IsFirstEmpty, IsUnfired, IsUnlatched, LatchRefused, FireRefused, ServeRefused, FinishRefused, Refused, latch_of, flag_of, missing_of, missing_field, due_or_count}
 use Rattle.gg_net.specs.Kept.{Kept}
-use Rattle.gg_net.proofs.LatchLemmas.{some-is-no-none, true-is-no-false}
+use Rattle.gg_net.proofs.LatchLemmas.{some-is-no-none}
 use Rattle.gg_net.proofs.MayLemmas.{producer-there}
 use Rattle.gg_net.proofs.NetLemmas.{missing-within, field-within}
 
@@ -58,14 +56,6 @@ first-gap (Some value ∷ latches) =
     later i before zero lt = refl
     later i before (suc k) lt = before k (omega (arith, lt))
 
--- a number is among these, or it isn't
-contains-or : (ns : List ℕ) (p : ℕ) → Contains ns p ⊎ (Contains ns p → ⊥)
-contains-or ns p =
-    ⊎_elim
-    (λ (yes : list_any (λ n. n == p) ns ≡ true). let any : Any (λ n. (n == p) ≡ true) ns = Any-from_list_any (λ n. n == p) ns yes in inl (any.0, any.2, subst (λ n. slice_index_or ns any.0 n ≡ n) (eqb-true any.1 p any.4) any.3))
-    (λ (none : list_any (λ n. n == p) ns ≡ false). inr (λ has. true-is-no-false (sym (list_any_at (λ n. n == p) ns has.0 p has.1 (eq-eqb (slice_index_or ns has.0 p) p has.2)) ∙ none)))
-    (cases_Bool (list_any (λ n. n == p) ns))
-
 module _ (lists : List (List ℕ)) (runs : List (List (List ℕ))) (net : Network) (kept : Kept lists runs net) where
   -- ---- the parts
 
@@ -81,9 +71,9 @@ module _ (lists : List (List ℕ)) (runs : List (List (List ℕ))) (net : Networ
       ⊎_elim
       (λ (there : m < length net.machines).
       ⊎_elim
-      (λ (has : Contains (numbers (machine_at net.machines m).ports) p). inl (there, has))
-      (λ (none : Contains (numbers (machine_at net.machines m).ports) p → ⊥). inr (λ has. none has.1))
-      (contains-or (numbers (machine_at net.machines m).ports) p))
+      (λ (has : p < (machine_at net.machines m).port_count). inl (there, has))
+      (λ (none : (machine_at net.machines m).port_count ≤ p). inr (λ has. omega (arith, none, has.1)))
+      (cases_lt p (machine_at net.machines m).port_count))
       (λ (past : length net.machines ≤ m). inr (λ has. omega (arith, past, has.0)))
       (cases_lt m (length net.machines))
 
@@ -182,7 +172,7 @@ module _ (lists : List (List ℕ)) (runs : List (List (List ℕ))) (net : Networ
         inr (NeedsInput channel.0, (has, below, fired, this, subst (λ o. IsWanted net m o channel.0) (sym is) channel.1))
 
     serve-other : HasPort net m p → IsBelow net m → AllFired (machine_at net.machines m) → (due (machine_at net.machines m) ≡ Some p → ⊥) → CanServe net m p ⊎ ((cause : Refusal) × ServeRefused net m p cause)
-    serve-other has below fired other = inr (Order (due_or_count (machine_at net.machines m).ports (due (machine_at net.machines m))), (has, below, fired, other, refl))
+    serve-other has below fired other = inr (Order (due_or_count (machine_at net.machines m).port_count (due (machine_at net.machines m))), (has, below, fired, other, refl))
 
     serve-due : (port : Option ℕ) → due (machine_at net.machines m) ≡ port → HasPort net m p → IsBelow net m → AllFired (machine_at net.machines m) → CanServe net m p ⊎ ((cause : Refusal) × ServeRefused net m p cause)
     serve-due None is has below fired = serve-other has below fired (λ this. some-is-no-none p (sym this ∙ is))

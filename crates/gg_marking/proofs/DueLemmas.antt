@@ -1,33 +1,24 @@
 -- The ports of a machine, and the one that is due.
 use Rattle.std.proofs.Common.{◌≡◌, ℕ, ◌<◌, ◌≤◌, List, [], Option, Some, None, true, false, length, map, sym, ap, subst, ◌∙◌, ⊎_elim, arith}
-use Rattle.std.specs.Prelude.{Contains, slice_index_or, slice_get, ◌==◌}
-use Rattle.std.specs.List.{list_any}
-use Rattle.std.proofs.lemmas.Bool.{cases_lt, eq-eqb, ne_eqb}
-use Rattle.std.proofs.lemmas.List.{length-map, get_or-map, get_or_past, get_or_default, ext_get_or}
-use Rattle.std.proofs.lemmas.List.Folds.{list_any_at, list_any_none}
+use Rattle.std.specs.Prelude.{slice_index_or, slice_get}
+use Rattle.std.proofs.lemmas.Bool.{cases_lt, lt-ltb, le-ltb}
+use Rattle.std.proofs.lemmas.List.{length-map, get_or_past}
 use Rattle.std.proofs.lemmas.Option.{same_Some, slice_get_within, slice_get_past, slice_get-get_or, get_or_from_slice_get}
 use Rattle.std.proofs.Math.ListN as exact
 use Rattle.gg_flat.specs.Line.{value_at}
 use Rattle.gg_node.specs.Machine.{Port, Machine, no_machine, machine_at, port_number, due}
-use Rattle.gg_net.specs.Network.{Network, Kind, kind_of, frame_of}
+use Rattle.gg_net.specs.Network.{Network, Kind, kind_of, no_kind, frame_of}
 use Rattle.gg_net.specs.Step.{HasPort, due_fields, fields_at}
-use Rattle.gg_net.specs.Step as step
 use Rattle.gg_net.proofs.MachineLemmas.{due-port}
 use Rattle.gg_net.proofs.PortLemmas.{any_port}
 use Rattle.gg_net.proofs.StepLemmas.{all-served}
-use Rattle.gg_marking.specs.Marking.{Turn, Layout, turns_at, numbers, has_port, due_turn}
+use Rattle.gg_marking.specs.Marking.{Turn, Layout, turns_at, port_count, has_port, due_turn}
 use Rattle.gg_marking.specs.Fits.{HasLayout, AreTaken, AreTurnsOf, IsTurnOf, places_of, marking_of}
 use Rattle.gg_marking.proofs.CountLemmas.{served-at}
 
 -- some turn, to stand where none is
 abbrev any_turn : Turn
 any_turn = record { number = 0; fields = [] }
-
-abbrev number_of : Turn → ℕ
-number_of turn = turn.number
-
-abbrev port_number_of : Port → ℕ
-port_number_of port = port.number
 
 -- The port of this number is due at machine m, and this is its turn.
 pub record IsDue (net : Network) (layout : Layout) (m p : ℕ) : Type 0 where
@@ -38,10 +29,6 @@ pub record IsDue (net : Network) (layout : Layout) (m p : ℕ) : Type 0 where
   pub taken : AreTaken (frame_of net) m turn.fields
 
 module _ (net : Network) (layout : Layout) (has : HasLayout (frame_of net) layout) where
-  -- no machine, no port
-  pub no-turns : (m : ℕ) → length net.machines ≤ m → turns_at layout m ≡ []
-  no-turns m past = get_or_past layout.turns m [] (omega (arith, past, has.machines, length-map net.machines kind_of))
-
   module _ (m : ℕ) (there : m < length net.machines) where
     abbrev x : Machine
     x = machine_at net.machines m
@@ -54,14 +41,6 @@ module _ (net : Network) (layout : Layout) (has : HasLayout (frame_of net) layou
 
     turns-are : AreTurnsOf (frame_of net) m x.ports turns
     turns-are = subst (λ (k : Kind). AreTurnsOf (frame_of net) m k.ports turns) (exact.get_or-map kind_of net.machines m no_machine) (has.turns m known)
-
-    -- their numbers
-    pub numbers-are : numbers turns ≡ step.numbers x.ports
-    numbers-are =
-        ext_get_or 0 (numbers turns) (step.numbers x.ports) (length-map turns number_of ∙ turns-are.count ∙ sym (length-map x.ports port_number_of)) (λ i lt.
-        let in_turns : i < length turns = omega (arith, lt, length-map turns number_of) in
-        let in_ports : i < length x.ports = omega (arith, in_turns, turns-are.count) in
-        get_or-map number_of turns i any_turn 0 in_turns ∙ (turns-are.each i any_port any_turn in_ports).number ∙ sym (get_or-map port_number_of x.ports i any_port 0 in_ports))
 
     -- a port is due
     pub is-due : (p : ℕ) → due x ≡ Some p → IsDue net layout m p
@@ -89,19 +68,26 @@ module _ (net : Network) (layout : Layout) (has : HasLayout (frame_of net) layou
         let whole : x.served ≡ length x.ports = all-served x.ports x.served any_port within none in
         slice_get_past turns (value_at (marking_of net).served m) (omega (arith, whole, served-at net m, turns-are.count))
 
-  -- ---- whether a machine has a port
+  -- ---- how many ports a machine has, and whether it has one
+
+  -- 0 past the machines
+  pub port-count-is : (m : ℕ) → port_count layout m ≡ (machine_at net.machines m).port_count
+  port-count-is m =
+      ap (λ (counts : List ℕ). value_at counts m) has.ports
+      ∙ exact.get_or-map (λ (kind : Kind). kind.port_count) (map kind_of net.machines) m no_kind
+      ∙ ap (λ (kind : Kind). kind.port_count) (exact.get_or-map kind_of net.machines m no_machine)
 
   pub has-port : (m p : ℕ) → HasPort net m p → has_port layout m p ≡ true
-  has-port m p is =
-      let listed : Contains (numbers (turns_at layout m)) p = subst (λ (ns : List ℕ). Contains ns p) (sym (numbers-are m is.0)) is.1 in
-      list_any_at (λ number. number == p) (numbers (turns_at layout m)) listed.0 p listed.1 (eq-eqb (slice_index_or (numbers (turns_at layout m)) listed.0 p) p listed.2)
+  has-port m p is = lt-ltb p (port_count layout m) (omega (arith, is.1, port-count-is m))
 
   pub no-port : (m p : ℕ) → (HasPort net m p → ⊥) → has_port layout m p ≡ false
   no-port m p none =
+      le-ltb p (port_count layout m)
+      (⊎_elim
+      (λ (there : m < length net.machines).
       ⊎_elim
-      (λ (there : m < length net.machines). list_any_none (λ number. number == p) (numbers (turns_at layout m)) (λ k d lt.
-      ne_eqb (slice_index_or (numbers (turns_at layout m)) k d) p (λ same.
-      let listed : Contains (numbers (turns_at layout m)) p = (k, lt, get_or_default (numbers (turns_at layout m)) k p d lt ∙ same) in
-      none (there, subst (λ (ns : List ℕ). Contains ns p) (numbers-are m there) listed))))
-      (λ (past : length net.machines ≤ m). ap (λ (turns : List Turn). list_any (λ number. number == p) (numbers turns)) (no-turns m past))
-      (cases_lt m (length net.machines))
+      (λ (lt : p < port_count layout m). absurd (none (there, omega (arith, lt, port-count-is m))))
+      (λ (le : port_count layout m ≤ p). le)
+      (cases_lt p (port_count layout m)))
+      (λ (past : length net.machines ≤ m). omega (arith, port-count-is m, ap (λ (x : Machine). x.port_count) (get_or_past net.machines m no_machine past)))
+      (cases_lt m (length net.machines)))

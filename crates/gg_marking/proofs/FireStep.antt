@@ -23,7 +23,7 @@ fire-frame net c token =
     let w : Wire = wire_at net.wires c in
     let x : Machine = producer_of net c in
     same-frame net w.producer (with_flag x w.out) (slice_set net.queues c (queue_at net.queues c ++ token ∷ []))
-    (ap (λ n. record { behaviour = x.behaviour; limit = x.limit; needs = x.needs; ports = x.ports; ins = length x.latches; outs = n }) (length-set x.flags w.out true))
+    (ap (λ n. record { behaviour = x.behaviour; limit = x.limit; needs = x.needs; port_count = x.port_count; ports = x.ports; ins = length x.latches; outs = n }) (length-set x.flags w.out true))
 
 module _ (lists : List (List ℕ)) (runs : List (List (List ℕ))) (net : Network) (kept : Kept lists runs net) (layout : Layout) (c token : ℕ) (can : CanFire net c) where
   abbrev w : Wire

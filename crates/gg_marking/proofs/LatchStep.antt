@@ -23,7 +23,7 @@ latch-frame net c =
     let w : Wire = wire_at net.wires c in
     let x : Machine = consumer_of net c in
     same-frame net w.consumer (with_latch x w.place (front_of net c)) (slice_set net.queues c (drop 1 (queue_at net.queues c)))
-    (ap (λ n. record { behaviour = x.behaviour; limit = x.limit; needs = x.needs; ports = x.ports; ins = n; outs = length x.flags }) (length-set x.latches w.place (Some (front_of net c))))
+    (ap (λ n. record { behaviour = x.behaviour; limit = x.limit; needs = x.needs; port_count = x.port_count; ports = x.ports; ins = n; outs = length x.flags }) (length-set x.latches w.place (Some (front_of net c))))
 
 module _ (lists : List (List ℕ)) (runs : List (List (List ℕ))) (net : Network) (kept : Kept lists runs net) (layout : Layout) (c : ℕ) (can : CanLatch net c) where
   abbrev w : Wire

@@ -7,7 +7,7 @@ use Rattle.gg_node.specs.Step.{AllFired}
 use Rattle.gg_net.specs.declared.event.Refusal.{Refusal}
 use Rattle.gg_net.specs.declared.event.Refusal.TheVariants.{Stranger, Ended, NeedsInput, Order, Unfired}
 use Rattle.gg_net.specs.Network.{Network, frame_of}
-use Rattle.gg_net.specs.Step.{HasPort, IsBelow, IsWanted, CanServe, ServeRefused, bound_of, due_or_count, missing_field}
+use Rattle.gg_net.specs.Step.{HasPort, IsBelow, IsWanted, CanServe, ServeRefused, due_or_count, missing_field}
 use Rattle.gg_net.specs.Kept.{Kept}
 use Rattle.gg_marking.specs.Marking.{Turn, Layout, Marking, has_port, is_below, first_unmarked, channels_out_of, unfired, due_turn, turn_refusal, or_next, unless, naming, serve_refusal}
 use Rattle.gg_marking.specs.Fits.{HasLayout, marking_of}
@@ -15,7 +15,7 @@ use Rattle.gg_marking.proofs.FindLemmas.{passed, failed, names-none, names-some}
 use Rattle.gg_marking.proofs.CountLemmas.{below-is, below-not}
 use Rattle.gg_marking.proofs.NeedLemmas.{unmarked-none, unmarked-some}
 use Rattle.gg_marking.proofs.FirstLemmas.{none-unfired, first-unfired}
-use Rattle.gg_marking.proofs.DueLemmas.{IsDue, is-due, none-due, numbers-are, has-port, no-port}
+use Rattle.gg_marking.proofs.DueLemmas.{IsDue, is-due, none-due, port-count-is, has-port, no-port}
 
 module _ (lists : List (List ℕ)) (runs : List (List (List ℕ))) (net : Network) (kept : Kept lists runs net) (layout : Layout) (has : HasLayout (frame_of net) layout) (m p : ℕ) where
   abbrev marking : Marking
@@ -56,10 +56,10 @@ module _ (lists : List (List ℕ)) (runs : List (List (List ℕ))) (net : Networ
       turn-is this.turn this.found ∙ passed (this.turn.number == p) (Order this.turn.number) (naming NeedsInput (first_unmarked marking.taken this.turn.fields)) (eq-eqb this.turn.number p this.number)
 
   -- it is another, or none
-  wrong-turn : (o : Option ℕ) → m < length net.machines → due x ≡ o → (o ≡ Some p → ⊥) → at_turn ≡ Some (Order (due_or_count x.ports o))
+  wrong-turn : (o : Option ℕ) → m < length net.machines → due x ≡ o → (o ≡ Some p → ⊥) → at_turn ≡ Some (Order (due_or_count x.port_count o))
   wrong-turn None there is other =
       ap (turn_refusal layout marking m p) (none-due net layout has m there (kept.machines m there).served is)
-      ∙ ap (λ (ns : List ℕ). Some (Order (bound_of ns))) (numbers-are net layout has m there)
+      ∙ ap (λ n. Some (Order n)) (port-count-is net layout has m)
   wrong-turn (Some q) there is other =
       let this : IsDue net layout m q = is-due net layout has m there q is in
       turn-is this.turn this.found

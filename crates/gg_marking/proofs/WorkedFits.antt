@@ -21,7 +21,7 @@ no-turns frame m = record { count = refl; each = λ i port turn lt. absurd (omeg
 -- ---- a counter: the hub 0, a source 1, a tray 2; channel 0 goes from the source to the hub, channel 1 from the hub to the tray
 
 abbrev hub : Option ℕ → Bool → Machine
-hub latch flag = record { behaviour = RunsPiece no_circuit; limit = 10; needs = [] ∷ []; ports = []; cycle = 0; state = no_state; served = 0; latches = latch ∷ []; flags = flag ∷ []; kept = [] }
+hub latch flag = record { behaviour = RunsPiece no_circuit; limit = 10; needs = [] ∷ []; port_count = 0; ports = []; cycle = 0; state = no_state; served = 0; latches = latch ∷ []; flags = flag ∷ []; kept = [] }
 
 abbrev net : Option ℕ → Bool → Bool → List ℕ → List ℕ → Network
 net latch flag fired to_hub to_tray =
@@ -39,12 +39,13 @@ abbrev counter : Layout
 counter =
     record {
       links = (record { producer = 1; consumer = 0; capacity = 1; needs = [] }) ∷ (record { producer = 0; consumer = 2; capacity = 1; needs = [] }) ∷ [];
+      port_counts = 0 ∷ 0 ∷ 0 ∷ [];
       turns = [] ∷ [] ∷ [] ∷ [];
       end = 2;
     }
 
 counter-fits : HasLayout (frame_of opens) counter
-counter-fits = record { machines = refl; channels = refl; end = refl; link = links; turns = turns; ins = ins; outs = outs }
+counter-fits = record { machines = refl; channels = refl; end = refl; ports = refl; link = links; turns = turns; ins = ins; outs = outs }
   where
     links : (c : ℕ) → c < 2 → IsLinkOf (frame_of opens) c (link_at counter c)
     links zero lt = record { producer = refl; consumer = refl; capacity = refl; needs = refl; taken = λ k any below. absurd (omega (arith, below)) }
@@ -126,7 +127,7 @@ not-another-number stops = by stops.done stops.number stops.event stops.next
 not-longer : HasLayout (frame_of opens) (record counter { links = (record { producer = 1; consumer = 0; capacity = 2; needs = [] }) ∷ (record { producer = 0; consumer = 2; capacity = 1; needs = [] }) ∷ [] }) → ⊥
 not-longer has = let is : ◌≡◌ {A = ℕ} 2 1 = (has.link 0 (lit< tt)).capacity in omega (arith, is)
 
--- ---- needs and fields: machine 0 needs its ins 1 and 0, in this order, for its out, and a port looks at them, address first
+-- ---- needs and fields: machine 0 needs its ins 1 and 0, in this order, for its out, and one of its five ports looks at them, address first
 
 abbrev reader : Port
 reader = record { number = 4; access = ByReader 0 (record { addr = 1; en = 0; word = 2 }) }
@@ -134,8 +135,8 @@ reader = record { number = 4; access = ByReader 0 (record { addr = 1; en = 0; wo
 abbrev needy : Frame
 needy =
     record {
-      kinds = record { behaviour = RunsPiece no_circuit; limit = 10; needs = (1 ∷ 0 ∷ []) ∷ []; ports = reader ∷ []; ins = 2; outs = 1 }
-          ∷ record { behaviour = KeepsValues; limit = 10; needs = [] ∷ [] ∷ []; ports = []; ins = 1; outs = 2 }
+      kinds = record { behaviour = RunsPiece no_circuit; limit = 10; needs = (1 ∷ 0 ∷ []) ∷ []; port_count = 5; ports = reader ∷ []; ins = 2; outs = 1 }
+          ∷ record { behaviour = KeepsValues; limit = 10; needs = [] ∷ [] ∷ []; port_count = 0; ports = []; ins = 1; outs = 2 }
           ∷ [];
       wires = record { producer = 1; out = 0; consumer = 0; place = 0; capacity = 1 }
           ∷ record { producer = 1; out = 1; consumer = 0; place = 1; capacity = 1 }
@@ -149,12 +150,13 @@ abbrev with_these : List ℕ → List ℕ → Layout
 with_these needs fields =
     record {
       links = (record { producer = 1; consumer = 0; capacity = 1; needs = [] }) ∷ (record { producer = 1; consumer = 0; capacity = 1; needs = [] }) ∷ (record { producer = 0; consumer = 1; capacity = 1; needs = needs }) ∷ [];
+      port_counts = 5 ∷ 0 ∷ [];
       turns = ((record { number = 4; fields = fields }) ∷ []) ∷ [] ∷ [];
       end = 2;
     }
 
 needy-fits : HasLayout needy (with_these (1 ∷ 0 ∷ []) (1 ∷ 0 ∷ []))
-needy-fits = record { machines = refl; channels = refl; end = refl; link = links; turns = turns; ins = ins; outs = outs }
+needy-fits = record { machines = refl; channels = refl; end = refl; ports = refl; link = links; turns = turns; ins = ins; outs = outs }
   where
     both : (k any : ℕ) → k < 2 → (slice_index_or (1 ∷ 0 ∷ []) k any < 3) × ((wire_at needy.wires (slice_index_or (1 ∷ 0 ∷ []) k any)).consumer ≡ 0)
     both zero any lt = (lit< tt, refl)
@@ -204,3 +206,10 @@ not-fewer-needs has = let is : ◌≡◌ {A = List ℕ} (1 ∷ []) (1 ∷ 0 ∷ 
 not-other-fields : HasLayout needy (with_these (1 ∷ 0 ∷ []) (0 ∷ 1 ∷ [])) → ⊥
 not-other-fields has =
     let is : ◌≡◌ {A = List ℕ} (0 ∷ 1 ∷ []) (1 ∷ 0 ∷ []) = ((has.turns 0 (lit< tt)).each 0 reader (record { number = 0; fields = [] }) (lit< tt)).fields in cc
+
+-- as many ports as are served alone, and no ports
+not-those-served-alone : HasLayout needy (record (with_these (1 ∷ 0 ∷ []) (1 ∷ 0 ∷ [])) { port_counts = 1 ∷ 0 ∷ [] }) → ⊥
+not-those-served-alone has = let is : ◌≡◌ {A = List ℕ} (1 ∷ 0 ∷ []) (5 ∷ 0 ∷ []) = has.ports in cc
+
+not-without-counts : HasLayout needy (record (with_these (1 ∷ 0 ∷ []) (1 ∷ 0 ∷ [])) { port_counts = [] }) → ⊥
+not-without-counts has = let is : ◌≡◌ {A = List ℕ} [] (5 ∷ 0 ∷ []) = has.ports in cc

@@ -14,6 +14,7 @@ abbrev counter : Layout
 counter =
     record {
       links = (record { producer = 1; consumer = 0; capacity = 1; needs = [] }) ∷ (record { producer = 0; consumer = 2; capacity = 1; needs = [] }) ∷ [];
+      port_counts = 0 ∷ 0 ∷ 0 ∷ [];
       turns = [] ∷ [] ∷ [] ∷ [];
       end = 2;
     }
@@ -93,6 +94,7 @@ adder =
       links = (record { producer = 1; consumer = 0; capacity = 2; needs = [] })
           ∷ (record { producer = 2; consumer = 0; capacity = 2; needs = [] })
           ∷ (record { producer = 0; consumer = 3; capacity = 2; needs = 0 ∷ 1 ∷ [] }) ∷ [];
+      port_counts = 0 ∷ 0 ∷ 0 ∷ 0 ∷ [];
       turns = [] ∷ [] ∷ [] ∷ [] ∷ [];
       end = 1;
     }
@@ -117,6 +119,7 @@ abbrev served : Layout
 served =
     record {
       links = to_memory ∷ to_memory ∷ to_memory ∷ to_memory ∷ to_memory ∷ to_memory ∷ (record { producer = 0; consumer = 1; capacity = 1; needs = [] }) ∷ [];
+      port_counts = 2 ∷ 0 ∷ [];
       turns = ((record { number = 0; fields = 0 ∷ 1 ∷ [] }) ∷ (record { number = 1; fields = 2 ∷ 3 ∷ 4 ∷ 5 ∷ [] }) ∷ []) ∷ [] ∷ [];
       end = 2;
     }
@@ -159,7 +162,49 @@ serve-finish : replayed_from served 1 (opening_marking served)
     })
 serve-finish = refl
 
+-- ---- the same memory, whose reader gives its word in the same cycle: it is port 0 still, which isn't served, and the writer is port 1
+
+abbrev at_once : Layout
+at_once =
+    record {
+      links = to_memory ∷ to_memory ∷ to_memory ∷ to_memory ∷ to_memory ∷ to_memory ∷ (record { producer = 0; consumer = 1; capacity = 1; needs = 0 ∷ 1 ∷ [] }) ∷ [];
+      port_counts = 2 ∷ 0 ∷ [];
+      turns = ((record { number = 1; fields = 2 ∷ 3 ∷ 4 ∷ 5 ∷ [] }) ∷ []) ∷ [] ∷ [];
+      end = 2;
+    }
+
+at-once-unfired : refusal at_once (opening_marking at_once) (Serve 0 0) ≡ Some (Unfired 6)
+at-once-unfired = refl
+
+at-once-stranger : refusal at_once (opening_marking at_once) (Serve 0 2) ≡ Some Stranger
+at-once-stranger = refl
+
+-- its tokens are given: the writer is due
+at-once-order : replayed_from at_once 1 (opening_marking at_once) (Some (Fire 0) ∷ Some (Latch 0) ∷ Some (Fire 1) ∷ Some (Latch 1) ∷ Some (Fire 6) ∷ Some (Serve 0 0) ∷ []) ≡ Err (record { step = 6; cause = Order 1 })
+at-once-order = refl
+
+-- the writer is served: none is due, and the number of the ports is told
+at-once-none-due : replayed_from at_once 1 (opening_marking at_once)
+    (Some (Fire 0) ∷ Some (Latch 0) ∷ Some (Fire 1) ∷ Some (Latch 1) ∷ Some (Fire 6) ∷ Some (Fire 2) ∷ Some (Latch 2) ∷ Some (Fire 3) ∷ Some (Latch 3)
+    ∷ Some (Fire 4) ∷ Some (Latch 4) ∷ Some (Fire 5) ∷ Some (Latch 5) ∷ Some (Serve 0 1) ∷ Some (Serve 0 0) ∷ [])
+    ≡ Err (record { step = 15; cause = Order 2 })
+at-once-none-due = refl
+
+-- a memory that is only read, in the same cycle: no port of it is ever due
+abbrev read_only : Layout
+read_only = record at_once { port_counts = 1 ∷ 0 ∷ []; turns = [] ∷ [] ∷ [] }
+
+read-only-order : replayed_from read_only 1 (opening_marking read_only) (Some (Fire 0) ∷ Some (Latch 0) ∷ Some (Fire 1) ∷ Some (Latch 1) ∷ Some (Fire 6) ∷ Some (Serve 0 0) ∷ []) ≡ Err (record { step = 6; cause = Order 1 })
+read-only-order = refl
+
 -- ---- what must not hold
+
+-- a reader that isn't served is no stranger, neither before its word is given nor when none is due
+not-a-stranger : refusal at_once (opening_marking at_once) (Serve 0 0) ≡ Some Stranger → ⊥
+not-a-stranger said = let is : ◌≡◌ {A = Option Refusal} (Some (Unfired 6)) (Some Stranger) = said in cc
+
+not-a-stranger-alone : refusal read_only (record (opening_marking read_only) { given = false ∷ false ∷ false ∷ false ∷ false ∷ false ∷ true ∷ [] }) (Serve 0 0) ≡ Some Stranger → ⊥
+not-a-stranger-alone said = let is : ◌≡◌ {A = Option Refusal} (Some (Order 1)) (Some Stranger) = said in cc
 
 -- a token isn't given before a need is taken
 not-before-its-needs : refusal adder (opening_marking adder) (Fire 2) ≡ None → ⊥

@@ -15,7 +15,7 @@ use Rattle.gg_flat.specs.Memory.{LooksAmong, WritesAmong}
 use Rattle.gg_flat.specs.WellFormed.{MayDrive, IsReader, IsWriter, IsMemory, AreDriven, reader_driver, IsRegister, IsWellFormed}
 use Rattle.gg_flat.proofs.WorkedCircuits.{one, eight}
 use Rattle.gg_flat.proofs.WorkedForms.{only, both, three, pair, differ}
-use Rattle.gg_memunit.specs.MemoryUnit.{IsMemoryPiece, outs_of}
+use Rattle.gg_memunit.specs.MemoryUnit.{IsMemoryPiece, outs_of, count_of, ports_of}
 
 abbrev reader : Reader
 reader = record { addr = 0; en = 1; word = 2 }
@@ -105,3 +105,20 @@ read-alone p well registers ins outs readers writers =
 
 is-memory-piece : IsMemoryPiece piece
 is-memory-piece = read-alone piece formed refl refl refl refl refl
+
+-- ---- the reader is a port that isn't served; a writer beside it has the number 1, and is served
+
+one-port : count_of piece.memories ≡ 1
+one-port = refl
+
+none-served : ports_of piece.memories ≡ []
+none-served = refl
+
+abbrev written : Memory
+written = record memory { writers = record { addr = 2; en = 3; word = 4; mask = 5 } ∷ [] }
+
+two-ports : count_of (written ∷ []) ≡ 2
+two-ports = refl
+
+writer-served : map (λ port. port.number) (ports_of (written ∷ [])) ≡ 1 ∷ []
+writer-served = refl

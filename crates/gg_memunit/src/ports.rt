@@ -29,6 +29,14 @@ pub(crate) fn first_missing(
     }
 }
 
+/// How many ports there are.
+pub(crate) fn all(readers: &[Reader], writers: &[Writer]) -> u32
+    requires { length readers.now + length writers.now < 2 ^ 32 }
+    ensures { result ≡ length readers.now + length writers.now }
+{
+    (readers.len() + writers.len()) as u32
+}
+
 /// How many ports are served in a cycle.
 pub(crate) fn count(latency: Latency, readers: &[Reader], writers: &[Writer]) -> u32
     requires { length readers.now + length writers.now < 2 ^ 32 }

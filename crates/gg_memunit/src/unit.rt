@@ -109,7 +109,7 @@ impl MemUnit {
         ensures { result ≡ self.now.port_count }
     {
         let memory = memory_of(&self.piece);
-        (memory.readers.len() + memory.writers.len()) as u32
+        ports::all(memory.readers.as_slice(), memory.writers.as_slice())
     }
 
     // The token of an out.

@@ -25,15 +25,15 @@ use Rattle.gg_net.proofs.MayLemmas.{consumer-there, producer-there, may-latch, m
 -- ---- kinds
 
 pub kind-latch : (x : Machine) (i value : ℕ) → kind_of (with_latch x i value) ≡ kind_of x
-kind-latch x i value = ap (λ n. record { behaviour = x.behaviour; limit = x.limit; needs = x.needs; ports = x.ports; ins = n; outs = length x.flags }) (length-set x.latches i (Some value))
+kind-latch x i value = ap (λ n. record { behaviour = x.behaviour; limit = x.limit; needs = x.needs; port_count = x.port_count; ports = x.ports; ins = n; outs = length x.flags }) (length-set x.latches i (Some value))
 
 pub kind-flag : (x : Machine) (o : ℕ) → kind_of (with_flag x o) ≡ kind_of x
-kind-flag x o = ap (λ n. record { behaviour = x.behaviour; limit = x.limit; needs = x.needs; ports = x.ports; ins = length x.latches; outs = n }) (length-set x.flags o true)
+kind-flag x o = ap (λ n. record { behaviour = x.behaviour; limit = x.limit; needs = x.needs; port_count = x.port_count; ports = x.ports; ins = length x.latches; outs = n }) (length-set x.flags o true)
 
 pub kind-finished : (x : Machine) (next : State) → kind_of (finished x next) ≡ kind_of x
 kind-finished x next =
-    ap (λ n. record { behaviour = x.behaviour; limit = x.limit; needs = x.needs; ports = x.ports; ins = n; outs = length (replicate (length x.flags) false) }) (length-replicate (length x.latches) None)
-    ∙ ap (λ n. record { behaviour = x.behaviour; limit = x.limit; needs = x.needs; ports = x.ports; ins = length x.latches; outs = n }) (length-replicate (length x.flags) false)
+    ap (λ n. record { behaviour = x.behaviour; limit = x.limit; needs = x.needs; port_count = x.port_count; ports = x.ports; ins = n; outs = length (replicate (length x.flags) false) }) (length-replicate (length x.latches) None)
+    ∙ ap (λ n. record { behaviour = x.behaviour; limit = x.limit; needs = x.needs; port_count = x.port_count; ports = x.ports; ins = length x.latches; outs = n }) (length-replicate (length x.flags) false)
 
 -- ---- queues
 

@@ -169,7 +169,7 @@ module _ (lists : List (List ℕ)) (runs : List (List (List ℕ))) (frame : Fram
         let i : ℕ = (wire_at frame.wires c).place in
         let within : i < length x.latches = place-within c known is in
         record {
-          kind = ap (λ n. record { behaviour = x.behaviour; limit = x.limit; needs = x.needs; ports = x.ports; ins = n; outs = length x.flags }) (length-set x.latches i (Some value)) ∙ at.kind;
+          kind = ap (λ n. record { behaviour = x.behaviour; limit = x.limit; needs = x.needs; port_count = x.port_count; ports = x.ports; ins = n; outs = length x.flags }) (length-set x.latches i (Some value)) ∙ at.kind;
           within = at.within;
           stands = at.stands;
           latched = λ d v there to has. ⊎_elim
@@ -193,7 +193,7 @@ module _ (lists : List (List ℕ)) (runs : List (List (List ℕ))) (frame : Fram
         let o : ℕ = (wire_at frame.wires c).out in
         let within : o < length x.flags = out-within c known is in
         record {
-          kind = ap (λ n. record { behaviour = x.behaviour; limit = x.limit; needs = x.needs; ports = x.ports; ins = length x.latches; outs = n }) (length-set x.flags o true) ∙ at.kind;
+          kind = ap (λ n. record { behaviour = x.behaviour; limit = x.limit; needs = x.needs; port_count = x.port_count; ports = x.ports; ins = length x.latches; outs = n }) (length-set x.flags o true) ∙ at.kind;
           within = at.within;
           stands = at.stands;
           latched = at.latched;
@@ -259,8 +259,8 @@ module _ (lists : List (List ℕ)) (runs : List (List (List ℕ))) (frame : Fram
     own_finish next lt all whole goes =
         record {
           kind =
-              ap (λ n. record { behaviour = x.behaviour; limit = x.limit; needs = x.needs; ports = x.ports; ins = n; outs = length (replicate (length x.flags) false) }) (length-replicate (length x.latches) None)
-              ∙ ap (λ n. record { behaviour = x.behaviour; limit = x.limit; needs = x.needs; ports = x.ports; ins = length x.latches; outs = n }) (length-replicate (length x.flags) false)
+              ap (λ n. record { behaviour = x.behaviour; limit = x.limit; needs = x.needs; port_count = x.port_count; ports = x.ports; ins = n; outs = length (replicate (length x.flags) false) }) (length-replicate (length x.latches) None)
+              ∙ ap (λ n. record { behaviour = x.behaviour; limit = x.limit; needs = x.needs; port_count = x.port_count; ports = x.ports; ins = length x.latches; outs = n }) (length-replicate (length x.flags) false)
               ∙ at.kind;
           within = omega (arith, lt);
           stands = next_is next lt all whole goes;

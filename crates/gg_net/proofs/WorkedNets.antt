@@ -15,7 +15,7 @@ use Rattle.gg_flat.proofs.WorkedForms.{only, both}
 use Rattle.gg_net.specs.declared.shape.Wire.{Wire}
 use Rattle.gg_net.specs.declared.event.Refusal.TheVariants.{Stranger, Ended, Fired, NoToken, NeedsInput, Full, Order, Unfired, Unserved}
 use Rattle.gg_net.specs.Network.{Network, IsAtIn, puts, takes, serves, frame_of, wire_at, IsAtOut, kind_at}
-use Rattle.gg_net.specs.Step.{CanFire, CanServe, after_latch, after_fire, after_serve, after_finish, due_or_count, LatchRefused, FireRefused, ServeRefused, FinishRefused}
+use Rattle.gg_net.specs.Step.{CanFire, CanServe, after_latch, after_fire, after_serve, after_finish, LatchRefused, FireRefused, ServeRefused, FinishRefused}
 use Rattle.gg_net.specs.Kept.{list_at, rows_at, Runs, Answers, Asks, Solves, IsWired, NeedsChannel, HasNoRing, BetweenAt}
 use Rattle.gg_net.specs.Net.{IsWithinLimits, opening_net}
 use Rattle.gg_net.specs.Fixture.{fed_wires, fed_lists, fed_runs}
@@ -48,10 +48,10 @@ abbrev holds : ℕ → State
 holds v = record { registers = v ∷ []; banks = [] }
 
 abbrev a : ℕ → ℕ → Option ℕ → Bool → Machine
-a cycle v latch flag = record { behaviour = RunsPiece held; limit = 10; needs = [] ∷ []; ports = []; cycle = cycle; state = holds v; served = 0; latches = latch ∷ []; flags = flag ∷ []; kept = [] }
+a cycle v latch flag = record { behaviour = RunsPiece held; limit = 10; needs = [] ∷ []; port_count = 0; ports = []; cycle = cycle; state = holds v; served = 0; latches = latch ∷ []; flags = flag ∷ []; kept = [] }
 
 abbrev b : Option ℕ → Bool → Machine
-b latch flag = record { behaviour = RunsPiece passed; limit = 10; needs = (0 ∷ []) ∷ []; ports = []; cycle = 0; state = no_state; served = 0; latches = latch ∷ []; flags = flag ∷ []; kept = [] }
+b latch flag = record { behaviour = RunsPiece passed; limit = 10; needs = (0 ∷ []) ∷ []; port_count = 0; ports = []; cycle = 0; state = no_state; served = 0; latches = latch ∷ []; flags = flag ∷ []; kept = [] }
 
 abbrev wires : List Wire
 wires = record { producer = 0; out = 0; consumer = 1; place = 0; capacity = 1 } ∷ record { producer = 1; out = 0; consumer = 0; place = 0; capacity = 2 } ∷ []
@@ -181,6 +181,7 @@ memory served latches flag =
       behaviour = RunsPiece no_circuit;
       limit = 10;
       needs = [] ∷ [];
+      port_count = 2;
       ports = ports;
       cycle = 0;
       state = record { registers = []; banks = record { words = 7 ∷ 9 ∷ []; reads = 0 ∷ [] } ∷ [] };
@@ -198,27 +199,23 @@ abbrev with_reader : List (Option ℕ)
 with_reader = Some 1 ∷ Some 1 ∷ None ∷ None ∷ None ∷ None ∷ []
 
 reader-first : CanServe (alone (memory 0 with_reader true)) 0 0
-reader-first = record { there = (lit< tt, (0, lit< tt, refl)); below = lit< tt; fired = all-true; due = refl; fields = refl }
+reader-first = record { there = (lit< tt, lit< tt); below = lit< tt; fired = all-true; due = refl; fields = refl }
 
 not-the-writer : ServeRefused (alone (memory 0 with_reader true)) 0 1 (Order 0)
-not-the-writer = ((lit< tt, (1, lit< tt, refl)), lit< tt, all-true, (λ is. let same : ◌≡◌ {A = Option ℕ} (Some 0) (Some 1) = is in cc), refl)
-
-none-due : due_or_count ports None ≡ 2
-none-due = refl
+not-the-writer = ((lit< tt, lit< tt), lit< tt, all-true, (λ is. let same : ◌≡◌ {A = Option ℕ} (Some 0) (Some 1) = is in cc), refl)
 
 not-before-the-token : CanServe (alone (memory 0 with_reader false)) 0 0 → ⊥
 not-before-the-token can = let is : false ≡ true = can.fired 0 false (lit< tt) in cc
 
 field-wanted : ServeRefused (alone (memory 0 (Some 1 ∷ None ∷ None ∷ None ∷ None ∷ None ∷ []) true)) 0 0 (NeedsInput 1)
-field-wanted = ((lit< tt, (0, lit< tt, refl)), lit< tt, all-true, refl, record { known = lit< tt; machine = refl; place = refl })
+field-wanted = ((lit< tt, lit< tt), lit< tt, all-true, refl, record { known = lit< tt; machine = refl; place = refl })
 
 no-such-port : ServeRefused (alone (memory 0 with_reader true)) 0 2 Stranger
-no-such-port has = by has.1.0 has.1.1 has.1.2
-  where
-    by : (k : ℕ) → k < 2 → ◌≡◌ {A = ℕ} (slice_index_or (0 ∷ 1 ∷ []) k 2) 2 → ⊥
-    by zero below is = omega (arith, is)
-    by (suc zero) below is = omega (arith, is)
-    by (suc (suc k)) below is = omega (arith, below)
+no-such-port has = omega (arith, has.1)
+
+-- both were served: none is due, and the number of the ports is told
+none-due : ServeRefused (alone (memory 2 with_reader true)) 0 1 (Order 2)
+none-due = ((lit< tt, lit< tt), lit< tt, all-true, (λ is. let same : ◌≡◌ {A = Option ℕ} None (Some 1) = is in cc), refl)
 
 left : FinishRefused (alone (memory 1 with_reader true)) 0 (Unserved 1)
 left = (lit< tt, lit< tt, all-true, refl)
@@ -237,6 +234,42 @@ counted-once = refl
 
 one-more : serves (after_serve (alone (memory 0 with_reader true)) 0) 0 ≡ 1
 one-more = refl
+
+-- ---- a memory whose reader gives its word in the same cycle: it is port 0, which isn't served, and the writer is port 1
+
+abbrev at_once : ℕ → Bool → Machine
+at_once served flag = record (memory served with_reader flag) { needs = (0 ∷ 1 ∷ []) ∷ []; ports = record { number = 1; access = ByWriter 0 (record { addr = 2; en = 3; word = 4; mask = 5 }) } ∷ [] }
+
+-- the reader is a port, whose turn never comes
+writer-due : ServeRefused (alone (at_once 0 true)) 0 0 (Order 1)
+writer-due = ((lit< tt, lit< tt), lit< tt, all-true, (λ is. let same : ◌≡◌ {A = Option ℕ} (Some 1) (Some 0) = is in cc), refl)
+
+writer-served : ServeRefused (alone (at_once 1 true)) 0 0 (Order 2)
+writer-served = ((lit< tt, lit< tt), lit< tt, all-true, (λ is. let same : ◌≡◌ {A = Option ℕ} None (Some 0) = is in cc), refl)
+
+word-first : ServeRefused (alone (at_once 0 false)) 0 0 (Unfired 0)
+word-first = ((lit< tt, lit< tt), lit< tt, record { out = 0; first = record { known = lit< tt; clear = refl; before = λ k below. absurd (omega arith) }; at = record { known = lit< tt; machine = refl; out = refl } })
+
+two-ports : ServeRefused (alone (at_once 0 true)) 0 2 Stranger
+two-ports has = omega (arith, has.1)
+
+-- it is no stranger, and isn't told that none is due while one is
+reader-there : ServeRefused (alone (at_once 0 true)) 0 0 Stranger → ⊥
+reader-there refused = refused (lit< tt, lit< tt)
+
+not-none-due : ServeRefused (alone (at_once 0 true)) 0 0 (Order 2) → ⊥
+not-none-due refused = let is : ◌≡◌ {A = ℕ} 2 1 = refused.4 in omega (arith, is)
+
+-- ---- a memory that is only read, in the same cycle: none of its ports is served
+
+abbrev read_only : Machine
+read_only = record (at_once 0 true) { port_count = 1; ports = [] }
+
+never-due : ServeRefused (alone read_only) 0 0 (Order 1)
+never-due = ((lit< tt, lit< tt), lit< tt, all-true, (λ is. let same : ◌≡◌ {A = Option ℕ} None (Some 0) = is in cc), refl)
+
+never-served : (p : ℕ) → CanServe (alone read_only) 0 p → ⊥
+never-served p can = let is : ◌≡◌ {A = Option ℕ} None (Some p) = can.due in cc
 
 -- ---- a source that feeds a tray: the lists that its channel and its rows are to have do solve it
 

@@ -2,7 +2,7 @@
 -- Source: MEMOCODE 2009 (a node takes a token from each input queue once in a cycle, gives one to each output queue
 -- as soon as what it depends on is there and the queue has room, and then finishes the cycle); ICCAD 2019 for
 -- memories that are served port by port. The order in which conditions are judged is this program's.
-use Rattle.std.specs.Prelude.{◌≡◌, ℕ, suc, ◌<◌, ◌≤◌, ◌++◌, List, [], ◌∷◌, Option, Some, None, Bool, true, false, IsSome, length, drop, slice_set, slice_get}
+use Rattle.std.specs.Prelude.{◌≡◌, ℕ, ◌<◌, ◌≤◌, ◌++◌, List, [], ◌∷◌, Option, Some, None, Bool, true, false, IsSome, length, drop, slice_set, slice_get}
 use Rattle.gg_flat.specs.Line.{value_at}
 use Rattle.gg_flat.specs.State.{State}
 use Rattle.gg_node.specs.Machine.{Port, Machine, machine_at, latch_at, flag_at, first_empty, missing, due}

@@ -77,6 +77,13 @@ impl Host for Edge {
         }
     }
 
+    fn port_count(&self, thread: u32) -> u32 {
+        match &self.host {
+            Ok(host) => host.port_count(thread),
+            Err(host) => host.port_count(thread),
+        }
+    }
+
     fn token(&mut self, thread: u32, place: u32) -> u128 {
         match &mut self.host {
             Ok(host) => host.token(thread, place),
@@ -175,6 +182,7 @@ fn tells_the_end<Z: Streams>(net: &Net<Edge, Z>) -> bool {
         && net.cycle(1) == 2
         && net.served(0) == 0
         && net.dues(0) == 0
+        && net.port_count(0) == 0
         && net.serves(0) == 0
         && net.puts(0) == 2
         && net.takes(0) == 2

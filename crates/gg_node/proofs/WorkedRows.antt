@@ -70,7 +70,7 @@ abbrev holds : ℕ → State
 holds v = record { registers = v ∷ []; banks = [] }
 
 abbrev unit : Machine
-unit = record { behaviour = RunsPiece pair; limit = 10; needs = (0 ∷ []) ∷ []; ports = []; cycle = 0; state = holds 3; served = 0; latches = None ∷ None ∷ []; flags = false ∷ []; kept = [] }
+unit = record { behaviour = RunsPiece pair; limit = 10; needs = (0 ∷ []) ∷ []; port_count = 0; ports = []; cycle = 0; state = holds 3; served = 0; latches = None ∷ None ∷ []; flags = false ∷ []; kept = [] }
 
 -- the out needs `a`, and `a` alone
 needs-a : missing unit 0 ≡ Some 0

@@ -35,7 +35,7 @@ no-token = refl
 -- ---- logs: machine 0 is in cycle 2, and has given its token of that cycle at out 0, and not at out 1
 
 abbrev giver : Machine
-giver = record { behaviour = KeepsValues; limit = 4; needs = [] ∷ [] ∷ []; ports = []; cycle = 2; state = no_state; served = 0; latches = []; flags = true ∷ false ∷ []; kept = [] }
+giver = record { behaviour = KeepsValues; limit = 4; needs = [] ∷ [] ∷ []; port_count = 0; ports = []; cycle = 2; state = no_state; served = 0; latches = []; flags = true ∷ false ∷ []; kept = [] }
 
 abbrev wires : List Wire
 wires = record { producer = 0; out = 0; consumer = 0; place = 0; capacity = 3 } ∷ record { producer = 0; out = 1; consumer = 0; place = 1; capacity = 3 } ∷ []

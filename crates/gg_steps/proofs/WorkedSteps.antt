@@ -203,6 +203,9 @@ full = ap (λ digits. codes "Full u.y " ++ digits) (decimal_digit 8 (lit≤ tt))
 due : cause_text net (Some (Serve 4 0)) (Order 1) ≡ codes "Order r"
 due = refl
 
+due_writer : cause_text net (Some (Serve 1 0)) (Order 1) ≡ codes "Order w"
+due_writer = refl
+
 none_due : cause_text net (Some (Serve 4 0)) (Order 2) ≡ codes "Order -"
 none_due = refl
 

@@ -91,6 +91,7 @@ fn tells_causes(rt: HostRuntime) -> Result<(), Fail> {
         )?
     );
     assert!(rt; is_told(alloc, &names, Refusal::Order { due: 0 }, "Order r")?);
+    assert!(rt; is_told(alloc, &names, Refusal::Order { due: 1 }, "Order w")?);
     assert!(rt; is_told(alloc, &names, Refusal::Order { due: 2 }, "Order -")?);
     Ok(())
 }
