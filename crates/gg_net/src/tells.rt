@@ -6,9 +6,9 @@ ghost use Rattle.gg_net.specs.Network.{wire_at, queue_at, IsAtIn, IsAtOut};
 ghost use Rattle.gg_net.specs.Step.{due_fields, IsFirstClear, IsFirstEmpty};
 
 use crate::net::Net;
+use crate::seats;
 use crate::shape::Wire;
 use crate::streams::Streams;
-use crate::seats;
 use gg_node::Host;
 
 impl<H: Host, Z: Streams> Net<H, Z> {
