@@ -120,6 +120,15 @@ impl<'a> Host for Node<'a> {
         }
     }
 
+    fn port_count(&self, thread: u32) -> u32 {
+        match self {
+            Node::Unit(host) => host.port_count(thread),
+            Node::Memory(host) => host.port_count(thread),
+            Node::Source(host) => host.port_count(thread),
+            Node::Tray(host) => host.port_count(thread),
+        }
+    }
+
     fn token(&mut self, thread: u32, place: u32) -> u128 {
         match self {
             Node::Unit(host) => host.token(thread, place),

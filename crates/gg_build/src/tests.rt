@@ -106,14 +106,17 @@ fn no_rows(alloc: Global) -> Result<Trace, TraceFault>
     Ok(trace)
 }
 
-// Whether the network of a plan can be built for no cycles.
+// Whether the network of a plan can be built for no cycles, and has three machines and two channels.
 fn opens<Z: Streams>(alloc: Global, plan: &Plan, trace: &Trace) -> bool
     requires { IsToRun plan.now trace.now.columns trace.now.rows Z.lists Z.runs }
 {
-    build::<Z>(alloc, plan, trace).is_ok()
+    match build::<Z>(alloc, plan, trace) {
+        Ok(net) => net.machines() == 3 && net.channels() == 2,
+        Err(_) => false,
+    }
 }
 
-// Whether the network of a design can be built, for a request that cuts nothing out of the hub.
+// Whether the network of a design has three machines and two channels, for a request that cuts nothing out of the hub.
 fn is_built(alloc: Global, design: &Design, request: &Request, trace: &Trace) -> bool
     requires ins { length design.now.circuit.ins ≡ 1 }
     requires small { IsSmall request.now }
@@ -130,7 +133,7 @@ fn is_built(alloc: Global, design: &Design, request: &Request, trace: &Trace) ->
     }
 }
 
-// Whether the network of the circuit can be built.
+// Whether the network of the circuit has three machines and two channels.
 fn is_there(alloc: Global, design: &Design) -> bool
     requires { length design.now.circuit.ins ≡ 1 }
 {

@@ -3,9 +3,10 @@ use Rattle.std.proofs.Common.{◌≡◌, ℕ, ◌+◌, ◌<◌, ◌≤◌, List,
 use Rattle.std.specs.Prelude.{Contains, ◌&&◌, if◌then◌else◌, nat_le, nat_lt}
 use Rattle.std.specs.List.{range_with_len}
 use Rattle.std.proofs.lemmas.Bool.{lt-leb, le-ltb, le-leb, lt-ltb}
-use Rattle.std.proofs.lemmas.List.{length-map, get_or-map}
+use Rattle.std.proofs.lemmas.List.{length-map, get_or-map, same_lists}
 use Rattle.std.proofs.lemmas.List.Elements.{Contains-get_or}
 use Rattle.std.proofs.lemmas.List.FromFn.{length-range_with_len, get_or-range_with_len}
+use Rattle.gg_flat.specs.Tree.{port_count}
 use Rattle.gg_order.specs.Design.{Ordered}
 use Rattle.gg_partfile.specs.declared.request.Request.{Request}
 use Rattle.gg_cut.specs.declared.listed.Listed.{Listed}
@@ -24,7 +25,7 @@ use Rattle.gg_check.proofs.PlanLemmas.{channel-needs}
 use Rattle.gg_node.specs.Machine.{Machine, machine_at, needs_at}
 use Rattle.gg_memunit.specs.MemoryUnit.{opening_unit}
 use Rattle.gg_memunit.proofs.UnitLemmas.{sole}
-use Rattle.gg_net.specs.Network.{Frame, kind_of, kind_at, wire_at as joint_at}
+use Rattle.gg_net.specs.Network.{Frame, Kind, kind_of, kind_at, no_kind, wire_at as joint_at}
 use Rattle.gg_marking.specs.Marking.{Link, Turn, Layout, link_at, turns_at}
 use Rattle.gg_marking.specs.Fits.{AreTaken, AreTurnsOf, HasLayout, IsLinkOf, places_of}
 use Rattle.gg_sound.specs.Built.{machine_in, nameless, place_in, wires_of_plan, AreBuilt, IsBuilt, IsGiven, plan_frame}
@@ -32,10 +33,10 @@ use Rattle.gg_sound.proofs.LinkLemmas.{AreLinks, length-wires, linked, some-chan
 use Rattle.gg_sound.proofs.PlanLemmas.{links}
 use Rattle.gg_sound.proofs.FitLemmas.{kind-is}
 use Rattle.gg_sound.proofs.MemoryPartLemmas.{memory-part}
-use Rattle.gg_layout.specs.CutLayout.{IsChannelLink, IsLayoutBy, IsLayoutOf, machine_turns, memory_turns, memory_of}
+use Rattle.gg_layout.specs.CutLayout.{IsChannelLink, IsLayoutBy, IsLayoutOf, is_memory, machine_ports, machine_turns, memory_turns, memory_of}
 use Rattle.gg_layout.proofs.AscendingLemmas.{AreMadeOf, made-same}
 use Rattle.gg_layout.proofs.WireLemmas.{places-up, joint-capacity, place-at, joints-in-order, outs-in-order}
-use Rattle.gg_layout.proofs.MemoryLemmas.{memory-turns}
+use Rattle.gg_layout.proofs.MemoryLemmas.{memory-ports, memory-turns}
 use Rattle.gg_layout.proofs.NeedLemmas.{HasOutNeeds, out-needs}
 
 -- ---- turns by the kind of a machine
@@ -81,8 +82,17 @@ module _ (design : Ordered) (request : Request) (default : ℕ) (plan : Plan) (c
   abbrev turns_of : ℕ → List Turn
   turns_of m = machine_turns design.circuit design.tree (listed_of design.tree request) (wires_of design.circuit design.tree (listed_of design.tree request)) m
 
+  abbrev ports_at : ℕ → ℕ
+  ports_at m = machine_ports design.circuit design.tree (listed_of design.tree request) m
+
   abbrev pub layout : Layout
-  layout = record { links = map link_of plan.channels; turns = map turns_of (range_with_len 0 (machine_count design.circuit (listed_of design.tree request))); end = n }
+  layout =
+      record {
+        links = map link_of plan.channels;
+        port_counts = map ports_at (range_with_len 0 (machine_count design.circuit (listed_of design.tree request)));
+        turns = map turns_of (range_with_len 0 (machine_count design.circuit (listed_of design.tree request)));
+        end = n;
+      }
 
   link-is : (c : ℕ) (any : Channel) → c < length plan.channels → link_at layout c ≡ link_of (get_or plan.channels c any)
   link-is c any lt = get_or-map link_of plan.channels c any (record { producer = 0; consumer = 0; capacity = 0; needs = [] }) lt
@@ -115,7 +125,7 @@ module _ (design : Ordered) (request : Request) (default : ℕ) (plan : Plan) (c
       }
 
   pub of-cut : IsLayoutBy design request default n listed wires layout
-  of-cut = record { channels = length-map plan.channels link_of ∙ given.planned.channel_total; link = cut-link; turns = refl; end = refl }
+  of-cut = record { channels = length-map plan.channels link_of ∙ given.planned.channel_total; link = cut-link; ports = refl; turns = refl; end = refl }
 
   -- ---- and that of the network
 
@@ -187,12 +197,40 @@ module _ (design : Ordered) (request : Request) (default : ℕ) (plan : Plan) (c
           taken = needs-taken;
         }
 
-  -- ---- turns
+  -- ---- ports and turns
 
   module _ (m : ℕ) (lt : m < machine_count design.circuit listed) where
+    otherwise : {A : Type 0} (x y : A) → (m < first_memory listed) ⊎ (first_source listed ≤ m) → (if is_memory listed m then x else y) ≡ y
+    otherwise x y (inl low) = either-false (nat_le (first_memory listed) m) (nat_lt m (first_source listed)) x y (inl (lt-leb (first_memory listed) m low))
+    otherwise x y (inr high) = either-false (nat_le (first_memory listed) m) (nat_lt m (first_source listed)) x y (inr (le-ltb m (first_source listed) high))
+
+    of-memory : {A : Type 0} (x y : A) → first_memory listed ≤ m → m < first_source listed → (if is_memory listed m then x else y) ≡ x
+    of-memory x y low high = both-true (nat_le (first_memory listed) m) (nat_lt m (first_source listed)) x y (le-leb (first_memory listed) m low) (lt-ltb m (first_source listed) high)
+
     not-memory : (m < first_memory listed) ⊎ (first_source listed ≤ m) → turns_of m ≡ []
-    not-memory (inl low) = either-false (nat_le (first_memory listed) m) (nat_lt m (first_source listed)) (memory_turns design.circuit wires (memory_of design.tree listed m)) [] (inl (lt-leb (first_memory listed) m low))
-    not-memory (inr high) = either-false (nat_le (first_memory listed) m) (nat_lt m (first_source listed)) (memory_turns design.circuit wires (memory_of design.tree listed m)) [] (inr (le-ltb m (first_source listed) high))
+    not-memory = otherwise (memory_turns design.circuit wires (memory_of design.tree listed m)) []
+
+    no-ports : (m < first_memory listed) ⊎ (first_source listed ≤ m) → ports_at m ≡ 0
+    no-ports = otherwise (port_count design.circuit (memory_of design.tree listed m)) 0
+
+    body-ports : (body : Body) (machine : Machine) → IsBody design listed wires m body → IsBuilt columns n (machine_in plan m) body machine → ports_at m ≡ (kind_of machine).port_count
+    body-ports (Cut part) machine body unit = subst (λ (t : Machine). ports_at m ≡ (kind_of t).port_count) (sym unit.is) (no-ports (inl body.0))
+    body-ports (Memory part) machine body stands =
+        let outer = memory-part design listed m part given.design_is apart body.0 body.1 body.2 few in
+        let inner = sole stands.alone.piece.memories stands.is_memory.one in
+        subst (λ (t : Machine). ports_at m ≡ (kind_of t).port_count) (sym stands.is)
+        (of-memory (port_count design.circuit (memory_of design.tree listed m)) 0 body.0 body.1
+        ∙ memory-ports design listed m part given.design_is apart body.0 body.1 body.2 machine stands outer.0 inner.0 outer.1 inner.1)
+    body-ports Source machine body is = subst (λ (t : Machine). ports_at m ≡ (kind_of t).port_count) (sym is) (no-ports (inr body.0))
+    body-ports Tray machine body is =
+        let low : first_source listed ≤ m = omega (arith, body) in
+        subst (λ (t : Machine). ports_at m ≡ (kind_of t).port_count) (sym is) (no-ports (inr low))
+
+    port-count : ports_at m ≡ (kind_at frame.kinds m).port_count
+    port-count =
+        let below : m < length plan.machines = omega (arith, lt, given.planned.machine_total) in
+        subst (λ k. ports_at m ≡ k.port_count) (sym (kind-is machines m (omega (arith, below, built.count))))
+        (body-ports (machine_in plan m).body (machine_at machines m) (given.planned.machine m nameless below).body (built.each m below))
 
     body-turns : (body : Body) (machine : Machine) → IsBody design listed wires m body → IsBuilt columns n (machine_in plan m) body machine → AreTurnsOf frame m (kind_of machine).ports (turns_of m)
     body-turns (Cut part) machine body unit = subst (λ (t : Machine). AreTurnsOf frame m (kind_of t).ports (turns_of m)) (sym unit.is) (no-turns frame m (turns_of m) (not-memory (inl body.0)))
@@ -200,7 +238,7 @@ module _ (design : Ordered) (request : Request) (default : ℕ) (plan : Plan) (c
         let outer = memory-part design listed m part given.design_is apart body.0 body.1 body.2 few in
         let inner = sole stands.alone.piece.memories stands.is_memory.one in
         let are_turns = memory-turns design listed m part given.design_is apart body.0 body.1 body.2 machine stands outer.0 inner.0 outer.1 inner.1 plan are frame refl in
-        let same = both-true (nat_le (first_memory listed) m) (nat_lt m (first_source listed)) (memory_turns design.circuit wires (memory_of design.tree listed m)) [] (le-leb (first_memory listed) m body.0) (lt-ltb m (first_source listed) body.1) in
+        let same = of-memory (memory_turns design.circuit wires (memory_of design.tree listed m)) [] body.0 body.1 in
         subst (λ (t : Machine). AreTurnsOf frame m (kind_of t).ports (turns_of m)) (sym stands.is)
         (subst (λ (l : List Turn). AreTurnsOf frame m (kind_of (opening_unit stands.alone.piece)).ports l) (sym same) are_turns)
     body-turns Source machine body is = subst (λ (t : Machine). AreTurnsOf frame m (kind_of t).ports (turns_of m)) (sym is) (no-turns frame m (turns_of m) (not-memory (inr body.0)))
@@ -215,6 +253,21 @@ module _ (design : Ordered) (request : Request) (default : ℕ) (plan : Plan) (c
         (subst (λ k. AreTurnsOf frame m k.ports (turns_of m)) (sym (kind-is machines m (omega (arith, below, built.count))))
         (body-turns (machine_in plan m).body (machine_at machines m) (given.planned.machine m nameless below).body (built.each m below)))
 
+  net-ports : layout.port_counts ≡ map (λ (kind : Kind). kind.port_count) frame.kinds
+  net-ports =
+      let count = machine_count design.circuit listed in
+      let numbers = length-map (range_with_len 0 count) ports_at in
+      let range = length-range_with_len 0 count in
+      let kinds = length-map machines kind_of in
+      let counts = length-map frame.kinds (λ (kind : Kind). kind.port_count) in
+      same_lists layout.port_counts (map (λ (kind : Kind). kind.port_count) frame.kinds) (omega (arith, numbers, range, counts, kinds, built.count, given.planned.machine_total))
+      (λ m any lt.
+      let low : m < count = omega (arith, lt, numbers, range) in
+      get_or-map ports_at (range_with_len 0 count) m 0 any (omega (arith, low, range))
+      ∙ ap ports_at (get_or-range_with_len 0 count m 0 low ∙ (let same : 0 + m ≡ m = omega arith in same))
+      ∙ port-count m low
+      ∙ sym (get_or-map (λ (kind : Kind). kind.port_count) frame.kinds m no_kind any (omega (arith, low, kinds, built.count, given.planned.machine_total))))
+
   pub of-network : HasLayout frame layout
   of-network =
       let count = machine_count design.circuit listed in
@@ -224,6 +277,7 @@ module _ (design : Ordered) (request : Request) (default : ℕ) (plan : Plan) (c
         machines = omega (arith, length-map (range_with_len 0 count) turns_of, length-range_with_len 0 count, kinds, built.count, given.planned.machine_total);
         channels = omega (arith, length-map plan.channels link_of, joints, given.planned.channel_total);
         end = refl;
+        ports = net-ports;
         link = λ c lt. net-link c (omega (arith, lt, joints));
         turns = λ m lt. net-turns m (omega (arith, lt, kinds, built.count, given.planned.machine_total));
         ins = joints-in-order plan wires are;

@@ -12,7 +12,7 @@ use Rattle.gg_flat.specs.declared.piece.Driver.TheVariants.{MemoryWord}
 use Rattle.gg_flat.specs.Line.{value_at}
 use Rattle.gg_flat.specs.Circuit.{FlatCircuit, driver_at, latency_at, readers_at}
 use Rattle.gg_flat.specs.Memory.{LooksAmong}
-use Rattle.gg_flat.specs.Tree.{InstanceTree}
+use Rattle.gg_flat.specs.Tree.{InstanceTree, port_count}
 use Rattle.gg_flat.specs.Scoped.{writers_at}
 use Rattle.gg_flat.specs.WellFormed.{AreDriven, reader_driver}
 use Rattle.gg_order.specs.Design.{Ordered, IsDesign}
@@ -27,7 +27,7 @@ use Rattle.gg_cut.specs.Plan.{wire_at, channels_to, IsCutPart}
 use Rattle.gg_closed.specs.Apart.{AreApart}
 use Rattle.gg_closed.proofs.KindLemmas.{outside_memory}
 use Rattle.gg_closed.proofs.ChoiceLemmas.{pairs-once}
-use Rattle.gg_memunit.specs.MemoryUnit.{needs_by, needs_of, ports_by, ports_of}
+use Rattle.gg_memunit.specs.MemoryUnit.{count_of, needs_by, needs_of, ports_by, ports_of}
 use Rattle.gg_memunit.proofs.UnitLemmas.{of-sole}
 use Rattle.gg_node.specs.Machine.{Machine, Port, needs_at}
 use Rattle.gg_net.specs.Network.{Frame, IsAtIn}
@@ -148,13 +148,23 @@ module _ (design : Ordered) (listed : Listed) (m : ℕ) (part : Part) (is : IsDe
 
     pub memory-turns : (plan : Plan) → AreLinks plan wires → (frame : Frame) → frame.wires ≡ wires_of_plan plan → AreTurnsOf frame m (ports_of piece.memories) (memory_turns circuit wires k)
     memory-turns plan are frame same =
-        let fit = ports-fit piece.memories (length piece.ins) stands.is_memory.readers stands.is_memory.writers stands.is_memory.few in
+        let fit = ports-fit piece.memories (length piece.ins) stands.is_memory.readers stands.is_memory.writers in
         let at : (x : ℕ) → x < length piece.ins → IsAtIn frame.wires m x (channel_of wires (number x)) =
         λ x lt. subst (λ l. IsAtIn l m x (channel_of wires (number x))) (sym same) (field-at plan are x lt) in
         subst (λ (l : List Memory). AreTurnsOf frame m (ports_of l) (memory_turns circuit wires k)) (sym only)
         (subst (λ (l : List Port). AreTurnsOf frame m (ports_by inner.latency inner.readers inner.writers) (map (turn_of wires) l)) (sym turns-by)
-        (turns-alone part.globals stands.alone.globals frame wires m (length piece.ins) at inner.latency inner.readers inner.writers
-        (subst (λ (l : List Memory). All (IsFitPort (length piece.ins)) (ports_of l)) only fit)))
+        (turns-alone part.globals stands.alone.globals frame wires m (length piece.ins) at (count_of (inner ∷ [])) inner.latency inner.readers inner.writers
+        (subst (λ (l : List Memory). All (IsFitPort (length piece.ins) (count_of l)) (ports_of l)) only fit)))
+
+    -- the memory that stands alone has as many ports as the one in the whole
+    pub memory-ports : port_count circuit k ≡ count_of piece.memories
+    memory-ports =
+        get_or-map (λ (x : Memory). length x.readers + length x.writers) circuit.memories k outer 0 there
+        ∙ ap (λ (x : Memory). length x.readers + length x.writers) whole-is
+        ∙ ap₂ (λ (a b : ℕ). a + b)
+        (length-map (map (renamed_reader stands.alone.globals) inner.readers) (renamed_reader part.globals) ∙ length-map inner.readers (renamed_reader stands.alone.globals))
+        (length-map (map (renamed_writer stands.alone.globals) inner.writers) (renamed_writer part.globals) ∙ length-map inner.writers (renamed_writer stands.alone.globals))
+        ∙ sym (ap count_of only)
 
     -- ---- needs
 

@@ -1,5 +1,5 @@
 -- The layout of a cut is one, for all designs that are alike.
-use Rattle.std.proofs.Common.{◌≡◌, ℕ, ◌<◌, List, [], length, map, sym, ◌∙◌, ap, subst, arith}
+use Rattle.std.proofs.Common.{◌≡◌, ℕ, ◌+◌, ◌<◌, List, [], length, map, sym, ◌∙◌, ap, subst, arith}
 use Rattle.std.specs.Prelude.{slice_index_or, if◌then◌else◌}
 use Rattle.std.specs.List.{range_with_len}
 use Rattle.std.proofs.lemmas.List.{same_lists, get_or_default}
@@ -17,7 +17,7 @@ use Rattle.gg_check.specs.Alike.{AreAlike}
 use Rattle.gg_check.proofs.SameCutLemmas.{needs-same, need-carried, readers-same, writers-same, wires-same, count-same}
 use Rattle.gg_memunit.specs.MemoryUnit.{ports_by}
 use Rattle.gg_marking.specs.Marking.{Link, Layout, link_at}
-use Rattle.gg_layout.specs.CutLayout.{IsChannelLink, IsLayoutBy, IsLayoutOf, is_memory, machine_turns, memory_of, turn_of}
+use Rattle.gg_layout.specs.CutLayout.{IsChannelLink, IsLayoutBy, IsLayoutOf, is_memory, machine_ports, machine_turns, memory_of, turn_of}
 
 -- ---- a cut has one layout
 
@@ -28,11 +28,12 @@ link-same a b producer consumer capacity needs =
     ∙ ap (λ x. record { producer = b.producer; consumer = b.consumer; capacity = x; needs = a.needs }) capacity
     ∙ ap (λ x. record { producer = b.producer; consumer = b.consumer; capacity = b.capacity; needs = x }) needs
 
-layout-same : (a b : Layout) → a.links ≡ b.links → a.turns ≡ b.turns → a.end ≡ b.end → a ≡ b
-layout-same a b links turns end =
-    ap (λ x. record { links = x; turns = a.turns; end = a.end }) links
-    ∙ ap (λ x. record { links = b.links; turns = x; end = a.end }) turns
-    ∙ ap (λ x. record { links = b.links; turns = b.turns; end = x }) end
+layout-same : (a b : Layout) → a.links ≡ b.links → a.port_counts ≡ b.port_counts → a.turns ≡ b.turns → a.end ≡ b.end → a ≡ b
+layout-same a b links ports turns end =
+    ap (λ x. record { links = x; port_counts = a.port_counts; turns = a.turns; end = a.end }) links
+    ∙ ap (λ x. record { links = b.links; port_counts = x; turns = a.turns; end = a.end }) ports
+    ∙ ap (λ x. record { links = b.links; port_counts = b.port_counts; turns = x; end = a.end }) turns
+    ∙ ap (λ x. record { links = b.links; port_counts = b.port_counts; turns = b.turns; end = x }) end
 
 abbrev no_link : Link
 no_link = record { producer = 0; consumer = 0; capacity = 0; needs = [] }
@@ -50,7 +51,7 @@ layout-once design request default n listed wires layout other a b =
     ∙ link-same (link_at layout c) (link_at other c) (one.producer ∙ sym two.producer) (one.consumer ∙ sym two.consumer) (one.capacity ∙ sym two.capacity)
     (needs-same design.circuit listed wires c (link_at layout c).needs (link_at other c).needs one.needs two.needs)
     ∙ sym (get_or_default other.links c d no_link high)) in
-    layout-same layout other links (a.turns ∙ sym b.turns) (a.end ∙ sym b.end)
+    layout-same layout other links (a.ports ∙ sym b.ports) (a.turns ∙ sym b.turns) (a.end ∙ sym b.end)
 
 -- ---- and all designs that are alike have it
 
@@ -71,6 +72,15 @@ module _ (one other : Ordered) (s : AreAlike one other) (request : Request) (def
             };
       }
 
+  ports-carried : map (machine_ports one.circuit one.tree listed) (range_with_len 0 (machine_count one.circuit listed)) ≡ map (machine_ports other.circuit other.tree listed) (range_with_len 0 (machine_count other.circuit listed))
+  ports-carried =
+      ap
+      (λ (memories : List Memory).
+      map (λ m. if is_memory listed m then slice_index_or (map (λ (x : Memory). length x.readers + length x.writers) memories) (memory_of one.tree listed m) 0 else 0)
+      (range_with_len 0 (machine_count one.circuit listed))) s.memories
+      ∙ ap (λ (tree : InstanceTree). map (machine_ports other.circuit tree listed) (range_with_len 0 (machine_count one.circuit listed))) s.tree
+      ∙ ap (λ count. map (machine_ports other.circuit other.tree listed) (range_with_len 0 count)) (count-same one other s request default listed wires)
+
   turns-carried : map (machine_turns one.circuit one.tree listed wires) (range_with_len 0 (machine_count one.circuit listed)) ≡ map (machine_turns other.circuit other.tree listed wires) (range_with_len 0 (machine_count other.circuit listed))
   turns-carried =
       ap
@@ -84,7 +94,7 @@ module _ (one other : Ordered) (s : AreAlike one other) (request : Request) (def
       ∙ ap (λ count. map (machine_turns other.circuit other.tree listed wires) (range_with_len 0 count)) (count-same one other s request default listed wires)
 
   layout-carried : (layout : Layout) → IsLayoutBy one request default n listed wires layout → IsLayoutBy other request default n listed wires layout
-  layout-carried layout a = record { channels = a.channels; link = λ c lt. link-carried c (link_at layout c) (a.link c lt); turns = a.turns ∙ turns-carried; end = a.end }
+  layout-carried layout a = record { channels = a.channels; link = λ c lt. link-carried c (link_at layout c) (a.link c lt); ports = a.ports ∙ ports-carried; turns = a.turns ∙ turns-carried; end = a.end }
 
 -- the layout of a request's cut of one design is that of the other's
 layout-of-cut-carried : (one other : Ordered) → AreAlike one other → (request : Request) (default n : ℕ) (layout : Layout) → IsLayoutOf one request default n layout → IsLayoutOf other request default n layout

@@ -86,8 +86,8 @@ module _ (outer inner : List ℕ) where
         All-cons (λ d. (d < length frame.wires) × ((wire_at frame.wires d).consumer ≡ m)) (channel_of wires (number_of x)) (map (channel_of wires) (map number_of xs)) (first.known, first.machine)
         (fields-taken xs (λ k d lt. low (suc k) d (omega (arith, lt))))
 
-    is-turn : (port : Port) → IsFitPort n port → IsTurnOf frame m port (turn_of wires (renamed_port port))
-    is-turn port fit =
+    is-turn : (count : ℕ) (port : Port) → IsFitPort n count port → IsTurnOf frame m port (turn_of wires (renamed_port port))
+    is-turn count port fit =
         let same = fields-renamed port.access in
         record {
           number = refl;
@@ -95,18 +95,18 @@ module _ (outer inner : List ℕ) where
           taken = subst (λ (l : List ℕ). AreTaken frame m (map (channel_of wires) l)) (sym same) (fields-taken (fields_of port.access) fit.fields);
         }
 
-    pub are-turns : (ports : List Port) → All (IsFitPort n) ports → AreTurnsOf frame m ports (map (turn_of wires) (map renamed_port ports))
-    are-turns ports fit =
+    pub are-turns : (count : ℕ) (ports : List Port) → All (IsFitPort n count) ports → AreTurnsOf frame m ports (map (turn_of wires) (map renamed_port ports))
+    are-turns count ports fit =
         let inner_count = length-map ports renamed_port in
         record {
           count = length-map (map renamed_port ports) (turn_of wires) ∙ inner_count;
           each = λ i port turn lt.
               let is : get_or (map (turn_of wires) (map renamed_port ports)) i turn ≡ turn_of wires (renamed_port (get_or ports i port)) =
               get_or-map (turn_of wires) (map renamed_port ports) i (renamed_port port) turn (omega (arith, lt, inner_count)) ∙ ap (turn_of wires) (get_or-map renamed_port ports i port (renamed_port port) lt) in
-              subst (IsTurnOf frame m (get_or ports i port)) (sym is) (is-turn (get_or ports i port) (fit i port lt));
+              subst (IsTurnOf frame m (get_or ports i port)) (sym is) (is-turn count (get_or ports i port) (fit i port lt));
         }
 
     -- the turns of the memory in the whole are those of the one that stands alone
-    pub turns-alone : (latency : Latency) (readers : List Reader) (writers : List Writer) → All (IsFitPort n) (ports_by latency readers writers) → AreTurnsOf frame m (ports_by latency readers writers) (map (turn_of wires) (ports_by latency (map reader_of readers) (map writer_of writers)))
-    turns-alone latency readers writers fit =
-        subst (λ (l : List Port). AreTurnsOf frame m (ports_by latency readers writers) (map (turn_of wires) l)) (sym (ports-renamed latency readers writers)) (are-turns (ports_by latency readers writers) fit)
+    pub turns-alone : (count : ℕ) (latency : Latency) (readers : List Reader) (writers : List Writer) → All (IsFitPort n count) (ports_by latency readers writers) → AreTurnsOf frame m (ports_by latency readers writers) (map (turn_of wires) (ports_by latency (map reader_of readers) (map writer_of writers)))
+    turns-alone count latency readers writers fit =
+        subst (λ (l : List Port). AreTurnsOf frame m (ports_by latency readers writers) (map (turn_of wires) l)) (sym (ports-renamed latency readers writers)) (are-turns count (ports_by latency readers writers) fit)

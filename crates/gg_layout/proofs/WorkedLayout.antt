@@ -5,14 +5,15 @@
 -- data. Signals 0 and 1 are `a` and `o`; 2, 3 and 4 are the reader's address, enable and data. The hub is machine 0, `m` is 1, the source
 -- of `a` is 2 and the tray of `o` is 3; the channels are, from 0 on: `a`, `m.r.addr`, `m.r.en`, `m.r.data`, `o`.
 use Rattle.std.proofs.Common.{◌≡◌, ℕ, zero, suc, ◌<◌, List, [], ◌∷◌, None, set, refl, ap, subst, inl, inr, ◌⊎◌, arith, lit<}
-use Rattle.std.specs.Prelude.{codes, length, slice_index_or, Contains, AllPairs}
+use Rattle.std.specs.Prelude.{codes, length, map, slice_index_or, Contains, AllPairs}
 use Rattle.std.proofs.lemmas.List.Kept.{AllPairs-cons}
 use Rattle.std.proofs.lemmas.List.Elements.{All-nil}
 use Rattle.gg_flat.specs.declared.memory.UnderWrite.TheVariants.{Old, New}
 use Rattle.gg_flat.specs.declared.memory.Latency.{Latency}
 use Rattle.gg_flat.specs.declared.memory.Latency.TheVariants.{Zero, One}
 use Rattle.gg_flat.specs.declared.memory.Memory.{Memory}
-use Rattle.gg_flat.specs.declared.piece.Driver.TheVariants.{Input, ReadRegister}
+use Rattle.gg_flat.specs.declared.piece.Driver.TheVariants.{Input, MemoryWord, ReadRegister}
+use Rattle.gg_flat.specs.Line.{value_at}
 use Rattle.gg_flat.specs.Circuit.{FlatCircuit, driver_at}
 use Rattle.gg_flat.specs.Reads.{NamesSignal}
 use Rattle.gg_flat.specs.Tree.{InstanceTree}
@@ -28,7 +29,7 @@ use Rattle.gg_cut.specs.Channels.{wires_of}
 use Rattle.gg_cut.proofs.WorkedPair.{input, output}
 use Rattle.gg_check.specs.CheckText.{AreChannelNeeds, IsPathInside, NeedsChannel}
 use Rattle.gg_marking.specs.Marking.{Link, Turn, Layout, link_at}
-use Rattle.gg_layout.specs.CutLayout.{IsChannelLink, IsLayoutOf, memory_turns}
+use Rattle.gg_layout.specs.CutLayout.{IsChannelLink, IsLayoutOf, machine_ports, machine_turns, memory_turns}
 
 abbrev late : Memory
 late = record { word = eight; depth = 3; latency = One Old; readers = record { addr = 2; en = 3; word = 4 } ∷ []; writers = [] }
@@ -73,11 +74,12 @@ link producer consumer capacity needs = record { producer = producer; consumer =
 abbrev turn : ℕ → List ℕ → Turn
 turn number fields = record { number = number; fields = fields }
 
--- the address needs `a`, and `o` the data; the data needs nothing, since the reader is late; `m` serves its reader
+-- the address needs `a`, and `o` the data; the data needs nothing, since the reader is late; `m` has one port, its reader, and serves it
 abbrev layout : Layout
 layout =
     record {
       links = link 2 0 2 [] ∷ link 0 1 5 (0 ∷ []) ∷ link 0 1 2 [] ∷ link 1 0 2 [] ∷ link 0 3 2 (3 ∷ []) ∷ [];
+      port_counts = 0 ∷ 1 ∷ 0 ∷ 0 ∷ [];
       turns = [] ∷ (turn 0 (1 ∷ 2 ∷ []) ∷ []) ∷ [] ∷ [] ∷ [];
       end = 3;
     }
@@ -222,6 +224,7 @@ is-layout =
           (record { producer = refl; consumer = refl; capacity = refl; needs = needs-enable })
           (record { producer = refl; consumer = refl; capacity = refl; needs = needs-data })
           (record { producer = refl; consumer = refl; capacity = refl; needs = needs-output });
+      ports = refl;
       turns = refl;
       end = refl;
     }
@@ -243,6 +246,26 @@ late-need is = none 1 (data-none 1 (lit< tt) (((is.link 3 (lit< tt)).needs.each 
 -- a late reader is served
 without-turn : ¬ IsLayoutOf design request 2 3 (record layout { turns = [] ∷ [] ∷ [] ∷ [] ∷ [] })
 without-turn is = let count : 0 ≡ 1 = ap (λ (turns : List (List Turn)). length (slice_index_or turns 1 [])) is.turns in absurd (omega (arith, count))
+
+-- and it is one of the ports
+without-port : ¬ IsLayoutOf design request 2 3 (record layout { port_counts = 0 ∷ 0 ∷ 0 ∷ 0 ∷ [] })
+without-port is = let count : 0 ≡ 1 = ap (λ (counts : List ℕ). value_at counts 1) is.ports in absurd (omega (arith, count))
+
+-- ---- a reader of the same cycle
+
+-- the same memory with latency 0, whose data needs the address and the enable of the same cycle: it has a port, and serves none
+abbrev same_cycle : FlatCircuit
+same_cycle =
+    record circuit {
+      signals = signal two (Input 0) ∷ copy eight 4 ∷ copy two 0 ∷ high ∷ signal eight (MemoryWord 0 0 2 3) ∷ [];
+      memories = record { word = eight; depth = 3; latency = Zero; readers = record { addr = 2; en = 3; word = 4 } ∷ []; writers = [] } ∷ [];
+    }
+
+one-port : map (machine_ports same_cycle tree listed) (0 ∷ 1 ∷ 2 ∷ 3 ∷ []) ≡ 0 ∷ 1 ∷ 0 ∷ 0 ∷ []
+one-port = refl
+
+no-turn : map (machine_turns same_cycle tree listed (wires_of same_cycle tree listed)) (0 ∷ 1 ∷ 2 ∷ 3 ∷ []) ≡ [] ∷ [] ∷ [] ∷ [] ∷ []
+no-turn = refl
 
 -- ---- turns of two readers and two writers
 
@@ -276,6 +299,13 @@ first_writer = turn 2 (8 ∷ 9 ∷ 10 ∷ 11 ∷ [])
 
 abbrev second_writer : Turn
 second_writer = turn 3 (12 ∷ 13 ∷ 14 ∷ 15 ∷ [])
+
+-- each of the four is a port, whatever the latency
+ports-zero : machine_ports (with_latency Zero) tree listed 1 ≡ 4
+ports-zero = refl
+
+ports-new : machine_ports (with_latency (One New)) tree listed 1 ≡ 4
+ports-new = refl
 
 -- readers of the same cycle aren't served
 turns-zero : turns_with Zero ≡ first_writer ∷ second_writer ∷ []

@@ -1,5 +1,5 @@
 -- The machines of the network have the ins and outs that the plan lists, and need and serve what is there.
-use Rattle.std.proofs.Common.{◌≡◌, ◌≢◌, ℕ, zero, suc, ◌-◌, ◌^◌, ◌<◌, List, [], ◌∷◌, None, false, length, map, sym, ◌∙◌, ap, subst, arith}
+use Rattle.std.proofs.Common.{◌≡◌, ◌≢◌, ℕ, zero, suc, ◌<◌, List, [], ◌∷◌, None, false, length, map, sym, ◌∙◌, ap, subst, arith}
 use Rattle.std.specs.Prelude.{Option, All, AllPairs, Contains, replicate}
 use Rattle.std.proofs.lemmas.List.{length-map, length-replicate, get_or-map}
 use Rattle.std.proofs.lemmas.List.Elements.{All-nil, All-weaker}
@@ -16,7 +16,7 @@ use Rattle.gg_cut.specs.declared.wires.Wire.{Wire as Link}
 use Rattle.gg_cut.specs.Listed.{listed_of}
 use Rattle.gg_cut.specs.Channels.{wires_of, machine_count}
 use Rattle.gg_cut.specs.Plan.{wire_at as link_at, channels_to, channels_from, IsCutPart, IsBody, IsPlan}
-use Rattle.gg_memunit.specs.MemoryUnit.{needs_of, ports_of}
+use Rattle.gg_memunit.specs.MemoryUnit.{count_of, needs_of, ports_of}
 use Rattle.gg_node.specs.Machine.{Machine, Port, machine_at, no_machine, needs_at}
 use Rattle.gg_node.specs.Step.{fields_of}
 use Rattle.gg_net.specs.Network.{kind_of, kind_at, no_kind}
@@ -28,8 +28,8 @@ use Rattle.gg_sound.proofs.WiredLemmas.{IsFitting, AreFitting}
 no-ports-fields : (n : ℕ) → All (λ (port : Port). All (λ i. i < n) (fields_of port.access)) []
 no-ports-fields n = All-nil (λ (port : Port). All (λ i. i < n) (fields_of port.access))
 
-no-ports-numbers : All (λ (port : Port). port.number < 2 ^ 32 - 1) []
-no-ports-numbers = All-nil (λ (port : Port). port.number < 2 ^ 32 - 1)
+no-ports-numbers : All (λ (port : Port). port.number < 0) []
+no-ports-numbers = All-nil (λ (port : Port). port.number < 0)
 
 abbrev no_token : Option ℕ
 no_token = None
@@ -65,7 +65,7 @@ module _ (design : Ordered) (listed : Listed) (links : List Link) (m : ℕ) (par
       let own_ins : length piece.ins ≡ length part.piece.ins = sym (length-map piece.ins (value_at memory.alone.globals)) ∙ ap length memory.ins in
       let own_outs : length piece.outs ≡ length part.piece.outs = sym (length-map piece.outs (value_at memory.alone.globals)) ∙ ap length memory.outs in
       let is = memory.is_memory in
-      let ports = ports-fit piece.memories (length piece.ins) is.readers is.writers is.few in
+      let ports = ports-fit piece.memories (length piece.ins) is.readers is.writers in
       subst (λ (t : Machine). IsFitting links m (kind_of t)) (sym memory.is)
       (record {
         ins = ins ∙ own_ins ∙ ins-count;
@@ -75,8 +75,8 @@ module _ (design : Ordered) (listed : Listed) (links : List Link) (m : ℕ) (par
             let low : o < length piece.outs = omega (arith, there, needs-count piece.memories, ap length is.outs) in
             let read = piece-needs piece o i is low has in
             omega (arith, read.within, ins);
-        fields = All-weaker (IsFitPort (length piece.ins)) (λ (port : Port). All (λ i. i < length (replicate (length piece.ins) no_token)) (fields_of port.access)) (λ port fit. subst (λ n. All (λ i. i < n) (fields_of port.access)) (sym ins) fit.fields) (ports_of piece.memories) ports;
-        numbers = All-weaker (IsFitPort (length piece.ins)) (λ (port : Port). port.number < 2 ^ 32 - 1) (λ port fit. fit.number) (ports_of piece.memories) ports;
+        fields = All-weaker (IsFitPort (length piece.ins) (count_of piece.memories)) (λ (port : Port). All (λ i. i < length (replicate (length piece.ins) no_token)) (fields_of port.access)) (λ port fit. subst (λ n. All (λ i. i < n) (fields_of port.access)) (sym ins) fit.fields) (ports_of piece.memories) ports;
+        numbers = All-weaker (IsFitPort (length piece.ins) (count_of piece.memories)) (λ (port : Port). port.number < count_of piece.memories) (λ port fit. fit.number) (ports_of piece.memories) ports;
       })
 
 -- ---- all machines

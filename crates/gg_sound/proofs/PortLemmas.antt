@@ -1,5 +1,5 @@
 -- A memory that stands alone: what its outs need, and its ports.
-use Rattle.std.proofs.Common.{◌≡◌, ℕ, suc, ◌+◌, ◌-◌, ◌^◌, ◌<◌, ◌≤◌, List, [], ◌∷◌, length, map, get_or, refl, sym, ◌∙◌, ap, subst, inl, inr, ◌⊎◌, arith}
+use Rattle.std.proofs.Common.{◌≡◌, ℕ, suc, ◌+◌, ◌<◌, ◌≤◌, List, [], ◌∷◌, length, map, get_or, refl, sym, ◌∙◌, ap, subst, inl, inr, ◌⊎◌, arith}
 use Rattle.std.specs.Prelude.{Contains, All, slice_index_or}
 use Rattle.std.proofs.lemmas.Bool.{cases_lt}
 use Rattle.std.proofs.lemmas.List.{get_or-map, get_or_past, length-map}
@@ -19,7 +19,7 @@ use Rattle.gg_flat.specs.Served.{Access, ByReader, ByWriter, by_readers, by_writ
 use Rattle.gg_flat.specs.WellFormed.{AreDriven, reader_driver}
 use Rattle.gg_node.specs.Machine.{Port, needs_at}
 use Rattle.gg_node.specs.Step.{fields_of}
-use Rattle.gg_memunit.specs.MemoryUnit.{outs_of, port_of, ports_of, needs_by, needs_of, IsMemoryPiece}
+use Rattle.gg_memunit.specs.MemoryUnit.{count_of, outs_of, port_of, ports_of, needs_by, needs_of, IsMemoryPiece}
 use Rattle.gg_closed.proofs.ListLemmas.{Contains-cases}
 
 -- ---- needs
@@ -107,17 +107,17 @@ module _ (P : Access → Type 0) where
   All-due (One Undefined) readers writers reads writes = All-append P (by_readers 0 readers) (by_writers 0 writers) (All-readers 0 readers reads) (All-writers 0 writers writes)
   All-due (One New) readers writers reads writes = All-append P (by_writers 0 writers) (by_readers 0 readers) (All-writers 0 writers writes) (All-readers 0 readers reads)
 
--- a port looks at ins that are there, and can be named
-pub record IsFitPort (n : ℕ) (port : Port) : Type 0 where
+-- a port looks at ins that are there, and is one of so many ports
+pub record IsFitPort (n count : ℕ) (port : Port) : Type 0 where
   pub fields : All (λ i. i < n) (fields_of port.access)
-  pub number : port.number < 2 ^ 32 - 1
+  pub number : port.number < count
 
-reader-port : (n r readers : ℕ) (reader : Reader) → LooksAmong n reader → r < 2 ^ 32 - 1 → IsFitPort n (port_of readers (ByReader r reader))
-reader-port n r readers reader looks low =
+reader-port : (n count r readers : ℕ) (reader : Reader) → LooksAmong n reader → r < count → IsFitPort n count (port_of readers (ByReader r reader))
+reader-port n count r readers reader looks low =
     record { fields = All-cons (λ i. i < n) reader.addr (reader.en ∷ []) looks.0 (All-cons (λ i. i < n) reader.en [] looks.1 (All-nil (λ i. i < n))); number = low }
 
-writer-port : (n w readers : ℕ) (writer : Writer) → WritesAmong n writer → readers + w < 2 ^ 32 - 1 → IsFitPort n (port_of readers (ByWriter w writer))
-writer-port n w readers writer looks low =
+writer-port : (n count w readers : ℕ) (writer : Writer) → WritesAmong n writer → readers + w < count → IsFitPort n count (port_of readers (ByWriter w writer))
+writer-port n count w readers writer looks low =
     record {
       fields = All-cons (λ i. i < n) writer.addr (writer.en ∷ writer.word ∷ writer.mask ∷ []) looks.0
           (All-cons (λ i. i < n) writer.en (writer.word ∷ writer.mask ∷ []) looks.1
@@ -125,12 +125,12 @@ writer-port n w readers writer looks low =
       number = low;
     }
 
-pub ports-fit : (memories : List Memory) (n : ℕ) → All (λ memory. All (LooksAmong n) memory.readers) memories → All (λ memory. All (WritesAmong n) memory.writers) memories → All (λ memory. length memory.readers + length memory.writers < 2 ^ 32) memories → All (IsFitPort n) (ports_of memories)
-ports-fit [] n looks writes few = All-nil (IsFitPort n)
-ports-fit (memory ∷ memories) n looks writes few =
-    let count = length memory.readers in
-    let low : count + length memory.writers < 2 ^ 32 = few 0 memory (omega arith) in
-    All-map (IsFitPort n) (port_of count) (due_of memory.latency memory.readers memory.writers)
-    (All-due (λ access. IsFitPort n (port_of count access)) memory.latency memory.readers memory.writers
-    (λ k any lt. reader-port n (0 + k) count (get_or memory.readers k any) (looks 0 memory (omega arith) k any lt) (omega (arith, lt, low)))
-    (λ k any lt. writer-port n (0 + k) count (get_or memory.writers k any) (writes 0 memory (omega arith) k any lt) (omega (arith, lt, low))))
+pub ports-fit : (memories : List Memory) (n : ℕ) → All (λ memory. All (LooksAmong n) memory.readers) memories → All (λ memory. All (WritesAmong n) memory.writers) memories → All (IsFitPort n (count_of memories)) (ports_of memories)
+ports-fit [] n looks writes = All-nil (IsFitPort n 0)
+ports-fit (memory ∷ memories) n looks writes =
+    let readers = length memory.readers in
+    let count = length memory.readers + length memory.writers in
+    All-map (IsFitPort n count) (port_of readers) (due_of memory.latency memory.readers memory.writers)
+    (All-due (λ access. IsFitPort n count (port_of readers access)) memory.latency memory.readers memory.writers
+    (λ k any lt. reader-port n count (0 + k) readers (get_or memory.readers k any) (looks 0 memory (omega arith) k any lt) (omega (arith, lt)))
+    (λ k any lt. writer-port n count (0 + k) readers (get_or memory.writers k any) (writes 0 memory (omega arith) k any lt) (omega (arith, lt))))

@@ -1,5 +1,5 @@
 -- The network of a plan is wired, where its machines have as many ins and outs as the plan lists channels at them.
-use Rattle.std.proofs.Common.{◌≡◌, ℕ, ◌-◌, ◌^◌, ◌<◌, List, length, sym, ◌∙◌, ap, refl, subst, arith}
+use Rattle.std.proofs.Common.{◌≡◌, ℕ, ◌<◌, List, length, sym, ◌∙◌, ap, refl, subst, arith}
 use Rattle.std.specs.Prelude.{Contains, All}
 use Rattle.gg_flat.specs.Line.{value_at}
 use Rattle.gg_cut.specs.declared.plan.Plan.{Plan}

@@ -200,6 +200,58 @@ fn refused_steps_of_a_memory(rt: HostRuntime) -> Result<(), Fail> {
     Ok(())
 }
 
+// A memory of latency 0 with a reader and a writer, and one that is only read.
+const BOTH: &str =
+    "circuit Both :\nmodule Both :\ninput clock : Clock\ninput a : UInt<2>\ninput v : UInt<8>\noutput o : UInt<8>\nmem m :\ndata-type => UInt<8>\ndepth => 3\nread-latency => 0\nwrite-latency => 1\nreader => r\nwriter => w\nread-under-write => undefined\nm.r.clk <= clock\nm.w.clk <= clock\nm.r.addr <= a\nm.w.addr <= a\nm.r.en <= UInt<1>(\"h1\")\nm.w.en <= UInt<1>(\"h1\")\nm.w.mask <= UInt<1>(\"h1\")\nm.w.data <= v\no <= m.r.data\n";
+
+const READ_ONLY: &str =
+    "circuit Only :\nmodule Only :\ninput clock : Clock\ninput a : UInt<2>\noutput o : UInt<8>\nmem m :\ndata-type => UInt<8>\ndepth => 3\nread-latency => 0\nwrite-latency => 1\nreader => r\nread-under-write => undefined\nm.r.clk <= clock\nm.r.addr <= a\nm.r.en <= UInt<1>(\"h1\")\no <= m.r.data\n";
+
+// A reader of the same cycle is a port that is never due. Circuit, trace, steps of which the last is refused, and the cause: before its
+// data was given; after that; when the writer was served; and where there is no writer.
+static NEVER_DUE: [(&str, &str, &str, &str); 4] = [
+    (
+        BOTH,
+        MEMORY_TRACE,
+        "serve m r\n",
+        "golden: step 1: Unfired m.r.data\n",
+    ),
+    (
+        BOTH,
+        MEMORY_TRACE,
+        "fire a\nlatch a\nfire m.r.addr\nfire m.r.en\nlatch m.r.addr\nlatch m.r.en\nfire m.r.data\nserve m r\n",
+        "golden: step 8: Order w\n",
+    ),
+    (
+        BOTH,
+        MEMORY_TRACE,
+        "fire a\nlatch a\nfire m.r.addr\nfire m.r.en\nlatch m.r.addr\nlatch m.r.en\nfire m.r.data\nfire v\nlatch v\nfire m.w.addr\nfire m.w.en\nfire m.w.data\nfire m.w.mask\nlatch m.w.addr\nlatch m.w.en\nlatch m.w.data\nlatch m.w.mask\nserve m w\nserve m r\n",
+        "golden: step 19: Order -\n",
+    ),
+    (
+        READ_ONLY,
+        "cycle a\n0 1\n1 2\n",
+        "fire a\nlatch a\nfire m.r.addr\nfire m.r.en\nlatch m.r.addr\nlatch m.r.en\nfire m.r.data\nserve m r\n",
+        "golden: step 8: Order -\n",
+    ),
+];
+
+#[test]
+fn serves_of_a_reader_of_the_same_cycle(rt: HostRuntime) -> Result<(), Fail> {
+    let alloc = rt.alloc();
+    for (circuit, trace, steps, err) in &NEVER_DUE {
+        let files = files_of(
+            alloc,
+            circuit.as_bytes(),
+            LISTED.as_bytes(),
+            trace.as_bytes(),
+        )?;
+        let answer = replay(alloc, REPLAY_1, files, steps.as_bytes())?;
+        check(&rt, &answer, 9, 4, "", err);
+    }
+    Ok(())
+}
+
 // One of two units of one host is refused, whatever the other did.
 #[test]
 fn refused_steps_of_a_shared_unit(rt: HostRuntime) -> Result<(), Fail> {
