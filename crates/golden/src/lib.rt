@@ -46,6 +46,3 @@ mod writing;
 
 pub use call::golden;
 pub use laws::refusals_are_exact;
-
-#[cfg(test)]
-mod tests;

@@ -1,6 +1,6 @@
 //! What `check` prints.
-use super::partitions::{BANKS, TILES, TWO};
-use super::{LATE, PAIR, call, check, files_of};
+use super::check;
+use golden_calls::{BANKS, LATE, PAIR, TILES, TWO, ask_of};
 use std::test::Fail;
 
 // A memory, and beside it an instance that works its address out.
@@ -167,15 +167,7 @@ static CUTS: [(&str, &str, &str, &str); 19] = [
 fn cuts_are_printed(rt: HostRuntime) -> Result<(), Fail> {
     let alloc = rt.alloc();
     for (line, circuit, partition, out) in &CUTS {
-        let files = files_of(alloc, circuit.as_bytes(), partition.as_bytes(), b"")?;
-        let answer = call(
-            alloc,
-            line,
-            files,
-            Vec::new(alloc),
-            Vec::new(alloc),
-            Vec::new(alloc),
-        )?;
+        let answer = ask_of(alloc, line, circuit, partition, "")?;
         check(&rt, &answer, 0, 2, out, "");
     }
     Ok(())
@@ -184,19 +176,12 @@ fn cuts_are_printed(rt: HostRuntime) -> Result<(), Fail> {
 #[test]
 fn a_fault_of_the_partition(rt: HostRuntime) -> Result<(), Fail> {
     let alloc = rt.alloc();
-    let files = files_of(
-        alloc,
-        TILES.as_bytes(),
-        b"{\"units\":[\"tile\",\"tile.core\"]}",
-        b"",
-    )?;
-    let answer = call(
+    let answer = ask_of(
         alloc,
         "golden check k1.fir p.json",
-        files,
-        Vec::new(alloc),
-        Vec::new(alloc),
-        Vec::new(alloc),
+        TILES,
+        "{\"units\":[\"tile\",\"tile.core\"]}",
+        "",
     )?;
     check(&rt, &answer, 6, 2, "", "golden: partition: P3 tile.core\n");
     Ok(())

@@ -1,8 +1,8 @@
 //! What `replay` prints, and the steps that it refuses.
-use super::partitions::TWO;
-use super::{Answer, MEMORY, PAIR, TRACE, call, check, counter, files_of};
 use gg_io::{MemFiles, hold};
-use std::alloc::Global;
+use golden_calls::{Answer, COUNTER, MEMORY, PAIR, TWO, ask, counter_files, files_of};
+use std::alloc::{AllocError, Global};
+use std::process::Abort;
 use std::test::Fail;
 
 const REPLAY: &str = "golden replay k1.fir p.json k1.trace s.steps";
@@ -25,43 +25,56 @@ const TWO_TRACE: &str = "cycle x\n0 01\n1 10\n2 00\n";
 const READ: &str =
     "fire a\nfire v\nlatch a\nlatch v\nfire m.r.addr\nfire m.r.en\nfire m.s.addr\nfire m.s.en\nlatch m.r.addr\nlatch m.r.en\nlatch m.s.addr\nlatch m.s.en\nfire m.r.data\nfire m.s.data\n";
 
+// The call answered just this.
+fn check(rt: &impl Abort, answer: &Answer, status: u8, loads: u64, out: &str, err: &str) {
+    assert!(rt; answer.is(status, loads, out, err), "{answer:?}");
+}
+
 // A call on these files, with these steps.
-fn replay(alloc: Global, line: &str, mut files: MemFiles, steps: &[u8]) -> Result<Answer, Fail> {
+fn replay(
+    alloc: Global,
+    line: &str,
+    mut files: MemFiles,
+    steps: &[u8],
+) -> Result<Answer, AllocError> {
     hold(&mut files, alloc, "s.steps", steps)?;
-    call(
+    ask(alloc, line, files)
+}
+
+// A call on a circuit, a partition, a trace and steps, for channels of capacity 1.
+fn replay_of(
+    alloc: Global,
+    circuit: &str,
+    partition: &str,
+    trace: &str,
+    steps: &str,
+) -> Result<Answer, AllocError> {
+    let files = files_of(
         alloc,
-        line,
-        files,
-        Vec::new(alloc),
-        Vec::new(alloc),
-        Vec::new(alloc),
-    )
+        circuit.as_bytes(),
+        partition.as_bytes(),
+        trace.as_bytes(),
+    )?;
+    replay(alloc, REPLAY_1, files, steps.as_bytes())
 }
 
-// The counter's files.
-fn counter_files(alloc: Global) -> Result<MemFiles, Fail> {
-    let circuit = counter(alloc, 11, 0, "")?;
-    files_of(alloc, circuit.as_bytes(), b"{}", TRACE.as_bytes())
+// A call on the counter, with these steps.
+fn replay_counter(alloc: Global, steps: &str) -> Result<Answer, AllocError> {
+    replay(alloc, REPLAY, counter_files(alloc)?, steps.as_bytes())
 }
 
-// The files of two units that feed each other.
-fn pair_files(alloc: Global, trace: &str) -> Result<MemFiles, Fail> {
-    files_of(alloc, PAIR.as_bytes(), UNITS.as_bytes(), trace.as_bytes())
-}
-
-// The counter's output goes ahead of its input.
+// The counter's output goes ahead of its input; and no steps.
 #[test]
 fn tokens_of_the_counter(rt: HostRuntime) -> Result<(), Fail> {
-    let alloc = rt.alloc();
-    let answer = replay(
-        alloc,
-        REPLAY,
-        counter_files(alloc)?,
-        b"fire out\nlatch out\nfinish out:out\nfire reset\nlatch reset\nfinish hub:\nfire out\n",
-    )?;
-    check(&rt, &answer, 0, 4, "reset 1/1 1\nout 2/1 00 00\n", "");
-    let answer = replay(alloc, REPLAY, counter_files(alloc)?, b"")?;
-    check(&rt, &answer, 0, 4, "reset 0/0\nout 0/0\n", "");
+    for (steps, out) in [
+        (
+            "fire out\nlatch out\nfinish out:out\nfire reset\nlatch reset\nfinish hub:\nfire out\n",
+            "reset 1/1 1\nout 2/1 00 00\n",
+        ),
+        ("", "reset 0/0\nout 0/0\n"),
+    ] {
+        check(&rt, &replay_counter(rt.alloc(), steps)?, 0, 4, out, "");
+    }
     Ok(())
 }
 
@@ -116,13 +129,7 @@ static WORKED: [(&str, &str, &str, &str, &str); 6] = [
 fn steps_that_may_be_done(rt: HostRuntime) -> Result<(), Fail> {
     let alloc = rt.alloc();
     for (circuit, partition, trace, steps, out) in &WORKED {
-        let files = files_of(
-            alloc,
-            circuit.as_bytes(),
-            partition.as_bytes(),
-            trace.as_bytes(),
-        )?;
-        let answer = replay(alloc, REPLAY_1, files, steps.as_bytes())?;
+        let answer = replay_of(alloc, circuit, partition, trace, steps)?;
         check(&rt, &answer, 0, 4, out, "");
     }
     Ok(())
@@ -148,20 +155,15 @@ static REFUSED: [(&str, &str); 9] = [
 fn refused_steps(rt: HostRuntime) -> Result<(), Fail> {
     let alloc = rt.alloc();
     for (steps, err) in &REFUSED {
-        let answer = replay(
-            alloc,
-            REPLAY_1,
-            pair_files(alloc, PAIR_TRACE)?,
-            steps.as_bytes(),
-        )?;
+        let answer = replay_of(alloc, PAIR, UNITS, PAIR_TRACE, steps)?;
         check(&rt, &answer, 9, 4, "", err);
     }
-    let answer = replay(
-        alloc,
-        REPLAY_1,
-        pair_files(alloc, "cycle x\n")?,
-        b"fire x\n",
-    )?;
+    Ok(())
+}
+
+#[test]
+fn a_step_behind_the_last_cycle(rt: HostRuntime) -> Result<(), Fail> {
+    let answer = replay_of(rt.alloc(), PAIR, UNITS, "cycle x\n", "fire x\n")?;
     check(&rt, &answer, 9, 4, "", "golden: step 1: Ended\n");
     Ok(())
 }
@@ -182,19 +184,18 @@ static SERVED: [(&str, &str); 6] = [
     ),
 ];
 
+// A call on the memory, with these steps behind its reads.
+fn replay_behind_reads(alloc: Global, last: &str) -> Result<Answer, AllocError> {
+    let mut steps = String::from_str(alloc, READ)?;
+    steps.push_str(last)?;
+    replay_of(alloc, MEMORY, LISTED, MEMORY_TRACE, steps.as_str())
+}
+
 #[test]
 fn refused_steps_of_a_memory(rt: HostRuntime) -> Result<(), Fail> {
     let alloc = rt.alloc();
     for (last, err) in &SERVED {
-        let mut steps = String::from_str(alloc, READ)?;
-        steps.push_str(last)?;
-        let files = files_of(
-            alloc,
-            MEMORY.as_bytes(),
-            LISTED.as_bytes(),
-            MEMORY_TRACE.as_bytes(),
-        )?;
-        let answer = replay(alloc, REPLAY_1, files, steps.as_bytes())?;
+        let answer = replay_behind_reads(alloc, last)?;
         check(&rt, &answer, 9, 4, "", err);
     }
     Ok(())
@@ -262,43 +263,46 @@ fn refused_steps_of_a_shared_unit(rt: HostRuntime) -> Result<(), Fail> {
         ("fire u.s\nlatch v.s\n", "golden: step 2: NoToken v.s\n"),
         ("fire v.s\nfire p\n", "golden: step 2: NeedsInput u.s\n"),
     ] {
-        let files = files_of(
-            alloc,
-            TWO.as_bytes(),
-            SHARED.as_bytes(),
-            TWO_TRACE.as_bytes(),
-        )?;
-        let answer = replay(alloc, REPLAY_1, files, steps.as_bytes())?;
+        let answer = replay_of(alloc, TWO, SHARED, TWO_TRACE, steps)?;
         check(&rt, &answer, 9, 4, "", err);
     }
     Ok(())
 }
 
-// A steps file that is missing, and one that is a byte too long; a trace that is refused before it.
+// A steps file that is missing.
 #[test]
-fn files_of_steps(rt: HostRuntime) -> Result<(), Fail> {
+fn no_steps_file(rt: HostRuntime) -> Result<(), Fail> {
     let alloc = rt.alloc();
-    let answer = call(
-        alloc,
-        REPLAY,
-        counter_files(alloc)?,
-        Vec::new(alloc),
-        Vec::new(alloc),
-        Vec::new(alloc),
-    )?;
+    let answer = ask(alloc, REPLAY, counter_files(alloc)?)?;
     check(&rt, &answer, 3, 4, "", "golden: cannot load s.steps\n");
-    let long = vec![in alloc; b' '; 67_108_865]?;
-    let answer = replay(alloc, REPLAY, counter_files(alloc)?, long.as_slice())?;
+    Ok(())
+}
+
+// A call on the counter, with so many blanks for steps.
+fn replay_blanks(alloc: Global, size: usize) -> Result<Answer, AllocError> {
+    let blanks = vec![in alloc; b' '; size]?;
+    replay(alloc, REPLAY, counter_files(alloc)?, blanks.as_slice())
+}
+
+// A steps file that is a byte too long.
+#[test]
+fn a_steps_file_past_its_limit(rt: HostRuntime) -> Result<(), Fail> {
     check(
         &rt,
-        &answer,
+        &replay_blanks(rt.alloc(), 67_108_865)?,
         8,
         4,
         "",
         "golden: s.steps is over 67108864 bytes\n",
     );
-    let circuit = counter(alloc, 11, 0, "")?;
-    let files = files_of(alloc, circuit.as_bytes(), b"{}", b"cycle out\n")?;
+    Ok(())
+}
+
+// A trace that is refused before the steps.
+#[test]
+fn a_trace_before_the_steps(rt: HostRuntime) -> Result<(), Fail> {
+    let alloc = rt.alloc();
+    let files = files_of(alloc, COUNTER.as_bytes(), b"{}", b"cycle out\n")?;
     let answer = replay(alloc, REPLAY, files, b"go\n")?;
     check(&rt, &answer, 7, 3, "", "golden: trace: T1 field 1\n");
     Ok(())

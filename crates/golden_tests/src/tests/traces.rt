@@ -1,5 +1,6 @@
 //! Traces with a fault.
-use super::{check, counter, files_of, run};
+use super::check;
+use golden_calls::{COUNTER, run};
 use itoa::Buffer;
 use std::alloc::{AllocError, Global};
 use std::test::Fail;
@@ -26,10 +27,8 @@ static TRACES: [(&str, &str); 15] = [
 #[test]
 fn traces_with_a_fault(rt: HostRuntime) -> Result<(), Fail> {
     let alloc = rt.alloc();
-    let circuit = counter(alloc, 11, 0, "")?;
     for (trace, err) in &TRACES {
-        let files = files_of(alloc, circuit.as_bytes(), b"{}", trace.as_bytes())?;
-        check(&rt, &run(alloc, files)?, 7, 3, "", err);
+        check(&rt, &run(alloc, COUNTER, "{}", trace)?, 7, 3, "", err);
     }
     Ok(())
 }
@@ -48,16 +47,8 @@ fn good_rows(alloc: Global, rows: u64) -> Result<String, AllocError> {
 #[test]
 fn a_trace_with_a_row_too_many(rt: HostRuntime) -> Result<(), Fail> {
     let alloc = rt.alloc();
-    let circuit = counter(alloc, 11, 0, "")?;
     let trace = good_rows(alloc, 1_000_001)?;
-    let files = files_of(alloc, circuit.as_bytes(), b"{}", trace.as_bytes())?;
-    check(
-        &rt,
-        &run(alloc, files)?,
-        7,
-        3,
-        "",
-        "golden: trace: T6 row 1000000\n",
-    );
+    let answer = run(alloc, COUNTER, "{}", trace.as_str())?;
+    check(&rt, &answer, 7, 3, "", "golden: trace: T6 row 1000000\n");
     Ok(())
 }

@@ -1,5 +1,7 @@
 //! Of several faults the first is told.
-use super::{TRACE, check, counter, files_of, run};
+use super::check;
+use golden_calls::{Answer, RUN, TRACE, ask, counter, files_of, run};
+use std::alloc::{AllocError, Global};
 use std::test::Fail;
 
 // The counter with a line changed, counted from 1 (0: none), the other files, the status, how many files are loaded, and the
@@ -73,27 +75,33 @@ static REFUSED: [(usize, &str, &str, &str, u8, u64, &str); 9] = [
     ),
 ];
 
+// `run` on the counter with a line changed, and on these other files.
+fn run_changed(
+    alloc: Global,
+    line: usize,
+    text: &str,
+    partition: &str,
+    trace: &str,
+) -> Result<Answer, AllocError> {
+    let circuit = counter(alloc, 11, line, text)?;
+    run(alloc, circuit.as_str(), partition, trace)
+}
+
 #[test]
 fn the_first_fault_is_told(rt: HostRuntime) -> Result<(), Fail> {
     let alloc = rt.alloc();
     for (line, text, partition, trace, status, loads, err) in &REFUSED {
-        let circuit = counter(alloc, 11, *line, text)?;
-        let files = files_of(
-            alloc,
-            circuit.as_bytes(),
-            partition.as_bytes(),
-            trace.as_bytes(),
-        )?;
-        check(&rt, &run(alloc, files)?, *status, *loads, "", err);
+        let answer = run_changed(alloc, *line, text, partition, trace)?;
+        check(&rt, &answer, *status, *loads, "", err);
     }
+    Ok(())
+}
+
+#[test]
+fn a_circuit_that_is_not_text(rt: HostRuntime) -> Result<(), Fail> {
+    let alloc = rt.alloc();
     let files = files_of(alloc, b"\xff", b"{}", TRACE.as_bytes())?;
-    check(
-        &rt,
-        &run(alloc, files)?,
-        1,
-        1,
-        "",
-        "golden: circuit: not text\n",
-    );
+    let answer = ask(alloc, RUN, files)?;
+    check(&rt, &answer, 1, 1, "", "golden: circuit: not text\n");
     Ok(())
 }

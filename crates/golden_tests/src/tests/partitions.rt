@@ -1,20 +1,9 @@
 //! Partitions: those that are accepted change nothing that is printed, and of the others the first fault is told.
-use super::{LATE, MEMORY, PAIR, check, files_of, run};
+use super::check;
+use golden_calls::{Answer, BANKS, LATE, MEMORY, PAIR, TILES, TWO, run};
 use itoa::Buffer;
 use std::alloc::{AllocError, Global};
 use std::test::Fail;
-
-// Two instances of a module with a register.
-pub(super) const TWO: &str =
-    "circuit Two :\nmodule Acc :\ninput clock : Clock\ninput a : UInt<8>\noutput s : UInt<8>\nreg r : UInt<8>, clock\ns <= r\nr <= bits(add(r, a), 7, 0)\nmodule Two :\ninput clock : Clock\ninput x : UInt<8>\noutput p : UInt<8>\noutput q : UInt<8>\ninst u of Acc\ninst v of Acc\nu.clock <= clock\nv.clock <= clock\nu.a <= x\nv.a <= not(x)\np <= u.s\nq <= v.s\n";
-
-// An instance in an instance.
-pub(super) const TILES: &str =
-    "circuit Top :\nmodule Core :\noutput o : UInt<4>\no <= UInt<4>(10)\nmodule Tile :\noutput o : UInt<4>\ninst core of Core\no <= core.o\nmodule Top :\noutput o : UInt<4>\ninst tile of Tile\no <= tile.o\n";
-
-// Two instances of a module with a memory.
-pub(super) const BANKS: &str =
-    "circuit Banks :\nmodule Bank :\nmem m :\ndata-type => UInt<1>\ndepth => 1\nread-latency => 0\nwrite-latency => 1\nmodule Banks :\ninst u of Bank\ninst v of Bank\n";
 
 // A circuit, a partition that it accepts, a trace, and the text of the run.
 static ACCEPTED: [(&str, &str, &str, &str); 9] = [
@@ -73,13 +62,7 @@ static ACCEPTED: [(&str, &str, &str, &str); 9] = [
 fn accepted_partitions_change_nothing(rt: HostRuntime) -> Result<(), Fail> {
     let alloc = rt.alloc();
     for (circuit, partition, trace, out) in &ACCEPTED {
-        let files = files_of(
-            alloc,
-            circuit.as_bytes(),
-            partition.as_bytes(),
-            trace.as_bytes(),
-        )?;
-        check(&rt, &run(alloc, files)?, 0, 3, out, "");
+        check(&rt, &run(alloc, circuit, partition, trace)?, 0, 3, out, "");
     }
     Ok(())
 }
@@ -187,29 +170,43 @@ static REFUSED: [(&str, &str, &str); 23] = [
 fn each_fault_of_a_partition(rt: HostRuntime) -> Result<(), Fail> {
     let alloc = rt.alloc();
     for (circuit, partition, err) in &REFUSED {
-        let files = files_of(alloc, circuit.as_bytes(), partition.as_bytes(), b"cycle")?;
-        check(&rt, &run(alloc, files)?, 6, 2, "", err);
+        check(
+            &rt,
+            &run(alloc, circuit, partition, "cycle")?,
+            6,
+            2,
+            "",
+            err,
+        );
     }
     Ok(())
 }
 
-// So many instances of a module without ports, and a partition that lists them all.
-fn many_units(alloc: Global, count: u64) -> Result<(String, String), AllocError> {
+// Writes, for each number from `first` on and below `count`, a piece that has the number in its middle.
+fn push_numbered(
+    text: &mut String,
+    first: u64,
+    count: u64,
+    before: &str,
+    behind: &str,
+) -> Result<(), AllocError> {
     let mut buffer = Buffer::new();
-    let mut circuit = String::from_str(alloc, "circuit Top :\nmodule A :\nmodule Top :\n")?;
-    let mut partition = String::from_str(alloc, "{\"units\":[\"i0\"")?;
-    for number in 0..count {
-        circuit.push_str("inst i")?;
-        circuit.push_str(buffer.format(number))?;
-        circuit.push_str(" of A\n")?;
-        if number > 0 {
-            partition.push_str(",\"i")?;
-            partition.push_str(buffer.format(number))?;
-            partition.push_str("\"")?;
-        }
+    for number in first..count {
+        text.push_str(before)?;
+        text.push_str(buffer.format(number))?;
+        text.push_str(behind)?;
     }
+    Ok(())
+}
+
+// `run` on so many instances, and a partition that lists them all.
+fn run_units(alloc: Global, count: u64) -> Result<Answer, AllocError> {
+    let mut circuit = String::from_str(alloc, "circuit Top :\nmodule A :\nmodule Top :\n")?;
+    push_numbered(&mut circuit, 0, count, "inst i", " of A\n")?;
+    let mut partition = String::from_str(alloc, "{\"units\":[\"i0\"")?;
+    push_numbered(&mut partition, 1, count, ",\"i", "\"")?;
     partition.push_str("]}")?;
-    Ok((circuit, partition))
+    run(alloc, circuit.as_str(), partition.as_str(), "cycle\n0\n")
 }
 
 #[test]
@@ -219,46 +216,27 @@ fn units_up_to_the_limit(rt: HostRuntime) -> Result<(), Fail> {
         (256, 0, 3, "cycle\n0\n", ""),
         (257, 6, 2, "", "golden: partition: P9 units 257\n"),
     ] {
-        let (circuit, partition) = many_units(alloc, count)?;
-        let files = files_of(
-            alloc,
-            circuit.as_bytes(),
-            partition.as_bytes(),
-            b"cycle\n0\n",
-        )?;
-        check(&rt, &run(alloc, files)?, status, loads, out, err);
+        check(&rt, &run_units(alloc, count)?, status, loads, out, err);
     }
     Ok(())
 }
 
-// A circuit of so many outputs.
-fn many_outputs(alloc: Global, count: u64) -> Result<String, AllocError> {
-    let mut buffer = Buffer::new();
+// `run` on a circuit of so many outputs.
+fn run_outputs(alloc: Global, count: u64) -> Result<Answer, AllocError> {
     let mut circuit = String::from_str(alloc, "circuit Top :\nmodule Top :\n")?;
-    for number in 0..count {
-        circuit.push_str("output o")?;
-        circuit.push_str(buffer.format(number))?;
-        circuit.push_str(" : UInt<1>\n")?;
-    }
-    for number in 0..count {
-        circuit.push_str("o")?;
-        circuit.push_str(buffer.format(number))?;
-        circuit.push_str(" is invalid\n")?;
-    }
-    Ok(circuit)
+    push_numbered(&mut circuit, 0, count, "output o", " : UInt<1>\n")?;
+    push_numbered(&mut circuit, 0, count, "o", " is invalid\n")?;
+    run(alloc, circuit.as_str(), "{}", "")
 }
 
 #[test]
 fn channels_past_the_limit(rt: HostRuntime) -> Result<(), Fail> {
     let alloc = rt.alloc();
-    for (count, status, err) in [
-        (16_384, 7, "golden: trace: T1 field 0\n"),
-        (16_385, 6, "golden: partition: P9 channels 16385\n"),
+    for (count, status, loads, err) in [
+        (16_384, 7, 3, "golden: trace: T1 field 0\n"),
+        (16_385, 6, 2, "golden: partition: P9 channels 16385\n"),
     ] {
-        let circuit = many_outputs(alloc, count)?;
-        let loads = if status == 6 { 2 } else { 3 };
-        let files = files_of(alloc, circuit.as_bytes(), b"{}", b"")?;
-        check(&rt, &run(alloc, files)?, status, loads, "", err);
+        check(&rt, &run_outputs(alloc, count)?, status, loads, "", err);
     }
     Ok(())
 }

@@ -1,6 +1,7 @@
 //! Circuits that are run, and circuits that are refused.
-use super::{
-    COUNTER, LATE, LOOP, MEMORY, PAIR, TEXT, TRACE, WIDE, check, counter, edited, files_of, run,
+use super::check;
+use golden_calls::{
+    Answer, COUNTER, LATE, LOOP, MEMORY, PAIR, TEXT, TRACE, WIDE, counter, edited, run,
 };
 use std::alloc::{AllocError, Global};
 use std::test::Fail;
@@ -84,8 +85,7 @@ static RUNS: [(&str, &str, &str); 12] = [
 fn plain_files_are_run(rt: HostRuntime) -> Result<(), Fail> {
     let alloc = rt.alloc();
     for (circuit, trace, out) in &RUNS {
-        let files = files_of(alloc, circuit.as_bytes(), b"{}\n", trace.as_bytes())?;
-        check(&rt, &run(alloc, files)?, 0, 3, out, "");
+        check(&rt, &run(alloc, circuit, "{}\n", trace)?, 0, 3, out, "");
     }
     Ok(())
 }
@@ -129,13 +129,24 @@ static WHOLE: [(&str, usize, &str, &str, &str); 5] = [
     ),
 ];
 
+// `run` on a circuit with a line changed.
+fn run_edited(
+    alloc: Global,
+    circuit: &str,
+    line: usize,
+    text: &str,
+    trace: &str,
+) -> Result<Answer, AllocError> {
+    let circuit = edited(alloc, circuit, 64, line, text)?;
+    run(alloc, circuit.as_str(), "{}", trace)
+}
+
 #[test]
 fn whole_circuits_are_run(rt: HostRuntime) -> Result<(), Fail> {
     let alloc = rt.alloc();
     for (circuit, line, text, trace, out) in &WHOLE {
-        let circuit = edited(alloc, circuit, 64, *line, text)?;
-        let files = files_of(alloc, circuit.as_bytes(), b"{}", trace.as_bytes())?;
-        check(&rt, &run(alloc, files)?, 0, 3, out, "");
+        let answer = run_edited(alloc, circuit, *line, text, trace)?;
+        check(&rt, &answer, 0, 3, out, "");
     }
     Ok(())
 }
@@ -156,13 +167,18 @@ static CUT: [(usize, u8, u64, &str, &str); 12] = [
     (11, 0, 3, TEXT, ""),
 ];
 
+// `run` on so many lines of the counter.
+fn run_cut(alloc: Global, lines: usize) -> Result<Answer, AllocError> {
+    let circuit = counter(alloc, lines, 0, "")?;
+    run(alloc, circuit.as_str(), "{}", TRACE)
+}
+
 #[test]
 fn the_counter_cut_short(rt: HostRuntime) -> Result<(), Fail> {
     let alloc = rt.alloc();
     for (lines, status, loads, out, err) in &CUT {
-        let circuit = counter(alloc, *lines, 0, "")?;
-        let files = files_of(alloc, circuit.as_bytes(), b"{}", TRACE.as_bytes())?;
-        check(&rt, &run(alloc, files)?, *status, *loads, out, err);
+        let answer = run_cut(alloc, *lines)?;
+        check(&rt, &answer, *status, *loads, out, err);
     }
     Ok(())
 }
@@ -180,6 +196,12 @@ fn nested(alloc: Global, depth: usize) -> Result<String, AllocError> {
     counter(alloc, 11, 10, text.as_str())
 }
 
+// `run` on it.
+fn run_nested(alloc: Global, depth: usize) -> Result<Answer, AllocError> {
+    let circuit = nested(alloc, depth)?;
+    run(alloc, circuit.as_str(), "{}", TRACE)
+}
+
 #[test]
 fn operations_one_inside_the_other(rt: HostRuntime) -> Result<(), Fail> {
     let alloc = rt.alloc();
@@ -187,9 +209,7 @@ fn operations_one_inside_the_other(rt: HostRuntime) -> Result<(), Fail> {
         (256, 0, 3, TEXT, ""),
         (257, 1, 1, "", "golden: circuit: too deep line 10\n"),
     ] {
-        let circuit = nested(alloc, depth)?;
-        let files = files_of(alloc, circuit.as_bytes(), b"{}", TRACE.as_bytes())?;
-        check(&rt, &run(alloc, files)?, status, loads, out, err);
+        check(&rt, &run_nested(alloc, depth)?, status, loads, out, err);
     }
     Ok(())
 }
@@ -298,9 +318,8 @@ static FAULTS: [(&str, usize, &str, &str); 20] = [
 fn each_fault_of_a_circuit(rt: HostRuntime) -> Result<(), Fail> {
     let alloc = rt.alloc();
     for (circuit, line, text, err) in &FAULTS {
-        let circuit = edited(alloc, circuit, 64, *line, text)?;
-        let files = files_of(alloc, circuit.as_bytes(), b"{}", TRACE.as_bytes())?;
-        check(&rt, &run(alloc, files)?, 1, 1, "", err);
+        let answer = run_edited(alloc, circuit, *line, text, TRACE)?;
+        check(&rt, &answer, 1, 1, "", err);
     }
     Ok(())
 }

@@ -1,6 +1,7 @@
 //! The words of a call.
-use super::{Answer, TEXT, call, check, counter_files};
-use std::alloc::Global;
+use super::check;
+use golden_calls::{Answer, TEXT, ask, counter_files};
+use std::alloc::{AllocError, Global};
 use std::test::Fail;
 
 // Words that run the counter.
@@ -51,22 +52,15 @@ static UNASKED: [(&str, &str); 13] = [
     ),
 ];
 
-// A call with these words and the counter's files, where nothing fails.
-fn ask(alloc: Global, line: &str) -> Result<Answer, Fail> {
-    call(
-        alloc,
-        line,
-        counter_files(alloc)?,
-        Vec::new(alloc),
-        Vec::new(alloc),
-        Vec::new(alloc),
-    )
+// A call with these words and the counter's files.
+fn ask_of_counter(alloc: Global, line: &str) -> Result<Answer, AllocError> {
+    ask(alloc, line, counter_files(alloc)?)
 }
 
 #[test]
 fn options_that_change_nothing(rt: HostRuntime) -> Result<(), Fail> {
     for line in &ASKED {
-        check(&rt, &ask(rt.alloc(), line)?, 0, 3, TEXT, "");
+        check(&rt, &ask_of_counter(rt.alloc(), line)?, 0, 3, TEXT, "");
     }
     Ok(())
 }
@@ -74,7 +68,7 @@ fn options_that_change_nothing(rt: HostRuntime) -> Result<(), Fail> {
 #[test]
 fn words_that_are_no_command(rt: HostRuntime) -> Result<(), Fail> {
     for (line, err) in &UNASKED {
-        check(&rt, &ask(rt.alloc(), line)?, 2, 0, "", err);
+        check(&rt, &ask_of_counter(rt.alloc(), line)?, 2, 0, "", err);
     }
     Ok(())
 }

@@ -1,0 +1,133 @@
+//! Calls with files and sinks in memory, and what they answered.
+use crate::circuits::{COUNTER, TRACE};
+use gg_io::{FailingPut, MemFiles, MemShelf, MemSink, NoGate, hold};
+use golden::golden;
+use std::alloc::{AllocError, Global};
+use std::collections::BTreeMap;
+
+/// The words of `run`.
+pub const RUN: &str = "golden run k1.fir p.json k1.trace";
+
+/// These files under the names that a call gives.
+pub fn files_of(
+    alloc: Global,
+    circuit: &[u8],
+    partition: &[u8],
+    trace: &[u8],
+) -> Result<MemFiles, AllocError> {
+    let mut files = BTreeMap::new(alloc);
+    hold(&mut files, alloc, "k1.fir", circuit)?;
+    hold(&mut files, alloc, "p.json", partition)?;
+    hold(&mut files, alloc, "k1.trace", trace)?;
+    Ok(files)
+}
+
+/// The counter's files.
+pub fn counter_files(alloc: Global) -> Result<MemFiles, AllocError> {
+    files_of(alloc, COUNTER.as_bytes(), b"{}", TRACE.as_bytes())
+}
+
+/// What a call answered, how many loads and puts on `out` it made, and what stands on its sinks.
+#[derive(Debug, Drop)]
+pub struct Answer {
+    /// The status.
+    pub status: u8,
+    /// How many loads there were.
+    pub loads: u64,
+    /// How many puts there were on `out`.
+    pub puts: u64,
+    /// What stands on `out`.
+    pub out: Vec<u8>,
+    /// What stands on `err`.
+    pub err: Vec<u8>,
+}
+
+impl Answer {
+    /// Whether the call answered this status after so many loads, and left these texts on its sinks. Each line on `out` is
+    /// a put of its own, also where the last of them fails.
+    pub fn is(&self, status: u8, loads: u64, out: &str, err: &str) -> bool {
+        self.status == status
+            && self.loads == loads
+            && self.puts == out.lines().count() as u64
+            && self.out.as_slice() == out.as_bytes()
+            && self.err.as_slice() == err.as_bytes()
+    }
+}
+
+/// The words of a call, of a line that parts them by blanks.
+pub fn words_of(alloc: Global, line: &str) -> Result<Vec<String>, AllocError> {
+    let mut words = Vec::new(alloc);
+    for word in line.split(' ') {
+        words.push(String::from_str(alloc, word)?)?;
+    }
+    Ok(words)
+}
+
+/// A call with these words and files, where these loads and puts are to fail.
+pub fn call(
+    alloc: Global,
+    line: &str,
+    files: MemFiles,
+    loads: Vec<u64>,
+    puts: Vec<FailingPut>,
+    err_puts: Vec<FailingPut>,
+) -> Result<Answer, AllocError> {
+    let words = words_of(alloc, line)?;
+    let mut shelf = MemShelf::new(files, loads);
+    let mut out = MemSink::new(alloc, puts);
+    let mut err = MemSink::new(alloc, err_puts);
+    let status = golden(
+        alloc,
+        words.as_slice(),
+        &mut shelf,
+        &mut out,
+        &mut err,
+        &NoGate,
+    );
+    Ok(Answer {
+        status,
+        loads: shelf.loads,
+        puts: out.puts,
+        out: out.bytes,
+        err: err.bytes,
+    })
+}
+
+/// A call with these words and files, where nothing fails.
+pub fn ask(alloc: Global, line: &str, files: MemFiles) -> Result<Answer, AllocError> {
+    call(
+        alloc,
+        line,
+        files,
+        Vec::new(alloc),
+        Vec::new(alloc),
+        Vec::new(alloc),
+    )
+}
+
+/// The same with a circuit, a partition and a trace.
+pub fn ask_of(
+    alloc: Global,
+    line: &str,
+    circuit: &str,
+    partition: &str,
+    trace: &str,
+) -> Result<Answer, AllocError> {
+    let files = files_of(
+        alloc,
+        circuit.as_bytes(),
+        partition.as_bytes(),
+        trace.as_bytes(),
+    )?;
+    ask(alloc, line, files)
+}
+
+/// `run` on a circuit, a partition and a trace, where nothing fails.
+pub fn run(
+    alloc: Global,
+    circuit: &str,
+    partition: &str,
+    trace: &str,
+) -> Result<Answer, AllocError> {
+    ask_of(alloc, RUN, circuit, partition, trace)
+}

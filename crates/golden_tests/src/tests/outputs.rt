@@ -1,0 +1,127 @@
+//! Puts that fail or find no memory.
+ghost use Rattle.std.specs.Prelude.{None};
+
+use super::check;
+use gg_io::{FailingPut, NoGate, PutFail, Sink, SureShelf, SureSink};
+use golden::golden;
+use golden_calls::{Answer, RUN, TEXT, call, counter_files, words_of};
+use std::alloc::{AllocError, Global};
+use std::test::Fail;
+
+// A sink that has memory for so many puts. It tells nothing of what was written, and keeps it for the test to see.
+#[derive(Drop)]
+struct FullSink {
+    bytes: Vec<u8>,
+    room: u64,
+    refused: u64,
+}
+
+impl Sink for FullSink {
+    ghost written = { λ _. None };
+
+    ghost faults = { λ _. 0 };
+
+    ghost refused = { λ s. s.refused };
+
+    fn put(&mut self, bytes: &[u8]) -> Result<(), PutFail> {
+        if self.room == 0 || self.bytes.extend_from_slice(bytes).is_err() {
+            self.refused = self.refused.saturating_add(1);
+            return Err(PutFail::NoMemory);
+        }
+        self.room -= 1;
+        Ok(())
+    }
+}
+
+// `run` on the counter, where `out` has memory for so many puts: the status, and what stands on `out` and on `err`.
+fn run_with_room(alloc: Global, room: u64) -> Result<(u8, Vec<u8>, Vec<u8>), AllocError> {
+    let words = words_of(alloc, RUN)?;
+    let mut shelf = SureShelf::new(counter_files(alloc)?);
+    let mut out = FullSink {
+        bytes: Vec::new(alloc),
+        room,
+        refused: 0,
+    };
+    let mut err = SureSink::new(alloc);
+    let status = golden(
+        alloc,
+        words.as_slice(),
+        &mut shelf,
+        &mut out,
+        &mut err,
+        &NoGate,
+    );
+    Ok((status, out.bytes, err.bytes))
+}
+
+// A put on `out` that is refused memory ends the call with what was written before, whole.
+#[test]
+fn puts_that_find_no_memory(rt: HostRuntime) -> Result<(), Fail> {
+    for (room, status, text, line) in [
+        (0, 5, "", "golden: out of memory\n"),
+        (2, 5, "cycle out\n0 00\n", "golden: out of memory\n"),
+        (5, 0, TEXT, ""),
+    ] {
+        let (answered, out, err) = run_with_room(rt.alloc(), room)?;
+        let is_right = answered == status
+            && out.as_slice() == text.as_bytes()
+            && err.as_slice() == line.as_bytes();
+        assert!(rt; is_right, "with room for {room} puts");
+    }
+    Ok(())
+}
+
+// `run` on the counter, where the put on `out` of this number takes three bytes and fails.
+fn run_cut_off(alloc: Global, number: u64) -> Result<Answer, AllocError> {
+    let puts = vec![in alloc; FailingPut { number, takes: 3 }]?;
+    call(
+        alloc,
+        RUN,
+        counter_files(alloc)?,
+        Vec::new(alloc),
+        puts,
+        Vec::new(alloc),
+    )
+}
+
+// Each put on `out` takes three bytes and fails.
+#[test]
+fn puts_that_fail(rt: HostRuntime) -> Result<(), Fail> {
+    for (number, out) in [
+        (0, "cyc"),
+        (1, "cycle out\n0 0"),
+        (2, "cycle out\n0 00\n1 0"),
+        (3, "cycle out\n0 00\n1 00\n2 0"),
+        (4, "cycle out\n0 00\n1 00\n2 01\n3 0"),
+    ] {
+        let answer = run_cut_off(rt.alloc(), number)?;
+        check(&rt, &answer, 4, 3, out, "golden: cannot write\n");
+    }
+    Ok(())
+}
+
+// `run` on the counter, where the second load fails, and the put on `err` takes eight bytes and fails.
+fn run_untold(alloc: Global) -> Result<Answer, AllocError> {
+    let loads = vec![in alloc; 1]?;
+    let err_puts = vec![in alloc;
+        FailingPut {
+            number: 0,
+            takes: 8
+        },
+    ]?;
+    call(
+        alloc,
+        RUN,
+        counter_files(alloc)?,
+        loads,
+        Vec::new(alloc),
+        err_puts,
+    )
+}
+
+// A failing `err` changes no status.
+#[test]
+fn a_failing_err(rt: HostRuntime) -> Result<(), Fail> {
+    check(&rt, &run_untold(rt.alloc())?, 3, 2, "", "golden: ");
+    Ok(())
+}
