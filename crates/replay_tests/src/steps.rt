@@ -1,6 +1,6 @@
 //! What `replay` prints, and the steps that it refuses.
 use gg_io::{MemFiles, hold};
-use golden_calls::{Answer, COUNTER, MEMORY, PAIR, TWO, ask, counter_files, files_of};
+use golden_calls::{Answer, COUNTER, LATE, MEMORY, PAIR, TWO, ask, counter_files, files_of};
 use std::alloc::{AllocError, Global};
 use std::process::Abort;
 use std::test::Fail;
@@ -18,6 +18,8 @@ const MEMORY_TRACE: &str = "cycle a v\n0 1 0f\n1 1 21\n2 3 55\n3 1 00\n";
 const LISTED: &str = "{\"memories\":[\"m\"]}";
 
 const SHARED: &str = "{\"units\":[\"u\",\"v\"],\"share\":[[\"u\",\"v\"]]}";
+
+const LATE_TRACE: &str = "cycle a e v\n0 1 1 2a\n1 0 0 00\n";
 
 const TWO_TRACE: &str = "cycle x\n0 01\n1 10\n2 00\n";
 
@@ -78,9 +80,11 @@ fn tokens_of_the_counter(rt: HostRuntime) -> Result<(), Fail> {
     Ok(())
 }
 
-// Two orders of the same steps, and none; a memory that is read, and then written at its first port; and two units of one host, of which
-// one goes ahead. Circuit, partition, trace, steps, and the text.
-static WORKED: [(&str, &str, &str, &str, &str); 6] = [
+// Circuit, partition, trace, steps, and the text. Two orders of the same steps, and no step. A memory that is read; that is written at
+// its first port. Two units of one host, of which one goes ahead. A memory through its first cycle, ahead of the hub; and on to its
+// second, which reads what the later of its two writers wrote. A memory of latency 1 that reads new words: its writer is due before its
+// reader. The two units of one host: only outputs; one in its second cycle while the other stays; two whole cycles; one tray ahead.
+static WORKED: [(&str, &str, &str, &str, &str); 13] = [
     (
         PAIR,
         UNITS,
@@ -122,6 +126,55 @@ static WORKED: [(&str, &str, &str, &str, &str); 6] = [
         TWO_TRACE,
         "fire u.s\nfire x\nlatch x\nfire u.a\nlatch u.a\nfinish u\nfire v.a\nfire v.s\n",
         "x 1/1 01\nu.a 1/1 01\nu.s 1/0 00\nv.a 1/0 fe\nv.s 1/0 00\np 0/0\nq 0/0\n",
+    ),
+    (
+        MEMORY,
+        LISTED,
+        MEMORY_TRACE,
+        "fire a\nfire v\nlatch a\nlatch v\nfire m.r.addr\nfire m.r.en\nfire m.s.addr\nfire m.s.en\nlatch m.r.addr\nlatch m.r.en\nlatch m.s.addr\nlatch m.s.en\nfire m.r.data\nfire m.s.data\nfire m.w.addr\nfire m.w.en\nfire m.w.data\nfire m.w.mask\nlatch m.w.addr\nlatch m.w.en\nlatch m.w.data\nlatch m.w.mask\nfire m.x.addr\nfire m.x.en\nfire m.x.data\nfire m.x.mask\nlatch m.x.addr\nlatch m.x.en\nlatch m.x.data\nlatch m.x.mask\nserve m w\nserve m x\nfinish m\n",
+        "a 1/1 1\nv 1/1 0f\nm.r.addr 1/1 1\nm.r.en 1/1 1\nm.r.data 1/0 00\nm.s.addr 1/1 1\nm.s.en 1/1 1\nm.s.data 1/0 00\nm.w.addr 1/1 1\nm.w.en 1/1 1\nm.w.data 1/1 0f\nm.w.mask 1/1 1\nm.x.addr 1/1 1\nm.x.en 1/1 1\nm.x.data 1/1 f0\nm.x.mask 1/1 1\no0 0/0\no1 0/0\n",
+    ),
+    (
+        MEMORY,
+        LISTED,
+        MEMORY_TRACE,
+        "fire a\nfire v\nlatch a\nlatch v\nfire m.r.addr\nfire m.r.en\nfire m.s.addr\nfire m.s.en\nlatch m.r.addr\nlatch m.r.en\nlatch m.s.addr\nlatch m.s.en\nfire m.r.data\nfire m.s.data\nfire m.w.addr\nfire m.w.en\nfire m.w.data\nfire m.w.mask\nlatch m.w.addr\nlatch m.w.en\nlatch m.w.data\nlatch m.w.mask\nfire m.x.addr\nfire m.x.en\nfire m.x.data\nfire m.x.mask\nlatch m.x.addr\nlatch m.x.en\nlatch m.x.data\nlatch m.x.mask\nserve m w\nserve m x\nfinish m\nlatch m.r.data\nlatch m.s.data\nfire o0\nfire o1\nfinish hub:\nfinish in:a\nfinish in:v\nfire a\nfire v\nlatch a\nlatch v\nfire m.r.addr\nlatch m.r.addr\nfire m.r.en\nlatch m.r.en\nfire m.r.data\n",
+        "a 2/2 1 1\nv 2/2 0f 21\nm.r.addr 2/2 1 1\nm.r.en 2/2 1 1\nm.r.data 2/1 00 f0\nm.s.addr 1/1 1\nm.s.en 1/1 1\nm.s.data 1/1 00\nm.w.addr 1/1 1\nm.w.en 1/1 1\nm.w.data 1/1 0f\nm.w.mask 1/1 1\nm.x.addr 1/1 1\nm.x.en 1/1 1\nm.x.data 1/1 f0\nm.x.mask 1/1 1\no0 1/0 00\no1 1/0 00\n",
+    ),
+    (
+        LATE,
+        LISTED,
+        LATE_TRACE,
+        "fire m.r.data\nfire a\nfire e\nfire v\nlatch a\nlatch e\nlatch v\nfire m.w.addr\nfire m.w.en\nfire m.w.data\nfire m.w.mask\nlatch m.w.addr\nlatch m.w.en\nlatch m.w.data\nlatch m.w.mask\nserve m w\nfire m.r.addr\nfire m.r.en\nlatch m.r.addr\nlatch m.r.en\nserve m r\nfinish m\nlatch m.r.data\nfire o\nfire m.r.data\n",
+        "a 1/1 1\ne 1/1 1\nv 1/1 2a\nm.r.addr 1/1 1\nm.r.en 1/1 1\nm.r.data 2/1 00 2a\nm.w.addr 1/1 1\nm.w.en 1/1 1\nm.w.data 1/1 2a\nm.w.mask 1/1 1\no 1/0 00\n",
+    ),
+    (
+        TWO,
+        SHARED,
+        TWO_TRACE,
+        "fire v.s\nlatch v.s\nfire q\nfire u.s\nlatch u.s\nfire p\n",
+        "x 0/0\nu.a 0/0\nu.s 1/1 00\nv.a 0/0\nv.s 1/1 00\np 1/0 00\nq 1/0 00\n",
+    ),
+    (
+        TWO,
+        SHARED,
+        TWO_TRACE,
+        "fire x\nlatch x\nfire u.a\nlatch u.a\nfire u.s\nlatch u.s\nfinish u\nfire u.s\n",
+        "x 1/1 01\nu.a 1/1 01\nu.s 2/1 00 01\nv.a 0/0\nv.s 0/0\np 0/0\nq 0/0\n",
+    ),
+    (
+        TWO,
+        SHARED,
+        TWO_TRACE,
+        "fire x\nlatch x\nfire u.a\nfire v.a\nlatch u.a\nlatch v.a\nfire u.s\nfire v.s\nlatch u.s\nlatch v.s\nfire p\nfire q\nlatch p\nlatch q\nfinish in:x\nfinish hub:\nfinish u\nfinish v\nfinish out:p\nfinish out:q\nfire x\nlatch x\nfire u.a\nfire v.a\nlatch u.a\nlatch v.a\nfire u.s\nfire v.s\nlatch u.s\nlatch v.s\nfire p\nfire q\nlatch p\nlatch q\nfinish in:x\nfinish hub:\nfinish u\nfinish v\nfinish out:p\nfinish out:q\n",
+        "x 2/2 01 10\nu.a 2/2 01 10\nu.s 2/2 00 01\nv.a 2/2 fe ef\nv.s 2/2 00 fe\np 2/2 00 01\nq 2/2 00 fe\n",
+    ),
+    (
+        TWO,
+        SHARED,
+        TWO_TRACE,
+        "fire v.s\nfire u.s\nlatch u.s\nfire p\nlatch p\nfinish out:p\nlatch v.s\nfire q\n",
+        "x 0/0\nu.a 0/0\nu.s 1/1 00\nv.a 0/0\nv.s 1/1 00\np 1/1 00\nq 1/0 00\n",
     ),
 ];
 
