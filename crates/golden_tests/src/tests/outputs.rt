@@ -33,8 +33,14 @@ impl Sink for FullSink {
     }
 }
 
-// `run` on the counter, where `out` has memory for so many puts: the status, and what stands on `out` and on `err`.
-fn run_with_room(alloc: Global, room: u64) -> Result<(u8, Vec<u8>, Vec<u8>), AllocError> {
+// Whether `run` on the counter, where `out` has memory for so many puts, answers this status and leaves these texts on `out` and `err`.
+fn ends_so(
+    alloc: Global,
+    room: u64,
+    status: u8,
+    text: &str,
+    line: &str,
+) -> Result<bool, AllocError> {
     let words = words_of(alloc, RUN)?;
     let mut shelf = SureShelf::new(counter_files(alloc)?);
     let mut out = FullSink {
@@ -43,7 +49,7 @@ fn run_with_room(alloc: Global, room: u64) -> Result<(u8, Vec<u8>, Vec<u8>), All
         refused: 0,
     };
     let mut err = SureSink::new(alloc);
-    let status = golden(
+    let answered = golden(
         alloc,
         words.as_slice(),
         &mut shelf,
@@ -51,7 +57,11 @@ fn run_with_room(alloc: Global, room: u64) -> Result<(u8, Vec<u8>, Vec<u8>), All
         &mut err,
         &NoGate,
     );
-    Ok((status, out.bytes, err.bytes))
+    Ok(
+        answered == status
+            && out.bytes.as_slice() == text.as_bytes()
+            && err.bytes.as_slice() == line.as_bytes(),
+    )
 }
 
 // A put on `out` that is refused memory ends the call with what was written before, whole.
@@ -62,11 +72,8 @@ fn puts_that_find_no_memory(rt: HostRuntime) -> Result<(), Fail> {
         (2, 5, "cycle out\n0 00\n", "golden: out of memory\n"),
         (5, 0, TEXT, ""),
     ] {
-        let (answered, out, err) = run_with_room(rt.alloc(), room)?;
-        let is_right = answered == status
-            && out.as_slice() == text.as_bytes()
-            && err.as_slice() == line.as_bytes();
-        assert!(rt; is_right, "with room for {room} puts");
+        let is_right = ends_so(rt.alloc(), room, status, text, line)?;
+        assert!(rt; is_right, "with memory for {room} puts");
     }
     Ok(())
 }
