@@ -62,6 +62,22 @@ fn is_input(direction: Direction) -> bool
     }
 }
 
+// A declaration of a module: its line, and what is connected in the module.
+#[derive(Clone, Copy)]
+struct Declaration<'a> {
+    alloc: Global,
+    connected: &'a Connected<'a>,
+    line: u64,
+}
+
+// The fields of a memory's ports of one kind.
+#[derive(Clone, Copy)]
+struct MemorySinks<'a> {
+    declaration: Declaration<'a>,
+    memory: &'a Name,
+    kind: PortKind,
+}
+
 /// Refuses the first sink of the circuit that is not a register and not connected, given what is connected in each
 /// module.
 pub fn check_unconnected(alloc: Global, names: &Namespace, all: &[Connected]) -> Result<(), Refusal>
@@ -133,8 +149,13 @@ fn check_ports(alloc: Global, connected: &Connected, ports: &[Port]) -> Result<(
 fn check_own(alloc: Global, connected: &Connected, port: &Port) -> Result<(), Refusal>
     ensures { Answers (unconnected_port (is_among connected.now) port.now) result }
 {
+    let declaration = Declaration {
+        alloc,
+        connected,
+        line: port.line,
+    };
     let key = Key::Local(port.name.as_str());
-    connected_or_free(alloc, connected, port.line, key, port_role(port.direction))
+    connected_or_free(declaration, key, port_role(port.direction))
 }
 
 // Refuses the first unconnected sink that the statements declare.
@@ -165,23 +186,19 @@ fn check_statement(
     requires { inputs.now ≡ map inputs_of names.now.modules }
     ensures { Answers (unconnected_by names.now.modules (is_among connected.now) statement.now) result }
 {
-    let line = statement.line;
+    let declaration = Declaration {
+        alloc,
+        connected,
+        line: statement.line,
+    };
     match &statement.kind {
         StmtKind::Wire { name, .. } => {
-            connected_or_free(
-                alloc,
-                connected,
-                line,
-                Key::Local(name.as_str()),
-                Role::Wire,
-            )
+            connected_or_free(declaration, Key::Local(name.as_str()), Role::Wire)
         }
         StmtKind::Instance { name, module } => {
-            check_instance(alloc, names, inputs, connected, line, name, module)
+            check_instance(declaration, names, inputs, name, module)
         }
-        StmtKind::Memory { name, fields } => {
-            check_memory(alloc, connected, line, name, fields.as_slice())
-        }
+        StmtKind::Memory { name, fields } => check_memory(declaration, name, fields.as_slice()),
         StmtKind::Node { .. }
         | StmtKind::Register { .. }
         | StmtKind::Connect { .. }
@@ -194,110 +211,73 @@ fn check_statement(
 
 // Refuses the first input of an instance that is not connected.
 fn check_instance(
-    alloc: Global,
+    declaration: Declaration,
     names: &Namespace,
     inputs: &[Inputs],
-    connected: &Connected,
-    line: u64,
     instance: &Name,
     held: &Name,
 ) -> Result<(), Refusal>
     requires { inputs.now ≡ map inputs_of names.now.modules }
-    ensures { Answers (flat_map (unconnected_entry (is_among connected.now) line) (instance_ports instance.now (module_named held.now names.now.modules))) result }
+    ensures { Answers (flat_map (unconnected_entry (is_among declaration.entry.connected.now) declaration.entry.line) (instance_ports instance.now (module_named held.now names.now.modules))) result }
 {
     match names.place_of_module(held) {
-        Some(place) => check_inputs(
-            alloc,
-            connected,
-            line,
-            instance,
-            inputs[place as usize].as_slice(),
-        ),
+        Some(place) => check_inputs(declaration, instance, inputs[place as usize].as_slice()),
         None => Ok(()),
     }
 }
 
 // Refuses the first of these ports of an instance that is an input and not connected.
-fn check_inputs(
-    alloc: Global,
-    connected: &Connected,
-    line: u64,
-    instance: &Name,
-    ports: &[&Port],
-) -> Result<(), Refusal>
-    ensures { Answers (flat_map (unconnected_input instance.now (is_among connected.now) line) ports.now) result }
+fn check_inputs(declaration: Declaration, instance: &Name, ports: &[&Port]) -> Result<(), Refusal>
+    ensures { Answers (flat_map (unconnected_input instance.now (is_among declaration.entry.connected.now) declaration.entry.line) ports.now) result }
 {
     for port in ports {
-        check_input(alloc, connected, line, instance, port)?;
+        check_input(declaration, instance, port)?;
     }
     Ok(())
 }
 
 // Refuses a port of an instance if it is an input and not connected.
-fn check_input(
-    alloc: Global,
-    connected: &Connected,
-    line: u64,
-    instance: &Name,
-    port: &Port,
-) -> Result<(), Refusal>
-    ensures { Answers (unconnected_entry (is_among connected.now) line (instance_port instance.now port.now)) result }
+fn check_input(declaration: Declaration, instance: &Name, port: &Port) -> Result<(), Refusal>
+    ensures { Answers (unconnected_entry (is_among declaration.entry.connected.now) declaration.entry.line (instance_port instance.now port.now)) result }
 {
     let key = Key::PortOf(instance.as_str(), port.name.as_str());
     let role = instance_port_role(port.direction, port.ty);
-    connected_or_free(alloc, connected, line, key, role)
+    connected_or_free(declaration, key, role)
 }
 
 // Refuses the first field of a memory that is not connected: first of the readers, then of the writers.
-fn check_memory(
-    alloc: Global,
-    connected: &Connected,
-    line: u64,
-    memory: &Name,
-    fields: &[Field],
-) -> Result<(), Refusal>
-    ensures { Answers (flat_map (unconnected_entry (is_among connected.now) line) (memory_entries memory.now fields.now)) result }
+fn check_memory(declaration: Declaration, memory: &Name, fields: &[Field]) -> Result<(), Refusal>
+    ensures { Answers (flat_map (unconnected_entry (is_among declaration.entry.connected.now) declaration.entry.line) (memory_entries memory.now fields.now)) result }
 {
-    check_kind(alloc, connected, line, memory, PortKind::Reader, fields)?;
-    check_kind(alloc, connected, line, memory, PortKind::Writer, fields)
+    let readers = MemorySinks {
+        declaration,
+        memory,
+        kind: PortKind::Reader,
+    };
+    let writers = MemorySinks {
+        declaration,
+        memory,
+        kind: PortKind::Writer,
+    };
+    check_kind(readers, fields)?;
+    check_kind(writers, fields)
 }
 
 // Refuses the first field that is not connected of the ports of one kind.
-fn check_kind(
-    alloc: Global,
-    connected: &Connected,
-    line: u64,
-    memory: &Name,
-    kind: PortKind,
-    fields: &[Field],
-) -> Result<(), Refusal>
-    ensures { Answers (flat_map (unconnected_in_field kind memory.now (is_among connected.now) line) fields.now) result }
+fn check_kind(sinks: MemorySinks, fields: &[Field]) -> Result<(), Refusal>
+    ensures { Answers (flat_map (unconnected_in_field sinks.entry.kind sinks.entry.memory.now (is_among sinks.entry.declaration.connected.now) sinks.entry.declaration.line) fields.now) result }
 {
     for field in fields {
-        check_field(alloc, connected, line, memory, kind, field)?;
+        check_field(sinks, field)?;
     }
     Ok(())
 }
 
 // Refuses the first field that is not connected of the ports of one kind in a memory's field.
-fn check_field(
-    alloc: Global,
-    connected: &Connected,
-    line: u64,
-    memory: &Name,
-    kind: PortKind,
-    field: &Field,
-) -> Result<(), Refusal>
-    ensures { Answers (unconnected_in_field kind memory.now (is_among connected.now) line field.now) result }
+fn check_field(sinks: MemorySinks, field: &Field) -> Result<(), Refusal>
+    ensures { Answers (unconnected_in_field sinks.entry.kind sinks.entry.memory.now (is_among sinks.entry.declaration.connected.now) sinks.entry.declaration.line field.now) result }
 {
-    check_names(
-        alloc,
-        connected,
-        line,
-        memory,
-        kind,
-        names_as(kind, &field.kind),
-    )
+    check_names(sinks, names_as(sinks.kind, &field.kind))
 }
 
 // The ports of one kind that a memory's field names.
@@ -312,88 +292,49 @@ fn names_as(kind: PortKind, field: &MemoryField) -> &[Name]
 }
 
 // Refuses the first field that is not connected of the ports with these names.
-fn check_names(
-    alloc: Global,
-    connected: &Connected,
-    line: u64,
-    memory: &Name,
-    kind: PortKind,
-    ports: &[Name],
-) -> Result<(), Refusal>
-    ensures { Answers (flat_map (unconnected_of_port kind memory.now (is_among connected.now) line) ports.now) result }
+fn check_names(sinks: MemorySinks, ports: &[Name]) -> Result<(), Refusal>
+    ensures { Answers (flat_map (unconnected_of_port sinks.entry.kind sinks.entry.memory.now (is_among sinks.entry.declaration.connected.now) sinks.entry.declaration.line) ports.now) result }
 {
     for port in ports {
-        check_port(alloc, connected, line, memory, kind, port)?;
+        check_port(sinks, port)?;
     }
     Ok(())
 }
 
 // Refuses the first field of a port that is not connected.
-fn check_port(
-    alloc: Global,
-    connected: &Connected,
-    line: u64,
-    memory: &Name,
-    kind: PortKind,
-    port: &Name,
-) -> Result<(), Refusal>
-    ensures { Answers (unconnected_of_port kind memory.now (is_among connected.now) line port.now) result }
+fn check_port(sinks: MemorySinks, port: &Name) -> Result<(), Refusal>
+    ensures { Answers (unconnected_of_port sinks.entry.kind sinks.entry.memory.now (is_among sinks.entry.declaration.connected.now) sinks.entry.declaration.line port.now) result }
 {
-    check_port_fields(
-        alloc,
-        connected,
-        line,
-        memory,
-        kind,
-        port,
-        port_fields(kind),
-    )
+    check_port_fields(sinks, port, port_fields(sinks.kind))
 }
 
 // Refuses the first of these fields of a port that is not connected.
-fn check_port_fields(
-    alloc: Global,
-    connected: &Connected,
-    line: u64,
-    memory: &Name,
-    kind: PortKind,
-    port: &Name,
-    fields: &[PortField],
-) -> Result<(), Refusal>
-    ensures { Answers (flat_map (unconnected_of_field kind memory.now (is_among connected.now) line port.now) fields.now) result }
+fn check_port_fields(sinks: MemorySinks, port: &Name, fields: &[PortField]) -> Result<(), Refusal>
+    ensures { Answers (flat_map (unconnected_of_field sinks.entry.kind sinks.entry.memory.now (is_among sinks.entry.declaration.connected.now) sinks.entry.declaration.line port.now) fields.now) result }
 {
     for field in fields {
-        check_port_field(alloc, connected, line, memory, kind, port, *field)?;
+        check_port_field(sinks, port, *field)?;
     }
     Ok(())
 }
 
 // Refuses a field of a port that must be connected and isn't.
-fn check_port_field(
-    alloc: Global,
-    connected: &Connected,
-    line: u64,
-    memory: &Name,
-    kind: PortKind,
-    port: &Name,
-    field: PortField,
-) -> Result<(), Refusal>
-    ensures { Answers (unconnected_of_field kind memory.now (is_among connected.now) line port.now field) result }
+fn check_port_field(sinks: MemorySinks, port: &Name, field: PortField) -> Result<(), Refusal>
+    ensures { Answers (unconnected_of_field sinks.entry.kind sinks.entry.memory.now (is_among sinks.entry.declaration.connected.now) sinks.entry.declaration.line port.now field) result }
 {
-    let key = Key::FieldOf(memory.as_str(), port.as_str(), field_text(field));
-    connected_or_free(alloc, connected, line, key, Role::MemoryPort(kind, field))
+    let key = Key::FieldOf(sinks.memory.as_str(), port.as_str(), field_text(field));
+    connected_or_free(sinks.declaration, key, Role::MemoryPort(sinks.kind, field))
 }
 
 // Refuses a sink that must be connected and isn't.
-fn connected_or_free(
-    alloc: Global,
-    connected: &Connected,
-    line: u64,
-    key: Key,
-    role: Role,
-) -> Result<(), Refusal>
-    ensures { Answers (unconnected_entry (is_among connected.now) line (reference_of key.entry, role)) result }
+fn connected_or_free(declaration: Declaration, key: Key, role: Role) -> Result<(), Refusal>
+    ensures { Answers (unconnected_entry (is_among declaration.entry.connected.now) declaration.entry.line (reference_of key.entry, role)) result }
 {
+    let Declaration {
+        alloc,
+        connected,
+        line,
+    } = declaration;
     if needs_connection(role) && !connected.contains(key) {
         return Err(Refusal::F(Fault::Unconnected {
             line,

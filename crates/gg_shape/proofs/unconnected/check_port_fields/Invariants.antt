@@ -5,4 +5,4 @@ use Rattle.gg_shape.proofs.FlatLemmas.{rest}
 use Rattle.gg_shape.proofs.unconnected.check_port_fields.Given as goal
 
 abbrev pub invariant-loop-field : goal.invariant-loop-field
-invariant-loop-field l = flat_map (unconnected_of_field l.kind l.memory (is_among l.connected) l.line l.port) l.fields ≡ rest (unconnected_of_field l.kind l.memory (is_among l.connected) l.line l.port) l.fields l.field-index
+invariant-loop-field l = flat_map (unconnected_of_field l.sinks.kind l.sinks.memory.now (is_among l.sinks.declaration.connected.now) l.sinks.declaration.line l.port) l.fields ≡ rest (unconnected_of_field l.sinks.kind l.sinks.memory.now (is_among l.sinks.declaration.connected.now) l.sinks.declaration.line l.port) l.fields l.field-index
