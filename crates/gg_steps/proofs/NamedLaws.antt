@@ -1,18 +1,17 @@
 -- The number that a word names, and the words of a line that is made of words.
-use Rattle.std.proofs.Common.{◌≡◌, ℕ, zero, suc, ◌+◌, ◌≤◌, List, [], ◌∷◌, ◌++◌, codes, Option, Some, Bool, true, false, cond, eqb, refl, sym, ap, ◌∙◌, subst, arith}
+use Rattle.std.proofs.Common.{◌≡◌, ℕ, zero, suc, ◌+◌, ◌≤◌, List, [], ◌∷◌, codes, Option, Some, Bool, true, false, cond, refl, sym, ap, ◌∙◌, subst, arith}
 use Rattle.std.specs.Prelude.{slice_get}
-use Rattle.std.specs.List.{position_from, slice_split, onto_first, join_with_byte}
+use Rattle.std.specs.List.{position_from, slice_split, onto_first}
 use Rattle.std.specs.Bool.{Decides}
 use Rattle.std.specs.Str.{bytes_eq}
 use Rattle.std.proofs.lemmas.Iterator.Adapters.{position_from-zero}
-use Rattle.std.proofs.lemmas.List.Splits.{slice_split_at, join_with_byte-slice_split}
-use Rattle.std.proofs.lemmas.List.{get_or_default}
-use Rattle.std.proofs.lemmas.Bool.Decides.{Decides-eqb}
 use Rattle.std.proofs.lemmas.Slice.Eq.{bytes_eq-Decides}
+use Rattle.gg_trace.specs.Fields.{is_blank}
+use Rattle.gg_trace.specs.Parted.{HasNoBlank}
 use Rattle.gg_steps.specs.Naming.{first_place}
 use Rattle.gg_steps.specs.Words.{words}
-use Rattle.gg_steps.specs.Spelling.{HasNoBlank, GoesBy}
-use Rattle.gg_steps.proofs.WordLaws.{not_eqb, words-last}
+use Rattle.gg_steps.specs.Spelling.{GoesBy, StartsWith}
+use Rattle.gg_steps.proofs.WordLaws.{words-last, words-front}
 
 -- the first place of a name
 pub record IsFirst (names : List (List ℕ)) (name : List ℕ) (place : ℕ) : Type 0 where
@@ -69,53 +68,65 @@ goes-names names (b ∷ word) n goes =
     position_from-zero (bytes_eq (b ∷ word)) names
     ∙ first-from (b ∷ word) 0 names n n (omega arith) (record { has = goes.has; first = goes.first })
 
--- no word has a blank
-abbrev pub ArePlain : List (List ℕ) → Type 0
-ArePlain [] = Unit {0}
-ArePlain (x ∷ more) = HasNoBlank x × ArePlain more
+-- these words, with one blank between each two, are the line; no word has a blank
+abbrev pub AreWordsOf : List ℕ → List (List ℕ) → Type 0
+AreWordsOf line [] = ⊥
+AreWordsOf line (x ∷ []) = (line ≡ x) × HasNoBlank x
+AreWordsOf line (x ∷ y ∷ more) = (rest : List ℕ) × StartsWith line x rest × HasNoBlank x × AreWordsOf rest (y ∷ more)
 
-plain-cons : (b : ℕ) (x : List ℕ) → (b ≡ 32 → ⊥) → HasNoBlank x → HasNoBlank (b ∷ x)
-plain-cons b x differs plain zero h e = differs e
-plain-cons b x differs plain (suc k) h e = plain k (omega arith) e
+no_byte : HasNoBlank []
+no_byte k h = absurd (omega arith)
 
-plain-onto : (b : ℕ) (parts : List (List ℕ)) → (b ≡ 32 → ⊥) → ArePlain parts → ArePlain (onto_first b parts)
-plain-onto b [] differs plain = (plain-cons b [] differs (λ k h. absurd (omega arith)), tt)
-plain-onto b (x ∷ parts) differs plain = (plain-cons b x differs plain.0, plain.1)
+plain-cons : (b : ℕ) (x : List ℕ) → is_blank b ≡ false → HasNoBlank x → HasNoBlank (b ∷ x)
+plain-cons b x other plain zero h = other
+plain-cons b x other plain (suc k) h = plain k (omega arith)
 
-plain-split : (b : ℕ) (kind : Bool) (parts : List (List ℕ)) → Decides kind (b ≡ 32) → ArePlain parts → ArePlain (cond kind ([] ∷ parts) (onto_first b parts))
-plain-split b true parts d plain = ((λ k h. absurd (omega arith)), plain)
-plain-split b false parts d plain = plain-onto b parts (λ e. let no : false ≡ true = d.1 e in absurd (cc)) plain
+words-onto : (b : ℕ) (line : List ℕ) (parts : List (List ℕ)) → is_blank b ≡ false → AreWordsOf line parts → AreWordsOf (b ∷ line) (onto_first b parts)
+words-onto b line [] other are = absurd are
+words-onto b line (x ∷ []) other are = (ap (λ t. b ∷ t) are.0, plain-cons b x other are.1)
+words-onto b line (x ∷ y ∷ more) other are =
+    let start = are.1 in
+    (are.0, record { blank = start.blank; splits = start.splits; whole = ap (λ t. b ∷ t) start.whole }, plain-cons b x other are.2, are.3)
 
-pub words-plain : (line : List ℕ) → ArePlain (words line)
+words-behind : (b : ℕ) (line : List ℕ) (parts : List (List ℕ)) → is_blank b ≡ true → AreWordsOf line parts → AreWordsOf (b ∷ line) ([] ∷ parts)
+words-behind b line [] splits are = absurd are
+words-behind b line (x ∷ more) splits are = (line, record { blank = b; splits = splits; whole = refl }, no_byte, are)
+
+words-kind : (b : ℕ) (line : List ℕ) (kind : Bool) (parts : List (List ℕ)) → is_blank b ≡ kind → AreWordsOf line parts
+    → AreWordsOf (b ∷ line) (cond kind ([] ∷ parts) (onto_first b parts))
+words-kind b line true parts h are = words-behind b line parts h are
+words-kind b line false parts h are = words-onto b line parts h are
+
+-- the words of a line are that
+pub words-are : (line : List ℕ) → AreWordsOf line (words line)
 unfolding words
-words-plain [] = ((λ k h. absurd (omega arith)), tt)
-words-plain (b ∷ line) = plain-split b (eqb b 32) (slice_split (λ c. eqb c 32) line) (Decides-eqb b 32) (words-plain line)
+words-are [] = (refl, no_byte)
+words-are (b ∷ line) = words-kind b line (is_blank b) (slice_split is_blank line) refl (words-are line)
 
--- the words with a blank between each two are the line
-pub words-joined : (line : List ℕ) → join_with_byte 32 (words line) ≡ line
+-- the words that begin a step
+pub latch-plain : HasNoBlank (codes "latch")
 unfolding words
-words-joined line = join_with_byte-slice_split 32 line
+latch-plain = let are = words-are (codes "latch") in are.1
 
--- a word and a blank in front
-pub words-front : (word rest : List ℕ) → HasNoBlank word → words (word ++ 32 ∷ rest) ≡ word ∷ words rest
+pub fire-plain : HasNoBlank (codes "fire")
 unfolding words
-words-front word rest plain =
-    slice_split_at (λ c. eqb c 32) word 32 rest (λ k d h. not_eqb _ 32 (λ e. plain k h (get_or_default word k 0 d h ∙ e))) refl
+fire-plain = let are = words-are (codes "fire") in are.1
 
--- the words that begin a step, in front of its names
-pub words-latch : (name : List ℕ) → HasNoBlank name → words (codes "latch " ++ name) ≡ codes "latch" ∷ name ∷ []
+pub finish-plain : HasNoBlank (codes "finish")
 unfolding words
-words-latch name plain = ap (λ more. codes "latch" ∷ more) (words-last name plain)
+finish-plain = let are = words-are (codes "finish") in are.1
 
-pub words-fire : (name : List ℕ) → HasNoBlank name → words (codes "fire " ++ name) ≡ codes "fire" ∷ name ∷ []
+pub serve-plain : HasNoBlank (codes "serve")
 unfolding words
-words-fire name plain = ap (λ more. codes "fire" ∷ more) (words-last name plain)
+serve-plain = let are = words-are (codes "serve") in are.1
 
-pub words-finish : (name : List ℕ) → HasNoBlank name → words (codes "finish " ++ name) ≡ codes "finish" ∷ name ∷ []
-unfolding words
-words-finish name plain = ap (λ more. codes "finish" ∷ more) (words-last name plain)
+-- a line of two words, and one of three
+pub words-two : (line word name : List ℕ) → HasNoBlank word → StartsWith line word name → HasNoBlank name → words line ≡ word ∷ name ∷ []
+words-two line word name plain start plain_name =
+    ap words start.whole ∙ words-front word start.blank name plain start.splits ∙ ap (λ more. word ∷ more) (words-last name plain_name)
 
-pub words-serve : (name own : List ℕ) → HasNoBlank name → HasNoBlank own → words (codes "serve " ++ name ++ 32 ∷ own) ≡ codes "serve" ∷ name ∷ own ∷ []
-unfolding words
-words-serve name own plain plain_own =
-    ap (λ more. codes "serve" ∷ more) (words-front name own plain ∙ ap (λ more. name ∷ more) (words-last own plain_own))
+pub words-three : (line word names name own : List ℕ) → HasNoBlank word → StartsWith line word names → HasNoBlank name → StartsWith names name own → HasNoBlank own
+    → words line ≡ word ∷ name ∷ own ∷ []
+words-three line word names name own plain start plain_name start_name plain_own =
+    ap words start.whole ∙ words-front word start.blank names plain start.splits
+    ∙ ap (λ more. word ∷ more) (words-two names name own plain_name start_name plain_own)

@@ -1,5 +1,5 @@
 -- The definitions of a steps file and of causes at small texts, and at their near misses. Bytes past letters are given by their
--- numbers: 10 is a line feed, 13 a carriage return, 32 a blank.
+-- numbers: 9 is a tab, 10 a line feed, 11 a vertical tab, 13 a carriage return, 32 a space.
 use Rattle.std.proofs.Common.{◌≡◌, [], ◌∷◌, ◌++◌, None, Some, codes, refl, ap, lit≤}
 use Rattle.std.proofs.lemmas.Fmt.{decimal_digit}
 use Rattle.gg_net.specs.declared.event.Event.TheVariants.{Latch, Fire, Serve, Finish}
@@ -87,7 +87,19 @@ number_is_no_name : step_of net (codes "latch 1") ≡ None
 unfolding words
 number_is_no_name = refl
 
--- blanks: one between words, and none at an end
+-- blanks: one between words, a space or a tab, and none at an end
+tab_between : step_of net (codes "latch" ++ 9 ∷ codes "x") ≡ Some (Latch 0)
+unfolding words
+tab_between = refl
+
+tab_and_space : step_of net (codes "serve" ++ 9 ∷ codes "m r") ≡ Some (Serve 1 0)
+unfolding words
+tab_and_space = refl
+
+space_and_tab : step_of net (codes "serve m" ++ 9 ∷ codes "w") ≡ Some (Serve 1 1)
+unfolding words
+space_and_tab = refl
+
 empty_line : step_of net [] ≡ None
 unfolding words
 empty_line = refl
@@ -116,9 +128,29 @@ two_blanks_later : step_of net (codes "serve m  w") ≡ None
 unfolding words
 two_blanks_later = refl
 
-tab_is_no_blank : step_of net (codes "latch" ++ 9 ∷ codes "x") ≡ None
+tab_line : step_of net (9 ∷ []) ≡ None
 unfolding words
-tab_is_no_blank = refl
+tab_line = refl
+
+tab_in_front : step_of net (9 ∷ codes "latch x") ≡ None
+unfolding words
+tab_in_front = refl
+
+tab_behind : step_of net (codes "latch x" ++ 9 ∷ []) ≡ None
+unfolding words
+tab_behind = refl
+
+tab_then_space : step_of net (codes "latch" ++ 9 ∷ codes " x") ≡ None
+unfolding words
+tab_then_space = refl
+
+two_tabs : step_of net (codes "latch" ++ 9 ∷ 9 ∷ codes "x") ≡ None
+unfolding words
+two_tabs = refl
+
+vertical_tab_is_no_blank : step_of net (codes "latch" ++ 11 ∷ codes "x") ≡ None
+unfolding words
+vertical_tab_is_no_blank = refl
 
 -- a name of no bytes, which two blanks would give, is never named
 nothing_is_no_name : first_place [] ([] ∷ []) ≡ None

@@ -1,5 +1,5 @@
 -- The text of the cause for which a step wasn't done.
--- Source: this program's own form. It is the cause's name, followed by what the cause is about, each after a blank,
+-- Source: this program's own form. It is the cause's name, followed by what the cause is about, each after a space,
 -- with the names of a steps file.
 use Rattle.std.specs.Prelude.{ℕ, List, [], ◌∷◌, ◌++◌, Option, Some, None, codes, decimal, slice_get}
 use Rattle.gg_net.specs.declared.event.Event.{Event}

@@ -1,12 +1,13 @@
 -- The words of a line of a steps file.
--- Source: this program's own form: there is one blank between words.
-use Rattle.std.specs.Prelude.{ℕ, List, [], ◌==◌, Option, Some, None}
+-- Source: this program's own form: there is one blank, a space or a tab, between words.
+use Rattle.std.specs.Prelude.{ℕ, List, [], Option, Some, None}
 use Rattle.std.specs.List.{slice_split}
+use Rattle.gg_trace.specs.Fields.{is_blank}
 
 -- The words of a line: the parts before, between and after its blanks. So there is an empty word between two blanks in
 -- a row, and beside a blank at an end of the line.
 unfoldable pub words : List ℕ → List (List ℕ)
-words line = slice_split (λ byte. byte == 32) line
+words line = slice_split is_blank line
 
 -- the words of what is left of a line
 abbrev pub words_left : Option (List ℕ) → List (List ℕ)

@@ -7,7 +7,7 @@ use gg_net::{Event, Refusal};
 use std::alloc::{AllocError, Global};
 use std::test::Fail;
 
-static FILE: &[u8] = b"latch x\r\nfire y\n\nserve m w\nfinish m";
+static FILE: &[u8] = b"latch x\r\nfire y\n\nserve m w\nfinish m\nserve\tm r";
 
 // The names of two ports.
 fn two_ports(alloc: Global) -> Result<Vec<Name>, AllocError>
@@ -44,6 +44,12 @@ fn are_read(steps: &[Option<Event>]) -> bool {
                 },
             ),
             Some(Event::Finish { machine: 0 }),
+            Some(
+                Event::Serve {
+                    machine: 0,
+                    port: 0,
+                },
+            ),
         ] => true,
         _ => false,
     }

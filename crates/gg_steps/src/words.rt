@@ -1,7 +1,8 @@
 //! The words of one line, from left to right.
 
-ghost use Rattle.std.specs.Prelude.{◌≡◌, ℕ, ◌∷◌, [], ◌<◌, ◌≤◌, ◌≢◌, MatchOption, length, slice_index};
+ghost use Rattle.std.specs.Prelude.{◌≡◌, ℕ, ◌∷◌, [], ◌<◌, ◌≤◌, true, false, MatchOption, length, slice_index};
 ghost use Rattle.std.specs.Option.{option_copied};
+ghost use Rattle.gg_trace.specs.Fields.{is_blank};
 ghost use Rattle.gg_steps.specs.Words.{words, words_left};
 
 use std::marker::Model;
@@ -24,14 +25,21 @@ impl<'a> Model for Words<'a> {
     ghost view = { λ a. words_left (option_copied a.rest) };
 }
 
+/// Whether a byte is a blank: a space or a tab.
+fn is_blank(byte: u8) -> bool
+    ensures { result ≡ is_blank byte }
+{
+    byte == b' ' || byte == b'\t'
+}
+
 /// The number of bytes before the first blank.
 fn word_len(line: &[u8]) -> usize
     ensures within { result ≤ length line.now }
-    ensures before { (k : ℕ) → k < result → slice_index line.now k ≢ 32 }
-    ensures ends { result < length line.now → slice_index line.now result ≡ 32 }
+    ensures before { (k : ℕ) → k < result → is_blank (slice_index line.now k) ≡ false }
+    ensures ends { result < length line.now → is_blank (slice_index line.now result) ≡ true }
 {
     for (i, byte) in line.iter().enumerate() {
-        if *byte == b' ' {
+        if is_blank(*byte) {
             return i;
         }
     }
