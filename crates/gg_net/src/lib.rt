@@ -29,11 +29,11 @@ mod step;
 mod tells;
 
 pub use event::{Event, Refusal};
+pub use gg_flat::Streams;
 pub use net::Net;
 pub use parts::Parts;
 pub use queue::Queue;
 pub use shape::{ServedPort, Shape, Station, Wire};
-pub use gg_flat::Streams;
 
 #[cfg(test)]
 mod tests;
