@@ -1,4 +1,4 @@
--- What is added to a circuit leaves its names names.
+-- If each name in a circuit is a name, this stays so when a port, a statement or a field is added.
 use Rattle.std.proofs.Common.{Bool, true, false, ◌≡◌, List, [], ◌∷◌, if◌then◌else◌, sym, subst}
 use Rattle.std.specs.List.{All}
 use Rattle.std.proofs.lemmas.List.Elements.{All-nil, All-cons, All-head, All-tail, All-push}
@@ -24,14 +24,14 @@ named-statement s h m names = record {
   of_statements = All-push AreNamesOfStatement m.statements s names.of_statements h;
 }
 
--- what holds of each element, and of the last one changed
+-- if all elements have a property that the change keeps, they have it after the last of them is changed
 all-on_last : {A : Type 0} (P : A → Type 0) (f : A → A) (ms : List A) → ((m : A) → P m → P (f m)) → All P ms → All P (on_last f ms)
 all-on_last P f [] keeps all = all
 all-on_last P f (x ∷ []) keeps all = All-cons P (f x) [] (keeps x (All-head P x [] all)) (All-nil P)
 all-on_last P f (x ∷ (y ∷ zs)) keeps all =
     All-cons P x (on_last f (y ∷ zs)) (All-head P x (y ∷ zs) all) (all-on_last P f (y ∷ zs) keeps (All-tail P x (y ∷ zs) all))
 
--- the last module is changed, or left
+-- each name in the circuit stays a name, whether the last module is changed or left as it is
 pub named-if : (f : ModuleTree → ModuleTree) (t : CircuitTree) (new : List ModuleTree) (b : Bool) → ((m : ModuleTree) → AreNamesOfModule m → AreNamesOfModule (f m)) → new ≡ (if b then on_last f t.modules else t.modules) → AreNamesOfCircuit t → AreNamesOfCircuit (record t { modules = new })
 named-if f t new true keeps e names = record {
   own = names.own;

@@ -1,4 +1,4 @@
--- Laws of a change of the last module.
+-- What a change of the last module does to the modules of a circuit, their names and their rows.
 use Rattle.std.proofs.Common.{Bool, true, false, Result, Ok, Err, ◌≡◌, ℕ, zero, suc, ◌<◌, List, [], ◌∷◌, ◌++◌, length, get_or, refl, sym, ap, ◌∙◌, subst, arith, append_assoc}
 use Rattle.std.specs.Prelude.{slice_set, map, is_ok, OnOk, if◌then◌else◌}
 use Rattle.std.proofs.lemmas.List.{map-append, append-nil}
@@ -30,7 +30,7 @@ length-on_last f [] = refl
 length-on_last f (x ∷ []) = refl
 length-on_last f (x ∷ (y ∷ zs)) = let e = length-on_last f (y ∷ zs) in omega arith
 
--- a list that ends so has an element
+-- a list whose last element has a property isn't empty
 pub ends-some : {A : Type 0} (P : A → Type 0) (ms : List A) → EndsIn P ms → 0 < length ms
 ends-some P [] h = absurd h
 ends-some P (x ∷ xs) h = omega arith
@@ -42,13 +42,13 @@ ends-last P (x ∷ []) (suc n) m size is h = absurd (omega arith)
 ends-last P (x ∷ (y ∷ zs)) zero m size is h = absurd (omega arith)
 ends-last P (x ∷ (y ∷ zs)) (suc n) m size is h = ends-last P (y ∷ zs) n m (omega arith) is h
 
--- what is added ends the list
+-- an added element that has the property is the last, so the list ends in it
 pub ends-push : {A : Type 0} (P : A → Type 0) (ms : List A) (m : A) → P m → EndsIn P (ms ++ m ∷ [])
 ends-push P [] m h = h
 ends-push P (x ∷ []) m h = h
 ends-push P (x ∷ (y ∷ zs)) m h = ends-push P (y ∷ zs) m h
 
--- a changed element ends it
+-- if the change gives Q to each element with P, a list that ends in P ends in Q after its last element is changed
 pub ends-on_last : {A : Type 0} (P Q : A → Type 0) (f : A → A) (ms : List A) → ((m : A) → P m → Q (f m)) → EndsIn P ms → EndsIn Q (on_last f ms)
 ends-on_last P Q f [] go h = absurd h
 ends-on_last P Q f (x ∷ []) go h = go x h
@@ -60,13 +60,13 @@ ends-any [] some = absurd (omega arith)
 ends-any (x ∷ []) some = tt
 ends-any (x ∷ (y ∷ zs)) some = ends-any (y ∷ zs) (omega arith)
 
--- a change that keeps the names
+-- a change that keeps the name of a module leaves the list of names as it is
 pub names_of-on_last : (f : ModuleTree → ModuleTree) (ms : List ModuleTree) → ((m : ModuleTree) → (f m).name ≡ m.name) → names_of (on_last f ms) ≡ names_of ms
 names_of-on_last f [] keeps = refl
 names_of-on_last f (x ∷ []) keeps = ap (λ n. n ∷ []) (keeps x)
 names_of-on_last f (x ∷ (y ∷ zs)) keeps = ap (λ l. x.name ∷ l) (names_of-on_last f (y ∷ zs) keeps)
 
--- the last module's rows are followed by these, once it is changed
+-- the rows of the changed last module are its old rows, and then these
 abbrev LastRows : (ModuleTree → ModuleTree) → List Numbered → List ModuleTree → Type 0
 LastRows f more [] = ⊥
 LastRows f more (m ∷ []) = module_rows (f m) ≡ module_rows m ++ more
@@ -91,7 +91,7 @@ last_statement s (m ∷ []) some =
     ∙ ap (λ l. numbered m.line (ModuleRow m.name) ∷ l) (sym (append_assoc (map port_row m.ports) (rows_of_statements m.statements) (statement_rows s)))
 last_statement s (m ∷ (n ∷ ms)) some = last_statement s (n ∷ ms) (omega arith)
 
--- a statement's rows follow those of the circuit so far
+-- the rows of an added statement come after the rows of the modules so far
 pub rows_of_modules-with_statement : (s : Stmt) (ms : List ModuleTree) → 0 < length ms → rows_of_modules (on_last (with_statement s) ms) ≡ rows_of_modules ms ++ statement_rows s
 rows_of_modules-with_statement s ms some = rows_of_modules-on_last (with_statement s) (statement_rows s) ms (last_statement s ms some)
 
@@ -109,35 +109,35 @@ last_port p [] h = h
 last_port p (m ∷ []) h = port_rows p m h
 last_port p (m ∷ (n ∷ ms)) h = last_port p (n ∷ ms) h
 
--- a port's row follows those of the circuit so far
+-- the row of an added port comes after the rows of the modules so far
 pub rows_of_modules-with_port : (p : Port) (ms : List ModuleTree) → IsOpenToPorts ms → rows_of_modules (on_last (with_port p) ms) ≡ rows_of_modules ms ++ port_row p ∷ []
 rows_of_modules-with_port p ms h = rows_of_modules-on_last (with_port p) (port_row p ∷ []) ms (last_port p ms h)
 
--- after a port another may follow
+-- after a port another port may follow
 pub open-with_port : (p : Port) (ms : List ModuleTree) → IsOpenToPorts ms → IsOpenToPorts (on_last (with_port p) ms)
 open-with_port p [] h = h
 open-with_port p (m ∷ []) h = h
 open-with_port p (m ∷ (n ∷ [])) h = h
 open-with_port p (m ∷ (n ∷ (o ∷ ms))) h = open-with_port p (n ∷ (o ∷ ms)) h
 
--- after a module's first row a port may follow
+-- ports may follow a new module, which has no statement
 pub open-push : (ms : List ModuleTree) (m : ModuleTree) → m.statements ≡ [] → IsOpenToPorts (ms ++ m ∷ [])
 open-push [] m h = h
 open-push (x ∷ []) m h = h
 open-push (x ∷ (y ∷ zs)) m h = open-push (y ∷ zs) m h
 
--- a module's rows follow those of the circuit so far
+-- the rows of an added module come after the rows of the modules so far
 pub rows_of_modules-push : (ms : List ModuleTree) (m : ModuleTree) → rows_of_modules (ms ++ m ∷ []) ≡ rows_of_modules ms ++ module_rows m
 rows_of_modules-push [] m = append-nil (module_rows m)
 rows_of_modules-push (x ∷ xs) m =
     ap (λ l. module_rows x ++ l) (rows_of_modules-push xs m) ∙ sym (append_assoc (module_rows x) (rows_of_modules xs) (module_rows m))
 
--- what a call that changes the last element, or leaves it, writes back
+-- what a call writes back if it changes the last element or leaves it as it is
 pub slice_set-if : {A : Type 0} (f : A → A) (ms : List A) (n : ℕ) (m new : A) (b : Bool) → suc n ≡ length ms → m ≡ get_or ms n m → new ≡ (if b then f m else m) → slice_set ms n new ≡ (if b then on_last f ms else ms)
 slice_set-if f ms n m new true size is e = rw e (slice_set-on_last f ms n m size is)
 slice_set-if f ms n m new false size is e = rw e (slice_set-same ms n m (omega arith) is)
 
--- the names, whether it was changed or left
+-- the list of names is the same, whether the last module was changed or left as it is
 pub names_of-if : (f : ModuleTree → ModuleTree) (ms new : List ModuleTree) (b : Bool) → ((m : ModuleTree) → (f m).name ≡ m.name) → new ≡ (if b then on_last f ms else ms) → names_of new ≡ names_of ms
 names_of-if f ms new true keeps e = rw e (names_of-on_last f ms keeps)
 names_of-if f ms new false keeps e = rw e refl
@@ -150,7 +150,7 @@ pub value-if : (f : ModuleTree → ModuleTree) (t : CircuitTree) (new : List Mod
 value-if f t new true e = ap (λ l. record t { modules = l }) e
 value-if f t new false e = ap (λ l. record t { modules = l }) e
 
--- where the last module was changed its rows follow those of the circuit so far
+-- if the last module was changed, its new rows come after the rows of the circuit so far
 pub rows_of-if : (f : ModuleTree → ModuleTree) (more : List Numbered) (t : CircuitTree) (new : List ModuleTree) {E : Type 0} (r : Result (Unit {0}) E) → new ≡ (if is_ok r then on_last f t.modules else t.modules) → rows_of_modules (on_last f t.modules) ≡ rows_of_modules t.modules ++ more → OnOk r (rows_of (record t { modules = new }) ≡ rows_of t ++ more)
 rows_of-if f more t new (Ok u) e more_is = ap (λ l. numbered t.line (CircuitRow t.name) ∷ rows_of_modules l) e ∙ ap (λ l. numbered t.line (CircuitRow t.name) ∷ l) more_is
 rows_of-if f more t new (Err x) e more_is = tt
@@ -159,7 +159,7 @@ pub open-if : (p : Port) (ms new : List ModuleTree) (b : Bool) → new ≡ (if b
 open-if p ms new true e h = subst IsOpenToPorts (sym e) (open-with_port p ms h)
 open-if p ms new false e h = subst IsOpenToPorts (sym e) h
 
--- a memory with one more field is one
+-- a memory with one more field is still a memory
 memory_stays : (field : Field) (kind : StmtKind) → IsMemory kind → IsMemory (with_field field kind)
 memory_stays field (Memory name fields) h = tt
 memory_stays field (Wire name ty) h = h
@@ -172,14 +172,14 @@ memory_stays field Skip h = h
 memory_stays field (Stop clock condition code label) h = h
 memory_stays field (Report word arguments label) h = h
 
--- after a field another may follow
+-- fields may still follow after a field
 pub fields-if : (field : Field) (ms new : List ModuleTree) (b : Bool) → new ≡ (if b then on_last (module_with_field field) ms else ms) → IsOpenToFields ms → IsOpenToFields new
 fields-if field ms new true e h =
     subst IsOpenToFields (sym e) (ends-on_last EndsInMemory EndsInMemory (module_with_field field) ms
     (λ m. ends-on_last IsMemoryStatement IsMemoryStatement (statement_with_field field) m.statements (λ s. memory_stays field s.kind)) h)
 fields-if field ms new false e h = subst IsOpenToFields (sym e) h
 
--- after a memory a field may follow
+-- fields may follow after a memory
 pub memory-if : (s : Stmt) (ms new : List ModuleTree) {E : Type 0} (r : Result (Unit {0}) E) → new ≡ (if is_ok r then on_last (with_statement s) ms else ms) → 0 < length ms → IsMemory s.kind → OnOk r (IsOpenToFields new)
 memory-if s ms new (Ok u) e some h =
     subst IsOpenToFields (sym e) (ends-on_last (λ _. Unit {0}) EndsInMemory (with_statement s) ms (λ m _. ends-push IsMemoryStatement m.statements s h) (ends-any ms some))
@@ -213,11 +213,11 @@ last_field field (m ∷ []) h =
     ∙ ap (λ l. numbered m.line (ModuleRow m.name) ∷ l) (sym (append_assoc (map port_row m.ports) (rows_of_statements m.statements) (field_row field ∷ [])))
 last_field field (m ∷ (n ∷ ms)) h = last_field field (n ∷ ms) h
 
--- a field's row follows those of the circuit so far
+-- the row of an added field comes after the rows of the modules so far
 pub rows_of_modules-with_field : (field : Field) (ms : List ModuleTree) → IsOpenToFields ms → rows_of_modules (on_last (module_with_field field) ms) ≡ rows_of_modules ms ++ field_row field ∷ []
 rows_of_modules-with_field field ms h = rows_of_modules-on_last (module_with_field field) (field_row field ∷ []) ms (last_field field ms h)
 
--- what a call that adds a field to the last statement, or leaves it, comes to
+-- if the last statement gets a field or is left as it is, so does the module
 pub module-if : (field : Field) (m : ModuleTree) (new : List Stmt) (b : Bool) → new ≡ (if b then on_last (statement_with_field field) m.statements else m.statements) → record m { statements = new } ≡ (if b then module_with_field field m else m)
 module-if field m new true e = ap (λ l. record m { statements = l }) e
 module-if field m new false e = ap (λ l. record m { statements = l }) e

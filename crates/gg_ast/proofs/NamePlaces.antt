@@ -12,7 +12,7 @@ use Rattle.std.proofs.lemmas.Slice.Eq.{bytes_eq-Decides}
 use Rattle.std.proofs.lemmas.Option.{slice_get_within}
 use Rattle.gg_ast.specs.Places.{IsFirstOf, Lacks, place_of, TellsPlaces}
 
--- where the head differs, the first place in the tail is one place further in the whole
+-- if the head is another name, the first place in the tail is one further in the whole list
 first_further : (name n : List ℕ) (ns : List (List ℕ)) (j : ℕ) → (name ≡ n → ⊥) → IsFirstOf ns name j → IsFirstOf (n ∷ ns) name (suc j)
 first_further name n ns j differs at = record { named = at.named; first = before }
   where
@@ -32,7 +32,7 @@ first_by_head name n ns i false (Some j) d rest e =
     let differs : name ≡ n → ⊥ = λ h. let no : false ≡ true = d.1 h in cc in
     subst (λ k. IsFirstOf (n ∷ ns) name k) place (first_further name n ns j differs (rest j refl))
 
--- the place of a name is the first that has it
+-- the place of a name is the first that holds it
 pub place_of-first : (name : List ℕ) (names : List (List ℕ)) (i : ℕ) → place_of name names ≡ Some i → IsFirstOf names name i
 place_of-first name [] i e = absurd (cc)
 place_of-first name (n ∷ ns) i e =
@@ -53,7 +53,7 @@ place_of-lacks name [] e = λ k h. cc
 place_of-lacks name (n ∷ ns) e =
     lacks_by_head name n ns (bytes_eq name n) (place_of name ns) (bytes_eq-Decides name n) (place_of-lacks name ns) e
 
--- with one more name, what had a place keeps it, and the new name has the next one
+-- the place of a name after one more is added at place n: its old place if it had one, else n if it is the added name
 abbrev pub place_after : Option ℕ → Bool → ℕ → Option ℕ
 place_after (Some i) b n = Some i
 place_after None true n = Some n
@@ -72,11 +72,11 @@ place_of-append name (n ∷ ns) new =
     let size : length ns + 1 ≡ length (n ∷ ns) = omega arith in
     ap (λ o. if bytes_eq name n then Some 0 else option_map (λ k. k + 1) o) e ∙ after_head (bytes_eq name n) (bytes_eq name new) (place_of name ns) (length ns) ∙ ap (λ m. place_after (place_of name (n ∷ ns)) (bytes_eq name new) m) size
 
--- a place is below the length
+-- a place is below the length of the list
 pub place_of-below : (name : List ℕ) (names : List (List ℕ)) (i : ℕ) → place_of name names ≡ Some i → i < length names
 place_of-below name names i e = slice_get_within names i name (place_of-first name names i e).named
 
--- a name that is there already changes no place
+-- a name that is there already changes no place when it is added again
 present_at : (q name : List ℕ) (b : Bool) (o p : Option ℕ) (n : ℕ) → Decides b (q ≡ name) → (q ≡ name → o ≡ p) → is_some p ≡ true → place_after o b n ≡ o
 present_at q name b (Some i) p n d same there = refl
 present_at q name false None p n d same there = refl
@@ -89,7 +89,7 @@ pub tells-present : (names : List (List ℕ)) (name : List ℕ) (places : HashMa
 tells-present names name places tells there = λ q.
     tells q ∙ sym (place_of-append q names name ∙ present_at q name (bytes_eq q name) (place_of q names) (place_of name names) (length names) (bytes_eq-Decides q name) (λ e. ap (λ x. place_of x names) e) there)
 
--- a new name has the next place
+-- a new name gets the next place
 new_at : (q name : List ℕ) (b e : Bool) (o p : Option ℕ) (n : ℕ) → Decides b (q ≡ name) → Decides e (name ≡ q) → (q ≡ name → o ≡ p) → is_some p ≡ false → (if e then Some n else o) ≡ place_after o b n
 new_at q name false true o p n d d2 same gone = let no : false ≡ true = d.1 (sym (d2.0 refl)) in absurd (cc)
 new_at q name true false o p n d d2 same gone = let no : false ≡ true = d2.1 (sym (d.0 refl)) in absurd (cc)

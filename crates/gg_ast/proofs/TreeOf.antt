@@ -1,4 +1,4 @@
--- The circuit that rows are of, read from the last row to the first.
+-- The circuit that has these rows, found from the last row back to the first.
 use Rattle.std.proofs.Common.{Bool, true, false, ◌≡◌, ℕ, ◌==◌, List, [], ◌∷◌, ◌++◌, Option, None, Some, if◌then◌else◌, refl, sym, ap, ◌∙◌}
 use Rattle.std.specs.Prelude.{map}
 use Rattle.std.specs.Bool.{Decides}
@@ -15,7 +15,7 @@ use Rattle.gg_ast.specs.Rows.{port_row, field_row, kind_rows, statement_rows, ro
 use Rattle.gg_ast.specs.Term.{Term}
 use Rattle.gg_ast.specs.Tree.{ModuleTree, CircuitTree, empty_circuit}
 
--- what the rows behind a place are: fields and a reset that belong to a statement before them, and then the rest
+-- what the rows after some place make: fields and a reset of a statement that comes before them, and then the rest
 record Behind : Type 0 where
   pub fields : List Field
   pub reset : Option Reset
@@ -26,14 +26,14 @@ record Behind : Type 0 where
 abbrev whole : List Stmt → List Port → List ModuleTree → Behind
 whole ss ps ms = record { fields = []; reset = None; statements = ss; ports = ps; modules = ms }
 
--- a statement before them
+-- what these rows make with a statement before them
 abbrev stated : ℕ → StmtKind → Behind → Behind
 stated n kind behind = whole (record { line = n; kind = kind } ∷ behind.statements) behind.ports behind.modules
 
 abbrev reset_at : ℕ → Term → Term → Reset
 reset_at n condition init = record { line = n; condition = condition; init = init }
 
--- a row before them
+-- what these rows make with one more row before them
 abbrev before : ℕ → Row → Behind → Behind
 before n (VersionRow a b c) behind = behind
 before n (CircuitRow name) behind = behind
@@ -63,7 +63,7 @@ before-append : (xs ys : List Numbered) (behind : Behind) → all_before (xs ++ 
 before-append [] ys behind = refl
 before-append (x ∷ xs) ys behind = ap (before x.line x.row) (before-append xs ys behind)
 
--- a reset on the register's line, or on another
+-- the rows of a register with a reset, on the register's line or on another, make this register
 before-reset : (line : ℕ) (name : List ℕ) (ty : GroundType) (clock : Term) (reset : Reset) (b : Bool) (ss : List Stmt) (ps : List Port) (ms : List ModuleTree) → Decides b (reset.line ≡ line)
     → all_before (if b then numbered line (RegisterResetRow name ty clock reset.condition reset.init) ∷ [] else numbered line (RegisterOpenRow name ty clock) ∷ (numbered reset.line (ResetRow reset.condition reset.init) ∷ [])) (whole ss ps ms)
     ≡ whole (record { line = line; kind = Register name ty clock (Some reset) } ∷ ss) ps ms
@@ -124,6 +124,6 @@ tree_of (r ∷ rows) = record { line = r.line; name = circuit_name r.row; module
 tree_of-rows_of : (c : CircuitTree) → tree_of (rows_of c) ≡ c
 tree_of-rows_of c = ap (λ (behind : Behind). record c { modules = behind.modules }) (before-modules c.modules)
 
--- circuits with the same rows are the same
+-- circuits with the same rows are equal
 pub one_tree-law : (c d : CircuitTree) → rows_of c ≡ rows_of d → c ≡ d
 one_tree-law c d same = sym (tree_of-rows_of c) ∙ ap tree_of same ∙ tree_of-rows_of d

@@ -1,4 +1,4 @@
--- Worked rows of names.
+-- Texts that are names, and near misses.
 use Rattle.std.proofs.Common.{◌≡◌, true, false, [], refl}
 use Rattle.std.specs.Prelude.{codes}
 use Rattle.gg_ast.specs.Names.{is_name}

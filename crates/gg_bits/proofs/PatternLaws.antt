@@ -1,4 +1,4 @@
--- Patterns of whole numbers: two numbers that differ by a multiple of 2 ^ k have one pattern of k bits.
+-- Patterns of whole numbers: two numbers that differ by a multiple of 2 ^ k have the same pattern of k bits.
 use Rattle.std.proofs.Common.{◌≡◌, ℕ, ◌+◌, ◌-◌, ◌*◌, ◌/◌, ◌%◌, ◌^◌, ◌<◌, ◌≤◌, min, ⊎_elim, refl, sym, ap, ap₂, ◌∙◌, arith}
 use Rattle.std.specs.Prelude.{ℤ, pos, negsuc, ◌+ℤ◌, ◌-ℤ◌, ◌*ℤ◌, unsigned_abs}
 use Rattle.std.proofs.lemmas.Int.{int_rem_euclid_is, int_wrap_fits, to_z-of_z}
@@ -16,7 +16,7 @@ use borrow.Author.Differences.{up, down, ints, same_in, same_out, sum_is_lem, pr
 use Rattle.gg_bits.specs.Value.{number_of, pattern_of}
 use Rattle.gg_bits.specs.Meaning.{floor_by}
 
--- a and b differ by a multiple of 2 ^ k
+-- if a and b differ by a multiple of 2 ^ k, they have the same pattern of k bits
 pub same_pattern : (k : ℕ) (a b : ℤ) (i j : ℕ) → a +ℤ pos (i * 2 ^ k) ≡ b +ℤ pos (j * 2 ^ k) → pattern_of k a ≡ pattern_of k b
 same_pattern k a b i j e =
     let m = 2 ^ k in
@@ -41,7 +41,7 @@ left_over k (negsuc a) =
     let small = mod-lt a (pow_pos k) in
     (0, a / 2 ^ k + 1, omega (arith, same_in, same_out, sum_is_lem, div-add-mod' a (2 ^ k)))
 
--- the wrapping product of patterns is the pattern of the product
+-- the wrapping product of two patterns is the pattern of the product
 module _ (k : ℕ) (a b : ℤ) (x y : ℕ) (p : x ≡ pattern_of k a) (q : y ≡ pattern_of k b) where
   pub product_wraps : (x * y) % 2 ^ k ≡ pattern_of k (a *ℤ b)
   product_wraps =
@@ -54,7 +54,7 @@ module _ (k : ℕ) (a b : ℤ) (x y : ℕ) (p : x ≡ pattern_of k a) (q : y ≡
       ∙ times k (pos y) b a r.0 r.1 second
       ∙ ap (pattern_of k) (*ℤ_comm b a)
 
--- a pattern's low bits are the pattern in fewer bits
+-- the low k bits of a pattern in j + k bits are the pattern in k bits
 pub pattern_of-mod : (j k : ℕ) (z : ℤ) → pattern_of (j + k) z % 2 ^ k ≡ pattern_of k z
 pattern_of-mod j k z =
     let l = left_over (j + k) z in
@@ -72,7 +72,7 @@ pub ones_shr : (w j n : ℕ) → j + w ≡ n → (2 ^ n - 1) / 2 ^ j ≡ 2 ^ w -
 ones_shr w j n e =
     ap (λ m. (2 ^ m - 1) / 2 ^ j) (omega arith) ∙ ap (λ m. m / 2 ^ j) (ones_split w j) ∙ shr_high (2 ^ w - 1) j (2 ^ j - 1) (ones_lt j)
 
--- it takes the low w bits
+-- this mask takes the low w bits
 pub masked : (x w m : ℕ) → m ≡ 2 ^ w - 1 → bit_and x m ≡ x % 2 ^ w
 masked x w m f = ap (bit_and x) f ∙ and_mask x w
 
@@ -87,12 +87,12 @@ pub signed_pattern : (z : ℤ) (x : ℕ) → FitsSigned w128 z → x ≡ pattern
 unfolding int_wrap
 signed_pattern z x f e = ap (to_z w128) e ∙ int_wrap_fits w128 z f
 
--- a number that fits, as bits
+-- the bits of a number that fits are its pattern
 pub unsigned_pattern : (z : ℤ) → FitsSigned w128 z → of_z w128 z ≡ pattern_of 128 z
 unsigned_pattern (pos n) f = sym (pattern_of-pos 128 n (omega (arith, f.sfits)))
 unsigned_pattern (negsuc n) f = omega (arith, f.sfits)
 
--- the number of an SInt fits
+-- the number of an SInt fits in 128 bits
 pub number_of-fits : (w p : ℕ) → 1 ≤ w → w ≤ 128 → p < 2 ^ w → FitsSigned w128 (number_of SInt w p)
 number_of-fits w p some few h = by (nat_lt p (2 ^ (w - 1))) refl
   where
@@ -116,7 +116,7 @@ pattern_of-pow k n h = pattern_of-pos n (2 ^ k) (pow_below k n h)
 pub shr_all : (a n k : ℕ) → a < 2 ^ n → n ≤ k → a / 2 ^ k ≡ 0
 shr_all a n k h l = let le : 2 ^ n ≤ 2 ^ k = pow-le-pow_right (lit≤ tt) l in let lt : a < 2 ^ k = omega arith in div-eq_of_lt lt
 
--- nothing changes at n places and beyond
+-- for a number of n bits, a shift by more than n is the same as a shift by n
 shr_capped : (a n k : ℕ) → a < 2 ^ n → a / 2 ^ min k n ≡ a / 2 ^ k
 shr_capped a n k h = ⊎_elim
     (λ (l : k < n). ap (λ m. a / 2 ^ m) (omega arith))
@@ -127,12 +127,12 @@ pub floor_capped : (x : ℤ) (k : ℕ) → FitsSigned w128 x → int_shr x (min 
 floor_capped (pos a) k f = ap pos (shr_capped a 127 k f.sfits)
 floor_capped (negsuc a) k f = ap negsuc (shr_capped a 127 k f.sfits)
 
--- what is rounded down still fits
+-- a number that fits still fits after it is shifted and rounded down
 floor_fits : (x : ℤ) (k : ℕ) → FitsSigned w128 x → FitsSigned w128 (floor_by x k)
 floor_fits (pos a) k f = record { sfits = let le = shr_le a k in let lt = f.sfits in omega arith }
 floor_fits (negsuc a) k f = record { sfits = let le = shr_le a k in let lt = f.sfits in omega arith }
 
--- the signed shift, as the code computes it
+-- the signed shift as the code computes it gives the pattern of the rounded number
 pub floor_pattern : (x : ℤ) (k c : ℕ) → FitsSigned w128 x → c ≡ min k 127
     → of_z w128 (to_z w128 (of_z w128 (int_shr (to_z w128 (of_z w128 x)) c))) ≡ pattern_of 128 (floor_by x k)
 floor_pattern x k c f e =
@@ -145,7 +145,7 @@ floor_pattern x k c f e =
 pub floor_none : (a w k : ℕ) → a < 2 ^ w → w ≤ 128 → 128 ≤ k → 0 ≡ pattern_of 128 (floor_by (pos a) k)
 floor_none a w k h few far = sym (ap (λ y. y % 2 ^ 128) (shr_all a w k h (omega arith)))
 
--- the number of an SInt of fewer bits has a smaller absolute value
+-- the absolute value of an SInt with less than 128 bits is below 2 ^ 127
 pub number_of-abs : (w p : ℕ) → 1 ≤ w → w < 128 → p < 2 ^ w → unsigned_abs (number_of SInt w p) < 2 ^ 127
 number_of-abs w p some few h = by (nat_lt p (2 ^ (w - 1))) refl
   where
@@ -161,11 +161,11 @@ number_of-abs w p some few h = by (nat_lt p (2 ^ (w - 1))) refl
 
 -- ---- bits
 
--- a pattern of at most 128 bits
+-- a pattern of at most 128 bits is below 2 ^ 128
 below_128 : (x w : ℕ) → w ≤ 128 → x < 2 ^ w → x < 2 ^ 128
 below_128 x w few h = let whole : 2 ^ w ≤ 2 ^ 128 = pow-le-pow_right (lit≤ tt) few in omega arith
 
--- two patterns of at most 128 bits together, one above the other
+-- the pattern of two patterns that have at most 128 bits together, one above the other
 pub joined_pattern : (a b v w : ℕ) → a < 2 ^ v → b < 2 ^ w → v + w ≤ 128 → bit_or (a * 2 ^ w % 2 ^ 128) b ≡ pattern_of 128 (pos (a * 2 ^ w + b))
 joined_pattern a b v w h k few =
     let above : a * 2 ^ w < 2 ^ (v + w) = shl_below a v w h in
@@ -175,7 +175,7 @@ joined_pattern a b v w h k few =
     let some : bit_or (a * 2 ^ w) b < 2 ^ 128 = or_lt 128 (a * 2 ^ w) b fits (below_128 b w (omega arith) k) in
     ap (λ x. bit_or x b) (mod-eq_of_lt fits) ∙ is ∙ sym (pattern_of-pos 128 (a * 2 ^ w + b) (rw (← is) some))
 
--- bitwise operations on patterns of at most 128 bits
+-- or and exclusive or on patterns of at most 128 bits
 module _ (w r s x y : ℕ) (few : w ≤ 128) (h : r < 2 ^ w) (k : s < 2 ^ w) (p : r ≡ x) (q : s ≡ y) where
   pub or_pattern : bit_or r s ≡ pattern_of 128 (pos (bit_or x y))
   or_pattern = sym (mod-eq_of_lt (below_128 (bit_or r s) w few (or_lt w r s h k))) ∙ ap (λ z. z % 2 ^ 128) (ap₂ bit_or p q)

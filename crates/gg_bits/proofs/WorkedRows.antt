@@ -1,4 +1,4 @@
--- The definitions of specs/ at numbers whose results are known from outside.
+-- The definitions of specs/ at numbers whose results are known without them.
 use Rattle.std.proofs.Common.{◌≡◌, refl}
 use Rattle.std.specs.Prelude.{Ok, Err}
 use lib.Count.{ones}
@@ -10,11 +10,11 @@ use Rattle.gg_bits.specs.Shape.{uint, sint}
 use Rattle.gg_bits.specs.ResultType.{type2, type_const}
 use Rattle.gg_bits.specs.Meaning.{value1, value2, value_const, value_mux}
 
--- the sum of two greatest UInt<127>
+-- the greatest UInt<127>, added to itself
 sum : value2 Add (uint 127) 0x7fff_ffff_ffff_ffff_ffff_ffff_ffff_ffff (uint 127) 0x7fff_ffff_ffff_ffff_ffff_ffff_ffff_ffff ≡ 0xffff_ffff_ffff_ffff_ffff_ffff_ffff_fffe
 sum = refl
 
--- the square of the least SInt<64>
+-- the least SInt<64>, multiplied by itself
 square : value2 Mul (sint 64) 0x8000_0000_0000_0000 (sint 64) 0x8000_0000_0000_0000 ≡ 0x4000_0000_0000_0000_0000_0000_0000_0000
 square = refl
 
@@ -25,7 +25,7 @@ shifted_out = refl
 shifted_out_type : type_const Shr (sint 4) 9 0 ≡ Ok (sint 1)
 shifted_out_type = refl
 
--- SInt<4> -8 by -1, -7 by 2, 5 by 0
+-- quotients and remainders of SInt<4>: -8 by -1, -7 by 2, 5 by 0
 least_by_minus_one : value2 Div (sint 4) 8 (sint 4) 15 ≡ 8
 least_by_minus_one = refl
 
@@ -48,7 +48,7 @@ rem_zero = refl
 order_of_numbers : value2 Lt (sint 4) 15 (sint 4) 0 ≡ 1
 order_of_numbers = refl
 
--- 2 ^ 7 bits of shift widen by 2 ^ 7 - 1
+-- a shift amount of 7 bits makes the result 2 ^ 7 - 1 bits wider
 widest_shift : type2 Dshl (uint 1) (uint 7) ≡ Ok (uint 128)
 widest_shift = refl
 
@@ -61,7 +61,7 @@ far_too_wide_shift = refl
 signed_amount : type2 Dshr (uint 1) (sint 128) ≡ Err Kind
 signed_amount = refl
 
--- a parameter out of its range comes before the width
+-- a parameter out of range is reported before a wrong width
 bits_above : type_const Bits (uint 4) 4 0 ≡ Err Param
 bits_above = refl
 
@@ -71,7 +71,7 @@ tail_of_all = refl
 head_of_more : type_const Head (uint 4) 5 0 ≡ Err Param
 head_of_more = refl
 
--- the sign is filled in
+-- the new bits are copies of the sign
 padded : value_const Pad (sint 4) 13 8 0 ≡ 0xfd
 padded = refl
 
@@ -97,6 +97,6 @@ odd = refl
 joined : value2 Cat (uint 4) 0xa (uint 8) 0x5c ≡ 0xa5c
 joined = refl
 
--- a mux extends what it chooses
+-- a mux extends the value that it chooses
 chosen : value_mux 1 (sint 2) 2 (sint 8) 5 ≡ 0xfe
 chosen = refl

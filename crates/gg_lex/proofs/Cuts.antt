@@ -1,4 +1,4 @@
--- Where a line is cut: behind blanks and behind tokens, whose last byte is ASCII.
+-- Where a line may be cut: after blanks and after tokens, whose last byte is ASCII.
 use Rattle.std.proofs.Common.{◌≡◌, ℕ, zero, suc, ◌+◌, ◌-◌, ◌<◌, ◌≤◌, true, List, [], ◌∷◌, ◌++◌, length, get_or, take, drop, IsUtf8, sym, ap, ◌∙◌, subst, ⊎_elim, refl, arith, length-append, length-take-le, get_or-take}
 use Rattle.std.specs.List.{All, prefix_len}
 use Rattle.std.specs.Str.{IsCharBoundary}
@@ -71,12 +71,12 @@ token_ends_in_ascii kinds.Number bs nonempty number = last_of_all bs nonempty (n
 token_ends_in_ascii kinds.Text bs nonempty (quoted, spelt, is_quoted) = subst LastIsAscii (sym spelt) (text_ends_in_ascii quoted)
 token_ends_in_ascii (kinds.Symbol s) bs nonempty spelt = subst LastIsAscii (sym spelt) (symbol_ends_in_ascii s)
 
--- a first token has bytes
+-- a token at the front of some bytes has at least one byte
 pub first_nonempty : (kind : TokenKind) (bs : List ℕ) (n : ℕ) → IsToken kind (take n bs) → 0 < n
 first_nonempty kind bs zero token = absurd (no_empty kind token)
 first_nonempty kind bs (suc n) token = omega arith
 
--- behind an ASCII byte a text may be cut
+-- a text may be cut after an ASCII byte
 cut_behind : (bs : List ℕ) (n : ℕ) → IsUtf8 bs → 0 < n → n ≤ length bs → get_or bs (n - 1) 0 < 128 → IsCharBoundary bs n
 cut_behind bs n utf8 some within ascii =
     let counted : n - 1 + 1 ≡ n = omega arith in
@@ -97,14 +97,14 @@ cut_behind_blanks bs utf8 =
     (λ none. let zero_blanks : 0 ≡ prefix_len is_blank bs = omega arith in subst (λ (k : ℕ). IsCharBoundary bs k) zero_blanks (IsCharBoundary-start bs utf8))
     (cases_lt 0 (prefix_len is_blank bs))
 
--- a text may be cut behind its first quote
+-- a text may be cut after its first quote
 pub cut_behind_quote : (bs : List ℕ) → IsUtf8 bs → IsText bs → IsCharBoundary bs 1
 cut_behind_quote bs utf8 (quoted, spelt, is_quoted) =
     let first : get_or bs 0 0 ≡ 34 = ap (λ (l : List ℕ). get_or l 0 0) spelt in
     let size : length bs ≡ suc (length quoted + 1) = ap length spelt ∙ ap suc (length-append quoted (34 ∷ [])) in
     IsCharBoundary-after_ascii bs 0 utf8 (omega arith) (omega arith)
 
--- the same cuts, of a text whose bytes the code reads
+-- the same cuts, with the bytes that the code reads
 pub cut_blanks : (bs bytes : List ℕ) (n : ℕ) → IsUtf8 bs → bytes ≡ bs → n ≡ prefix_len is_blank bytes → IsCharBoundary bs n
 cut_blanks bs bytes n utf8 same n_is =
     subst (λ (k : ℕ). IsCharBoundary bs k) (sym (n_is ∙ ap (prefix_len is_blank) same)) (cut_behind_blanks bs utf8)
@@ -113,7 +113,7 @@ pub cut_token : (kind : TokenKind) (bs bytes : List ℕ) (n : ℕ) → IsUtf8 by
 cut_token kind bs bytes n utf8 same first =
     subst (λ (l : List ℕ). IsCharBoundary l n) same (cut_behind_token kind bytes n utf8 first)
 
--- what stands behind a token is text
+-- what follows a token is UTF-8
 pub after_token-utf8 : (kind : TokenKind) (bs after : List ℕ) (n : ℕ) → IsUtf8 bs → IsFirst kind (after_blanks bs) n → after ≡ drop n (after_blanks bs) → IsUtf8 after
 after_token-utf8 kind bs after n utf8 first after_is =
     let start : IsUtf8 (after_blanks bs) = IsUtf8-drop bs (prefix_len is_blank bs) utf8 (cut_behind_blanks bs utf8) in

@@ -22,7 +22,7 @@ use Rattle.gg_lex.proofs.Leads.{no_empty, only_word, only_number, only_text, fir
 use Rattle.gg_lex.proofs.LineEnds.{IsEnd-after_info, IsEnd-without_info, info_from_bracket, no_info_from_bracket, no_info_unopened, no_bracket_past}
 use Rattle.gg_lex.proofs.Readings.{symbol_from, symbol_back, Begins-length, after_blanks-le, Lexes-stop}
 
--- the first token of some bytes, or none
+-- the first token of some bytes
 pub record Token (bs : List ℕ) : Type 0 where
   pub kind : TokenKind
   pub size : ℕ
@@ -81,7 +81,7 @@ text_token bs nonempty quote (Some at, found) = token kinds.Text bs (at + 2) (fi
 
 -- ---- symbols
 
--- some symbol is written so, or none
+-- bytes are the spelling of some symbol, or of none
 symbol : (xs : List ℕ) → ((s : Symbol) × (spelling s ≡ xs)) ⊎ ((s : Symbol) → spelling s ≡ xs → ⊥)
 symbol xs =
     let maybe : Symbol = symbol_from (get_or xs 0 0) (get_or xs 1 0) in
@@ -142,7 +142,7 @@ has_token (b ∷ bs) = ⊎_elim word no_word (cases_Bool (starts_word b))
 
 -- ---- the end of a line
 
--- a list's item at a place is this one, or isn't
+-- the byte at this place of a list is b, or it isn't
 item : (bs : List ℕ) (k b : ℕ) → (slice_get bs k ≡ Some b) ⊎ (slice_get bs k ≡ Some b → ⊥)
 item bs k b = go (slice_get bs k)
   where
@@ -204,7 +204,7 @@ ends (suc less) bs enough = step (λ n shorter. ends less (drop n (after_blanks 
 
 -- ---- the line
 
--- the tokens up to where none begins
+-- the tokens of a line up to where none begins
 pub record Tokens (line : List ℕ) : Type 0 where
   pub tokens : List Tok
   pub rest : List ℕ

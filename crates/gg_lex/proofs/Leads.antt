@@ -1,4 +1,4 @@
--- By its first byte a token is of one kind alone.
+-- The first byte of a token tells whether it is a word, a number, a text or a symbol.
 use Rattle.std.proofs.Common.{◌≡◌, ℕ, zero, suc, ◌<◌, ◌≤◌, true, false, eqb, List, [], ◌∷◌, length, get_or, take, sym, ap, ◌∙◌, subst, ⊎_elim, refl, arith, length-take-le}
 use Rattle.std.specs.Char.{is_ascii_digit}
 use Rattle.std.proofs.lemmas.Bool.{false≢true, both_ways, or_right, or_left, eq-eqb, cases_eq, cases_lt, MatchBool-at_false, ne_eqb}
@@ -85,13 +85,13 @@ take_one : (bs : List ℕ) → 0 < length bs → take 1 bs ≡ get_or bs 0 0 ∷
 take_one [] nonempty = absurd (omega arith)
 take_one (b ∷ bs) nonempty = refl
 
--- a token that is a front leads with the first byte
+-- a token at the front of some bytes may begin with their first byte
 leads_front : (kind : TokenKind) (bs : List ℕ) (m : ℕ) → 0 < length bs → IsToken kind (take m bs) → Leads kind (get_or bs 0 0)
 leads_front kind [] m nonempty token = absurd (omega arith)
 leads_front kind (b ∷ bs) zero nonempty token = absurd (no_empty kind token)
 leads_front kind (b ∷ bs) (suc m) nonempty token = leads kind b (take m bs) token
 
--- where the first byte allows one kind alone, the longest of it is the first token
+-- if only one kind of token may begin with the first byte, the longest token of this kind is the first token
 pub first_of_kind : (kind : TokenKind) (bs : List ℕ) (n : ℕ) → 0 < length bs → ((other : TokenKind) → Leads other (get_or bs 0 0) → other ≡ kind) → IsLongest (IsToken kind) bs n → IsFirst kind bs n
 first_of_kind kind bs n nonempty only found = record {
   within = found.within;
@@ -104,7 +104,7 @@ none_of_kind kind bs nonempty only none other m within token =
     none m within (subst (λ (k : TokenKind). IsToken k (take m bs)) (only other (leads_front other bs m nonempty token)) token)
 
 module _ (bs : List ℕ) (first : LeadsSymbol bs) where
-  -- then each token that is a front is a symbol
+  -- if the first byte may only begin a symbol, each token at the front is a symbol
   spells_symbol : (kind : TokenKind) (m : ℕ) → IsToken kind (take m bs) → (s : Symbol) × (take m bs ≡ spelling s)
   spells_symbol kind m token = by_lead kind token (leads_front kind bs m first.nonempty token)
     where

@@ -11,7 +11,7 @@ IsInfo-within bs n info =
     let inside = slice_get_within bs (info.last.0 + 1) 93 info.last.3.0 in
     (omega (arith, info.last.1, info.last.2), omega (arith, info.last.2, inside))
 
--- no information ends before the first bracket that closes it
+-- file information doesn't go on after the first bracket that closes it
 no_earlier : (bs : List ℕ) (n m : ℕ) → IsInfo bs n → IsInfo bs m → n < m → ⊥
 no_earlier bs n m info later less =
     later.first info.last.0 info.last.1 (omega (arith, info.last.2)) info.last.3
@@ -26,7 +26,7 @@ no_comment (b ∷ bs) at_sign comment =
     let e : b ≡ 64 = cc in
     omega (arith, e, comment)
 
--- behind one file information the line may end as before
+-- before a file information the line may end exactly if it may end after it
 pub IsEnd-after_info : (bs : List ℕ) (n : ℕ) → IsInfo (after_blanks bs) n → IsEnd bs ↔ IsEnd (drop n (after_blanks bs))
 IsEnd-after_info bs n info = (λ end. go end.0 end.1, λ end. (suc end.0, (n, info, end.1)))
   where
@@ -35,7 +35,7 @@ IsEnd-after_info bs n info = (λ end. go end.0 end.1, λ end. (suc end.0, (n, in
     go (suc infos) (m, other, end) =
         (infos, subst (λ (k : ℕ). IsEndWith infos (drop k (after_blanks bs))) (IsInfo-same (after_blanks bs) m n other info) end)
 
--- with no file information only a comment or nothing is left
+-- without file information a line may end exactly if only a comment, or nothing, is left
 pub IsEnd-without_info : (bs : List ℕ) → FindsInfo (after_blanks bs) None → IsEnd bs ↔ IsComment (after_blanks bs)
 IsEnd-without_info bs none = (λ end. go end.0 end.1, λ comment. (0, comment))
   where
@@ -43,7 +43,7 @@ IsEnd-without_info bs none = (λ end. go end.0 end.1, λ comment. (0, comment))
     go zero comment = comment
     go (suc infos) (m, other, end) = absurd (none m other)
 
--- the search for the closing bracket
+-- a closing bracket that is found ends the file information; without one there is none
 pub info_from_bracket : (bs : List ℕ) (at : ℕ) → OpensInfo bs → FindsBracket bs (Some at) → FindsInfo bs (Some (at + 2))
 info_from_bracket bs at opens found =
     let info : IsInfo bs (at + 2) = record {

@@ -1,4 +1,4 @@
--- The longest number at the front of some bytes: a sign or none, and the run of digits behind it.
+-- The longest number at the front of some bytes: a sign or none, and the run of digits after it.
 use Rattle.std.proofs.Common.{◌≡◌, ◌≢◌, ℕ, zero, suc, ◌+◌, ◌<◌, ◌≤◌, Option, Some, None, List, [], ◌∷◌, ◌++◌, length, get_or, take, drop, sym, subst, arith, take-append-drop, length-take-le}
 use Rattle.std.specs.List.{prefix_len, AllPass}
 use Rattle.std.specs.Char.{is_ascii_digit}
@@ -8,7 +8,7 @@ use Rattle.gg_lex.specs.Tokens.{IsDigits, IsNumber}
 use Rattle.gg_lex.specs.Fronts.{IsLongest, HasNoFront, FindsFront}
 use Rattle.gg_lex.proofs.Runs.{length-le-prefix_len, AllPass-take-prefix_len}
 
--- digits that are a front are no longer than the run
+-- digits at the front are no more than the run of digits
 digits_le : (bs : List ℕ) (m : ℕ) → m ≤ length bs → IsDigits (take m bs) → m ≤ prefix_len is_ascii_digit bs
 digits_le bs m within digits =
     let run : length (take m bs) ≤ prefix_len is_ascii_digit (take m bs ++ drop m bs) = length-le-prefix_len is_ascii_digit (take m bs) (drop m bs) digits.1 in
@@ -51,7 +51,7 @@ unsigned_front bs (Some n) nonempty plain digits = record {
   longest = λ m within number. digits.longest m within (from_unsigned (take m bs) (first_of_take bs m nonempty plain) number);
 }
 
--- a number with its sign
+-- with a sign, the longest number is the sign and the longest digits after it
 signed_longest : (bs : List ℕ) (n : ℕ) → IsLongest IsDigits bs n → IsLongest IsNumber (45 ∷ bs) (suc n)
 signed_longest bs n digits = record {
   within = omega (arith, digits.within);

@@ -8,7 +8,7 @@ use Rattle.std.proofs.lemmas.Option.{slice_get-get_or, slice_get_within, get_or_
 use Rattle.gg_lex.specs.Tokens.{IsQuoted, IsText}
 use Rattle.gg_lex.specs.Fronts.{IsLongest, HasNoFront, EndsQuoted, FindsQuote}
 
--- what follows from either fact
+-- both cases of a fact that depends on a test may be replaced by what follows from them
 MatchBool-map : (t : Bool) (P Q R S : Type 0) → (P → R) → (Q → S) → MatchBool t P Q → MatchBool t R S
 MatchBool-map true P Q R S f g h = f h
 MatchBool-map false P Q R S f g h = g h
@@ -17,7 +17,7 @@ MatchBool-both : (t : Bool) (P Q R S T : Type 0) → (P → R → T) → (Q → 
 MatchBool-both true P Q R S T f g h k = f h k
 MatchBool-both false P Q R S T f g h k = g h k
 
--- what is quoted, one part after another
+-- quoted bytes after quoted bytes are quoted; and what follows quoted bytes in such a list is quoted
 IsQuoted-append : (xs ys : List ℕ) → IsQuoted xs → IsQuoted ys → IsQuoted (xs ++ ys)
 IsQuoted-append [] ys front back = back
 IsQuoted-append (b ∷ []) [] front back = front
@@ -43,7 +43,7 @@ pub record QuotedBefore (bs : List ℕ) (at : ℕ) : Type 0 where
   pub none : (m : ℕ) → m < at → EndsQuoted bs m → ⊥
 
 module _ (bs : List ℕ) (at : ℕ) (within : at < length bs) (before : QuotedBefore bs at) where
-  -- what is quoted beyond the place begins with the byte there
+  -- if the bytes up to some place past `at` are quoted, those from `at` on are quoted too, and begin with the byte there
   beyond : (k : ℕ) → IsQuoted (take (at + suc k) bs) → IsQuoted (get_or bs at 0 ∷ take k (drop (at + 1) bs))
   beyond k quoted =
       let parts : take (at + suc k) bs ≡ take at bs ++ (get_or bs at 0 ∷ take k (drop (at + 1) bs)) = take-add at (suc k) bs ∙ ap (λ (l : List ℕ). take at bs ++ take (suc k) l) (drop_more bs at 0 within) in
@@ -91,7 +91,7 @@ pub no_quote : (bs : List ℕ) (at : ℕ) → length bs ≤ at → QuotedBefore 
 no_quote bs at past before n ends =
     before.none n (omega (arith, slice_get_within bs n 34 ends.0)) ends
 
--- a quote behind what is quoted, within the first m bytes
+-- if the first m bytes are quoted bytes and a quote, this quote ends the quoted bytes
 quote_within : (bs : List ℕ) (m : ℕ) (quoted : List ℕ) → m ≤ length bs → take m bs ≡ quoted ++ 34 ∷ [] → IsQuoted quoted → EndsQuoted bs (length quoted) × (m ≡ length quoted + 1)
 quote_within bs m quoted within same is_quoted =
     let size : m ≡ length quoted + 1 = sym (length-take-le m bs within) ∙ ap length same ∙ length-append quoted (34 ∷ []) in

@@ -76,12 +76,12 @@ no_token_in_info (b ∷ bs) opens =
     let e : b ≡ 64 = cc in
     no_token_at b bs (inr e)
 
--- where a line may end no token begins
+-- where a line may end, no token begins
 no_token_at_end : (rest : List ℕ) → IsEnd rest → BeginsNoToken (after_blanks rest)
 no_token_at_end rest (zero, comment) = no_token_in_comment (after_blanks rest) comment
 no_token_at_end rest (suc infos, (n, info, end)) = no_token_in_info (after_blanks rest) info.opens.0
 
--- tokens and a rest where none begins are the only ones
+-- a line has only one list of tokens up to where none begins, and only one rest
 Begins-same : (ts us : List Tok) (line r s : List ℕ) → Begins ts line r → BeginsNoToken (after_blanks r) → Begins us line s → BeginsNoToken (after_blanks s) → (ts ≡ us) × (r ≡ s)
 Begins-same [] [] line r s begins stop again stop_again = (refl, begins ∙ sym again)
 Begins-same [] (u ∷ us) line r s begins stop (kind, n, first, u_is, again) stop_again =
@@ -110,7 +110,7 @@ Lexes-same line ts us (Some place) (Some other) read again =
     let places : place ≡ other = omega (arith, read.there, again.there, ap (λ (l : List ℕ). length (after_blanks l)) same.1) in
     (same.0, ap (λ (p : ℕ). Some p) places)
 
--- a step over one token
+-- one more token after those that were read
 pub Begins-step : (ts : List Tok) (t : Tok) (line mid rest : List ℕ) (kind : TokenKind) (n : ℕ) → Begins ts line mid → IsFirst kind (after_blanks mid) n → t ≡ token_of kind (take n (after_blanks mid)) → rest ≡ drop n (after_blanks mid) → Begins (ts ++ t ∷ []) line rest
 Begins-step [] t line mid rest kind n before first t_is rest_is =
     subst (λ (l : List ℕ). Begins (t ∷ []) l rest) before (kind, n, first, t_is, rest_is)
@@ -126,7 +126,7 @@ Begins-length [] line rest before = omega (arith, ap length before)
 Begins-length (t ∷ ts) line rest (kind, n, first, t_is, before) =
     omega (arith, Begins-length ts (drop n (after_blanks line)) rest before, length-drop n (after_blanks line), after_blanks-le line)
 
--- the end of the loop over the tokens
+-- at the end of the loop no token begins: the line ends there, or fails there
 pub Lexes-stop : (ts : List Tok) (line rest : List ℕ) (bad : Option ℕ) → Begins ts line rest → BeginsNoToken (after_blanks rest) → EndsOrFails line rest bad → Lexes line ts bad
 Lexes-stop ts line rest None before stop end = record { rest = rest; before = before; end = end }
 Lexes-stop ts line rest (Some place) before stop fails =

@@ -1,4 +1,4 @@
--- The longest word at the front of some bytes: the run of bytes that stand in a word, and then that of its tail.
+-- The longest word at the front of some bytes: its first byte, the run of word bytes after it, and the run of tail bytes.
 use Rattle.std.proofs.Common.{◌≡◌, ℕ, zero, suc, ◌+◌, ◌<◌, ◌≤◌, true, false, List, [], ◌∷◌, ◌++◌, length, get_or, take, drop, sym, ap, ◌∙◌, subst, ⊎_elim, arith, append_assoc, take-append-drop, length-append, length-drop, length-take-le, zero-add}
 use Rattle.std.proofs.Math.Seq.{take-add}
 use Rattle.std.proofs.lemmas.Bool.{cases_Bool}
@@ -9,7 +9,7 @@ use Rattle.gg_lex.specs.Tokens.{IsWord}
 use Rattle.gg_lex.specs.Fronts.{IsLongest}
 use Rattle.gg_lex.proofs.Runs.{prefix_len-pass, prefix_len-fail, AllPass-head, AllPass-tail, length-le-prefix_len, AllPass-take-prefix_len}
 
--- how many bytes of a word stand at the front, its first left out
+-- how many bytes of a word are at the front, if its first byte is left out
 abbrev rest_len : List ℕ → ℕ
 rest_len bs = prefix_len is_word_byte bs + prefix_len is_tail_byte (drop (prefix_len is_word_byte bs) bs)
 
@@ -19,7 +19,7 @@ rest_len-cons b bs passes = rw (prefix_len-pass is_word_byte b bs passes) (omega
 rest_len-tail : (b : ℕ) (bs : List ℕ) → is_word_byte b ≡ false → rest_len (b ∷ bs) ≡ prefix_len is_tail_byte (b ∷ bs)
 rest_len-tail b bs fails = rw (prefix_len-fail is_word_byte b bs fails) (zero-add _)
 
--- no tail at the front is longer
+-- tail bytes at the front are no more than that
 tail_le : (tail back : List ℕ) → AllPass is_tail_byte tail → length tail ≤ rest_len (tail ++ back)
 tail_le [] back all = omega arith
 tail_le (b ∷ bs) back all =
@@ -28,7 +28,7 @@ tail_le (b ∷ bs) back all =
     (λ fails. let e : rest_len (b ∷ (bs ++ back)) ≡ prefix_len is_tail_byte (b ∷ (bs ++ back)) = rest_len-tail b (bs ++ back) fails in omega (arith, e, length-le-prefix_len is_tail_byte (b ∷ bs) back all))
     (cases_Bool (is_word_byte b))
 
--- no word at the front is longer
+-- word bytes and then tail bytes at the front are no more than that
 word_le : (body tail back : List ℕ) → AllPass is_word_byte body → AllPass is_tail_byte tail → length body + length tail ≤ rest_len (body ++ (tail ++ back))
 word_le [] tail back all all_tail = omega (arith, tail_le tail back all_tail)
 word_le (b ∷ bs) tail back all all_tail =
@@ -40,7 +40,7 @@ rest_len_le : (bs : List ℕ) → rest_len bs ≤ length bs
 rest_len_le bs =
     omega (arith, prefix_len-le-length is_word_byte bs, prefix_len-le-length is_tail_byte (drop (prefix_len is_word_byte bs) bs), length-drop (prefix_len is_word_byte bs) bs)
 
--- a word that is a front is no longer
+-- a word at the front is no longer than that and its first byte
 front_le : (b : ℕ) (bs : List ℕ) (m : ℕ) → m ≤ length (b ∷ bs) → IsWord (take m (b ∷ bs)) → m ≤ suc (rest_len bs)
 front_le b bs zero within word = omega arith
 front_le b bs (suc m) within (first, body, tail, spelt, starts, all, all_tail) =
@@ -57,7 +57,7 @@ longest_word-cons b bs starts = record {
   longest = λ m within word. front_le b bs m within word;
 }
 
--- with the rest of the bytes as the code cuts it
+-- the longest word, by the two lengths that the code finds
 pub longest_word : (bs : List ℕ) (n m : ℕ) → 0 < length bs → starts_word (get_or bs 0 0) ≡ true → n ≡ prefix_len is_word_byte (drop 1 bs) → m ≡ prefix_len is_tail_byte (drop n (drop 1 bs)) → IsLongest IsWord bs (1 + n + m)
 longest_word [] n m nonempty starts n_is m_is = absurd (omega arith)
 longest_word (b ∷ bs) n m nonempty starts n_is m_is =

@@ -1,5 +1,5 @@
--- Lines and their tokens, worked by hand. Each lemma is one token at the front of a line, whose premises are tests of
--- its bytes that compute.
+-- Lines and their tokens, worked by hand. Each lemma puts one token at the front of a line; its premises are tests of the line's
+-- bytes, and compute.
 use Rattle.std.proofs.Common.{◌≡◌, ◌≢◌, ℕ, ◌+◌, ◌<◌, ◌≤◌, Bool, true, false, List, [], ◌∷◌, ◌==◌, eqb, Some, length, get_or, take, drop, codes, refl, sym, ap, arith, lit≤, length-take-le}
 use Rattle.std.specs.Char.{is_ascii_digit}
 use Rattle.std.specs.List.{prefix_len, list_any}
@@ -34,7 +34,7 @@ first_word [] starts = absurd (false≢true starts)
 first_word (b ∷ bs) starts =
     first_of_kind kinds.Word (b ∷ bs) (word_size (b ∷ bs)) (omega arith) (only_word b starts) (longest_word (b ∷ bs) (body_size (b ∷ bs)) (tail_size (b ∷ bs)) (omega arith) starts refl refl)
 
--- a word behind the blanks
+-- a word after the blanks
 pub word : {w : List ℕ} {ts : List Tok} {line : List ℕ} → starts_word (get_or (after_blanks line) 0 0) ≡ true → w ≡ take (word_size (after_blanks line)) (after_blanks line)
     → AreTokens ts (drop (word_size (after_blanks line)) (after_blanks line)) → AreTokens (tok.Word w ∷ ts) line
 word {w} {ts} {line} starts is more =
@@ -44,7 +44,7 @@ word {w} {ts} {line} starts is more =
       end = more.end;
     }
 
--- bytes that are a symbol of two
+-- the bytes are a symbol of two characters
 abbrev is_two : List ℕ → Bool
 is_two bs = list_any (bytes_eq bs) (codes "<=" ∷ codes "=>" ∷ codes "<-" ∷ codes "%[" ∷ [])
 
@@ -55,7 +55,7 @@ no_two bs none PartialConnect front = both_ways (is_two (take 2 bs)) none (ap is
 no_two bs none OpenAnnotations front = both_ways (is_two (take 2 bs)) none (ap is_two front.1)
 no_two bs none _ front = omega (arith, length-take-le 2 bs front.0, ap length front.1)
 
--- What these bytes are not: empty, begun by a word, a number or a text, a symbol of two.
+-- What the tests of these bytes say: empty, begun by a word, a number or a text, begun by a symbol of two characters.
 abbrev not_so : List ℕ → List Bool
 not_so bs =
     (length bs == 0) ∷ starts_word (get_or bs 0 0) ∷ begins_number (get_or bs 0 0) ∷ (get_or bs 0 0 == quote) ∷ is_two (take 2 bs) ∷ []
@@ -72,7 +72,7 @@ leads_symbol bs two e = record {
   no_text = λ same. both_ways (get_or bs 0 0 == quote) (ap (λ (l : List Bool). get_or l 3 false) e) (ap (λ (b : ℕ). b == quote) same);
 }
 
--- a symbol of one character behind the blanks
+-- a symbol of one character after the blanks
 pub one : {s : Symbol} {ts : List Tok} {line : List ℕ} → not_so (after_blanks line) ≡ false ∷ false ∷ false ∷ false ∷ false ∷ [] → spelling s ≡ get_or (after_blanks line) 0 0 ∷ []
     → AreTokens ts (drop 1 (after_blanks line)) → AreTokens (tok.Symbol s ∷ ts) line
 one {s} {ts} {line} tests is more =
@@ -83,7 +83,7 @@ one {s} {ts} {line} tests is more =
       end = more.end;
     }
 
--- a symbol of two
+-- a symbol of two characters after the blanks
 pub two : {s : Symbol} {ts : List Tok} {line : List ℕ} → not_so (after_blanks line) ≡ false ∷ false ∷ false ∷ false ∷ true ∷ [] → 2 ≤ length (after_blanks line)
     → take 2 (after_blanks line) ≡ spelling s → AreTokens ts (drop 2 (after_blanks line)) → AreTokens (tok.Symbol s ∷ ts) line
 two {s} {ts} {line} tests long is more =
@@ -103,7 +103,7 @@ first_number (b ∷ bs) digit =
     first_of_kind kinds.Number (b ∷ bs) (prefix_len is_ascii_digit (b ∷ bs)) (omega arith) (only_number b (or_right (eqb b 45) (is_ascii_digit b) digit))
     (unsigned_front (b ∷ bs) (Some (prefix_len is_ascii_digit (b ∷ bs))) (omega arith) plain (longest_digits (b ∷ bs) (prefix_len is_ascii_digit (b ∷ bs)) refl some))
 
--- a number without a sign behind the blanks
+-- a number without a sign after the blanks
 pub number : {w : List ℕ} {ts : List Tok} {line : List ℕ} → is_ascii_digit (get_or (after_blanks line) 0 0) ≡ true → w ≡ take (prefix_len is_ascii_digit (after_blanks line)) (after_blanks line)
     → AreTokens ts (drop (prefix_len is_ascii_digit (after_blanks line)) (after_blanks line)) → AreTokens (tok.Number w ∷ ts) line
 number {w} {ts} {line} digit is more =
@@ -113,7 +113,7 @@ number {w} {ts} {line} digit is more =
       end = more.end;
     }
 
--- the end of a line, with no file information
+-- the end of a line without file information
 pub ended : {line : List ℕ} → IsComment (after_blanks line) → AreTokens [] line
 ended {line} comment = record { rest = line; before = refl; end = (0, comment) }
 
@@ -123,7 +123,7 @@ blank_line = ended tt
 comment_line : AreTokens [] (codes " ; node n = a")
 comment_line = ended refl
 
--- The longest token is taken: `<=` and not `<`, `a1-b` and not `a1`, `0` and not what stands behind it.
+-- The longest token is taken: `<=` and not `<`, `a1-b` and not `a1`. A number ends before a letter: `0b12` is `0` and `b12`.
 connection : AreTokens (tok.Word (codes "a") ∷ tok.Symbol Connect ∷ tok.Word (codes "b") ∷ []) (codes "a<=b")
 connection = word refl refl (two refl (lit≤ tt) refl (word refl refl (ended tt)))
 
@@ -136,6 +136,6 @@ dashes = word refl refl (number refl refl (ended tt))
 digits_first : AreTokens (tok.Number (codes "0") ∷ tok.Word (codes "b12") ∷ []) (codes "0b12")
 digits_first = number refl refl (word refl refl (ended tt))
 
--- a statement, its comment left out
+-- a statement with a comment after it
 statement : AreTokens (tok.Word (codes "wire") ∷ tok.Word (codes "w") ∷ tok.Symbol Colon ∷ tok.Word (codes "UInt") ∷ tok.Symbol Less ∷ tok.Number (codes "8") ∷ tok.Symbol Greater ∷ []) (codes "  wire w : UInt<8> ; a byte")
 statement = word refl refl (word refl refl (one refl refl (word refl refl (one refl refl (number refl refl (one refl refl (ended refl)))))))

@@ -1,5 +1,5 @@
--- The definitions of tokens, file information and blanks at small lines. Bytes past letters are given by their numbers:
--- 9 a tab, 32 a space, 34 a quote, 45 a `-`, 59 a `;`, 64 a `@`, 91 and 93 brackets, 92 a backslash.
+-- The definitions of tokens, file information and blanks at small lines. Some bytes are given by their numbers: 9 a tab, 13 a
+-- carriage return, 32 a space, 34 a quote, 45 a `-`, 64 a `@`, 91 and 93 brackets, 92 a backslash, 97 and 98 `a` and `b`.
 use Rattle.std.proofs.Common.{◌≡◌, ℕ, zero, suc, ◌+◌, ◌<◌, ◌≤◌, true, false, [], ◌∷◌, map, unwrap_or, codes, refl, ap, arith, lit≤}
 use Rattle.gg_lex.specs.Bytes.{starts_word, is_word_byte, is_tail_byte}
 use Rattle.gg_lex.specs.Lines.{after_blanks, ClosesBehind, IsInfo}
@@ -7,7 +7,7 @@ use Rattle.gg_lex.specs.Tokens.{IsQuoted, IsNumber, token_of}
 use Rattle.gg_lex.specs.declared.token.TokenKind.TheVariants as kinds
 use Rattle.gg_lex.specs.declared.token.Tok.TheVariants as tok
 
--- letters of either case, `_`, `$`, a digit and `-`: which begin a word, stand in it, stand in its tail
+-- letters of both cases, `_`, `$`, a digit and `-`: which may begin a word, be in it, be in its tail
 word_starts : map starts_word (codes "aZ_$7-") ≡ true ∷ true ∷ true ∷ false ∷ false ∷ false ∷ []
 word_starts = refl
 
@@ -17,18 +17,18 @@ word_bytes = refl
 tail_bytes : map is_tail_byte (codes "aZ_$7-") ≡ true ∷ true ∷ false ∷ false ∷ false ∷ true ∷ []
 tail_bytes = refl
 
--- blanks are spaces and tabs, and no carriage return
+-- blanks are spaces and tabs; a carriage return is not a blank
 blanks : after_blanks (32 ∷ 9 ∷ 32 ∷ 13 ∷ 32 ∷ []) ≡ 13 ∷ 32 ∷ []
 blanks = refl
 
--- a text keeps what stands between its quotes, its backslash too; a number keeps its sign and its zeros
+-- a text keeps what is between its quotes, with its backslash; a number keeps its sign and its zeros
 text_kept : token_of kinds.Text (34 ∷ 97 ∷ 92 ∷ 34 ∷ 34 ∷ []) ≡ tok.Text (97 ∷ 92 ∷ 34 ∷ [])
 text_kept = refl
 
 number_kept : token_of kinds.Number (codes "-007") ≡ tok.Number (codes "-007")
 number_kept = refl
 
--- a quote may stand behind a backslash, and nowhere else; a backslash takes something with it
+-- a quote may come after a backslash only; a backslash takes the next byte with it
 quote_behind : IsQuoted (92 ∷ 34 ∷ [])
 quote_behind = tt
 
@@ -45,7 +45,7 @@ backslash_alone h = h.1 refl
 sign_alone : IsNumber (45 ∷ []) → ⊥
 sign_alone h = omega (arith, h.0)
 
--- `@[a]b` begins with four bytes of file information
+-- `@[a]b` begins with a file information of four bytes
 first_bracket : (k : ℕ) → 1 ≤ k → k + 2 < 4 → ClosesBehind (64 ∷ 91 ∷ 97 ∷ 93 ∷ 98 ∷ []) k → ⊥
 first_bracket zero low high closes = omega (arith, low)
 first_bracket (suc zero) low high closes = omega (arith, ap (λ byte. unwrap_or byte 0) closes.0)

@@ -1,4 +1,4 @@
--- What is found along a list, place by place.
+-- What is found along a list, element by element.
 use Rattle.std.proofs.Common.{◌≡◌, ℕ, ◌+◌, ◌<◌, ◌≤◌, List, [], ◌∷◌, ◌++◌, length, get_or, take, drop, Some, refl, sym, ap, subst, ◌∙◌, append_assoc}
 use Rattle.std.proofs.lemmas.List.{take_more, drop_more, drop_all}
 use Rattle.gg_names.specs.declared.fault.Repetition.{Repetition}
@@ -24,7 +24,7 @@ module _ {A B : Type 0} (at : List A → A → List B) (xs : List A) where
   pub left-end : (i : ℕ) → length xs ≤ i → left i ≡ []
   left-end i le = ap (along_from at (take i xs)) (drop_all i xs le)
 
-  -- nothing is found at the i-th
+  -- if nothing is found before the i-th element and at it, all that is found is found after it
   pub left-more : (i : ℕ) (x : A) → i < length xs → x ≡ get_or xs i x → at (take i xs) x ≡ [] → along at xs ≡ left i → along at xs ≡ left (i + 1)
   left-more i x lt is none h =
       h ∙ left-step i x lt ∙ ap (λ y. at (take i xs) y ++ left (i + 1)) (sym is) ∙ ap (λ l. l ++ left (i + 1)) none
@@ -39,7 +39,7 @@ module _ {A B : Type 0} (f g : List A → A → List B) (all : List A) (same : (
       ap (λ l. l ++ along_from f (before ++ x ∷ []) rest) (same before x rest e)
       ∙ ap (λ l. g before x ++ l) (along_from-same (before ++ x ∷ []) rest (append_assoc before (x ∷ []) rest ∙ e))
 
-  -- the same at each place
+  -- two searches that agree at each element find the same
   pub along-same : along f all ≡ along g all
   along-same = along_from-same [] all refl
 
@@ -52,7 +52,7 @@ names_first xs ys NoMemory h = tt
 pub names_next : (xs ys : List Repetition) (r : NamesFault) → xs ≡ [] → Names ys r → Names (xs ++ ys) r
 names_next xs ys r none h = rw none h
 
--- the i-th is refused, so the list is
+-- if the i-th element is the first with a repetition, or memory ran out there, this is the answer for the whole list
 pub left-refused : {A : Type 0} (at : List A → A → List Repetition) (xs : List A) (i : ℕ) (x : A) (r : NamesFault) → i < length xs → x ≡ get_or xs i x → along at xs ≡ left at xs i → Names (at (take i xs) x) r → Names (along at xs) r
 left-refused at xs i x r lt is h refused =
     subst (λ l. Names l r) (sym (left-from at xs i x lt is h)) (names_first (at (take i xs) x) (left at xs (i + 1)) r refused)

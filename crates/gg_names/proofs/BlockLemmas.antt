@@ -23,8 +23,8 @@ use Rattle.gg_names.specs.Namespace.{module_named, instance_port, instance_ports
 use Rattle.gg_names.specs.Scope.{same_reference, entry_of, first_name}
 use Rattle.gg_names.specs.Tables.{HavePorts, readers_of, writers_of, through, role_of_port_named, field_role, role_of_field, or_else}
 
--- The entries are those of what is declared so: each reference whose first name is the declared one stands for what it tells,
--- and no other has an entry.
+-- These are all entries of what this name declares: a reference that begins with the name stands for what the declaration tells,
+-- and no other reference has an entry.
 abbrev no_role : Option Role
 no_role = None
 
@@ -53,7 +53,7 @@ plain-block modules name role (FieldOf a b c) = none_both (bytes_eq a name)
 
 -- ---- instances
 
--- the module of a name stands at its place
+-- the first module with this name is the one at place k
 pub record IsAt (modules : List ModuleTree) (name : List ℕ) (k : ℕ) : Type 0 where
   pub within : k < length modules
   pub named : module_named name modules ≡ Some (module_at modules k)

@@ -1,4 +1,4 @@
--- What tables tell of references.
+-- What the tables of modules tell of references.
 use Rattle.std.proofs.Common.{◌≡◌, ℕ, zero, suc, ◌+◌, ◌<◌, Bool, true, false, List, [], ◌∷◌, ◌++◌, length, take, get_or, slice_get, slice_index_or, nat_lt, lt-ltb, le-ltb, length-append, Option, Some, None, is_some, refl, sym, ap, subst, ◌∙◌, if◌then◌else◌, true≢false, arith}
 use Rattle.std.specs.Option.{option_map}
 use Rattle.std.specs.Str.{bytes_eq}
@@ -26,7 +26,7 @@ abbrev pub role_at : List Port → Option ℕ → Option Role
 role_at ports None = None
 role_at ports (Some k) = option_map (λ (port : Port). role_of_instance_port port.direction port.ty) (slice_get ports k)
 
--- ports come first among a module's names, so a port's place there is its place among the ports
+-- ports come first among the names of a module, so the place of a port's name is its place among the ports
 pub port-role : (name : List ℕ) (ports : List Port) (others : List (List ℕ)) → role_of_port_named name ports ≡ role_at ports (place_of name (port_names ports ++ others))
 port-role name [] others = go (place_of name others)
   where
@@ -48,7 +48,7 @@ port-role name (p ∷ ps) others = go (bytes_eq name p.name) refl (place_of name
 
 -- ---- tables
 
--- what is declared is placed
+-- if all entries of a table are placed among the modules, so is the one under a name
 pub placed-of : (modules : List ModuleTree) (table : List (List ℕ × Declared)) (name : List ℕ) (declared : Declared) → ArePlaced modules table → value_of name table ≡ Some declared → IsPlaced modules declared
 placed-of modules [] name declared placed h = absurd (true≢false (sym (ap is_some h)))
 placed-of modules (e ∷ es) name declared placed h = go (bytes_eq name e.0) refl (placed-of modules es name declared placed.1)
@@ -60,7 +60,7 @@ placed-of modules (e ∷ es) name declared placed h = go (bytes_eq name e.0) ref
         subst (IsPlaced modules) is placed.0
     go false t rest = rest (sym (ap (λ b. if b then Some e.1 else value_of name es) t) ∙ h)
 
--- the table of a module
+-- the k-th table is the table of the k-th module
 pub table-at : (modules : List ModuleTree) (tables : List (List (List ℕ × Declared))) (k : ℕ) (table : List (List ℕ × Declared)) → AreTold modules (length modules) tables → k < length modules → table ≡ get_or tables k table → TellsModule modules (module_at modules k) table
 table-at modules tables k table told lt is =
     let same : get_or tables k [] ≡ table = get_or_default tables k [] table (omega (arith, told.one_each)) ∙ sym is in
@@ -69,18 +69,18 @@ table-at modules tables k table told lt is =
 pub module-at : (modules : List ModuleTree) (k : ℕ) (m : ModuleTree) → k < length modules → m ≡ get_or modules k m → module_at modules k ≡ m
 module-at modules k m lt is = get_or_default modules k _ m lt ∙ sym is
 
--- what a reference names, by the module's table
+-- what a reference names in a module, found in the module's table
 pub meaning-found : (modules : List ModuleTree) (k : ℕ) (table : List (List ℕ × Declared)) (r : Reference) → TellsModule modules (module_at modules k) table → meaning_of (scope_of modules (module_at modules k)) r ≡ found modules table r
 meaning-found modules k table r told = scope-found modules (module_at modules k).ports (module_at modules k).statements table told r
 
--- what a reference names among the first declarations
+-- what a reference names after the first statements: what the whole table tells, if its first name is declared by then
 pub meaning-before : (modules : List ModuleTree) (k : ℕ) (table : List (List ℕ × Declared)) (r : Reference) (count n : ℕ) → TellsModule modules (module_at modules k) table → count ≡ length (names_after (module_at modules k).ports (take n (module_at modules k).statements)) → meaning_of (scope_after modules (module_at modules k).ports (take n (module_at modules k).statements)) r ≡ if_before (place_of (first_name r) (names_told table)) count (found modules table r)
 meaning-before modules k table r count n told is =
     told.tells n r ∙ ap (λ c. found modules (take c table) r) (sym is) ∙ found-before modules table count r
 
 -- ---- the tables of all modules
 
--- whether a name is among the first n
+-- there is a place, and it is below n
 abbrev pub is_before : Option ℕ → ℕ → Bool
 is_before None n = false
 is_before (Some k) n = nat_lt k n
@@ -103,12 +103,12 @@ any-front name (x ∷ xs) (suc n) = go (bytes_eq name x) refl (place_of name xs)
         let shift : nat_lt j n ≡ nat_lt (j + 1) (suc n) = grind (arith, nat_tests) in
         rw (e, u) (rest ∙ ap (λ o. is_before o n) u ∙ shift)
 
--- whether a module before a place has the name
+-- one of the first n modules has this name exactly if the name's place is below n
 pub module-before : (modules : List ModuleTree) (n : ℕ) (name : List ℕ) → list_any (bytes_eq name) (names_of (take n modules)) ≡ is_before (place_of name (names_of modules)) n
 module-before modules n name =
     ap (list_any (bytes_eq name)) (sym (take-map (λ (m : ModuleTree). m.name) n modules)) ∙ any-front name (names_of modules) n
 
--- one more table
+-- with the table of the next module, the tables are those of the first i + 1 modules
 pub told-next : (modules : List ModuleTree) (i : ℕ) (m : ModuleTree) (tables new : List (List (List ℕ × Declared))) (table : List (List ℕ × Declared)) → i < length modules → m ≡ get_or modules i m → TellsModule modules m table → new ≡ tables ++ table ∷ [] → AreTold modules i tables → AreTold modules (i + 1) new
 told-next modules i m tables new table lt is told grown old = record {
   one_each = ap length grown ∙ omega (arith, length-append tables (table ∷ []), old.one_each);

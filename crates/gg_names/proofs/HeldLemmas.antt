@@ -1,4 +1,4 @@
--- What the statements of a list give one after another.
+-- What the elements of a list give one after another; for modules, the places of those that the statements hold.
 use Rattle.std.proofs.Common.{◌≡◌, ℕ, ◌+◌, ◌<◌, ◌≤◌, List, [], ◌∷◌, ◌++◌, length, get_or, take, drop, zero, suc, refl, sym, ap, subst, ◌∙◌, ◌⊎◌, inl, inr, arith}
 use Rattle.std.specs.Prelude.{Contains, flat_map}
 use Rattle.std.proofs.lemmas.List.{take_more, take_all, take-append-drop, append-nil}
@@ -12,7 +12,7 @@ module _ {A : Type 0} (f : A → List ℕ) (xs : List A) where
       ∙ flat_map-append f (take i xs) (x ∷ [])
       ∙ ap (λ l. flat_map f (take i xs) ++ l) (append-nil (f x))
 
-  -- what the next one gives is given
+  -- what the next element gives is among all that is given
   pub given-at : (i j : ℕ) (x : A) → i < length xs → x ≡ get_or xs i x → f x ≡ j ∷ [] → Contains (flat_map f xs) j
   given-at i j x lt is gives =
       let all : flat_map f xs ≡ flat_map f (take (i + 1) xs) ++ flat_map f (drop (i + 1) xs) =
@@ -22,7 +22,7 @@ module _ {A : Type 0} (f : A → List ℕ) (xs : List A) where
       (Contains-append_left (flat_map f (take (i + 1) xs)) (flat_map f (drop (i + 1) xs)) j
       (subst (λ (l : List ℕ). Contains l j) (sym (given-more i x lt is)) (Contains-append_right (flat_map f (take i xs)) (f x) j own)))
 
-  -- what is given up to the next one was given before, or is the next one's
+  -- what is given up to the next element was given before, or is what this element gives
   pub given-up_to : (i j k : ℕ) (x : A) → i < length xs → x ≡ get_or xs i x → f x ≡ k ∷ [] → Contains (flat_map f (take (i + 1) xs)) j → Contains (flat_map f (take i xs)) j ⊎ (j ≡ k)
   given-up_to i j k x lt is gives h =
       elim (Contains-append_cases (flat_map f (take i xs)) (f x) j (subst (λ (l : List ℕ). Contains l j) (given-more i x lt is) h)) [
@@ -34,7 +34,7 @@ module _ {A : Type 0} (f : A → List ℕ) (xs : List A) where
       only j k (zero, lt, e) = sym e
       only j k (suc n, lt, e) = absurd (omega (arith, lt))
 
-  -- the next one gives nothing
+  -- if the next element gives nothing, all was given before
   pub given-none : (i j : ℕ) (x : A) → i < length xs → x ≡ get_or xs i x → f x ≡ [] → Contains (flat_map f (take (i + 1) xs)) j → Contains (flat_map f (take i xs)) j
   given-none i j x lt is gives h =
       subst (λ (l : List ℕ). Contains l j) (given-more i x lt is ∙ ap (λ l. flat_map f (take i xs) ++ l) gives ∙ append-nil (flat_map f (take i xs))) h

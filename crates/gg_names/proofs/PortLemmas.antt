@@ -29,7 +29,7 @@ or_false false = refl
 
 -- ---- names one by one
 
--- the names before this place are among the words
+-- when names are added to the words, the names before this place are still the words and the others together
 pub either-grown : (earlier start others done words : List (List ℕ)) → IsEither earlier start others → HaveSame words (start ++ done) → IsEither (earlier ++ done) words others
 either-grown earlier start others done words either same = λ q.
     let a = list_any (bytes_eq q) start in
@@ -114,18 +114,18 @@ ports-more fs f readers writers readers2 writers2 have reads writes = record {
   writes = λ q. same-of writers (writers_of fs) (writers_in f.kind) writers2 have.writes writes q ∙ sym (ap (list_any (bytes_eq q)) (writers-push fs f));
 }
 
--- a field's names are those of its ports
+-- the repetitions in a field are those along the names of its ports
 pub ports-in-field : (before : List Field) (f : Field) (names : List (List ℕ)) → ports_in_field f.kind ≡ names → repeated_in_field before f ≡ along (repeated_port_of (ports_of before) f.line) names
 ports-in-field before f names is = ap (along (repeated_port_of (ports_of before) f.line)) is
 
--- a field that names no ports
+-- after a field without ports the sets are the same
 pub ports-same : (fs : List Field) (f : Field) (readers writers : List (List ℕ)) → readers_in f.kind ≡ [] → writers_in f.kind ≡ [] → HavePorts fs readers writers → HavePorts (fs ++ f ∷ []) readers writers
 ports-same fs f readers writers no_readers no_writers have =
     ports-more fs f readers writers readers writers have
     (λ q. ap (list_any (bytes_eq q)) (sym (ap (λ l. readers ++ l) no_readers ∙ append-nil readers)))
     (λ q. ap (list_any (bytes_eq q)) (sym (ap (λ l. writers ++ l) no_writers ∙ append-nil writers)))
 
--- a field that names readers
+-- after a field of readers their names are in the set of readers; after one of writers, in the set of writers
 pub readers-more : (fs : List Field) (f : Field) (names readers writers new : List (List ℕ)) → f.kind ≡ Readers names → HaveSame new (readers ++ names) → HavePorts fs readers writers → HavePorts (fs ++ f ∷ []) new writers
 readers-more fs f names readers writers new is more have =
     ports-more fs f readers writers new writers have
@@ -138,11 +138,11 @@ writers-more fs f names readers writers new is more have =
     (λ q. ap (list_any (bytes_eq q)) (sym (ap (λ k. readers ++ readers_in k) is ∙ append-nil readers)))
     (λ q. more q ∙ ap (λ k. list_any (bytes_eq q) (writers ++ writers_in k)) (sym is))
 
--- .. or none at all
+-- without fields there are no ports
 pub no-ports : HavePorts [] [] []
 no-ports = record { reads = λ q. refl; writes = λ q. refl }
 
--- the fields up to the next one
+-- the first i fields and the next one are the first i + 1
 pub have-next : (fs : List Field) (i : ℕ) (f : Field) (readers writers : List (List ℕ)) → i < length fs → f ≡ get_or fs i f → HavePorts (take i fs ++ f ∷ []) readers writers → HavePorts (take (i + 1) fs) readers writers
 have-next fs i f readers writers lt is have =
     subst (λ l. HavePorts l readers writers) (sym (take_more fs i f lt ∙ ap (λ x. take i fs ++ x ∷ []) (sym is))) have

@@ -1,4 +1,4 @@
--- How what a table tells grows from declaration to declaration.
+-- How a table tells more with each declaration.
 use Rattle.std.proofs.Common.{◌≡◌, ℕ, ◌+◌, ◌<◌, ◌≤◌, Bool, true, false, List, [], ◌∷◌, ◌++◌, length, map, take, drop, get_or, zero, suc, Option, Some, None, is_some, nat_le, nat_lt, refl, sym, ap, subst, ◌∙◌, if◌then◌else◌, true≢false, arith, append_assoc, length-append}
 use Rattle.std.specs.List.{list_any, flat_map}
 use Rattle.std.specs.Str.{bytes_eq}
@@ -41,7 +41,7 @@ value_of-append q (x ∷ xs) ys = go (bytes_eq q x.0) refl (value_of-append q xs
     go true e rest = rw e refl
     go false e rest = rw e rest
 
--- no value of a name that the table lacks
+-- a name that isn't in the table has no value in it
 lacks : (q : List ℕ) (table : List (List ℕ × Declared)) → list_any (bytes_eq q) (names_told table) ≡ false → value_of q table ≡ None
 lacks q table h = none-is_some (value_of q table) (some-value_of q table ∙ h)
 
@@ -52,7 +52,7 @@ pub to_fresh : (name : List ℕ) (table : List (List ℕ × Declared)) → list_
 unfolding Fresh
 to_fresh name table h = h
 
--- nothing is repeated here: the name is new
+-- if the name is no repetition, the table doesn't have it yet
 pub fresh-name : (name : List ℕ) (table : List (List ℕ × Declared)) (line : ℕ) → repeated_in (names_told table) line name ≡ [] → Fresh name table
 unfolding Fresh
 fresh-name name table line h = go (list_any (bytes_eq name) (names_told table)) refl
@@ -112,7 +112,7 @@ length-told (e ∷ es) = ap (λ n. suc n) (length-told es)
 
 -- ---- what a table tells of the whole scope
 
--- without the clause on the first statements
+-- what the table tells now, without the clause on the first statements
 pub record TellsNow (modules : List ModuleTree) (scope : List (Reference × Role)) (names : List (List ℕ)) (table : List (List ℕ × Declared)) : Type 0 where
   pub names_are : names_told table ≡ names
   pub placed : ArePlaced modules table
@@ -130,7 +130,7 @@ now-start modules = record { names_are = refl; placed = tt; tells = λ r. refl }
 
 -- ---- the ports
 
--- a table of ports alone
+-- the table tells of ports alone
 pub TellsPorts : List ModuleTree → List Port → List (List ℕ × Declared) → Type 0
 TellsPorts modules ports table = TellsNow modules (map entry_by_port ports) (port_names ports) table
 
@@ -152,7 +152,7 @@ take-nil : (n : ℕ) → take n no_statements ≡ []
 take-nil zero = refl
 take-nil (suc n) = refl
 
--- .. tells of the scope before the first statement
+-- a table of all ports tells of the scope before the first statement
 pub ports-told : (modules : List ModuleTree) (ports : List Port) (table : List (List ℕ × Declared)) → TellsPorts modules ports table → TellsScope modules ports [] table
 unfolding TellsPorts
 ports-told modules ports table now =
@@ -185,7 +185,7 @@ whole modules ports before table told =
           ∙ ap (λ t. found modules t r) (take_all (length (names_after ports before)) table (omega (arith, count)));
     }
 
--- what the scope of all says of a reference
+-- what a reference stands for in the whole scope, found in the table
 pub scope-found : (modules : List ModuleTree) (ports : List Port) (statements : List Stmt) (table : List (List ℕ × Declared)) → TellsScope modules ports statements table → (r : Reference) → entry_of r (scope_after modules ports statements) ≡ found modules table r
 scope-found modules ports statements table told r = (whole modules ports statements table told).tells r
 
@@ -197,7 +197,7 @@ names-front ports before n =
     ∙ sym (append_assoc (port_names ports) (flat_map name_by (take n before)) (flat_map name_by (drop n before))) in
     omega (arith, ap length parts, length-append (names_after ports (take n before)) (flat_map name_by (drop n before)))
 
--- a table that tells of all, and whose front tells of the front
+-- if the new table tells of the scope after the statement, and its front of those before, it tells of the scope at each place
 scope-more : (modules : List ModuleTree) (ports : List Port) (before : List Stmt) (s : Stmt) (table added new : List (List ℕ × Declared)) → new ≡ table ++ added → TellsScope modules ports before table → TellsNow modules (scope_after modules ports (before ++ s ∷ [])) (names_after ports (before ++ s ∷ [])) new → TellsScope modules ports (before ++ s ∷ []) new
 scope-more modules ports before s table added new grown told now =
     record {
@@ -233,7 +233,7 @@ scope-more modules ports before s table added new grown told now =
     go n r true e = early n r (grind (arith, nat_tests, e, length-append before (s ∷ [])))
     go n r false e = late n r (grind (arith, nat_tests, e, length-append before (s ∷ [])))
 
--- nothing more is declared
+-- after a statement that declares nothing, the same table tells of the scope
 scope-same : (modules : List ModuleTree) (ports : List Port) (before : List Stmt) (s : Stmt) (table new : List (List ℕ × Declared)) → entries_by modules s ≡ [] → name_by s ≡ [] → new ≡ table → TellsScope modules ports before table → TellsScope modules ports (before ++ s ∷ []) new
 scope-same modules ports before s table new no_entries no_names same told =
     let scope : scope_after modules ports (before ++ s ∷ []) ≡ scope_after modules ports before =
@@ -245,7 +245,7 @@ scope-same modules ports before s table new no_entries no_names same told =
     (subst (λ l. TellsNow modules (scope_after modules ports before) l new) (sym names)
     (subst (TellsNow modules (scope_after modules ports before) (names_after ports before)) (sym same) (whole modules ports before table told))))
 
--- one name more is declared, with all that is reached through it
+-- after a statement that declares a name, the table with this name tells of the scope
 scope-declared : (modules : List ModuleTree) (ports : List Port) (before : List Stmt) (s : Stmt) (table new : List (List ℕ × Declared)) (name : List ℕ) (declared : Declared) → name_by s ≡ name ∷ [] → IsBlock modules name declared (entries_by modules s) → Fresh name table → IsPlaced modules declared → Declares name declared table new → TellsScope modules ports before table → TellsScope modules ports (before ++ s ∷ []) new
 scope-declared modules ports before s table new name declared named is_block fresh placed declares told =
     let more = now-more modules (scope_after modules ports before) (names_after ports before) table new name declared (entries_by modules s) fresh placed is_block declares (whole modules ports before table told) in
@@ -265,7 +265,7 @@ append-first : {A : Type 0} (xs ys : List A) → xs ++ ys ≡ [] → xs ≡ []
 append-first [] ys h = refl
 append-first (x ∷ xs) ys h = cc
 
--- A statement that repeats no name, and what the table is after it.
+-- The table after a statement that repeats no name tells of the scope after it.
 pub statement-told : (modules : List ModuleTree) (ports : List Port) (before : List Stmt) (s : Stmt) (table new : List (List ℕ × Declared)) → repeated_by_kind (names_told table) s.line s.kind ≡ [] → DeclaresBy modules s.kind table new → TellsScope modules ports before table → TellsScope modules ports (before ++ s ∷ []) new
 statement-told modules ports before s table new none declares told = go s.kind refl none declares
   where
@@ -299,7 +299,7 @@ statement-told modules ports before s table new none declares told = go s.kind r
 
 -- ---- the first declarations alone
 
--- what a reference names among the first declarations
+-- what a reference stands for among the first declarations
 pub found-before : (modules : List ModuleTree) (table : List (List ℕ × Declared)) (count : ℕ) (r : Reference) → found modules (take count table) r ≡ if_before (place_of (first_name r) (names_told table)) count (found modules table r)
 found-before modules table count r =
     ap (λ o. through_found modules o r) (value_of-take (first_name r) table count) ∙ go (place_of (first_name r) (names_told table))
@@ -314,22 +314,22 @@ found-before modules table count r =
 
 -- ---- steps of the loops
 
--- the declared names of ports alone
+-- a table of ports alone has the names of the ports
 pub ports-names : (modules : List ModuleTree) (ports : List Port) (table : List (List ℕ × Declared)) → TellsPorts modules ports table → names_told table ≡ names_after ports []
 unfolding TellsPorts
 ports-names modules ports table now = now.names_are ∙ sym (append-nil (port_names ports))
 
--- the ports up to the next one
+-- the table after the next port
 pub ports-next : (modules : List ModuleTree) (ports : List Port) (i : ℕ) (p : Port) (table new : List (List ℕ × Declared)) → i < length ports → p ≡ get_or ports i p → repeated_in (names_told table) p.line p.name ≡ [] → Declares p.name (Plain (role_of_port p.direction)) table new → TellsPorts modules (take i ports) table → TellsPorts modules (take (i + 1) ports) new
 ports-next modules ports i p table new lt is none declares told =
     subst (λ l. TellsPorts modules l new) (sym (take_more ports i p lt ∙ ap (λ x. take i ports ++ x ∷ []) (sym is)))
     (ports-more modules (take i ports) p table new (fresh-name p.name table p.line none) declares told)
 
--- all ports
+-- the table after all ports
 pub ports-all : (modules : List ModuleTree) (ports : List Port) (i : ℕ) (table : List (List ℕ × Declared)) → length ports ≤ i → TellsPorts modules (take i ports) table → TellsScope modules ports [] table
 ports-all modules ports i table le told = ports-told modules ports table (subst (λ l. TellsPorts modules l table) (take_all i ports le) told)
 
--- the statements up to the next one
+-- the table after the next statement
 pub statements-next : (modules : List ModuleTree) (ports : List Port) (statements : List Stmt) (i : ℕ) (s : Stmt) (table new : List (List ℕ × Declared)) → i < length statements → s ≡ get_or statements i s → repeated_by_kind (names_told table) s.line s.kind ≡ [] → DeclaresBy modules s.kind table new → TellsScope modules ports (take i statements) table → TellsScope modules ports (take (i + 1) statements) new
 statements-next modules ports statements i s table new lt is none declares told =
     subst (λ l. TellsScope modules ports l new) (sym (take_more statements i s lt ∙ ap (λ x. take i statements ++ x ∷ []) (sym is)))

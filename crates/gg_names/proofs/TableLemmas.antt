@@ -1,4 +1,4 @@
--- Tables and sets of names against the lists that contracts see.
+-- Tables and sets of names, and the lists that contracts see in their place.
 use Rattle.std.proofs.Common.{◌≡◌, ℕ, zero, suc, ◌+◌, ◌<◌, ◌≤◌, Bool, true, false, cond, ◌||◌, List, [], ◌∷◌, ◌++◌, length, map, take, position, nat_lt, Option, None, Some, is_some, refl, sym, ap, ◌∙◌, if◌then◌else◌, true≢false, ltb-true, lt-ltb, le-ltb, arith}
 use Rattle.std.specs.List.{position_or_len, list_any}
 use Rattle.std.specs.Option.{option_map}
@@ -14,7 +14,7 @@ use Rattle.gg_names.specs.Tables.{value_of}
 
 -- ---- what a contract sees
 
--- the keys of a set
+-- the bytes of the keys of a set
 abbrev pub texts : List (Bor (List ℕ)) → List (List ℕ)
 texts keys = map (λ key. key.now) keys
 
@@ -33,7 +33,7 @@ pub texts-append : (xs ys : List (Bor (List ℕ))) → texts (xs ++ ys) ≡ text
 texts-append [] ys = refl
 texts-append (x ∷ xs) ys = ap (λ l. x.now ∷ l) (texts-append xs ys)
 
--- a name that is there already adds none
+-- a name that is there already adds nothing
 any-again : (q name : List ℕ) (names : List (List ℕ)) → list_any (bytes_eq name) names ≡ true → list_any (bytes_eq q) names ≡ list_any (bytes_eq q) (names ++ name ∷ [])
 any-again q name names there = go (bytes_eq q name) refl ∙ sym (list_any-append (bytes_eq q) names (name ∷ []))
   where
@@ -47,7 +47,7 @@ any-again q name names there = go (bytes_eq q name) refl ∙ sym (list_any-appen
         ∙ sym (ap (λ b. list_any (bytes_eq q) names || (b || false)) e ∙ or_true (list_any (bytes_eq q) names))
     go false e = sym (ap (λ b. list_any (bytes_eq q) names || (b || false)) e ∙ or_false (list_any (bytes_eq q) names))
 
--- a set with one more key
+-- a set after a key was put into it
 pub any-inserted : (q : List ℕ) (keys : List (Bor (List ℕ))) (k : Bor (List ℕ)) → list_any (bytes_eq q) (texts (insert_key (λ a b. bytes_eq a.now b.now) keys k)) ≡ list_any (bytes_eq q) (texts keys ++ k.now ∷ [])
 any-inserted q keys k = go (list_any (is_text k.now) keys) refl
   where
@@ -56,7 +56,7 @@ any-inserted q keys k = go (list_any (is_text k.now) keys) refl
     go false e = ap (λ b. list_any (bytes_eq q) (texts (if b then keys else keys ++ k ∷ []))) e ∙ ap (list_any (bytes_eq q)) (texts-append keys (k ∷ []))
 
 module _ {V : Type 0} where
-  -- the entries of a map
+  -- the entries of a map, with the bytes of their keys
   abbrev pub seen : List (Bor (List ℕ) × V) → List (List ℕ × V)
   seen entries = map (λ entry. (entry.0.now, entry.1)) entries
 
@@ -67,12 +67,12 @@ module _ {V : Type 0} where
   lookup-seen q [] = refl
   lookup-seen q (e ∷ es) = ap (λ r. cond (bytes_eq q e.0.now) (Some e.1) r) (lookup-seen q es)
 
-  -- one more entry
+  -- a map with one more entry at its end
   pub seen-push : (es : List (Bor (List ℕ) × V)) (e : Bor (List ℕ) × V) → seen (es ++ e ∷ []) ≡ seen es ++ (e.0.now, e.1) ∷ []
   seen-push [] e = refl
   seen-push (d ∷ es) e = ap (λ l. (d.0.now, d.1) ∷ l) (seen-push es e)
 
-  -- whether a name has an entry
+  -- a name has a value exactly if it is one of the names
   pub some-value_of : (q : List ℕ) (es : List (List ℕ × V)) → is_some (value_of q es) ≡ list_any (bytes_eq q) (map (λ e. e.0) es)
   some-value_of q [] = refl
   some-value_of q (e ∷ es) = go (bytes_eq q e.0) refl (some-value_of q es)
@@ -111,7 +111,7 @@ position-seen {V} q (e ∷ es) = go (bytes_eq q e.0.now) refl (position-seen q e
         ∙ ap (option_map (λ k. k + 1)) rest
         ∙ sym (ap (λ b. if b then Some 0 else option_map (λ k. k + 1) (place_of q (names_seen es))) t)
 
--- a place is below the count of the names
+-- a place is below the number of names
 pub place-within : (name : List ℕ) (names : List (List ℕ)) (k : ℕ) → place_of name names ≡ Some k → k < length names
 place-within name [] k h = cc
 place-within name (n ∷ ns) k h = go (bytes_eq name n) refl (place_of name ns) refl (place-within name ns)
@@ -129,7 +129,7 @@ place-within name (n ∷ ns) k h = go (bytes_eq name n) refl (place_of name ns) 
         let below = rest j u in
         omega arith
 
--- a value among the first n
+-- a value that is there if its place is below n
 abbrev pub if_before : {V : Type 0} → Option ℕ → ℕ → Option V → Option V
 if_before None n value = None
 if_before (Some k) n value = if nat_lt k n then value else None

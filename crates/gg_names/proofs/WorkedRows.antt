@@ -1,4 +1,4 @@
--- What can be written in worked modules, and what comes twice.
+-- What can be written in small modules, and which names come twice.
 --
 --      1  circuit P :
 --      2    module C :
@@ -47,7 +47,7 @@ x = record { line = 6; name = codes "x"; direction = Input; ty = UInt 8 }
 abbrev inst_i : Stmt
 inst_i = on 7 (statement.Instance (codes "i") (codes "C"))
 
--- the writer's line stands above the reader's
+-- the writer's line is above the reader's
 abbrev mem_m : Stmt
 mem_m = on 8 (statement.Memory (codes "m") (record { line = 9; kind = Writers (codes "w" ∷ []) } ∷ (record { line = 10; kind = Readers (codes "r" ∷ []) } ∷ [])))
 
@@ -68,7 +68,7 @@ field port name = FieldOf (codes "m") port name
 
 -- ---- scopes
 
--- all that can be written, in the order of the file; of a memory its readers come first
+-- all that can be written, in the order of the file; the readers of a memory come before its writers
 whole : scope_of modules (parent_with (inst_i ∷ (mem_m ∷ (wire_n ∷ []))))
     ≡ (Local (codes "x"), InputPort)
     ∷ (Local (codes "i"), Instance) ∷ (PortOf (codes "i") (codes "clock"), InstanceInput Clock) ∷ (PortOf (codes "i") (codes "b"), InstanceOutput (UInt 8))
@@ -91,7 +91,7 @@ text = refl
 before : meaning_of (scope_after modules (x ∷ []) (inst_i ∷ (mem_m ∷ []))) (Local (codes "n")) ≡ None
 before = refl
 
--- there is no module of that name: the instance has no ports
+-- if no module has the name, the instance has no ports
 no_module : scope_of [] (parent_with (inst_i ∷ [])) ≡ (Local (codes "x"), InputPort) ∷ (Local (codes "i"), Instance) ∷ []
 no_module = refl
 
@@ -99,8 +99,8 @@ no_module = refl
 no_mask : meaning_of (scope_of modules (parent_with (mem_m ∷ []))) (field (codes "r") (codes "mask")) ≡ None
 no_mask = refl
 
--- seen from the module that holds it an instance's input is a sink, its output a source; in its own module it is the other
--- way round
+-- In the module that holds it, an instance's input is a sink and its output a source; in the instance's own module it is the
+-- other way round.
 inputs_turn : is_sink (Some (InstanceInput Clock)) ≡ is_sink (Some OutputPort)
 inputs_turn = refl
 
@@ -117,7 +117,7 @@ two_names : repetitions (circuit_with (inst_i ∷ (mem_m ∷ (on 12 (statement.W
     ≡ record { line = 12; name = codes "x" } ∷ record { line = 13; name = codes "m" } ∷ []
 two_names = refl
 
--- a reader r on line 10 of a memory with a writer r on line 9: they have one namespace
+-- a memory with a writer r on line 9 and a reader r on line 10: readers and writers share one namespace
 two_ports : repetitions (circuit_with (on 8 (statement.Memory (codes "m") (record { line = 9; kind = Writers (codes "r" ∷ []) } ∷ (record { line = 10; kind = Readers (codes "q" ∷ codes "r" ∷ []) } ∷ []))) ∷ []))
     ≡ record { line = 10; name = codes "r" } ∷ []
 two_ports = refl
@@ -128,7 +128,7 @@ apart = refl
 
 -- ---- modules
 
--- C stands at place 0; a module that isn't there has no place
+-- C is at place 0; a module that isn't there has no place
 holds : held_by (child ∷ []) inst_i ≡ 0 ∷ []
 holds = refl
 
@@ -137,10 +137,10 @@ holds_none = refl
 
 -- ---- near misses
 
--- a field isn't known by its port's name alone
+-- `m.r` doesn't name the memory
 port_alone : meaning_of (scope_of modules (parent_with (mem_m ∷ []))) (PortOf (codes "m") (codes "r")) ≡ Some Memory → ⊥
 port_alone h = cc
 
--- a writer's data is no source
+-- `m.w.data` isn't the data of a reader
 data_no_source : meaning_of (scope_of modules (parent_with (mem_m ∷ []))) (field (codes "w") (codes "data")) ≡ Some (MemoryPort Reader Data) → ⊥
 data_no_source h = cc

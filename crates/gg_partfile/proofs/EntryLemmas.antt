@@ -19,7 +19,7 @@ use Rattle.gg_partfile.specs.Size.{HasAtMost, shared}
 use Rattle.gg_partfile.specs.declared.fault.PartFault.{PartFault}
 use Rattle.gg_partfile.specs.declared.request.Request.{Request}
 
--- what is read has at most this weight, if something is read
+-- if something was read, it has at most this weight
 abbrev AtMost : {A : Type 0} → (A → ℕ) → ℕ → Option A → Type 0
 AtMost w n None = ⊤
 AtMost w n (Some x) = w x ≤ n
@@ -28,7 +28,7 @@ more : {A : Type 0} (w : A → ℕ) (n m : ℕ) (o : Option A) → n ≤ m → A
 more w n m None le h = tt
 more w n m (Some x) le h = omega arith
 
--- ---- tokens: one a byte at most, and one at the end
+-- ---- tokens: at most one for each byte, and one at the end
 
 lexed : (n : ℕ) (m : Mode) (c : Class) (x : ℕ) (xs : List ℕ) (k : Mode → List Lexeme) → ((next : Mode) → length (k next) ≤ n) → length (lex_byte m c x xs k) ≤ suc n
 lexed n between quote x xs k h = omega (arith, h in_string)
@@ -92,7 +92,7 @@ punctuate-short after_key (colon ∷ ls) = omega (arith, punctuate-short fresh l
 tokens-short : (text : List ℕ) → length (tokens text) ≤ suc (length text)
 tokens-short text = omega (arith, punctuate-short fresh (lex between text), lex-short between text)
 
--- ---- values: one a token at most
+-- ---- values: at most one for each token
 
 abbrev mutual
   weight : Json → ℕ
@@ -111,11 +111,11 @@ abbrev mutual
   members_weight json.no_members = 0
   members_weight (json.member k j ms) = weight j + members_weight ms
 
--- what is read and the tokens that are left
+-- the weight of what was read, with one for each token that is left
 abbrev with_rest : {A : Type 0} → (A → ℕ) → A × List Token → ℕ
 with_rest w p = w p.0 + length p.1
 
--- a parser takes a token for each value
+-- what a parser reads weighs at most as much as the tokens that it takes
 abbrev Takes : {A : Type 0} → (A → ℕ) → Parse A → Type 0
 Takes w p = (ts : List Token) → AtMost (with_rest w) (length ts) (p ts)
 
@@ -145,7 +145,7 @@ keys (Token.boolean b ∷ ts) = tt
 keys (Token.null ∷ ts) = tt
 keys (Token.bad ∷ ts) = tt
 
--- a value and then what f makes of it and of what follows
+-- a value, and then what f makes of it
 then : {A B : Type 0} (w : A → ℕ) (v : B → ℕ) (f : A → B) (n m k : ℕ) (r : Option (A × List Token)) → ((a : A) → v (f a) ≤ k + w a) → k + n ≤ m
     → AtMost (with_rest w) n r → AtMost (with_rest v) m (parse_map f r)
 then w v f n m k None g le h = tt
@@ -206,7 +206,7 @@ value-short (suc depth) ts =
     value-with (λ ts. items (value depth) (length ts) ts) (λ ts. members (value depth) (length ts) ts)
     (λ ts. items-short (value depth) (value-short depth) (length ts) ts) (λ ts. members-short (value depth) (value-short depth) (length ts) ts) ts
 
--- ---- data: no more than values
+-- ---- data: at most as much as its values
 
 abbrev mutual
   size : Data → ℕ
@@ -270,7 +270,7 @@ mutual
   members-light json.no_members found = omega arith
   members-light (json.member k j ms) found = members-then (weight j) (members_weight ms) k (of_members ms) found (of_json j) (json-light j) (λ others. members-light ms others)
 
--- the value that a text is has no more parts than the text has bytes, and one
+-- a value with no token left after it weighs at most as much as all tokens, which are at most the text's bytes and one
 last-light : (n : ℕ) (r : Option (Json × List Token)) → AtMost (with_rest weight) n r → AtMost weight n (option_and_then (λ p. if_last p.0 p.1) r)
 last-light n None h = tt
 last-light n (Some (j, [])) h = omega (arith, h)
@@ -285,7 +285,7 @@ read-light text =
     data-light (suc (length text)) (option_and_then (λ p. if_last p.0 p.1) (value max_depth (tokens text)))
     (last-light (suc (length text)) (value max_depth (tokens text)) (more (with_rest weight) (length (tokens text)) (suc (length text)) (value max_depth (tokens text)) (tokens-short text) (value-short max_depth (tokens text))))
 
--- ---- requests: no more entries than parts of the value
+-- ---- requests: at most as many entries as the value has parts
 
 some-part : (d : Data) → 1 ≤ size d
 some-part null = omega arith
@@ -317,7 +317,7 @@ get-light k (object ms) = below (members_size ms) (get_member k ms) (member-ligh
     below n None h = tt
     below n (Some e) h = omega (arith, h)
 
--- what f reads of a list's items has at most the weight of the items
+-- what f reads of a list's items weighs at most as much as the items
 each-next : {A : Type 0} (w : List A → ℕ) (n m : ℕ) (o : Option A) (rest : Option (List A)) → ((a : A) (xs : List A) → o ≡ Some a → w (a ∷ xs) ≤ n + w xs) → AtMost w m rest
     → AtMost w (n + m) (option_and_then (λ a. option_map (λ xs. a ∷ xs) rest) o)
 each-next w n m None rest h k = tt
@@ -352,7 +352,7 @@ groups-light d =
     array-light (λ (xs : List (List (List ℕ))). length (shared xs)) (each texts)
     (each-light (λ (xs : List (List (List ℕ))). length (shared xs)) texts refl (λ e a xs is. group-light (size e) (texts e) a xs (texts-light e) is)) d
 
--- an object's whole numbers are no more than its members
+-- an object has at most as many whole numbers as members
 pairs-next : (k : List ℕ) (n m : ℕ) (o : Option ℕ) (rest : Option (List (List ℕ × ℕ))) → 1 ≤ n → AtMost (λ (xs : List (List ℕ × ℕ)). length xs) m rest
     → AtMost (λ (xs : List (List ℕ × ℕ)). length xs) (n + m) (option_and_then (λ v. option_map (λ (xs : List (List ℕ × ℕ)). (k, v) ∷ xs) rest) o)
 pairs-next k n m None rest some h = tt
@@ -374,7 +374,7 @@ numbers-light (object ms) = more (λ (xs : List (List ℕ × ℕ)). length xs) (
 known-light : {A : Type 0} (w : A → ℕ) (n : ℕ) (o : Option A) (a : A) → AtMost w n o → o ≡ Some a → w a ≤ n
 known-light w n o a h is = subst (λ x. AtMost w n x) is h
 
--- what stands under a key is less than the value
+-- what is read under a key weighs less than the whole value
 or-light : {A : Type 0} (w : List A → ℕ) (f : Data → Option (List A)) → w [] ≡ 0 → ((d : Data) → AtMost w (size d) (f d))
     → (n : ℕ) (o : Option Data) → 1 ≤ n → AtMost (λ e. suc (size e)) n o → (xs : List A) → or_empty f o ≡ Some xs → suc (w xs) ≤ n
 or-light w f z h n None some k xs is = omega (arith, z, ap w (some-same [] xs is), some)
@@ -383,7 +383,7 @@ or-light w f z h n (Some d) some k xs is = omega (arith, known-light w (size d) 
 under-light : {A : Type 0} (w : List A → ℕ) (f : Data → Option (List A)) (key : List ℕ) (d : Data) (xs : List A) → w [] ≡ 0 → ((e : Data) → AtMost w (size e) (f e)) → under f key d ≡ Some xs → suc (w xs) ≤ size d
 under-light w f key d xs z h is = or-light w f z h (size d) (get key d) (some-part d) (get-light key d) xs is
 
--- so a request has no more entries than its file has bytes
+-- a request has at most as many entries as its file has bytes
 few-entries : (bytes : List ℕ) (d : Data) (request : Request) → read bytes ≡ Some d → Asks d request → HasAtMost (length bytes) request
 few-entries bytes d request is asks =
     let all : size d ≤ suc (length bytes) = known-light size (suc (length bytes)) (read bytes) d (read-light bytes) is in
@@ -393,7 +393,7 @@ few-entries bytes d request is asks =
     let capacity : suc (length request.capacity) ≤ size d = under-light (λ (xs : List (List ℕ × ℕ)). length xs) numbers (codes "capacity") d request.capacity refl numbers-light asks.capacity in
     record { units = omega arith; share = omega arith; memories = omega arith; capacity = omega arith }
 
--- if one is read of the value that they hold
+-- the same for a request that was read from the bytes' value, if one was
 pub few-read : (bytes : List ℕ) (d : Data) (r : Result Request PartFault) → read bytes ≡ Some d → IfOk r (Asks d) → IfOk r (HasAtMost (length bytes))
 few-read bytes d (Ok request) is asks = few-entries bytes d request is asks
 few-read bytes d (Err fault) is asks = tt

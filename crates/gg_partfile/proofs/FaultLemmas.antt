@@ -1,4 +1,4 @@
--- One answer for the bytes of a file.
+-- The bytes of a file have one answer: a request, or one key with which they are refused.
 use Rattle.std.proofs.Common.{◌≡◌, ℕ, List, Option, Some, None, sym, ap, ◌∙◌, subst, cond, inl, inr}
 use Rattle.std.specs.Prelude.{is_some, codes}
 use Rattle.std.proofs.lemmas.Option.{none-some, same_Some}
@@ -10,7 +10,7 @@ use Rattle.gg_partfile.specs.declared.request.Request.{Request}
 right : {A : Type 0} (f : Data → Option (List A)) (key : List ℕ) (d : Data) (found : List A) → under f key d ≡ Some found → wrong f key d ≡ None
 right {A = A} f key d found is = ap (λ (o : Option (List A)). cond (is_some o) None (Some key)) is
 
--- a value that asks for something has no wrong key
+-- a value that asks for a request has no wrong key
 asked : (d : Data) (request : Request) → Asks d request → wrong_key d ≡ None
 asked d request a =
     ap (λ b. cond b (first_wrong d) (Some (codes "-"))) a.object

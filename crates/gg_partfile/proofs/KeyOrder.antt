@@ -1,4 +1,4 @@
--- The keys of an object that was read stand in the order of their bytes.
+-- The keys of an object that was read are in the order of their bytes.
 use Rattle.std.proofs.Common.{◌≡◌, ℕ, List, [], ◌∷◌, Bool, true, false, true≢false, Option, Some, None, Ordering, Less, Equal, Greater, refl, sym, ap, ◌∙◌, subst, cond, arith}
 use Rattle.std.specs.Prelude.{IfSome, AllPairs, All, option_map, option_and_then, is_some, codes}
 use Rattle.std.specs.Ordering.{nat_cmp, match_ordering, ordering_reverse}
@@ -17,12 +17,12 @@ use Rattle.gg_partfile.specs.Order.{IsBefore, IsLeastUnknown}
 use Rattle.gg_partfile.specs.Partition.{whole, pairs, numbers, or_empty, is_known, unknown_key, unknown, IsPartition}
 use Rattle.gg_partfile.specs.declared.request.Request.{Request}
 
--- a key is before all keys of an object
+-- a key comes before all keys of an object
 abbrev IsBeforeAll : List ℕ → Members → Type 0
 IsBeforeAll k no_members = Unit {0}
 IsBeforeAll k (member l e ms) = IsBefore k l × IsBeforeAll k ms
 
--- the keys of an object, and of the objects in it, stand in order
+-- the keys of an object, and of the objects in it, are in order
 abbrev mutual
   InOrder : Data → Type 0
   InOrder null = Unit {0}
@@ -68,7 +68,7 @@ put-ordered : (k : List ℕ) (d : Data) (ms : Members) → InOrder d → Members
 put-ordered k d no_members own h = (tt, own, tt)
 put-ordered k d (member l e ms) own h = put-ordered-at (slice_cmp nat_cmp k l) k l d e ms refl own h (put-ordered k d ms own h.2)
 
--- ---- what is read
+-- ---- values that are read
 
 some-map : {A B : Type 0} (P : A → Type 0) (Q : B → Type 0) (f : A → B) → ((a : A) → P a → Q (f a)) → (o : Option A) → IfSome o P → IfSome (option_map f o) Q
 some-map P Q f step None h = tt
@@ -101,7 +101,7 @@ mutual
   members-ordered (json.member k j ms) found h =
       some-then InOrder MembersInOrder (λ d. of_members ms (put k d found)) (λ d own. members-ordered ms (put k d found) (put-ordered k d found own h)) (of_json j) (json-ordered j)
 
--- the objects of a text that was read
+-- the keys of all objects in a text that was read are in order
 read-ordered : (text : List ℕ) (d : Data) → read text ≡ Some d → InOrder d
 read-ordered text d is =
     subst (λ (o : Option Data). IfSome o InOrder) is
@@ -113,7 +113,7 @@ not-before-itself : (k : List ℕ) → ¬ IsBefore k k
 not-before-itself k is =
     let e : Less ≡ Greater = sym is ∙ nat_list_cmp_total.antisymm k k ∙ ap ordering_reverse is in cc
 
--- a key is before each key of an object that it is before
+-- a key that comes before all keys of an object comes before each key that is found in it
 before-member-at : (o : Ordering) (k l other : List ℕ) (e : Data) (ms : Members) → slice_cmp nat_cmp other l ≡ o → IsBefore k l → (is_some (get_member other ms) ≡ true → IsBefore k other) → is_some (match_ordering o (get_member other ms) (Some e) (get_member other ms)) ≡ true → IsBefore k other
 before-member-at Less k l other e ms is less later held = later held
 before-member-at Equal k l other e ms is less later held = subst (IsBefore k) (sym (exact_bytes other l is)) less
@@ -123,13 +123,13 @@ before-member : (k other : List ℕ) (ms : Members) → IsBeforeAll k ms → is_
 before-member k other no_members h held = absurd (true≢false (sym held))
 before-member k other (member l e ms) h held = before-member-at (slice_cmp nat_cmp other l) k l other e ms refl h.0 (before-member k other ms h.1) held
 
--- behind a key that is known
+-- if the first key is known, an unknown key is among the others, and comes before `key` neither
 behind-known : (o : Ordering) (k key other : List ℕ) (d : Data) (ms : Members) → slice_cmp nat_cmp other k ≡ o → is_known k ≡ true → is_known other ≡ false → (is_some (get_member other ms) ≡ true → ¬ IsBefore other key) → is_some (match_ordering o (get_member other ms) (Some d) (get_member other ms)) ≡ true → ¬ IsBefore other key
 behind-known Less k key other d ms is known unknown later held = later held
 behind-known Equal k key other d ms is known unknown later held = absurd (true≢false (sym known ∙ ap is_known (sym (exact_bytes other k is)) ∙ unknown))
 behind-known Greater k key other d ms is known unknown later held = later held
 
--- behind the first that is unknown
+-- if the first key is unknown, no other key comes before it
 behind-unknown : (o : Ordering) (k other : List ℕ) (d : Data) (ms : Members) → slice_cmp nat_cmp other k ≡ o → IsBeforeAll k ms → is_some (match_ordering o (get_member other ms) (Some d) (get_member other ms)) ≡ true → ¬ IsBefore other k
 behind-unknown Less k other d ms is h held less = not-before-itself k (before-trans k other k (before-member k other ms h held) less)
 behind-unknown Equal k other d ms is h held less = let e : Equal ≡ Less = sym is ∙ less in cc
@@ -157,7 +157,7 @@ least-of (object ms) key h is = λ other held unknown. least-member key other ms
 pub least_unknown : (text key : List ℕ) (d : Data) → read text ≡ Some d → unknown d ≡ Some key → IsLeastUnknown d key
 least_unknown text key d is found = least-of d key (read-ordered text d is) found
 
--- ---- capacities stand in the order of their names
+-- ---- capacities are in the order of their names
 
 member-ordered-at : (o : Ordering) (k : List ℕ) (d e : Data) (ms : Members) → InOrder d → (get_member k ms ≡ Some e → InOrder e) → match_ordering o (get_member k ms) (Some d) (get_member k ms) ≡ Some e → InOrder e
 member-ordered-at Less k d e ms own later is = later is
@@ -176,7 +176,7 @@ value-ordered k (string s) e h is = absurd (none-some e is)
 value-ordered k (array ds) e h is = absurd (none-some e is)
 value-ordered k (object ms) e h is = member-ordered k e ms h is
 
--- a pair and the rest
+-- if pairs were read from an object, its first member gives the first pair, and the others the rest
 pairs-parts : {P : Type 0} (k : List ℕ) (o : Option ℕ) (r : Option (List (List ℕ × ℕ))) (ps : List (List ℕ × ℕ)) → option_and_then (λ n. option_map (λ rest. (k, n) ∷ rest) r) o ≡ Some ps → ((n : ℕ) (rest : List (List ℕ × ℕ)) → r ≡ Some rest → ((k, n) ∷ rest) ≡ ps → P) → P
 pairs-parts k None r ps is next = absurd (none-some ps is)
 pairs-parts k (Some n) None ps is next = absurd (none-some ps is)

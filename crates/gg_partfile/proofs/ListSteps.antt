@@ -7,7 +7,7 @@ use Rattle.serde_json.specs.View.{items_of, view, members_view}
 use Rattle.serde_json.specs.declared.value.Value.{Value}
 use Rattle.gg_partfile.specs.Partition.{each, whole, pairs}
 
--- a list behind another, if there is one
+-- a list after another, if there is one
 abbrev pub behind : {A : Type 0} → List A → Option (List A) → Option (List A)
 behind found rest = option_map (λ more. found ++ more) rest
 
@@ -21,14 +21,14 @@ behind-none (Some more) = refl
 
 -- ---- the items of a list
 
--- what was read of the first i items, and what f reads of the others, is what it reads of all
+-- what was read of the first i items, and then what f reads of the others, is what f reads of all
 pub record ReadsItems {A : Type 0} (f : Data → Option A) (ds : List Data) (i : ℕ) (found : List A) : Type 0 where
   pub reads : behind found (each f (items_of (drop i ds))) ≡ each f (items_of ds)
 
 pub items-none : {A : Type 0} (f : Data → Option A) (ds : List Data) → ReadsItems f ds 0 []
 items-none f ds = record { reads = behind-none (each f (items_of ds)) }
 
--- the items from i on begin with the one at i
+-- what f reads of the items from i on begins with what it reads of the one at i
 items-at : {A : Type 0} (f : Data → Option A) (ds : List Data) (i : ℕ) (d : Data) (o : Option A) → i < length ds → d ≡ get_or ds i d → f d ≡ o → each f (items_of (drop i ds)) ≡ option_and_then (λ a. option_map (λ more. a ∷ more) (each f (items_of (drop (i + 1) ds)))) o
 items-at f ds i d o lt is reads =
     ap (λ (l : List Data). each f (items_of l)) (drop_more ds i d lt ∙ ap (λ (e : Data). e ∷ drop (i + 1) ds) (sym is))

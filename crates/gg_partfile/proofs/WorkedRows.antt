@@ -1,4 +1,4 @@
--- Small partition files, with what they ask for, and what is wrong with others.
+-- Small partition files: what they ask for, and what is wrong with others.
 use Rattle.std.proofs.Common.{◌≡◌, ℕ, List, [], ◌∷◌, Option, Some, None, refl, codes}
 use Rattle.std.specs.Prelude.{option_and_then}
 use Rattle.serde_json.specs.Data.{Data}
@@ -7,7 +7,7 @@ use Rattle.serde_json.proofs.OnLiterals.{serde_json_on_literals}
 use Rattle.gg_partfile.specs.Partition.{texts, groups, numbers, under}
 use Rattle.gg_partfile.specs.Fault.{wrong_key}
 
--- the key that is told of a text, if one is
+-- the key with which a text is refused, if it is
 abbrev told_of : Option Data → Option (List ℕ)
 told_of None = Some (codes "-")
 told_of (Some d) = wrong_key d

@@ -17,17 +17,17 @@ use Rattle.gg_row.specs.LineRows.{statement_row}
 use Rattle.gg_read.specs.Text.{is_version, without_version, place_after, after_statement}
 use Rattle.gg_read.specs.Stages.{stage_place, open_row, reset_row, Advances}
 
--- what stands behind the version's row stays
+-- once there is a row apart from the version's, more rows are added as they are
 without_version-append : (before rows : List Numbered) (x : Numbered) (xs : List Numbered) → without_version before ≡ x ∷ xs → without_version (before ++ rows) ≡ without_version before ++ rows
 without_version-append [] rows x xs e = absurd (cc)
 without_version-append (b ∷ bs) rows x xs e =
     elim (is_version b.row) as (λ (v : Bool). (if v then (bs ++ rows) else (b ∷ (bs ++ rows))) ≡ (if v then bs else (b ∷ bs)) ++ rows) [ true ↦ refl | false ↦ refl ]
 
--- more rows behind a circuit's
+-- rows that are added after the rows of a circuit come after them
 pub rows_more : (circuit : CircuitTree) (before rows : List Numbered) → without_version before ≡ rows_of circuit → without_version (before ++ rows) ≡ rows_of circuit ++ rows
 rows_more circuit before rows e = without_version-append before rows _ _ e ∙ ap (λ (l : List Numbered). l ++ rows) e
 
--- the version's row alone
+-- with the version's row alone there is no row of a circuit yet
 pub version_first : (before : List Numbered) (n a b c : ℕ) → before ≡ [] → without_version (before ++ numbered n (VersionRow a b c) ∷ []) ≡ []
 version_first before n a b c e = ap (λ (l : List Numbered). without_version (l ++ numbered n (VersionRow a b c) ∷ [])) e
 
@@ -35,7 +35,7 @@ header_test : (v : Bool) (b : Numbered) (bs : List Numbered) (x : Numbered) → 
 header_test true b bs x e = ap (λ (l : List Numbered). l ++ x ∷ []) e
 header_test false b bs x e = absurd (cc)
 
--- the circuit's row, maybe behind the version's
+-- the circuit's row is the first of the circuit, with a version's row before it or without
 pub header_next : (before : List Numbered) (n : ℕ) (name : List ℕ) → without_version before ≡ [] → without_version (before ++ numbered n (CircuitRow name) ∷ []) ≡ numbered n (CircuitRow name) ∷ []
 header_next [] n name e = refl
 header_next (b ∷ bs) n name e = header_test (is_version b.row) b bs (numbered n (CircuitRow name)) e
@@ -51,7 +51,7 @@ if_true : {A : Type 0} (v : Bool) (x y : A) → v ≡ true → (if v then x else
 if_true true x y e = refl
 if_true false x y e = absurd (cc)
 
--- a register whose reset stands on its line has one row
+-- a register has one row if its reset is on its line
 pub inline_rows : (n : ℕ) (name : List ℕ) (ty : GroundType) (clock : Term) (reset : Reset) → reset.line ≡ n → register_rows n name ty clock (Some reset) ≡ numbered n (RegisterResetRow name ty clock reset.condition reset.init) ∷ []
 inline_rows n name ty clock reset same =
     let test : (reset.line == n) ≡ true = grind (arith, nat_tests) in
@@ -60,7 +60,7 @@ inline_rows n name ty clock reset same =
 later_reset : (line at : ℕ) → line < at → (at == line) ≡ false
 later_reset line at h = grind (arith, nat_tests)
 
--- a register's two rows
+-- an open register's row and the row of its reset are the rows of the register
 pub rows_closed : (circuit next : CircuitTree) (register : OpenRegister) (reset : Reset) (before : List Numbered) → register.line < reset.line → rows_of next ≡ rows_of circuit ++ register_rows register.line register.name register.ty register.clock (Some reset) → without_version before ≡ rows_of circuit ++ open_row register ∷ [] → without_version (before ++ reset_row reset ∷ []) ≡ rows_of next
 rows_closed circuit next register reset before later pushed e =
     let test : (reset.line == register.line) ≡ false = later_reset register.line reset.line later in
@@ -71,7 +71,7 @@ rows_closed circuit next register reset before later pushed e =
     ∙ ap (λ (l : List Numbered). rows_of circuit ++ l) (sym two)
     ∙ sym pushed
 
--- a statement that is one line has one row, which is a form of the same places as any statement's
+-- a statement other than a memory or a register with a reset has one row, which may come where any statement may
 pub statement_advances : (stage : Stage) (n : ℕ) (kind : StmtKind) (result : Result Stage Miss) → Advances stage (after_statement (stage_place stage)) n (kind_rows n kind) result → IfSome (statement_row kind) (λ held. Advances stage (place_after (stage_place stage) held) n (numbered n held ∷ []) result)
 statement_advances stage n (statement.Wire name ty) result h = h
 statement_advances stage n (statement.Node name value) result h = h

@@ -1,4 +1,4 @@
--- Each text spells a circuit or has a fault line: each line is blank, a row of its place or at fault.
+-- Each text spells a circuit or has a fault line: each line is blank, a row that is valid at its position, or at fault.
 use Rattle.std.proofs.Common.{◌≡◌, ℕ, zero, suc, ◌+◌, ◌<◌, ◌≤◌, ◌⊎◌, inl, inr, List, [], ◌∷◌, ◌++◌, length, take, Option, Some, None, refl, sym, ap, ◌∙◌, subst, arith, append_assoc, length-append}
 use Rattle.std.proofs.lemmas.List.{append-nil}
 use Rattle.std.specs.Prelude.{slice_get}
@@ -22,7 +22,7 @@ use Rattle.gg_read.proofs.TokenCounts.{opened-cons, closed-cons}
 
 -- ---- one line
 
--- behind so many open and closed brackets the tokens go too deep
+-- after o opened and c closed brackets, the brackets of these tokens go too deep
 abbrev DeepBehind : ℕ → ℕ → List Tok → Type 0
 DeepBehind o c ts = (k : ℕ) × (256 + (c + closed (take k ts)) < o + opened (take k ts))
 
@@ -51,7 +51,7 @@ deep_or_not (t ∷ ts) o c = by (less_or_not (256 + c) o) (deep_or_not ts (o + o
     by (inr le) (inl (k, deep)) = inl (suc k, omega (arith, deep, opened-cons t (take k ts), closed-cons t (take k ts)))
     by (inr le) (inr shallow) = inr (none le shallow)
 
--- what a line is at its place
+-- what a line is at its position
 data Judged (place : LinePlace) (line : LineTokens) : Type 0 where
   Blank : (blank : IsBlank line) → Judged place line
   Formed : (row : Row) (next : LinePlace) (form : IsForm place line row next) (shallow : IsTooDeep line.tokens → ⊥) → Judged place line
@@ -110,7 +110,7 @@ judge place (t ∷ ts) None = deep-judged place t ts (deep_or_not (t ∷ ts) 0 0
 abbrev IsAnswered : List ℕ → Type 0
 IsAnswered text = ((circuit : CircuitTree) × Spells text circuit × HasNoFaultLine text) ⊎ ((n : ℕ) × (line : LineTokens) × IsFaultLine text n line)
 
--- from these lines on, where those before them were read
+-- from these lines on the text is answered, if the lines before them were read
 abbrev GoesThrough : List ℕ → List (List ℕ) → Type 0
 GoesThrough text ls =
     (done : List (List ℕ)) (n : ℕ) (stage : Stage) → done ++ ls ≡ lines text → n ≡ length done + 1 → GoesOn stage n → HasRead done stage → IsAnswered text

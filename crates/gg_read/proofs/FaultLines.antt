@@ -20,14 +20,14 @@ some_same x y e = ap (λ o. unwrap_or o x) e
 pub same_row : (ts : List Tok) (r s : Row) → SpellsRow r ts → SpellsRow s ts → r ≡ s
 same_row ts r s spelt again = some_same r s (sym (spelt-row_at ts r spelt) ∙ spelt-row_at ts s again)
 
--- what holds nothing is no row
+-- a blank line is no row
 pub blank_no_row : (line : LineTokens) (row : Row) → IsBlank line → SpellsRow row line.tokens → ⊥
 blank_no_row line row blank spelt =
     let found : row_at [] ≡ Some row = subst (λ (ts : List Tok). row_at ts ≡ Some row) blank.0 (spelt-row_at line.tokens row spelt) in
     let nothing = row_at-nothing in
     cc
 
--- a place and a row have one next place at most
+-- a row at a position has one next position at most
 same_next : (place : LinePlace) (line : LineTokens) (r s : Row) (p q : LinePlace) → IsForm place line r p → IsForm place line s q → p ≡ q
 same_next place line r s p q form again =
     let row : r ≡ s = same_row line.tokens r s form.spelt again.spelt in
@@ -64,7 +64,7 @@ AreLineTokens-same (l ∷ ls) (t ∷ ts) [] tokens again = absurd again
 AreLineTokens-same (l ∷ ls) (t ∷ ts) (u ∷ us) tokens again =
     ap (λ (x : LineTokens). x ∷ ts) (same_line l t u tokens.0 again.0) ∙ ap (λ (x : List LineTokens). u ∷ x) (AreLineTokens-same ls ts us tokens.1 again.1)
 
--- a line that is no form of its place is not among lines that are rows
+-- a line that has no form of its position isn't among lines that are rows
 among_rows : (place : LinePlace) (n : ℕ) (ls : List (List ℕ)) (before held : List LineTokens) (rows others : List Numbered) (mid last : LinePlace) (l : List ℕ) (line : LineTokens) → AreLineTokens (take (length before) ls) before → AreLineTokens (take (length held) ls) held → length before < length held → AreRows place n before rows mid → AreRows place n held others last → slice_get ls (length before) ≡ Some l → Lexes l line.tokens line.bad → IsNoForm mid line → ⊥
 among_rows place n ls before [] rows others mid last l line tokens again less read other there lexed none = omega (arith, less)
 among_rows place n [] before (h ∷ hs) rows others mid last l line tokens again less read other there lexed none = absurd again
@@ -100,19 +100,19 @@ deep_among (k ∷ ks) (h ∷ hs) zero l line tokens shallow less there lexed dee
 deep_among (k ∷ ks) (h ∷ hs) (suc i) l line tokens shallow less there lexed deep =
     deep_among ks hs i l line tokens.1 shallow.1 (omega (arith, less)) there lexed deep
 
--- as many lines as are read are there
+-- no more lines were read than the text has
 within : (ls : List (List ℕ)) (held : List LineTokens) → AreLineTokens (take (length held) ls) held → length held ≤ length ls
 within ls [] tokens = omega arith
 within [] (t ∷ ts) tokens = absurd tokens
 within (l ∷ ls) (t ∷ ts) tokens = omega (arith, within ls ts tokens.1)
 
--- what stands at an index is inside
+-- a place that has a line is below the number of lines
 inside : (ls : List (List ℕ)) (i : ℕ) (l : List ℕ) → slice_get ls i ≡ Some l → i < length ls
 inside [] i l there = absurd (cc)
 inside (k ∷ ks) zero l there = omega arith
 inside (k ∷ ks) (suc i) l there = omega (arith, inside ks i l there)
 
--- no fault line stands before another
+-- no fault line comes before another
 no_earlier : (text : List ℕ) (n m : ℕ) (line other : LineTokens) (a : IsFaultLine text n line) (b : IsFaultLine text m other) → length a.before < length b.before → ⊥
 no_earlier text n m line other a b less = by_fault a.fault
   where
@@ -155,14 +155,14 @@ lines_held [] (t ∷ ts) tokens = absurd tokens
 lines_held (l ∷ ls) [] tokens = absurd tokens
 lines_held (l ∷ ls) (t ∷ ts) tokens = let more = lines_held ls ts tokens.1 in (ap suc more.0, (tokens.0, more.1))
 
--- a line that is too deep stands in the text
+-- line i of the text, counted from 0, is too deep
 record IsDeepThere (text : List ℕ) (i : ℕ) (line : LineTokens) : Type 0 where
   pub deep : IsTooDeep line.tokens
   pub l : List ℕ
   pub there : slice_get (lines text) i ≡ Some l
   pub lexed : Lexes l line.tokens line.bad
 
--- where all lines are rows, and the text may end behind them, a fault line is too deep
+-- if all lines are rows and the text may end after them, a fault line is too deep
 deep_there : (text : List ℕ) (n : ℕ) (line : LineTokens) (held : List LineTokens) (rows : List Numbered) (last : LinePlace) (a : IsFaultLine text n line) → AreLineTokens (lines text) held → AreRows AtStart 1 held rows last → IsEndPlace last → IsDeepThere text (length a.before) line
 deep_there text n line held rows last a tokens read end_place = by_fault a.fault
   where
@@ -186,7 +186,7 @@ spelt_but_too_deep-law text n line circuit spells a =
     let found = deep_there text n line spells.held spells.rows spells.last a spells.tokens spells.read spells.whole in
     found.deep
 
--- where all lines are rows and none is too deep, and the text may end behind them, no line is at fault
+-- if all lines are rows, none is too deep and the text may end after them, no line is at fault
 pub no_fault_line : (text : List ℕ) (held : List LineTokens) (rows : List Numbered) (last : LinePlace) → AreLineTokens (lines text) held → AreRows AtStart 1 held rows last → IsEndPlace last → AreShallow held → HasNoFaultLine text
 no_fault_line text held rows last tokens read end_place shallow = λ n line a.
     let whole = lines_held (lines text) held tokens in

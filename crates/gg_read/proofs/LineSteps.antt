@@ -1,4 +1,4 @@
--- Lines that were read, and one more.
+-- Lines that were read, with one more line.
 use Rattle.std.proofs.Common.{◌≡◌, ℕ, zero, suc, ◌+◌, ◌<◌, inl, inr, List, [], ◌∷◌, ◌++◌, length, take, Some, None, refl, sym, ap, ◌∙◌, subst, arith}
 use Rattle.std.proofs.lemmas.List.{length-take-le}
 use Rattle.std.proofs.Math.Seq.{take-length}
@@ -14,7 +14,7 @@ use Rattle.gg_read.specs.Text.{LinePlace, AtStart, LineTokens, AreLineTokens, Ar
 use Rattle.gg_read.specs.Stages.{stage_place, IsBuilt, Holds, HasRead}
 use Rattle.gg_read.proofs.FaultLines.{no_fault_line}
 
--- rows, and the row of one more line
+-- rows, and the row of the next line
 pub AreRows-row : (place : LinePlace) (n : ℕ) (before : List LineTokens) (rows : List Numbered) (mid : LinePlace) (line : LineTokens) (row : Row) (next : LinePlace) (m : ℕ) → AreRows place n before rows mid → IsForm mid line row next → m ≡ n + length before → AreRows place n (before ++ line ∷ []) (rows ++ numbered m row ∷ []) next
 AreRows-row place n [] rows mid line row next m read form number =
     let e : m ≡ n = omega (arith, number) in
@@ -24,19 +24,19 @@ AreRows-row place n (l ∷ ls) rows mid line row next m (inl (blank, more)) form
 AreRows-row place n (l ∷ ls) rows mid line row next m (inr (r, p, others, first, same, more)) form number =
     inr (r, p, others ++ numbered m row ∷ [], first, ap (λ (q : List Numbered). q ++ numbered m row ∷ []) same, AreRows-row p (n + 1) ls others mid line row next m more form (omega (arith, number)))
 
--- rows, and a line that holds nothing
+-- rows, and then a blank line
 pub AreRows-blank : (place : LinePlace) (n : ℕ) (before : List LineTokens) (rows : List Numbered) (mid : LinePlace) (line : LineTokens) → AreRows place n before rows mid → IsBlank line → AreRows place n (before ++ line ∷ []) rows mid
 AreRows-blank place n [] rows mid line read blank = inl (blank, read)
 AreRows-blank place n (l ∷ ls) rows mid line (inl (first, more)) blank = inl (first, AreRows-blank place (n + 1) ls rows mid line more blank)
 AreRows-blank place n (l ∷ ls) rows mid line (inr (r, p, others, first, same, more)) blank =
     inr (r, p, others, first, same, AreRows-blank p (n + 1) ls others mid line more blank)
 
--- lines of which none is too deep, and one more
+-- lines of which none is too deep, and one more that isn't
 AreShallow-more : (before : List LineTokens) (line : LineTokens) → AreShallow before → (IsTooDeep line.tokens → ⊥) → AreShallow (before ++ line ∷ [])
 AreShallow-more [] line shallow not = (not, tt)
 AreShallow-more (l ∷ ls) line shallow not = (shallow.0, AreShallow-more ls line shallow.1 not)
 
--- what holds nothing is not too deep
+-- a line without tokens is not too deep
 pub empty_shallow : IsTooDeep [] → ⊥
 empty_shallow (zero, deep) = omega (arith, deep)
 empty_shallow (suc k, deep) = omega (arith, deep)
@@ -56,7 +56,7 @@ AreLineTokens-length [] (t ∷ ts) tokens = absurd tokens
 AreLineTokens-length (k ∷ ks) [] tokens = absurd tokens
 AreLineTokens-length (k ∷ ks) (t ∷ ts) tokens = ap suc (AreLineTokens-length ks ts tokens.1)
 
--- one more line that is a row of its place
+-- the next line is a row that is valid at its position
 pub HasRead-row : (ls : List (List ℕ)) (stage next : Stage) (l : List ℕ) (line : LineTokens) (row : Row) (m : ℕ) → HasRead ls stage → Lexes l line.tokens line.bad → IsForm (stage_place stage) line row (stage_place next) → (IsTooDeep line.tokens → ⊥) → ((before : List Numbered) → IsBuilt stage before → IsBuilt next (before ++ numbered m row ∷ [])) → m ≡ length ls + 1 → HasRead (ls ++ l ∷ []) next
 HasRead-row ls stage next l line row m read lexed form not built number =
     record {
@@ -68,7 +68,7 @@ HasRead-row ls stage next l line row m read lexed form not built number =
       built = built read.rows read.built;
     }
 
--- one more line that holds nothing
+-- the next line is blank
 pub HasRead-blank : (ls : List (List ℕ)) (stage : Stage) (l : List ℕ) (line : LineTokens) → HasRead ls stage → Lexes l line.tokens line.bad → IsBlank line → HasRead (ls ++ l ∷ []) stage
 HasRead-blank ls stage l line read lexed blank =
     record {
@@ -99,7 +99,7 @@ all_tokens : (text : List ℕ) (held : List LineTokens) → AreLineTokens (lines
 all_tokens text held tokens =
     subst (λ (i : ℕ). AreLineTokens (take i (lines text)) held) (AreLineTokens-length (lines text) held tokens) (subst (λ (ls : List (List ℕ)). AreLineTokens ls held) (sym (take-length (lines text))) tokens)
 
--- no line is at fault, but the text may not end there
+-- no line is at fault, but the text may not end after the last one
 pub HasRead-incomplete : (text : List ℕ) (n : ℕ) (stage : Stage) → HasRead (lines text) stage → (IsEndPlace (stage_place stage) → ⊥) → n ≡ length (lines text) + 1 → IsFaultLine text n (record { tokens = []; bad = None })
 HasRead-incomplete text n stage read no_end number =
     let size : length (lines text) ≡ length read.held = AreLineTokens-length (lines text) read.held read.tokens in
@@ -114,7 +114,7 @@ HasRead-incomplete text n stage read no_end number =
       fault = inr (size, refl, no_end);
     }
 
--- no line is at fault, and the text may end there: it spells the circuit
+-- all lines were read, and the text may end there: it spells the circuit
 pub HasRead-whole : (text : List ℕ) (stage : Stage) (circuit : CircuitTree) → IsUtf8 text → HasRead (lines text) stage → IsEndPlace (stage_place stage) → Holds stage circuit → Spells text circuit
 HasRead-whole text stage circuit utf8 read end holds =
     record {

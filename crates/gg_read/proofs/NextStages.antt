@@ -1,4 +1,4 @@
--- Behind each row that may stand at a place there is a next stage, whose circuit holds that row too.
+-- After each row that is valid at a position there is a next stage, whose circuit has that row too.
 use Rattle.std.proofs.Common.{◌≡◌, ℕ, ◌+◌, ◌<◌, List, [], ◌∷◌, ◌++◌, length, true, Some, None, Ok, refl, sym, ap, ◌∙◌, arith, length-append}
 use Rattle.gg_ast.specs.declared.module.Port.{Port}
 use Rattle.gg_ast.specs.declared.statement.Field.{Field}
@@ -20,7 +20,7 @@ use Rattle.gg_read.proofs.Builds.{rows_more, version_first, header_next, nothing
 some_same : {A : Type 0} (x y : A) → Some x ≡ Some y → x ≡ y
 some_same x y e = cc
 
--- what holds of a stage before the line of this number, names apart
+-- what holds of a stage before line n, apart from what is said of names
 abbrev pub GoesOn : Stage → ℕ → Type 0
 GoesOn Start n = Unit {0}
 GoesOn Version n = Unit {0}
@@ -39,14 +39,14 @@ goes_later (Statements c) n goes = goes
 goes_later (Fields c) n goes = goes
 goes_later (Open c register) n goes = (goes.0, omega (arith, goes.1))
 
--- the stage behind a row on line n
+-- the stage after a row on line n
 pub record NextStage (stage : Stage) (n : ℕ) (row : Row) (place : LinePlace) : Type 0 where
   pub next : Stage
   pub there : stage_place next ≡ place
   pub goes : GoesOn next (n + 1)
   pub built : (before : List Numbered) → IsBuilt stage before → IsBuilt next (before ++ numbered n row ∷ [])
 
--- one more statement
+-- the rows of a statement come after those of the circuit to which it is added
 grown : (c : CircuitTree) (s : Stmt) (rows : List Numbered) → 0 < length c.modules → statement_rows s ≡ rows → rows_of c ++ rows ≡ rows_of (add_statement c s)
 grown c s rows some same =
     ap (λ (l : List Numbered). rows_of c ++ l) (sym same)
@@ -55,7 +55,7 @@ grown c s rows some same =
 some_left : (c : CircuitTree) (s : Stmt) → 0 < length c.modules → 0 < length (add_statement c s).modules
 some_left c s some = omega (arith, some, length-on_last (with_statement s) c.modules)
 
--- a circuit of a stage, to which a statement may be added
+-- a stage whose circuit may get a statement
 record HasBody (stage : Stage) : Type 0 where
   circuit : CircuitTree
   some : 0 < length circuit.modules
@@ -73,7 +73,7 @@ body (Statements c) n place goes there = record { circuit = c; some = goes; hold
 body (Fields c) n place goes there = record { circuit = c; some = goes.0; holds = λ before b. b; to_statements = refl; to_open = refl; to_fields = refl }
 body (Open c register) n place goes there = absurd (cc)
 
--- where a register of two lines or a memory may stand, a statement may
+-- a statement may come wherever a register of two lines or a memory may
 opens-statement : (stage : Stage) (place : LinePlace) → after_open (stage_place stage) ≡ Some place → after_statement (stage_place stage) ≡ Some InStatements
 opens-statement Start place there = absurd (cc)
 opens-statement Version place there = absurd (cc)
@@ -216,7 +216,7 @@ circuit-next (Statements c) n name place there = absurd (cc)
 circuit-next (Fields c) n name place there = absurd (cc)
 circuit-next (Open c register) n name place there = absurd (cc)
 
--- each row that may stand at a stage's place
+-- the next stage for each row that is valid at the position
 pub next-stage : (stage : Stage) (n : ℕ) (row : Row) (place : LinePlace) → GoesOn stage n → place_after (stage_place stage) row ≡ Some place → NextStage stage n row place
 next-stage stage n (VersionRow x y z) place goes there = version-next stage n x y z place there
 next-stage stage n (CircuitRow name) place goes there = circuit-next stage n name place there

@@ -1,4 +1,4 @@
--- One line of a text, and its end.
+-- One step of reading a text: a line, or the end.
 use Rattle.std.proofs.Common.{◌≡◌, ℕ, ◌+◌, ◌<◌, List, [], ◌∷◌, ◌++◌, length, take, get_or, false, Option, Some, None, Result, Ok, Err, inl, inr, refl, sym, ap, ◌∙◌, subst, arith}
 use Rattle.std.specs.Prelude.{is_some, IfOk, IfErr, IfSome, MatchOption, MatchResult}
 use Rattle.std.specs.Str.{IsUtf8}
@@ -28,7 +28,7 @@ pub none_there : (o : Option ℕ) → is_some o ≡ false → o ≡ None
 none_there (Some x) e = absurd (cc)
 none_there None e = refl
 
--- what the reader of rows found
+-- a row that the reader of rows found is the whole line, which isn't too deep
 row_held : (line : LineTokens) (held : Option Row) → line.bad ≡ None → (IsTooDeep line.tokens → ⊥) → MatchOption held ⊥ (λ row. SpellsRow row line.tokens) → MatchOption held ⊥ (IsWholeRow line)
 row_held line None whole shallow found = found
 row_held line (Some row) whole shallow found = record { whole = whole; shallow = shallow; spelt = found }
@@ -38,7 +38,7 @@ row_found line (Ok held) whole shallow found = row_held line (row_of held) whole
 row_found line (Err NoForm) whole shallow found = λ r h. found r h.spelt
 row_found line (Err NoMemory) whole shallow found = tt
 
--- a row, and its place
+-- the answer for a line that is a row, at the position of the stage
 placed_row : (stage : Stage) (n : ℕ) (line : LineTokens) (row : Row) (result : Result Stage Miss) → IsWholeRow line row → Advances stage (place_after (stage_place stage) row) n (numbered n row ∷ []) result → IsPlaced stage n line result
 placed_row stage n line row (Ok next) whole after =
     record {
@@ -67,15 +67,15 @@ later (Statements circuit) n stays = stays
 later (Fields circuit) n stays = stays
 later (Open circuit register) n stays = (stays.0, omega (arith, stays.1), stays.2)
 
--- a line that holds nothing
+-- the step of a blank line
 pub blank_step : (stage : Stage) (n : ℕ) (l : List ℕ) (line : LineTokens) → IsStage stage n → Lexes l line.tokens line.bad → IsBlank line → IsStep stage n l (Ok stage)
 blank_step stage n l line stays lexed blank = (later stage n stays, λ ls number read. HasRead-blank ls stage l line read lexed blank)
 
--- a line that is a row of its place
+-- the step of a line that is a row of its position
 pub row_step : (stage : Stage) (n : ℕ) (l : List ℕ) (line : LineTokens) (next : Stage) → Lexes l line.tokens line.bad → IsRowStep stage n line next → IsStep stage n l (Ok next)
 row_step stage n l line next lexed step = (step.stays, λ ls number read. HasRead-row ls stage next l line step.row n read lexed step.form step.shallow step.built number)
 
--- a line that is none
+-- the step of a line that is none
 pub miss_step : (stage : Stage) (n : ℕ) (l : List ℕ) (line : LineTokens) (miss : Miss) (answer : ReadFault) → Lexes l line.tokens line.bad → (IsBlank line → ⊥) → IsPlaced stage n line (Err miss) → IsMissed miss n line.tokens answer → IsStep stage n l (Err answer)
 miss_step stage n l line NoForm because.NotText lexed some none cause = absurd cause
 miss_step stage n l line NoForm (because.Syntax m) lexed some none cause = record { line = line; lexed = lexed; fault = inr (some, λ r p form. none r p form cause.1); cause = cause }
@@ -84,7 +84,7 @@ miss_step stage n l line NoForm (because.TooDeep m) lexed some none cause = reco
 miss_step stage n l line NoForm because.NoMemory lexed some none cause = tt
 miss_step stage n l line NoMemory answer lexed some none cause = subst (λ (a : ReadFault). IsStep stage n l (Err a)) (sym cause) tt
 
--- one turn over the lines of a text
+-- one turn of the loop over the lines of a text
 pub line_turn : (text : List ℕ) (k m n : ℕ) (l : List ℕ) (stage next : Stage) → (k < length (lines text)) × (l ≡ get_or (lines text) k l) → n ≡ k + 1 → m ≡ k + 1 → HasRead (take k (lines text)) stage → ((ls : List (List ℕ)) → n ≡ length ls + 1 → HasRead ls stage → HasRead (ls ++ l ∷ []) next) → HasRead (take m (lines text)) next
 line_turn text k m n l stage next turn number size read step =
     let before : length (take k (lines text)) ≡ k = length-take-le k (lines text) (omega (arith, turn.0)) in
@@ -95,7 +95,7 @@ faulty : (text : List ℕ) (k n : ℕ) (l : List ℕ) (stage : Stage) (answer : 
 faulty text k n l stage answer turn number read f =
     HasRead-fault text k n stage l f.line read turn.0 (slice_get_read (lines text) (length (lines text)) k l refl turn.0 turn.1) f.lexed f.fault number
 
--- the line at which the reading stops
+-- a fault at which reading stops is a fault of the text
 pub fault_turn : (text : List ℕ) (k n : ℕ) (l : List ℕ) (stage : Stage) (answer : ReadFault) → IsUtf8 text → (k < length (lines text)) × (l ≡ get_or (lines text) k l) → n ≡ k + 1 → HasRead (take k (lines text)) stage → IsStep stage n l (Err answer) → HasReadFault text answer
 fault_turn text k n l stage because.NotText utf8 turn number read step = absurd step
 fault_turn text k n l stage (because.Syntax m) utf8 turn number read step =
@@ -110,7 +110,7 @@ all_read : (text : List ℕ) (k : ℕ) (stage : Stage) → k ≡ length (lines t
 all_read text k stage size read =
     subst (λ (ls : List (List ℕ)). HasRead ls stage) (ap (λ (i : ℕ). take i (lines text)) size ∙ take-length (lines text)) read
 
--- the end of a text that is whole
+-- if reading ends with a circuit, the text spells it
 pub end_circuit : (text : List ℕ) (k n : ℕ) (stage : Stage) (result : Result CircuitTree ReadFault) → IsUtf8 text → k ≡ length (lines text) → HasRead (take k (lines text)) stage → Ends stage n result → IfOk result (λ c. Spells text c)
 end_circuit text k n stage (Ok circuit) utf8 size read ends = HasRead-whole text stage circuit utf8 (all_read text k stage size read) ends.0 ends.1
 end_circuit text k n stage (Err answer) utf8 size read ends = tt
@@ -119,7 +119,7 @@ pub end_faultless : (text : List ℕ) (k n : ℕ) (stage : Stage) (result : Resu
 end_faultless text k n stage (Ok circuit) size read ends = HasRead-faultless text stage (all_read text k stage size read) ends.0
 end_faultless text k n stage (Err answer) size read ends = tt
 
--- the end of a text that is not
+-- if reading ends with a fault after the last line, it is a fault of the text
 pub end_fault : (text : List ℕ) (k n : ℕ) (stage : Stage) (result : Result CircuitTree ReadFault) → IsUtf8 text → k ≡ length (lines text) → n ≡ k + 1 → HasRead (take k (lines text)) stage → Ends stage n result → IfErr result (λ f. HasReadFault text f)
 end_fault text k n stage (Ok circuit) utf8 size number read ends = tt
 end_fault text k n stage (Err because.NotText) utf8 size number read ends = absurd ends
@@ -129,7 +129,7 @@ end_fault text k n stage (Err (because.Outside m word)) utf8 size number read en
 end_fault text k n stage (Err (because.TooDeep m)) utf8 size number read ends = absurd ends
 end_fault text k n stage (Err because.NoMemory) utf8 size number read ends = absurd ends
 
--- a text that spells a circuit, and of which no line is at fault, has no other answer
+-- for a text that spells a circuit and has no fault line there is no other answer, except `NoMemory`
 pub only_circuit : (text : List ℕ) (result : Result CircuitTree ReadFault) → IfOk result (λ d. Spells text d) → IfErr result (λ f. HasReadFault text f) → (c : CircuitTree) → Spells text c → HasNoFaultLine text → MatchResult result (λ d. d ≡ c) (λ f. f ≡ because.NoMemory)
 only_circuit text (Ok d) ok err c spells none = one_circuit-law text d c ok spells
 only_circuit text (Err because.NotText) ok err c spells none = absurd (err spells.utf8)
@@ -138,7 +138,7 @@ only_circuit text (Err (because.Outside m word)) ok err c spells none = absurd (
 only_circuit text (Err (because.TooDeep m)) ok err c spells none = absurd (none m err.1.0 err.1.1)
 only_circuit text (Err because.NoMemory) ok err c spells none = refl
 
--- nor has a text with a fault line
+-- for a text with a fault line there is only this fault, or `NoMemory`
 pub only_fault : (text : List ℕ) (result : Result CircuitTree ReadFault) → IfOk result (λ d. HasNoFaultLine text) → IfErr result (λ f. HasReadFault text f) → (n : ℕ) (line : LineTokens) → IsUtf8 text → IsFaultLine text n line → MatchResult result (λ d. ⊥) (λ f. IsFaultOf n line.tokens f)
 only_fault text (Ok d) ok err n line utf8 fault = ok n line fault
 only_fault text (Err because.NotText) ok err n line utf8 fault = absurd (err utf8)

@@ -1,4 +1,4 @@
--- Brackets that tokens open and close, token by token, and outside words.
+-- How many brackets tokens open and close, counted token by token; and the first outside word.
 use Rattle.std.proofs.Common.{◌≡◌, ℕ, ◌+◌, ◌<◌, ◌≤◌, List, [], ◌∷◌, ◌++◌, length, take, drop, get_or, sym, ap, ◌∙◌, arith}
 use Rattle.std.specs.Option.{option_or}
 use Rattle.std.proofs.lemmas.List.{take_more, at_drop_more}

@@ -21,7 +21,7 @@ use Rattle.gg_read.specs.declared.text.ReadFault.TheVariants.{TooDeep}
 use Rattle.gg_read.specs.Text.{AfterCircuit, InPorts, InStatements, opened, closed, IsTooDeep, IsForm, Spells, HasReadFault}
 use Rattle.gg_read.proofs.WorkedForms.{text_of, holding, form, shallow}
 
--- so many times `not(`, and what stands behind
+-- n times `not(`, and these tokens after it
 opening : ℕ → List Tok → List Tok
 opening zero ts = ts
 opening (suc n) ts = Word (codes "not") ∷ (Symbol mark.OpenParen ∷ opening n ts)
@@ -30,7 +30,7 @@ opening_text : ℕ → List ℕ → List ℕ
 opening_text zero bytes = bytes
 opening_text (suc n) bytes = 110 ∷ (111 ∷ (116 ∷ (40 ∷ opening_text n bytes)))
 
--- so many times `)`, and what stands behind
+-- n times `)`, and these tokens after it
 closing : ℕ → List Tok → List Tok
 closing zero ts = ts
 closing (suc n) ts = closing n (Symbol mark.CloseParen ∷ ts)
@@ -54,7 +54,7 @@ unfolding nested opening closing
 spelt zero rest = (refl, refl)
 spelt (suc n) rest = (opening n (Word (codes "a") ∷ closing n (Symbol mark.CloseParen ∷ rest)), refl, spelt n (Symbol mark.CloseParen ∷ rest))
 
--- a bracket has bytes, and is no word, number or text, and no symbol of two
+-- a bracket has bytes, and isn't a word, a number, a text or a symbol of two characters
 bracket_tests : (bytes : List ℕ) → (length (40 ∷ bytes) == 0) ∷ false ∷ false ∷ false ∷ false ∷ [] ≡ false ∷ false ∷ false ∷ false ∷ false ∷ []
 bracket_tests bytes = ap (λ (b : Bool). b ∷ false ∷ false ∷ false ∷ false ∷ []) (eqb-suc-zero (length bytes))
 
@@ -68,7 +68,7 @@ unfolding opening opening_text
 opening_lexed zero lexed = lexed
 opening_lexed (suc n) {bytes = bytes} lexed = word refl refl (one (bracket_tests (opening_text n bytes)) refl (opening_lexed n lexed))
 
--- the number of the tokens of so many `not(`
+-- how many tokens n times `not(` has
 twice : ℕ → ℕ
 twice zero = 0
 twice (suc n) = suc (suc (twice n))

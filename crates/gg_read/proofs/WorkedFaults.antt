@@ -1,5 +1,5 @@
--- Fault lines worked by hand: each of the 26 words and 4 symbols of what is left out, and lines with many brackets; and
--- how faults are printed.
+-- Fault lines worked by hand: each of the 26 words and 4 symbols that are left out of the language, and lines with many brackets;
+-- and how faults are printed.
 use Rattle.std.proofs.Common.{◌≡◌, ℕ, zero, suc, ◌≤◌, List, [], ◌∷◌, ◌++◌, ◌+◌, take, None, Some, codes, refl, arith}
 use Rattle.std.specs.Fmt.{digits}
 use Rattle.gg_lex.specs.declared.token.Tok.{Tok}
@@ -10,7 +10,7 @@ use Rattle.gg_read.specs.declared.text.ReadFault.{ReadFault}
 use Rattle.gg_read.specs.declared.text.ReadFault.TheVariants.{NotText, Syntax, Outside, TooDeep}
 use Rattle.gg_read.specs.Text.{opened, closed, IsTooDeep, first_outside}
 
--- The token is the first outside word or symbol of `node Whens TOKEN else`, and it is told in these letters.
+-- The token is the first outside word or symbol of `node Whens TOKEN else`, and it is reported as this text.
 record IsOutside (token : Tok) (text : List ℕ) : Type 0 where
   pub outside : first_outside (Word (codes "node") ∷ (Word (codes "Whens") ∷ (token ∷ (Word (codes "else") ∷ [])))) ≡ Some text
 
@@ -111,7 +111,7 @@ record NoneIsOutside (ts : List Tok) : Type 0 where
 near_misses : NoneIsOutside (Word (codes "mem") ∷ (Word (codes "reset") ∷ (Word (codes "reader") ∷ (Word (codes "Whens") ∷ (Number (codes "1") ∷ (Text (codes "when") ∷ (Symbol Connect ∷ (Symbol CloseBracket ∷ (Symbol CloseBrace ∷ [])))))))))
 near_misses = record { none = refl }
 
--- so many opening brackets
+-- n opening brackets
 opens : ℕ → List Tok
 opens zero = []
 opens (suc n) = Symbol OpenParen ∷ opens n
@@ -133,12 +133,12 @@ too_deep = let all = all_of_them 257 in (257, omega (arith, all.0, all.1))
 deep_enough : IsTooDeep (opens 256) → ⊥
 deep_enough (k, h) = omega (arith, h, some_of_them k 256)
 
--- a `)` before the 257th `(` lowers the count
+-- a `)` before the 257 `(` lowers the count
 closed_before : IsTooDeep (Symbol CloseParen ∷ opens 257) → ⊥
 closed_before (zero, h) = omega (arith, h)
 closed_before (suc k, h) = omega (arith, h, some_of_them k 257)
 
--- nor are 256 of them, a `)` and the 257th: of n and these two, never more than n are open
+-- 256 `(`, a `)` and one more `(` are not too deep either: of n and these two, at most n are open at a time
 between : (k n : ℕ) → opened (take k (opens n ++ Symbol CloseParen ∷ (Symbol OpenParen ∷ []))) ≤ n + closed (take k (opens n ++ Symbol CloseParen ∷ (Symbol OpenParen ∷ [])))
 unfolding opens
 between zero n = omega arith
@@ -150,7 +150,7 @@ between (suc k) (suc n) = omega (arith, between k n)
 closed_between : IsTooDeep (opens 256 ++ Symbol CloseParen ∷ (Symbol OpenParen ∷ [])) → ⊥
 closed_between (k, h) = omega (arith, h, between k 256)
 
--- 257 and a `)` behind them are too deep
+-- 257 `(` and a `)` after them are too deep
 first_of_them : (n : ℕ) → (opened (take n (opens n ++ Symbol CloseParen ∷ [])) ≡ n) × (closed (take n (opens n ++ Symbol CloseParen ∷ [])) ≡ 0)
 unfolding opens
 first_of_them zero = (refl, refl)
@@ -162,7 +162,7 @@ closed_behind = let all = first_of_them 257 in (257, omega (arith, all.0, all.1)
 closed_before_more : IsTooDeep (Symbol CloseParen ∷ opens 258)
 closed_before_more = let all = all_of_them 258 in (259, omega (arith, all.0, all.1))
 
--- how faults are printed
+-- the text of a fault
 record Says (fault : ReadFault) (text : List ℕ) : Type 0 where
   pub same : fault_text fault ≡ text
 

@@ -1,4 +1,4 @@
--- What the worked texts share: lines that are a row of their place, and lines that are none.
+-- What the worked texts share: lines that are a row of their position, and lines that are none.
 use Rattle.std.proofs.Common.{◌≡◌, ℕ, ◌+◌, ◌≤◌, List, [], ◌∷◌, ◌++◌, length, take, drop, None, Some, refl, sym, ap, ◌∙◌, arith, length-append, take-append-drop}
 use Rattle.gg_lex.specs.declared.token.Tok.{Tok}
 use Rattle.gg_lex.specs.declared.token.Tok.TheVariants.{Word, Number, Text, Symbol}
@@ -30,7 +30,7 @@ no_row {place} {t} {ts} nothing = (some_token t ts, none)
     none : (row : Row) (next : LinePlace) → IsForm place (holding (t ∷ ts)) row next → ⊥
     none row next h = let found = spelt-row_at (t ∷ ts) row h.spelt in cc
 
--- the tokens spell a row of another place
+-- the tokens spell a row, but one of another position
 pub no_place : {place : LinePlace} {row : Row} {t : Tok} {ts : List Tok} → row_at (t ∷ ts) ≡ Some row → place_after place row ≡ None → IsNoForm place (holding (t ∷ ts))
 no_place {place} {row} {t} {ts} found nowhere = (some_token t ts, none)
   where

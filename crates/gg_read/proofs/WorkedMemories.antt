@@ -44,7 +44,7 @@ circuit = record {
   } ∷ [];
 }
 
--- the tokens of the lines
+-- the tokens of each line
 abbrev header : List Tok
 header = Word (codes "circuit") ∷ Word (codes "T") ∷ Symbol mark.Colon ∷ []
 
@@ -87,7 +87,7 @@ reset = Word (codes "reset") ∷ Symbol mark.Arrow ∷ Symbol mark.OpenParen ∷
 abbrev both : List Tok
 both = Word (codes "readwriter") ∷ Symbol mark.Arrow ∷ Word (codes "r") ∷ []
 
--- a memory stands at the end of the text, and a field of it comes twice
+-- a memory at the end of the text, with a field that comes twice
 memory_spelt : Spells text circuit
 unfolding lib.Utf8.encode
 memory_spelt = record {
@@ -223,7 +223,7 @@ memory_spelt = record {
   circuit_rows = refl;
 }
 
--- a reset has no place behind a memory's line
+-- a reset is not valid after a memory's line
 abbrev reset_behind_memory_text : List ℕ
 reset_behind_memory_text = text_of (codes "circuit T :" ∷ codes "  module T :" ∷ codes "    mem m :" ∷ codes "      reset => (a, a)" ∷ [])
 
@@ -288,7 +288,7 @@ reset_behind_memory = (
   ),
 )
 
--- a field has no place behind a statement
+-- a field is not valid after a statement
 abbrev field_behind_statement_text : List ℕ
 field_behind_statement_text = text_of (codes "circuit T :" ∷ codes "  module T :" ∷ codes "    mem m :" ∷ codes "    skip" ∷ codes "      depth => 16" ∷ [])
 
@@ -370,7 +370,7 @@ field_behind_statement = (
   ),
 )
 
--- a `readwriter` is outside of the language
+-- `readwriter` is outside of the language
 abbrev readwriter_is_outside_text : List ℕ
 readwriter_is_outside_text = text_of (codes "circuit T :" ∷ codes "  module T :" ∷ codes "    mem m :" ∷ codes "      readwriter => r" ∷ [])
 

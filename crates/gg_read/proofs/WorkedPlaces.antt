@@ -1,5 +1,5 @@
--- Where a memory's lines may stand, worked by hand: a memory behind ports, statements and memories, a field behind a memory's line or a
--- field alone.
+-- Where the lines of a memory may be, worked by hand: a memory after ports, statements and memories; a field after a memory's line
+-- or another field only.
 use Rattle.std.proofs.Common.{◌≡◌, None, Some, codes, refl}
 use Rattle.gg_ast.specs.declared.expression.Reference.TheVariants as reference
 use Rattle.gg_ast.specs.declared.module.Direction.TheVariants.{Input}

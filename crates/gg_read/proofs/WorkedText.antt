@@ -35,7 +35,7 @@ circuit = record {
   } ∷ [];
 }
 
--- the tokens of the lines
+-- the tokens of each line
 abbrev header : List Tok
 header = Word (codes "circuit") ∷ Word (codes "T") ∷ Symbol mark.Colon ∷ []
 

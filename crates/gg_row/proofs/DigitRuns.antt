@@ -1,4 +1,4 @@
--- Laws of runs of digits.
+-- The number of a run of digits.
 use Rattle.std.proofs.Common.{◌≡◌, ℕ, ◌<◌, ◌^◌, List, [], ◌∷◌, length, Bool, true, false, ◌&&◌, Result, Ok, Err, Some, None, refl, sym, ap, ◌∙◌, arith}
 use Rattle.std.specs.Prelude.{nat_lt, if◌then◌else◌}
 use Rattle.std.specs.Char.{is_ascii_digit}
@@ -11,7 +11,7 @@ use Rattle.gg_ast.specs.declared.expression.Radix.TheVariants.{Decimal}
 use Rattle.gg_row.specs.Forms.{are_digits}
 use Rattle.gg_row.specs.Reading.{natural_of}
 
--- std's word for decimal digits
+-- std's test for decimal digits tests each byte
 decimal_digits : (bs : List ℕ) → all_ascii_digits bs ≡ list_all is_ascii_digit bs
 decimal_digits [] = refl
 decimal_digits (b ∷ bs) = ap (λ r. is_ascii_digit b && r) (decimal_digits bs)
@@ -22,7 +22,7 @@ by_bound v n (Ok x) false h some e = absurd (grind (arith, h.0.1))
 by_bound v n (Err x) true h some e = absurd (h (some, grind arith))
 by_bound v n (Err x) false h some e = refl
 
--- `parse` on decimal digits
+-- `parse` of decimal digits gives the natural number that they spell, if it is at most 4,294,967,295
 pub natural_parsed : {E : Type 0} (bs : List ℕ) (r : Result ℕ E) → are_digits Decimal bs ≡ true → ParsesUnsigned 32 10 bs r → result_ok r ≡ natural_of bs
 natural_parsed [] r digits h = absurd (cc)
 natural_parsed (b ∷ bs) r digits h =
@@ -32,6 +32,6 @@ natural_parsed (b ∷ bs) r digits h =
     by_bound (digits_value 10 (b ∷ bs)) (length (b ∷ bs)) r (nat_lt (digits_value 10 (b ∷ bs)) (2 ^ 32)) parsed (omega arith) refl
     ∙ ap (λ d. if (d && nat_lt (digits_value 10 (b ∷ bs)) (2 ^ 32)) then Some (digits_value 10 (b ∷ bs)) else None) (sym digits)
 
--- bytes that are no digits are no natural number
+-- bytes that aren't all digits spell no natural number
 pub natural_of-no_digits : (bs : List ℕ) → are_digits Decimal bs ≡ false → natural_of bs ≡ None
 natural_of-no_digits bs e = ap (λ d. if (d && nat_lt (digits_value 10 bs) (2 ^ 32)) then Some (digits_value 10 bs) else None) e

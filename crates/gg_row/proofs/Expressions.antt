@@ -1,4 +1,4 @@
--- An expression that is read is spelt so, and an expression that is spelt is read.
+-- An expression that is spelt is read.
 use Rattle.std.proofs.Common.{◌≡◌, ℕ, zero, suc, ◌<◌, ◌≤◌, List, [], ◌∷◌, length, Bool, true, false, Option, None, Some, IsTrue, refl, sym, ap, ◌∙◌, subst, arith}
 use Rattle.std.specs.Prelude.{if◌then◌else◌, codes, is_some, ◌==◌, ◌&&◌}
 use Rattle.std.specs.List.{list_all}
@@ -29,7 +29,7 @@ use Rattle.gg_row.specs.Reading.{◌>>=◌, symbol_at, name_at, natural_at, thir
 use Rattle.gg_row.proofs.Leaves.{goes_on, not_chosen, name_at-here, natural_at-here, is_true}
 use Rattle.gg_row.proofs.WordLaws.{operation_of-here}
 
--- what may follow an expression: no token that would go on with it
+-- what may follow an expression: no token that would continue it
 pub record Ends (rest : List Tok) : Type 0 where
   pub no_dot : symbol_at Dot rest ≡ None
   pub no_open : symbol_at OpenParen rest ≡ None
@@ -75,7 +75,7 @@ parameters-read Shr n m ts rest h = rw (h.3, h.2) (goes_on (one_parameter_at (Sy
 parameters-read Head n m ts rest h = rw (h.3, h.2) (goes_on (one_parameter_at (Symbol Comma ∷ (Number h.0 ∷ (Symbol CloseParen ∷ rest)))) (λ a. Some ((a.0, 0), a.1)) (n, rest) (one_parameter-read h.0 n rest h.1))
 parameters-read Tail n m ts rest h = rw (h.3, h.2) (goes_on (one_parameter_at (Symbol Comma ∷ (Number h.0 ∷ (Symbol CloseParen ∷ rest)))) (λ a. Some ((a.0, 0), a.1)) (n, rest) (one_parameter-read h.0 n rest h.1))
 
--- a literal's number
+-- the digits of a literal pass the reader's check
 checked-read : (radix : Radix) (negative : Bool) (digits : List ℕ) → IsTrue (are_digits radix digits) → checked_digits radix negative digits ≡ Some (record { radix = radix; negative = negative; digits = digits })
 checked-read radix negative digits h = ap (λ b. if b then Some (record { radix = radix; negative = negative; digits = digits }) else None) (is_true (are_digits radix digits) h)
 
@@ -157,7 +157,7 @@ parameters-end Shr n m ts rest h = subst Ends (sym h.3) (ends_comma _)
 parameters-end Head n m ts rest h = subst Ends (sym h.3) (ends_comma _)
 parameters-end Tail n m ts rest h = subst Ends (sym h.3) (ends_comma _)
 
--- which of the three forms
+-- if the tokens after the first don't begin with this symbol, it isn't the second of them
 is_second-none : (m : Mark) (t : Tok) (ts : List Tok) → symbol_at m ts ≡ None → is_second m (t ∷ ts) ≡ false
 is_second-none m t ts e = ap (λ o. is_some o) e
 
@@ -172,7 +172,7 @@ no_second (reference.Local a) ts rest ends h = rw h.1 (is_second-none OpenParen 
 no_second (reference.PortOf a b) ts rest ends h = rw h.2 (refl, refl)
 no_second (reference.FieldOf a b c) ts rest ends h = rw h.3 (refl, refl)
 
--- what an expression's tokens hold goes before the rest
+-- an expression has at least one token, so the rest is shorter
 reference-shorter : (r : Reference) (ts rest : List Tok) → SpellsReference r ts rest → length rest < length ts
 reference-shorter (reference.Local a) ts rest h = let e = ap length h.1 in omega arith
 reference-shorter (reference.PortOf a b) ts rest h = let e = ap length h.2 in omega arith
@@ -218,7 +218,7 @@ as_literal sub l ts rest h =
     ∙ ap (λ x. if x then (literal_at ts >>= λ k. Some (ConstantTerm k.0, k.1)) else (reference_at ts >>= λ k. Some (NamedTerm k.0, k.1))) second.1
     ∙ ap (λ o. o >>= λ k. Some (ConstantTerm k.0, k.1)) e
 
--- an expression that is spelt is read, with as many levels as there are tokens
+-- an expression that is spelt is read, if there are at least as many levels as tokens
 pub expr-read : (e : Term) (ts rest : List Tok) (n : ℕ) → SpellsExpr e ts rest → Ends rest → length ts ≤ n → expr_at n ts ≡ Some (e, rest)
 expr-read e ts rest zero h ends size = absurd (omega (arith, expr-shorter e ts rest h))
 expr-read (NamedTerm r) ts rest (suc n) h ends size =

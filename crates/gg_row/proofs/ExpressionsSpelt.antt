@@ -68,7 +68,7 @@ reference-spells ts rest r h =
 
 -- ---- types and literals
 
--- < n >
+-- the tokens `< n >`
 record SpellsWidth (n : ℕ) (ts rest : List Tok) : Type 0 where
   digits : List ℕ
   natural : IsNatural digits n
@@ -125,7 +125,7 @@ type_by ts rest ty None e h =
 pub type-spells : (ts rest : List Tok) (ty : GroundType) → type_at ts ≡ Some (ty, rest) → SpellsType ty ts rest
 type-spells ts rest ty h = type_by ts rest ty (word_at (codes "Clock") ts) refl h
 
--- the digits of a literal, as they stand in a token's bytes
+-- the bytes are the digits d, of this radix, with a `-` before them if d is negative
 record AreSigned (radix : Radix) (bytes : List ℕ) (d : Digits) : Type 0 where
   same : d.radix ≡ radix
   digits : IsTrue (are_digits radix d.digits)
@@ -154,7 +154,7 @@ signed-spells : (radix : Radix) (bs : List ℕ) (d : Digits) → signed_digits r
 signed-spells radix [] d h = absurd (cc)
 signed-spells radix (b ∷ bs) d h = signed_by radix b bs d (b == 45) refl h
 
--- the token of a literal's number
+-- the token that spells these digits of a literal
 record SpellsDigits (d : Digits) (t : Tok) : Type 0 where
   digits : IsTrue (are_digits d.radix d.digits)
   spelt : t ≡ number_token d.radix (signed d.negative d.digits)
@@ -162,7 +162,7 @@ record SpellsDigits (d : Digits) (t : Tok) : Type 0 where
 in_number : (w : List ℕ) (d : Digits) → AreSigned Decimal w d → SpellsDigits d (Number w)
 in_number w d s = record { digits = subst (λ r. IsTrue (are_digits r d.digits)) (sym s.same) s.digits; spelt = ap Number s.spelt ∙ ap (λ r. number_token r (signed d.negative d.digits)) (sym s.same) }
 
--- the byte with which a text of that radix begins
+-- a text that is the first byte of a radix and then digits spells the digits
 radix_byte : (b : ℕ) (bs : List ℕ) (radix : Radix) (d : Digits) → radix_of b ≡ Some radix → AreSigned radix bs d → SpellsDigits d (Text (b ∷ bs))
 radix_byte b bs radix d e s =
     record { digits = subst (λ r. IsTrue (are_digits r d.digits)) (sym s.same) s.digits; spelt = with_radix (b == 98) (b == 111) (b == 104) refl refl refl e ∙ ap (λ r. number_token r (signed d.negative d.digits)) (sym s.same) }
@@ -241,7 +241,7 @@ two_parameters-spells ts rest n m h =
     subst (λ (p : (ℕ × ℕ) × List Tok). SpellsParameters Bits p.0.0 p.0.1 ts p.1) (some_same ((high.0.0, low.0.0), close.0) ((n, m), rest) close.2)
     (x.0, y.0, x.1, y.1, symbol_at-spells Comma ts comma.0 comma.1 ∙ ap (λ l. Symbol Comma ∷ l) (x.2 ∙ ap (λ l. Number x.0 ∷ l) (symbol_at-spells Comma high.0.1 again.0 again.1 ∙ ap (λ l. Symbol Comma ∷ l) inner)))
 
--- one parameter, and none behind it
+-- one parameter, and no second: 0 in its place
 record OneParameter (ts rest : List Tok) (n m : ℕ) : Type 0 where
   spelt : SpellsParameter n ts rest
   none : m ≡ 0
@@ -277,7 +277,7 @@ abbrev IsSound : (List Tok → Option (Term × List Tok)) → Type 0
 IsSound sub = (ts rest : List Tok) (e : Term) → sub ts ≡ Some (e, rest) → SpellsExpr e ts rest
 
 module _ (sub : List Tok → Option (Term × List Tok)) (sound : IsSound sub) where
-  -- an operand and the symbol behind it
+  -- an operand and the bracket or comma after it
   operand-close : (t : List Tok) (a : Term × List Tok) (u : List Tok) → sub t ≡ Some a → symbol_at CloseParen a.1 ≡ Some u → SpellsExpr a.0 t (Symbol CloseParen ∷ u)
   operand-close t a u e f = subst (λ l. SpellsExpr a.0 t l) (symbol_at-spells CloseParen a.1 u f) (sound t a.1 a.0 e)
 

@@ -35,7 +35,7 @@ last_natural-spells ts n h =
     let d = natural_at-spells ts x.0.0 x.0.1 x.1 in
     (d.0, subst (λ (m : ℕ). IsNatural d.0 m) stop.1 d.1, d.2 ∙ ap (λ l. Number d.0 ∷ l) stop.0)
 
--- the names read so far, and those that are spelt behind them
+-- the names read so far, and those that are spelt after them
 record SpellsBehind (before all : List (List ℕ)) (ts : List Tok) : Type 0 where
   more : List (List ℕ)
   whole : all ≡ before ++ more
@@ -101,7 +101,7 @@ last_read_under_write-spells ts w h =
     ∙ ap (λ l. Word (read_under_write_text x.0.0) ∷ l) stop.0
     ∙ ap (λ (y : ReadUnderWrite). Word (read_under_write_text y) ∷ []) stop.1
 
--- behind its word and `=>`
+-- a field that is read after its word and `=>` is spelt so
 pub field-spells : (word : FieldWord) (t ts : List Tok) (f : MemoryField) → ts ≡ Word (field_text word) ∷ (Symbol Arrow ∷ t) → field_at word t ≡ Some f → SpellsField f ts
 field-spells field_word.DataType t ts f is h =
     let x = bound (last_type_at t) (λ ty. Some (field.DataType ty)) f h in
@@ -154,7 +154,7 @@ read_under_write-read under_write.Old = refl
 read_under_write-read under_write.New = refl
 read_under_write-read under_write.Undefined = refl
 
--- the word of a field
+-- the word with which a field begins
 abbrev pub word_of : MemoryField → FieldWord
 word_of (field.DataType ty) = field_word.DataType
 word_of (field.Depth n) = field_word.Depth

@@ -1,4 +1,4 @@
--- What the smallest readers find is spelt so, and what is spelt so they find.
+-- What the smallest readers find is spelt so, and they find what is spelt so.
 use Rattle.std.proofs.Common.{◌≡◌, ℕ, List, [], ◌∷◌, Bool, true, false, Option, None, Some, IsTrue, refl, sym, ap, ◌∙◌, subst}
 use Rattle.std.specs.Prelude.{if◌then◌else◌, codes}
 use Rattle.std.specs.Str.{bytes_eq}
@@ -13,7 +13,7 @@ use Rattle.gg_ast.specs.Names.{IsName, is_name}
 use Rattle.gg_row.specs.Forms.{IsNatural, is_natural}
 use Rattle.gg_row.specs.Reading.{◌>>=◌, choose, symbol_at, word_at, name_at, natural_of, natural_at, end_at, text_at}
 
--- what a chain found, its first part found something to go on with
+-- if a chain found something, its first part did, and the next part found that from there
 pub bound : {A B : Type 0} (o : Option A) (f : A → Option B) (y : B) → (o >>= f) ≡ Some y → (x : A) × (o ≡ Some x) × (f x ≡ Some y)
 bound None f y h = absurd (cc)
 bound (Some x) f y h = (x, refl, h)
@@ -28,7 +28,7 @@ chosen o f other x e = rw e refl
 pub not_chosen : {A B : Type 0} (o : Option A) (f : A → B) (other : B) → o ≡ None → choose o f other ≡ other
 not_chosen o f other e = rw e refl
 
--- a test that passed, at equal bytes
+-- bytes that the test says are equal are equal
 pub equal_bytes : (xs ys : List ℕ) → bytes_eq xs ys ≡ true → xs ≡ ys
 equal_bytes xs ys h = (bytes_eq-Decides xs ys).0 h
 
@@ -68,7 +68,7 @@ same_mark a b e = sym (mark_of-spelling a) ∙ ap mark_of e ∙ mark_of-spelling
 pub some_same : {A : Type 0} (x y : A) → Some x ≡ Some y → x ≡ y
 some_same x y h = cc
 
--- a choice by a test that gives something passed the test
+-- if a choice by a test gives something, the test passed
 passed : {A : Type 0} (b : Bool) (x y : A) → (if b then Some x else None) ≡ Some y → (b ≡ true) × (x ≡ y)
 passed true x y h = (refl, cc)
 passed false x y h = absurd (cc)
@@ -144,6 +144,6 @@ text_at-spells (Text v ∷ ts) x t h =
     let e = some_same (v, ts) (x, t) h in
     ap (λ (q : List ℕ × List Tok). Text q.0 ∷ q.1) e
 
--- the rest of a reader, where nothing is left
+-- a reader that must be at the end of the line found it: no token is left
 pub ended : {A : Type 0} (rest : List Tok) (x y : A) → (end_at rest >>= λ u. Some x) ≡ Some y → (rest ≡ []) × (x ≡ y)
 ended rest x y h = let e = bound (end_at rest) (λ u. Some x) y h in (end_at-spells rest e.0 e.1, some_same x y e.2)

@@ -1,4 +1,4 @@
--- The names of a line that is a row are names.
+-- Each name in a row that the tokens of a line spell is a name.
 use Rattle.std.proofs.Common.{List, [], ◌∷◌, Option, Some, None}
 use Rattle.std.specs.Prelude.{ℕ, MatchOption, IfSome}
 use Rattle.std.specs.List.{All}

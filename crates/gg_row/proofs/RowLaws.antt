@@ -26,7 +26,7 @@ held : (ts : List Tok) (o : Option Row) → MatchOption o ⊥ (λ row. row_at ts
 held ts None found = found
 held ts (Some row) found = row_at-spelt ts row found
 
--- what the reader of rows answers
+-- the answer of the reader of rows tells of the row that is spelt
 pub row_told : (ts : List Tok) (result : Result LineRow Miss) → FindsRow result (row_at ts) → TellsRow ts result
 row_told ts (Ok row) found = held ts (row_of row) found
 row_told ts (Err NoForm) found = λ r h. let there = spelt-row_at ts r h in cc

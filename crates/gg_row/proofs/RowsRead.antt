@@ -56,7 +56,7 @@ connect-read sink e ts t h i =
 
 -- ---- lines with a keyword
 
--- the tokens behind a word are not `is invalid` where the second of them is not `invalid`
+-- the tokens after the first one are not `is invalid` if the second of them isn't `invalid`
 not_invalid : (t : Tok) (n : List ℕ) (rest : List Tok) → word_at (codes "invalid") rest ≡ None → is_invalid (t ∷ (Word n ∷ rest)) ≡ false
 not_invalid t n rest e = by (bytes_eq n (codes "is"))
   where
@@ -97,7 +97,7 @@ node-read name e t n h =
     goes_on (name_at (Word name ∷ (Symbol Equals ∷ t))) (λ n. symbol_at Equals n.1 >>= λ t. last_expression_at t >>= λ e. Some (NodeRow n.0 e)) (name, Symbol Equals ∷ t) (name_at-here name _ n)
     ∙ goes_on (last_expression_at t) (λ e. Some (NodeRow name e)) e (last-read e t h)
 
--- behind the word `reset`
+-- a reset is read from what follows the word `reset`
 reset-read : (c i : Term) (t u rest : List Tok) → SpellsExpr c t (Symbol Comma ∷ u) → SpellsExpr i u (Symbol CloseParen ∷ rest) → reset_at (Symbol Arrow ∷ (Symbol OpenParen ∷ t)) ≡ Some ((c, i), rest)
 reset-read c i t u rest p q =
     goes_on (expression_at t) (λ c. symbol_at Comma c.1 >>= λ v. expression_at v >>= λ i. symbol_at CloseParen i.1 >>= λ w. Some ((c.0, i.0), w)) (c, Symbol Comma ∷ u) (expression-read c t _ p (ends_comma u))
@@ -134,7 +134,7 @@ stop-read c e n label t u v digits p q r s =
     ∙ goes_on (one_parameter_at (Symbol Comma ∷ (Number digits ∷ (Symbol CloseParen ∷ v)))) (λ n. label_at n.1 >>= λ l. Some (StopRow c e n.0 l)) (n, v) (one_parameter-read digits n v r)
     ∙ goes_on (label_at v) (λ l. Some (StopRow c e n l)) label (label-read label v s)
 
--- an expression begins with a word
+-- an expression doesn't begin with a text
 first_word : (e : Term) (ts rest : List Tok) → SpellsExpr e ts rest → text_at ts ≡ None
 first_word (NamedTerm (reference.Local a)) ts rest h = rw h.1 refl
 first_word (NamedTerm (reference.PortOf a b)) ts rest h = rw h.2 refl
@@ -157,11 +157,11 @@ argument-shorter : (a : Argument) (ts rest : List Tok) → SpellsArgument a ts r
 argument-shorter (given.Text x) ts rest h = let e = ap length h in omega arith
 argument-shorter (given.Value e) ts rest h = expr-shorter e ts rest h
 
--- the arguments, behind the closing bracket
+-- the arguments, once the closing bracket was read
 abbrev closed_with : List Argument → List Tok → Option (List Argument × List Tok)
 closed_with args u = Some (args, u)
 
--- one turn, where an argument is spelt and the tokens behind it are `left`
+-- one turn, where an argument is spelt and the tokens after it are `left`
 argument-turn : (n : ℕ) (before : List Argument) (a : Argument) (ts left : List Tok) → argument_at ts ≡ Some (a, left)
     → arguments_at (suc n) before ts ≡ choose (symbol_at Comma left) (λ t. arguments_at n (before ++ a ∷ []) t) (symbol_at CloseParen left >>= closed_with (before ++ a ∷ []))
 argument-turn n before a ts left e =

@@ -57,7 +57,7 @@ connection-spells ts row e =
     let r = bound (reference_at ts) (λ r. driven_at r.0 r.1) row e in
     driven-spells r.0.0 ts r.0.1 row (symbol_at Connect r.0.1) refl (reference-spells ts r.0.1 r.0.0 r.1) r.2
 
--- ---- what stands behind a keyword
+-- ---- what follows a keyword
 
 -- NAME : TYPE, and the rest
 record SpellsDeclared (name : List ℕ) (ty : GroundType) (ts rest : List Tok) : Type 0 where
@@ -115,7 +115,7 @@ node-spells ts row h =
     subst (λ r. SpellsRow r (Word (codes "node") ∷ ts)) (some_same (NodeRow n.0.0 e.0) row e.2)
     (q.0, word.0, ap (λ l. Word (codes "node") ∷ l) (word.1 ∙ ap (λ l. Word n.0.0 ∷ l) (symbol_at-spells Equals n.0.1 q.0 q.1)), last-spells q.0 e.0 e.1)
 
--- behind the word `reset`
+-- a reset that is read after the word `reset` is spelt so
 reset-spells : (ts rest : List Tok) (c i : Term) → reset_at ts ≡ Some ((c, i), rest) → SpellsReset c i (Word (codes "reset") ∷ ts) rest
 reset-spells ts rest c i h =
     let a = bound (symbol_at Arrow ts) (λ t. symbol_at OpenParen t >>= λ u. expression_at u >>= λ c. symbol_at Comma c.1 >>= λ v. expression_at v >>= λ i. symbol_at CloseParen i.1 >>= λ w. Some ((c.0, i.0), w)) ((c, i), rest) h in
@@ -138,7 +138,7 @@ reset_row-spells ts row h =
     let stop = ended r.0.1 (ResetRow r.0.0.0 r.0.0.1) row r.2 in
     subst (λ x. SpellsRow x (Word (codes "reset") ∷ ts)) stop.1 (subst (λ l. SpellsReset r.0.0.0 r.0.0.1 (Word (codes "reset") ∷ ts) l) stop.0 (reset-spells ts r.0.1 r.0.0.0 r.0.0.1 r.1))
 
--- what follows a register's clock, where the register is spelt in `all` up to it
+-- what follows the clock of a register, if the tokens in `all` before it spell the register
 module _ (name : List ℕ) (ty : GroundType) (clock : Term) (all : List Tok) where
   inline-spells : (ts u t : List Tok) (row : Row) → SpellsRegister name ty clock all ts → ts ≡ Word (codes "with") ∷ u → u ≡ Symbol Colon ∷ t → inline_reset_at name ty clock t ≡ Some row → SpellsRow row all
   inline-spells ts u t row h with_ colon e =
@@ -242,7 +242,7 @@ argument-by ts rest a None t e =
     let x = bound (expression_at ts) (λ e. Some (given.Value e.0, e.1)) (a, rest) (sym (not_chosen (text_at ts) text other t) ∙ e) in
     subst (λ (p : Argument × List Tok). SpellsArgument p.0 ts p.1) (some_same (given.Value x.0.0, x.0.1) (a, rest) x.2) (expression-spells ts x.0.1 x.0.0 x.1)
 
--- the arguments read so far, and those that are spelt behind them
+-- the arguments read so far, and those that are spelt after them
 record SpellsMore (before all : List Argument) (ts rest : List Tok) : Type 0 where
   first : Argument
   more : List Argument

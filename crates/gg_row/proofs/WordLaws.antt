@@ -17,7 +17,7 @@ use Rattle.gg_bits.specs.Spelling.{text1, text2, text_const, written_as, all1, a
 use Rattle.gg_row.specs.Words.{direction_text, report_text, field_text, find_word, operation_of, head_words, tail_words, field_words, keyword_of}
 use Rattle.gg_row.proofs.Leaves.{equal_bytes, some_same}
 
--- each entry of the table has the word that its value is spelt by
+-- in each entry of the table, the word is the spelling of the value
 abbrev IsSpelt : {A : Type 0} → (A → List ℕ) → List (List ℕ × A) → Type 0
 IsSpelt text [] = Unit {0}
 IsSpelt text (entry ∷ table) = (entry.0 ≡ text entry.1) × IsSpelt text table
@@ -46,7 +46,7 @@ operation_text (Binary o) = text2 o
 operation_text (Fixed o) = text_const o
 operation_text Mux = codes "mux"
 
--- the operation that is found is written so
+-- the operation that is found for a word is written as this word
 written : {A : Type 0} (text : A → List ℕ) (word : List ℕ) (ops : List A) (x : A) → written_as text word ops ≡ Some x → word ≡ text x
 written text word [] x h = absurd (cc)
 written text word (op ∷ ops) x h =
@@ -109,7 +109,7 @@ operation_of-here (Fixed fix.Head) = refl
 operation_of-here (Fixed fix.Tail) = refl
 operation_of-here Mux = refl
 
--- the first word of a line that is no connection
+-- the first word of a line that isn't a connection
 abbrev pub keyword_text : Keyword → List ℕ
 keyword_text keyword.Version = codes "FIRRTL"
 keyword_text keyword.Circuit = codes "circuit"

@@ -1,4 +1,4 @@
--- A name is a word of a line without a dash, and nothing else is.
+-- A word of a line is a name if it has no dash, and each name is such a word.
 use Rattle.std.proofs.Common.{◌≡◌, ℕ, List, [], ◌∷◌, ◌++◌, Bool, true, false, ◌==◌, ◌&&◌, ◌||◌, refl, sym, ap, ◌∙◌, subst}
 use Rattle.std.specs.Prelude.{◌↔◌}
 use Rattle.std.specs.Int.{is_in_range}
@@ -26,7 +26,7 @@ neither : (a b : Bool) → (a || b) ≡ false → (a ≡ false) × (b ≡ false)
 neither true b h = absurd (cc)
 neither false b h = (refl, h)
 
--- a letter of a word's tail may stand in a name
+-- a byte of a word's tail may be in a name, unless it is a dash
 letter : (digit upper lower dash underscore dollar : Bool) → ((upper || lower) || dash) ≡ true → dash ≡ false → ((((digit || upper) || lower) || underscore) || dollar) ≡ true
 letter digit upper lower true underscore dollar h n = absurd (cc)
 letter true upper lower false underscore dollar h n = refl

@@ -83,7 +83,7 @@ under_write_new = read refl
 under_write_undefined : IsRow (FieldRow (field.ReadUnderWrite Undefined)) (line (codes "read-under-write") (Word (codes "undefined") ∷ []))
 under_write_undefined = read refl
 
--- The words of a memory are names where they stand as such.
+-- The words of memories are names where a name may be.
 -- depth <= mem
 word_is_driven : IsRow (ConnectRow (reference.Local (codes "depth")) (NamedTerm (reference.Local (codes "mem")))) (Word (codes "depth") ∷ (Symbol Connect ∷ (Word (codes "mem") ∷ [])))
 word_is_driven = read refl

@@ -1,6 +1,6 @@
 -- Rows worked by hand from the grammar: which row the tokens of a line spell (FIRRTL Specification, "Grammar",
--- "Primitive Operations"). Each operation, keyword and form has one, with another operand in each place, so that words
--- or operands that change places turn a row.
+-- "Primitive Operations"). Each operation, keyword and form has one, with a different operand in each place, so that the row
+-- would change if words or operands changed places.
 use Rattle.std.proofs.Common.{◌≡◌, ℕ, Bool, true, false, List, [], ◌∷◌, None, Some, codes, refl, sym, ◌∙◌}
 use Rattle.gg_bits.specs.declared.types.Kind.{Kind}
 use Rattle.gg_bits.specs.declared.types.Kind.TheVariants.{UInt, SInt}
@@ -30,7 +30,7 @@ use Rattle.gg_row.proofs.RowLaws.{row_at-spelt, spelt-row_at}
 record IsRow (row : Row) (ts : List Tok) : Type 0 where
   pub spelt : SpellsRow row ts
 
--- by the reader of rows, which finds just what is spelt
+-- from the reader of rows, which finds exactly the row that is spelt
 read : {row : Row} {ts : List Tok} → row_at ts ≡ Some row → IsRow row ts
 read {row} {ts} found = record { spelt = row_at-spelt ts row found }
 
@@ -150,7 +150,7 @@ cat_row = read refl
 validif_row : IsRow (NodeRow (codes "n") (BinaryTerm two.Validif a b)) (of_two (codes "validif"))
 validif_row = read refl
 
--- The operations with one parameter: `node n = pad(a, 9)`. What would be the second is 0.
+-- The operations with one parameter: `node n = pad(a, 9)`. The second parameter is 0.
 abbrev of_fixed : List ℕ → List ℕ → List Tok
 of_fixed operation parameter = Word (codes "node") ∷ Word (codes "n") ∷ Symbol Equals ∷ Word operation ∷ Symbol OpenParen ∷ Word (codes "a") ∷ Symbol Comma ∷ Number parameter ∷ Symbol CloseParen ∷ []
 
@@ -169,7 +169,7 @@ head_row = read refl
 tail_row : IsRow (NodeRow (codes "n") (FixedTerm fix.Tail a 6 0)) (of_fixed (codes "tail") (codes "6"))
 tail_row = read refl
 
--- `bits` has two, the high one first.
+-- `bits` has two parameters, the high one first.
 -- node n = bits(a, 7, 2)
 bits_row : IsRow (NodeRow (codes "n") (FixedTerm fix.Bits a 7 2)) (Word (codes "node") ∷ Word (codes "n") ∷ Symbol Equals ∷ Word (codes "bits") ∷ Symbol OpenParen ∷ Word (codes "a") ∷ Symbol Comma ∷ Number (codes "7") ∷ Symbol Comma ∷ Number (codes "2") ∷ Symbol CloseParen ∷ [])
 bits_row = read refl
@@ -178,12 +178,12 @@ bits_row = read refl
 mux_row : IsRow (NodeRow (codes "n") (MuxTerm c a b)) (Word (codes "node") ∷ Word (codes "n") ∷ Symbol Equals ∷ Word (codes "mux") ∷ Symbol OpenParen ∷ Word (codes "c") ∷ Symbol Comma ∷ Word (codes "a") ∷ Symbol Comma ∷ Word (codes "b") ∷ Symbol CloseParen ∷ [])
 mux_row = read refl
 
--- Operations within each other.
+-- Operations inside operations.
 -- node n = sub(bits(a, 7, 2), mux(c, UInt<8>("h1f"), tail(b, 1)))
 nested_row : IsRow (NodeRow (codes "n") (BinaryTerm two.Sub (FixedTerm fix.Bits a 7 2) (MuxTerm c (ConstantTerm (literal UInt 8 Hexadecimal false (codes "1f"))) (FixedTerm fix.Tail b 1 0)))) (Word (codes "node") ∷ Word (codes "n") ∷ Symbol Equals ∷ Word (codes "sub") ∷ Symbol OpenParen ∷ Word (codes "bits") ∷ Symbol OpenParen ∷ Word (codes "a") ∷ Symbol Comma ∷ Number (codes "7") ∷ Symbol Comma ∷ Number (codes "2") ∷ Symbol CloseParen ∷ Symbol Comma ∷ Word (codes "mux") ∷ Symbol OpenParen ∷ Word (codes "c") ∷ Symbol Comma ∷ Word (codes "UInt") ∷ Symbol Less ∷ Number (codes "8") ∷ Symbol Greater ∷ Symbol OpenParen ∷ Text (codes "h1f") ∷ Symbol CloseParen ∷ Symbol Comma ∷ Word (codes "tail") ∷ Symbol OpenParen ∷ Word (codes "b") ∷ Symbol Comma ∷ Number (codes "1") ∷ Symbol CloseParen ∷ Symbol CloseParen ∷ Symbol CloseParen ∷ [])
 nested_row = read refl
 
--- References of one, two and three names, read and driven. A word of the grammar is a name where it stands as one.
+-- References of one, two and three names, read and driven. A word of the grammar is a name where a name may be.
 -- node n = a
 one_name : IsRow (NodeRow (codes "n") (NamedTerm (reference.Local (codes "a")))) (Word (codes "node") ∷ Word (codes "n") ∷ Symbol Equals ∷ Word (codes "a") ∷ [])
 one_name = read refl
@@ -351,7 +351,7 @@ cover = read refl
 cover_named : IsRow (ReportRow report.Cover arguments (Some (codes "s"))) (Word (codes "cover") ∷ Symbol OpenParen ∷ Word (codes "k") ∷ Symbol Comma ∷ Word (codes "c") ∷ Symbol Comma ∷ Text (codes "n is %d") ∷ Symbol Comma ∷ Word (codes "a") ∷ Symbol CloseParen ∷ Symbol Colon ∷ Word (codes "s") ∷ [])
 cover_named = read refl
 
--- Near misses. The clock and the condition of a stop change places: that is another row.
+-- Near misses. If the clock and the condition of a stop change places, it is another row.
 -- stop(UInt<1>(1), k, 65)
 stop_turned : IsRow (StopRow k (ConstantTerm (literal UInt 1 Decimal false (codes "1"))) 65 None) (Word (codes "stop") ∷ Symbol OpenParen ∷ Word (codes "UInt") ∷ Symbol Less ∷ Number (codes "1") ∷ Symbol Greater ∷ Symbol OpenParen ∷ Number (codes "1") ∷ Symbol CloseParen ∷ Symbol Comma ∷ Word (codes "k") ∷ Symbol Comma ∷ Number (codes "65") ∷ Symbol CloseParen ∷ []) → ⊥
 stop_turned h = let same = sole {row = StopRow (ConstantTerm (literal UInt 1 Decimal false (codes "1"))) k 65 None} refl h in cc
@@ -364,7 +364,7 @@ bits_of_one_number row h = none refl h
 word_misspelt : (row : Row) → IsRow row (Word (codes "nodes") ∷ Word (codes "n") ∷ Symbol Equals ∷ Word (codes "a") ∷ []) → ⊥
 word_misspelt row h = none refl h
 
--- The greatest number, and one more, of which nothing is made.
+-- The greatest number, and one more, for which there is no row.
 -- wire w : UInt<4294967295>
 greatest : IsRow (WireRow (codes "w") (plain_type.UInt 4294967295)) (Word (codes "wire") ∷ Word (codes "w") ∷ Symbol Colon ∷ Word (codes "UInt") ∷ Symbol Less ∷ Number (codes "4294967295") ∷ Symbol Greater ∷ [])
 greatest = read refl

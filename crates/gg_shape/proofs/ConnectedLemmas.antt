@@ -1,4 +1,4 @@
--- Sets of keys against the lists of references that contracts see.
+-- Sets of keys, and the lists of references that contracts see in their place.
 use Rattle.std.proofs.Common.{◌≡◌, ℕ, ◌+◌, ◌<◌, ◌≤◌, Bool, true, false, true≢false, ◌&&◌, ◌||◌, List, [], ◌∷◌, ◌++◌, length, map, take, get_or, Some, None, refl, sym, ap, subst, ◌∙◌, if◌then◌else◌}
 use Rattle.std.specs.List.{list_any}
 use Rattle.std.specs.Str.{bytes_eq}
@@ -25,7 +25,7 @@ module _ (eq : Key → Key → Bool) (is_same : (a b : Key) → eq a b ≡ same_
   among-keys k [] = refl
   among-keys k (x ∷ xs) = ap (λ b. b || list_any (eq k) xs) (is_same k x) ∙ ap (λ b. same_reference (reference_of k) (reference_of x) || b) (among-keys k xs)
 
--- the keys' own comparison
+-- the equality of keys is the one of the references that they stand for
 own : (a b : Key) → eq-value.it a b ≡ same_reference (reference_of a) (reference_of b)
 own (Local a) (Local x) = refl
 own (Local a) (PortOf x y) = refl
@@ -41,7 +41,7 @@ both : (x y : Bool) → x && y ≡ true → (x ≡ true) × (y ≡ true)
 both true y h = (refl, h)
 both false y h = absurd (true≢false (sym h))
 
--- two references that are written alike are the same
+-- references that the comparison finds the same are equal
 same-is : (a b : Reference) → same_reference a b ≡ true → a ≡ b
 same-is (references.Local a) (references.Local x) h = ap references.Local ((bytes_eq-Decides a x).0 h)
 same-is (references.Local a) (references.PortOf x y) h = absurd (true≢false (sym h))
@@ -68,11 +68,11 @@ or_true : (b : Bool) → b || true ≡ true
 or_true true = refl
 or_true false = refl
 
--- one reference more
+-- a list with one more reference
 pub among-push : (r q : Reference) (refs : List Reference) → is_among (refs ++ q ∷ []) r ≡ is_among refs r || same_reference r q
 among-push r q refs = list_any-append (same_reference r) refs (q ∷ []) ∙ ap (λ b. is_among refs r || b) (or_false (same_reference r q))
 
--- one that is there already adds none
+-- a reference that is there already adds nothing
 among-again : (r q : Reference) (refs : List Reference) → is_among refs q ≡ true → is_among refs r ≡ is_among (refs ++ q ∷ []) r
 among-again r q refs there = go (same_reference r q) refl ∙ sym (among-push r q refs)
   where
@@ -99,14 +99,14 @@ among-own k keys = among-keys eq-value.it own k keys
 connected-push : (before : List Stmt) (s : Stmt) (r : Reference) → is_connected (before ++ s ∷ []) r ≡ is_connected before r || connects r s
 connected-push before s r = list_any-append (connects r) before (s ∷ []) ∙ ap (λ b. is_connected before r || b) (or_false (connects r s))
 
--- a statement that connects this
+-- after a statement that connects q, the list with q added tells what the statements connect
 pub told-more : (before : List Stmt) (s : Stmt) (q : Reference) (refs new : List Reference) → connected_by s ≡ Some q → ((r : Reference) → is_among new r ≡ is_among (refs ++ q ∷ []) r) → TellsConnected before refs → TellsConnected (before ++ s ∷ []) new
 told-more before s q refs new is grown told = λ r.
     grown r ∙ among-push r q refs ∙ ap (λ b. b || same_reference r q) (told r)
     ∙ ap (λ o. is_connected before r || is_reference_to r o) (sym is)
     ∙ sym (connected-push before s r)
 
--- .. or nothing
+-- after a statement that connects nothing, the same list tells what the statements connect
 pub told-same : (before : List Stmt) (s : Stmt) (refs : List Reference) → connected_by s ≡ None → TellsConnected before refs → TellsConnected (before ++ s ∷ []) refs
 told-same before s refs is told = λ r.
     told r ∙ sym (or_false (is_connected before r)) ∙ ap (λ o. is_connected before r || is_reference_to r o) (sym is) ∙ sym (connected-push before s r)
@@ -114,7 +114,7 @@ told-same before s refs is told = λ r.
 pub told-start : TellsConnected [] []
 told-start = λ r. refl
 
--- the statements up to the next one
+-- the first i statements and the next one are the first i + 1
 pub told-next : (statements : List Stmt) (i : ℕ) (s : Stmt) (refs : List Reference) → i < length statements → s ≡ get_or statements i s → TellsConnected (take i statements ++ s ∷ []) refs → TellsConnected (take (i + 1) statements) refs
 told-next statements i s refs lt is told =
     subst (λ l. TellsConnected l refs) (sym (take_more statements i s lt ∙ ap (λ x. take i statements ++ x ∷ []) (sym is))) told
@@ -122,6 +122,6 @@ told-next statements i s refs lt is told =
 pub told-all : (statements : List Stmt) (i : ℕ) (refs : List Reference) → length statements ≤ i → TellsConnected (take i statements) refs → TellsConnected statements refs
 told-all statements i refs le told = subst (λ l. TellsConnected l refs) (take_all i statements le) told
 
--- a second connection, by what is known to be connected
+-- whether a connection is a second one, by the list of what the statements before it connect
 pub second-told : (scope : List (Reference × Role)) (before : List Stmt) (line : ℕ) (r : Reference) (refs : List Reference) → TellsConnected before refs → second_to scope before line (Some r) ≡ fault_if (is_sink (meaning_of scope r) && is_among refs r) (SecondConnection line (written r))
 second-told scope before line r refs told = ap (λ b. fault_if (is_sink (meaning_of scope r) && b) (SecondConnection line (written r))) (sym (told r))

@@ -1,4 +1,4 @@
--- The texts of faults at worked values.
+-- The texts of faults, worked by hand.
 use Rattle.std.proofs.Common.{◌≡◌, ◌∷◌, [], codes, refl}
 use Rattle.std.specs.Fmt.{digits}
 use Rattle.gg_bits.specs.declared.ops.Op2.TheVariants.{Geq}

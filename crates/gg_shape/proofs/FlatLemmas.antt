@@ -1,4 +1,4 @@
--- Faults one after another, along a list, and by a list's elements.
+-- Faults one after another: of two checks, along a list, and of each element of a list.
 use Rattle.std.proofs.Common.{◌≡◌, ℕ, ◌+◌, ◌<◌, ◌≤◌, List, [], ◌++◌, length, get_or, take, drop, Result, refl, sym, ap, subst, ◌∙◌}
 use Rattle.std.specs.List.{flat_map}
 use Rattle.std.proofs.lemmas.List.{drop_more, drop_all}
@@ -10,16 +10,16 @@ use Rattle.gg_shape.specs.declared.fault.Refusal.{Refusal}
 use Rattle.gg_shape.specs.declared.fault.Refusal.TheVariants.{F, NoMemory}
 use Rattle.gg_shape.specs.Faults.{along, Refuses, Answers}
 
--- the refusal of a first check stands for what follows too
+-- a refusal for some faults is one for these and more after them
 pub refused_first : (xs ys : List Fault) (r : Refusal) → Refuses xs r → Refuses (xs ++ ys) r
 refused_first xs ys (F fault) h = first-front xs ys fault h
 refused_first xs ys NoMemory h = tt
 
--- where the first check finds nothing the second decides
+-- if the first check finds nothing, the second decides
 pub decided_next : {A : Type 0} (xs ys : List Fault) (r : Result A Refusal) → xs ≡ [] → Answers ys r → Answers (xs ++ ys) r
 decided_next xs ys r none h = rw none h
 
--- the i-th is refused, so the list is
+-- if no element before the i-th has a fault and the i-th is refused, the list is refused
 pub along-refused : {A : Type 0} (at : List A → A → List Fault) (xs : List A) (i : ℕ) (x : A) (r : Refusal) → i < length xs → x ≡ get_or xs i x → along at xs ≡ left at xs i → Refuses (at (take i xs) x) r → Refuses (along at xs) r
 along-refused at xs i x r lt is h refused =
     subst (λ l. Refuses l r) (sym (left-from at xs i x lt is h)) (refused_first (at (take i xs) x) (left at xs (i + 1)) r refused)
@@ -35,18 +35,18 @@ module _ {A : Type 0} (f : A → List Fault) (xs : List A) where
   pub rest-end : (i : ℕ) → length xs ≤ i → rest i ≡ []
   rest-end i le = ap (flat_map f) (drop_all i xs le)
 
-  -- the i-th has no fault
+  -- if no element up to the i-th has a fault, all faults are after it
   pub rest-more : (i : ℕ) (d x : A) → i < length xs → x ≡ get_or xs i d → f x ≡ [] → flat_map f xs ≡ rest i → flat_map f xs ≡ rest (i + 1)
   rest-more i d x lt is none h = h ∙ rest-step i d lt ∙ ap (λ y. f y ++ rest (i + 1)) (sym is) ∙ ap (λ l. l ++ rest (i + 1)) none
 
-  -- the i-th is refused, so the list is
+  -- if no element before the i-th has a fault and the i-th is refused, the list is refused
   pub rest-refused : (i : ℕ) (d x : A) (r : Refusal) → i < length xs → x ≡ get_or xs i d → flat_map f xs ≡ rest i → Refuses (f x) r → Refuses (flat_map f xs) r
   rest-refused i d x r lt is h refused =
       subst (λ l. Refuses l r) (sym (h ∙ rest-step i d lt ∙ ap (λ y. f y ++ rest (i + 1)) (sym is))) (refused_first (f x) (rest (i + 1)) r refused)
 
 -- ---- modules by their places
 
--- the i-th module has no fault of a number
+-- if no module up to the i-th has a fault that `f` lists, all these faults are in the modules after it
 pub module-more : (f : ModuleTree → List Fault) (modules : List ModuleTree) (i : ℕ) → i < length modules → f (module_at modules i) ≡ [] → flat_map f modules ≡ rest f modules i → flat_map f modules ≡ rest f modules (i + 1)
 module-more f modules i lt none h = rest-more f modules i (empty_module 0 []) (module_at modules i) lt refl none h
 

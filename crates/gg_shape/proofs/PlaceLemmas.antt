@@ -1,4 +1,4 @@
--- Whether a module is there, and what stands before a statement.
+-- Whether a module exists, and which names are declared before a statement.
 use Rattle.std.proofs.Common.{◌≡◌, ℕ, ◌+◌, ◌<◌, ◌≤◌, List, [], ◌∷◌, ◌++◌, length, take, get_or, slice_index_or, Option, Some, None, is_some, refl, sym, ap, subst, ◌∙◌, arith, length-append}
 use Rattle.std.proofs.lemmas.List.{take_more, get_or_default}
 use Rattle.gg_ast.specs.declared.expression.Reference.{Reference}
@@ -23,7 +23,7 @@ module-there name modules = go (place_of name (names_of modules)) refl
 
 -- ---- the names before a statement
 
--- where the i-th statement stands among the declared names and in the scope
+-- the names and the scope before and after the i-th statement, and that there is room for what it declares
 pub record Stands (modules : List ModuleTree) (ports : List Port) (statements : List Stmt) (i : ℕ) (s : Stmt) : Type 0 where
   pub names_next : names_after ports (take (i + 1) statements) ≡ names_after ports (take i statements) ++ name_by s
   pub scope_next : scope_after modules ports (take (i + 1) statements) ≡ scope_after modules ports (take i statements) ++ entries_by modules s
@@ -42,7 +42,7 @@ stands modules ports statements i s lt is =
       room = omega (arith, names-front ports statements (i + 1), count);
     }
 
--- what is known to be connected in a module is what its statements connect
+-- by a list that tells what a module's statements connect, the unconnected sinks are those of F5
 pub sinks-told : (modules : List ModuleTree) (m : ModuleTree) (connected : List Reference) → TellsConnected m.statements connected → unconnected_among modules (is_among connected) m ≡ unconnected_sinks modules m
 sinks-told modules m connected told = ap (λ f. unconnected_among modules f m) (λ i r. told r i)
 

@@ -1,4 +1,4 @@
--- What a declaration leaves unconnected, part by part.
+-- Which sinks of a declaration are unconnected, part by part.
 use Rattle.std.proofs.Common.{◌≡◌, ℕ, ◌<◌, Bool, true, false, true≢false, if◌then◌else◌, arith, List, [], ◌∷◌, ◌++◌, length, map, filter, get_or, Some, None, refl, sym, ap, ◌∙◌}
 use denote.Ref.{Bor}
 use Rattle.std.specs.List.{flat_map}
@@ -32,7 +32,7 @@ module _ (connected : Reference → Bool) (line : ℕ) where
       go Input e = absurd (true≢false (sym (ap is_in e) ∙ none))
       go Output e = rw e refl
 
-  -- outputs need no connection
+  -- an instance's outputs need no connection, so only its inputs count
   inputs-alone : (instance : List ℕ) (ports : List Port) → flat_map (unconnected_entry connected line) (map (instance_port instance) ports) ≡ flat_map (λ p. unconnected_entry connected line (instance_port instance p)) (filter is_input ports)
   inputs-alone instance [] = refl
   inputs-alone instance (p ∷ ps) = go (is_input p) refl (inputs-alone instance ps)

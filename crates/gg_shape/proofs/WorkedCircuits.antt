@@ -1,5 +1,5 @@
--- Parts of the circuits that are worked by hand in the files beside this one. Widths play no part here: all are 8, but that a
--- memory's address, enable and mask have their own.
+-- Parts of the circuits that are worked by hand in the files beside this one. Widths don't matter here: all are 8, except those of
+-- a memory's address, enable and mask.
 use Rattle.std.proofs.Common.{ℕ, List, [], ◌∷◌, ◌++◌, codes}
 use Rattle.gg_ast.specs.declared.expression.Reference.{Reference}
 use Rattle.gg_ast.specs.declared.expression.Reference.TheVariants.{Local, PortOf, FieldOf}
@@ -41,7 +41,7 @@ module_with line name ports statements = record { line = line; name = name; port
 abbrev pub circuit_with : List ℕ → List ModuleTree → CircuitTree
 circuit_with name modules = record { line = 1; name = name; modules = modules }
 
--- names
+-- local names
 abbrev pub clock : Reference
 clock = Local (codes "clock")
 
@@ -88,7 +88,7 @@ inst_i = instance 11 (codes "i") (codes "C")
 abbrev pub wired : List Stmt
 wired = connect 12 (of_i (codes "clock")) clock ∷ (connect 13 (of_i (codes "a")) x ∷ (connect 14 y (of_i (codes "b")) ∷ []))
 
--- the same circuit with a memory in place of the instance, which begins on line 11
+-- the same circuit with a memory in place of the instance; the memory begins on line 11
 abbrev pub field : ℕ → fields.MemoryField → Field
 field line kind = record { line = line; kind = kind }
 
@@ -107,7 +107,7 @@ ports_w_r = field 16 (Writers (codes "w" ∷ [])) ∷ (field 17 (Readers (codes 
 abbrev pub mem_m : List Field → Stmt
 mem_m fs = on 11 (Memory (codes "m") fs)
 
--- lines 18 to 20 and 21 to 25
+-- lines 18 to 20 connect the reader, lines 21 to 25 the writer
 abbrev pub read : List Stmt
 read = invalid 18 (of_m (codes "r") (codes "addr")) ∷ (invalid 19 (of_m (codes "r") (codes "en")) ∷ (connect 20 (of_m (codes "r") (codes "clk")) clock ∷ []))
 

@@ -1,4 +1,4 @@
--- The faults of memories' fields on worked memories.
+-- Small memories, with the faults of their fields.
 use Rattle.std.proofs.Common.{◌≡◌, [], ◌∷◌, ◌++◌, refl}
 use Rattle.gg_ast.specs.declared.module.GroundType.TheVariants.{UInt}
 use Rattle.gg_ast.specs.declared.statement.MemoryField.TheVariants.{DataType, Depth, ReadLatency, WriteLatency, ReadUnderWrite}
@@ -8,7 +8,7 @@ use Rattle.gg_shape.specs.declared.fault.MemoryKey.TheVariants as key
 use Rattle.gg_shape.specs.Memories.{memory_faults}
 use Rattle.gg_shape.proofs.WorkedCircuits.{field, sizes, ports_w_r, store_of}
 
--- a read-under-write may be missing, or stand once
+-- a read-under-write may be missing, or be there once
 right : memory_faults (store_of (sizes ++ ports_w_r)) ≡ []
 right = refl
 
@@ -27,22 +27,22 @@ type_twice = refl
 depth_zero : memory_faults (store_of (field 12 (DataType (UInt 8)) ∷ (field 13 (Depth 0) ∷ (field 14 (ReadLatency 0) ∷ (field 15 (WriteLatency 1) ∷ []))))) ≡ MemoryField 11 key.Depth ∷ []
 depth_zero = refl
 
--- the same depth again
+-- a second depth, with the same number
 depth_twice : memory_faults (store_of (sizes ++ field 16 (Depth 4) ∷ [])) ≡ MemoryField 11 key.Depth ∷ []
 depth_twice = refl
 
 slow_read : memory_faults (store_of (field 12 (DataType (UInt 8)) ∷ (field 13 (Depth 4) ∷ (field 14 (ReadLatency 2) ∷ (field 15 (WriteLatency 1) ∷ []))))) ≡ MemoryField 11 key.ReadLatency ∷ []
 slow_read = refl
 
--- a read latency of 1 is right
+-- a read latency of 1 is allowed
 late_read : memory_faults (store_of (field 12 (DataType (UInt 8)) ∷ (field 13 (Depth 4) ∷ (field 14 (ReadLatency 1) ∷ (field 15 (WriteLatency 1) ∷ []))))) ≡ []
 late_read = refl
 
 quick_write : memory_faults (store_of (field 12 (DataType (UInt 8)) ∷ (field 13 (Depth 4) ∷ (field 14 (ReadLatency 0) ∷ (field 15 (WriteLatency 0) ∷ []))))) ≡ MemoryField 11 key.WriteLatency ∷ []
 quick_write = refl
 
--- The order of the fields is fixed, whatever their lines: a memory without fields, and one whose write latency stands above a
--- wrong depth.
+-- Faults come in the order of the table of fields, not in the order of the lines: a memory without fields, and one whose write
+-- latency is above a wrong depth.
 empty : memory_faults (store_of []) ≡ MemoryField 11 key.DataType ∷ MemoryField 11 key.Depth ∷ MemoryField 11 key.ReadLatency ∷ MemoryField 11 key.WriteLatency ∷ []
 empty = refl
 

@@ -1,4 +1,4 @@
--- Rings of one, two and five modules, and circuits without.
+-- Rings of one, two and five modules, and circuits without a ring.
 use Rattle.std.proofs.Common.{◌≡◌, ◌≢◌, ℕ, zero, suc, ◌<◌, List, [], ◌∷◌, codes, eqb, get_or, take, refl, arith, lit<}
 use Rattle.std.specs.Prelude.{AllPairs, Contains}
 use Rattle.std.specs.List.{IsDistinct}
@@ -28,13 +28,13 @@ five P a b c d e (suc (suc (suc k))) lt = two (λ i. P (suc (suc (suc i)))) d e 
 distinct : (xs : List ℕ) → IsDistinct eqb xs → AllPairs (λ a b. a ≢ b) xs
 distinct xs h = AllPairs-from_IsDistinct Decides-eqb xs h
 
--- a module with an instance of another, and one without
+-- a module with one instance, which is of this module
 abbrev holder : List ℕ → List ℕ → ModuleTree
 holder name held = module_with 2 name [] (instance 3 (codes "i") held ∷ [])
 
 -- ---- rings
 
--- the top holds itself
+-- the top has an instance of itself
 abbrev alone : CircuitTree
 alone = circuit_with (codes "A") (holder (codes "A") (codes "A") ∷ [])
 
@@ -49,7 +49,7 @@ ring_alone = record {
 told_alone : ring_names alone (0 ∷ []) ≡ codes "A" ∷ codes "A" ∷ []
 told_alone = refl
 
--- a module holds the top, which holds it
+-- a module has an instance of the top, which has one of it
 abbrev pair : CircuitTree
 pair = circuit_with (codes "A") (holder (codes "A") (codes "B") ∷ (holder (codes "B") (codes "A") ∷ []))
 
@@ -83,7 +83,7 @@ told_five = refl
 
 -- ---- near misses
 
--- A holds B, the module at place 1, and not itself
+-- A has an instance of B, the module at place 1, and none of itself
 abbrev held_by_A : List ℕ
 held_by_A = 1 ∷ []
 
@@ -94,19 +94,19 @@ not_alone r = at r.round.0 r.round.1 r.round.2
     at zero lt is = absurd (omega (arith, is))
     at (suc k) lt is = absurd (omega (arith, lt))
 
--- the parent holds the child, which holds nothing: the way isn't closed
+-- the parent has an instance of the child, which has none: the way doesn't come back
 not_closed : ¬ IsRingOf (family_with (inst_i ∷ wired)) (1 ∷ 0 ∷ [])
 not_closed r = absurd (omega (arith, r.round.1.1))
 
--- a module twice
+-- a module that comes twice
 too_long : ¬ IsRingOf pair (0 ∷ 1 ∷ 0 ∷ [])
 too_long r = r.once 0 2 0 (lit< tt) (lit< tt) refl
 
--- no module
+-- no module at all
 no_module : ¬ IsRingOf pair []
 no_module r = r.round
 
--- the order in which a module stands behind those that it holds: the child, the parent
+-- an order in which each module comes after those that it has instances of: the child, the parent
 family_order : IsOrderOf (Holds (family_with (inst_i ∷ wired)).modules) 2 (0 ∷ 1 ∷ [])
 unfolding IsDistinct
 family_order = record {
@@ -126,6 +126,6 @@ family_order = record {
     held zero t lt is = (0, lit< tt, is)
     held (suc k) t lt is = absurd (omega (arith, lt))
 
--- so the family has no ring
+-- so this circuit has no ring
 family_ringless : HasNoRing (family_with (inst_i ∷ wired))
 family_ringless ring = no_ring (Holds (family_with (inst_i ∷ wired)).modules) 2 (0 ∷ 1 ∷ []) ring family_order

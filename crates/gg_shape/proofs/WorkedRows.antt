@@ -1,4 +1,4 @@
--- The faults of names and connections on small circuits, each with one mistake or two, and on their right twins.
+-- The faults of names and connections in small circuits, each with one mistake or two, and circuits without a mistake.
 use Rattle.std.proofs.Common.{◌≡◌, [], ◌∷◌, ◌++◌, Some, codes, refl}
 use Rattle.gg_ast.specs.declared.expression.Reference.TheVariants.{Local, PortOf}
 use Rattle.gg_ast.specs.declared.module.GroundType.TheVariants.{UInt, Clock}
@@ -31,11 +31,11 @@ module_twice = refl
 name_twice : first (named_faults (family_with (instance 11 (codes "x") (codes "C") ∷ []))) ≡ Some (RepeatedName 11 (codes "x"))
 name_twice = refl
 
--- line 18 is `reader => s r`: r is a reader already
+-- line 18 is `reader => r`: r is a reader already
 reader_twice : named_faults (store_of (sizes ++ (ports_w_r ++ field 18 (Readers (codes "r" ∷ [])) ∷ []))) ≡ RepeatedName 18 (codes "r") ∷ []
 reader_twice = refl
 
--- a reader on line 16 and a writer on line 17 of one name: the later is told, also where readers come first among the fields
+-- a writer on line 16 and a reader on line 17 with the same name: the later one is reported, though readers come first otherwise
 reader_is_writer : first (named_faults (store_of (field 16 (Writers (codes "w" ∷ [])) ∷ (field 17 (Readers (codes "w" ∷ [])) ∷ [])))) ≡ Some (RepeatedName 17 (codes "w"))
 reader_is_writer = refl
 
@@ -49,15 +49,15 @@ no_module = refl
 no_port : named_faults (family_with (inst_i ∷ (connect 12 (of_i (codes "clock")) clock ∷ (connect 13 (of_i (codes "a")) x ∷ (connect 14 y (of_i (codes "q")) ∷ []))))) ≡ UnknownName 14 (codes "i.q") ∷ []
 no_port = refl
 
--- the instance stands below its use on line 10
+-- the instance is below its use on line 10
 instance_later : first (named_faults (family_with (connect 10 y (of_i (codes "b")) ∷ (inst_i ∷ wired)))) ≡ Some (UnknownName 10 (codes "i.b"))
 instance_later = refl
 
--- an instance has no value of its own, nor has a memory
+-- an instance has no value of its own
 instance_alone : first (named_faults (family_with (inst_i ∷ (connect 14 y (Local (codes "i")) ∷ [])))) ≡ Some (UnknownName 14 (codes "i"))
 instance_alone = refl
 
--- x is no instance
+-- x isn't an instance
 port_of_port : first (named_faults (family_with (connect 11 y (PortOf (codes "x") (codes "b")) ∷ []))) ≡ Some (UnknownName 11 (codes "x.b"))
 port_of_port = refl
 
@@ -65,11 +65,11 @@ port_of_port = refl
 no_mask : named_faults (store_with (mem_m (sizes ++ ports_w_r) ∷ (read ++ (write ++ (answer ++ invalid 27 (of_m (codes "r") (codes "mask")) ∷ []))))) ≡ UnknownName 27 (codes "m.r.mask") ∷ []
 no_mask = refl
 
--- a port of a memory alone names nothing
+-- `m.r` alone, without a field, names nothing
 port_alone : first (named_faults (store_with (mem_m (sizes ++ ports_w_r) ∷ (connect 26 y (PortOf (codes "m") (codes "r")) ∷ [])))) ≡ Some (UnknownName 26 (codes "m.r"))
 port_alone = refl
 
--- in its own reset a register is known, in its clock it isn't
+-- a register is known in its own reset, but not in its clock
 reset_knows : named_faults (store_with (on 11 (Register (codes "q") (UInt 8) (NamedTerm clock) (Some (record { line = 12; condition = NamedTerm x; init = NamedTerm (Local (codes "q")) }))) ∷ (connect 13 y x ∷ []))) ≡ []
 reset_knows = refl
 
@@ -86,15 +86,15 @@ field_twice = refl
 
 -- ---- F5
 
--- a Clock input of an instance needs a connection like any other; of one line the first in the order of the ports
+-- a Clock input of an instance needs a connection like any other; on one line, faults come in the order of the ports
 clock_open : named_faults (family_with (inst_i ∷ (connect 14 y (of_i (codes "b")) ∷ []))) ≡ Unconnected 11 (codes "i.clock") ∷ Unconnected 11 (codes "i.a") ∷ []
 clock_open = refl
 
--- readers come before writers, though the writer's line stands first
+-- readers come before writers, even if the writer's line is above
 reader_first : first (named_faults (store_with (mem_m (sizes ++ ports_w_r) ∷ answer))) ≡ Some (Unconnected 11 (codes "m.r.addr"))
 reader_first = refl
 
--- a writer has a mask and its data is a sink; a reader's data is none
+-- a writer has a mask, and its data is a sink; a reader's data isn't
 mask_open : named_faults (store_with (mem_m (sizes ++ ports_w_r) ∷ (read ++ (invalid 21 (of_m (codes "w") (codes "addr")) ∷ (invalid 22 (of_m (codes "w") (codes "en")) ∷ (connect 23 (of_m (codes "w") (codes "clk")) clock ∷ answer))))))
     ≡ Unconnected 11 (codes "m.w.data") ∷ Unconnected 11 (codes "m.w.mask") ∷ []
 mask_open = refl
@@ -113,12 +113,12 @@ data_connected = refl
 number_first : named_faults (family_with (inst_i ∷ (connect 12 (of_i (codes "clock")) clock ∷ (connect 14 y (of_i (codes "q")) ∷ [])))) ≡ UnknownName 14 (codes "i.q") ∷ Unconnected 11 (codes "i.a") ∷ []
 number_first = refl
 
--- F5 in the first module comes before F5 in the second
+-- F5 in the first module comes before F5 in the third
 module_first : named_faults (circuit_with (codes "P") (module_with 2 (codes "C") (input 3 (codes "clock") Clock ∷ (input 4 (codes "a") (UInt 8) ∷ (output 5 (codes "b") (UInt 8) ∷ []))) [] ∷ (parent_with (inst_i ∷ wired) ∷ (module_with 20 (codes "U") (output 21 (codes "z") (UInt 8) ∷ []) [] ∷ []))))
     ≡ Unconnected 5 (codes "b") ∷ Unconnected 21 (codes "z") ∷ []
 module_first = refl
 
--- no instance of U stands anywhere
+-- F5 in U, of which there is no instance
 unreached : named_faults (circuit_with (codes "P") (child ∷ (parent_with (inst_i ∷ wired) ∷ (module_with 20 (codes "U") (output 21 (codes "z") (UInt 8) ∷ []) [] ∷ [])))) ≡ Unconnected 21 (codes "z") ∷ []
 unreached = refl
 
@@ -128,10 +128,10 @@ unreached = refl
 not_open : named_faults (family_with (inst_i ∷ wired)) ≡ Unconnected 11 (codes "i.b") ∷ [] → ⊥
 not_open h = cc
 
--- a mask is no source
+-- a mask isn't a source
 mask_no_source : named_faults (store_of (sizes ++ ports_w_r)) ≡ ConnectedSource 25 (codes "m.w.mask") ∷ [] → ⊥
 mask_no_source h = cc
 
--- a module below is no fault of a module above it
+-- a module may be below the one that has an instance of it
 later_module : named_faults (circuit_with (codes "P") (parent_with (inst_i ∷ wired) ∷ (child ∷ []))) ≡ UnknownName 11 (codes "C") ∷ [] → ⊥
 later_module h = cc

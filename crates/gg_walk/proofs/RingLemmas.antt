@@ -7,7 +7,7 @@ use Rattle.gg_walk.specs.Walk.{IsChain}
 
 -- ---- along an order
 
--- node s stands in the order at a place before i
+-- node s is in the order at a place before i
 record StandsBefore (order : List ℕ) (i s : ℕ) : Type 0 where
   place : ℕ
   before : place < i
@@ -25,12 +25,12 @@ stands-before order i s found =
       is = get_or_default order found.0 0 s within ∙ sym (get_or-take i order found.0 s before) ∙ found.2;
     }
 
--- a target of the node at place i stands before i
+-- a target of the node at place i is at a place before i
 target-before : (Edge : ℕ → ℕ → Type 0) (count : ℕ) (order : List ℕ) (i s t : ℕ) → IsOrderOf Edge count order → i < length order → node_at order i ≡ s → Edge s t → StandsBefore order i t
 target-before Edge count order i s t o lt at edge =
     stands-before order i t (o.after i t lt (subst (λ x. Edge x t) (sym at) edge))
 
--- where a list goes to a node, from the one at place i on, that node stands before i
+-- if a list goes on to a node, beginning with the one at place i, that node is at a place before i
 goes-before : (Edge : ℕ → ℕ → Type 0) (count : ℕ) (order : List ℕ) (i a : ℕ) (rest : List ℕ) (first : ℕ) → IsOrderOf Edge count order → i < length order → node_at order i ≡ a → GoesTo Edge first (a ∷ rest) → StandsBefore order i first
 goes-before Edge count order i a [] first o lt at goes = target-before Edge count order i a first o lt at goes
 goes-before Edge count order i a (b ∷ rest) first o lt at goes =
@@ -38,7 +38,7 @@ goes-before Edge count order i a (b ∷ rest) first o lt at goes =
     let last = goes-before Edge count order next.place b rest first o next.within next.is goes.1 in
     record { place = last.place; before = omega (arith, last.before, next.before); within = last.within; is = last.is }
 
--- the place of a node in the order
+-- a node of the graph has a place in the order
 place-of : (Edge : ℕ → ℕ → Type 0) (count : ℕ) (order : List ℕ) (s : ℕ) → IsOrderOf Edge count order → s < count → StandsBefore order (length order) s
 place-of Edge count order s o lt =
     let found = o.every s lt in
@@ -78,7 +78,7 @@ GoesTo-chain Edge [] s first chain edge = edge
 GoesTo-chain Edge (a ∷ []) s first chain edge = (chain.0, edge)
 GoesTo-chain Edge (a ∷ b ∷ rest) s first chain edge = (chain.0, GoesTo-chain Edge (b ∷ rest) s first chain.1 edge)
 
--- the end of a path that comes back to a node on it
+-- if the last node of a path has an edge to a node on it, the path from that node on goes round
 pub GoesRound-end : (Edge : ℕ → ℕ → Type 0) (xs : List ℕ) (s first k : ℕ) → IsChain Edge (xs ++ s ∷ []) → Edge s first → k < length (xs ++ s ∷ []) → get_or (xs ++ s ∷ []) k first ≡ first → GoesRound Edge (drop k (xs ++ s ∷ []))
 GoesRound-end Edge xs s first k chain edge lt is =
     let path = xs ++ s ∷ [] in
@@ -88,7 +88,7 @@ GoesRound-end Edge xs s first k chain edge lt is =
     subst (GoesTo Edge first) (sym cut) (GoesTo-chain Edge (drop k xs) s first (subst (IsChain Edge) cut (IsChain-drop Edge k path chain)) edge) in
     subst (GoesRound Edge) (sym begins) (subst (GoesTo Edge first) begins goes)
 
--- the rest of a list of different nodes
+-- a list of different nodes has different nodes from place k on
 pub once-drop : (k : ℕ) (xs : List ℕ) → AllPairs (λ a b. a ≢ b) xs → AllPairs (λ a b. a ≢ b) (drop k xs)
 once-drop k xs once i j d lt within same =
     once (k + i) (k + j) d (omega arith) (omega (arith, within, length-drop k xs)) (sym (get_or-drop k xs i d) ∙ same ∙ get_or-drop k xs j d)

@@ -1,11 +1,11 @@
--- A ring that begins with another of its nodes is a ring.
+-- A ring that begins at another of its nodes is a ring.
 use Rattle.std.proofs.Common.{◌≡◌, ◌≢◌, ℕ, ◌+◌, ◌-◌, ◌<◌, ◌≤◌, List, [], ◌∷◌, ◌++◌, length, get_or, take, drop, refl, sym, ◌∙◌, subst, inl, inr, arith, length-append}
 use Rattle.std.specs.Prelude.{AllPairs}
 use Rattle.std.proofs.lemmas.Bool.{cases_lt}
 use Rattle.std.proofs.lemmas.List.{append-nil, take-append-drop, get_or_append_left, get_or-append-add, get_or-append_right}
 use Rattle.gg_walk.specs.Graph.{node_at, GoesTo, GoesRound, IsRing}
 
--- ---- each to the next
+-- ---- edges from each node to the next
 
 goes-split : (Edge : ℕ → ℕ → Type 0) (first a : ℕ) (xs : List ℕ) (b : ℕ) (ys : List ℕ) → GoesTo Edge first ((a ∷ xs) ++ b ∷ ys) → GoesTo Edge b (a ∷ xs) × GoesTo Edge first (b ∷ ys)
 goes-split Edge first a [] b ys goes = (goes.0, goes.1)
@@ -26,7 +26,7 @@ round-swap Edge (a ∷ xs) (b ∷ ys) round =
 
 -- ---- the same nodes
 
--- where a node of the swapped list stood
+-- a node of the swapped list, and its place in the list before: at-front for the first part, at-back for the second
 at-front : (xs ys : List ℕ) (i d : ℕ) → i < length ys → get_or (ys ++ xs) i d ≡ get_or (xs ++ ys) (length xs + i) d
 at-front xs ys i d lt = get_or_append_left ys xs d i lt ∙ sym (get_or-append-add xs ys i d)
 
@@ -65,7 +65,7 @@ ring-swap Edge count xs ys r = record {
   round = round-swap Edge xs ys r.round;
 }
 
--- what `rotate_left` makes of a ring
+-- a ring that `rotate_left` has turned is a ring
 pub IsRing-rotate : (Edge : ℕ → ℕ → Type 0) (count : ℕ) (ring : List ℕ) (k : ℕ) → IsRing Edge count ring → IsRing Edge count (drop k ring ++ take k ring)
 IsRing-rotate Edge count ring k r =
     ring-swap Edge count (take k ring) (drop k ring) (subst (IsRing Edge count) (sym (take-append-drop k ring)) r)

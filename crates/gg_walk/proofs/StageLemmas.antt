@@ -1,4 +1,4 @@
--- Stages of nodes, and lists that grow by a node.
+-- The stages of nodes, and lists that grow by one node.
 use Rattle.std.proofs.Common.{◌≡◌, ◌≢◌, ℕ, zero, suc, ◌<◌, List, [], ◌∷◌, ◌++◌, length, set, take, replicate, refl, sym, ap, ◌∙◌, subst, inl, inr, ◌⊎◌, arith, below_more, length-append}
 use Rattle.std.specs.Prelude.{Contains, AllPairs, sum_by}
 use Rattle.std.proofs.lemmas.Bool.{cases_lt}
@@ -12,7 +12,7 @@ use Rattle.gg_walk.specs.declared.state.Stage.TheVariants.{New}
 
 -- ---- stages
 
--- a node that isn't new is one of those that have stages
+-- a node that isn't new is one of the nodes that have stages
 pub stage-within : (stages : List Stage) (s : ℕ) → stage_at stages s ≢ New → s < length stages
 stage-within stages s old =
     elim (cases_lt s (length stages)) [ inl lt ↦ lt | inr ge ↦ absurd (old (get_or_past stages s New ge)) ]
@@ -20,12 +20,12 @@ stage-within stages s old =
 pub stage_set-same : (stages : List Stage) (s : ℕ) (x : Stage) → s < length stages → stage_at (set stages s x) s ≡ x
 stage_set-same stages s x lt = get_or-set_same stages s x New lt
 
--- a node of another stage than the changed one
+-- a node whose stage is another than that of the changed node keeps its stage
 pub stage_set-other : (stages : List Stage) (s t : ℕ) (x y z : Stage) → stage_at stages t ≡ y → stage_at stages s ≡ z → z ≢ y → stage_at (set stages t x) s ≡ z
 stage_set-other stages s t x y z at_t at_s differ =
     get_or-set_other stages t s x New (λ same. differ (sym at_s ∙ ap (stage_at stages) same ∙ at_t)) ∙ at_s
 
--- what a node's stage says after a change
+-- after a change, a node is the changed one with the new stage, or another one with its old stage
 pub stage_set-cases : (stages : List Stage) (s t : ℕ) (x z : Stage) → t < length stages → stage_at (set stages t x) s ≡ z → ((s ≡ t) × (x ≡ z)) ⊎ ((s ≢ t) × (stage_at stages s ≡ z))
 stage_set-cases stages s t x z lt is =
     elim (cases_lt s t) [
@@ -46,7 +46,7 @@ place_replicate zero s = refl
 place_replicate (suc n) zero = refl
 place_replicate (suc n) (suc s) = place_replicate n s
 
--- a stage further on leaves less to do
+-- a node that goes on to a later stage leaves less to do
 pub weight-smaller : (stages : List Stage) (s : ℕ) (x y : Stage) → s < length stages → stage_at stages s ≡ y → weight x < weight y → sum_by weight (set stages s x) < sum_by weight stages
 weight-smaller stages s x y lt at less =
     omega (arith, sum_by-set weight stages s x New lt, ap weight at, less)
@@ -69,7 +69,7 @@ contains_cases xs y s h =
 pub contains_at : (xs : List ℕ) (i : ℕ) → i < length xs → Contains xs (node_at xs i)
 contains_at xs i lt = (i, lt, get_or_default xs i (node_at xs i) 0 lt)
 
--- the last of different nodes isn't one of those before
+-- the last node of a list of different nodes isn't among those before it
 pub last-new : (xs : List ℕ) (y : ℕ) → AllPairs (λ a b. a ≢ b) (xs ++ y ∷ []) → ¬ Contains xs y
 last-new xs y once h =
     once h.0 (length xs) y h.1 (omega (arith, length-append xs (y ∷ [])))

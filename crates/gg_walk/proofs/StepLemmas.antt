@@ -59,7 +59,7 @@ Walks-enter {Edge = Edge} {Below = Below} {count = count} {path = path} {stages 
         let at : get_or path k t ≡ t = get_or_default path k t d less ∙ is in
         let e : Open ≡ New = sym (w.opened t (k, less, at)) ∙ fresh in cc
 
--- the targets of a node are scanned to a place
+-- the targets of a node were scanned up to a place
 pub Walks-scan : {Edge : ℕ → ℕ → Type 0} {Below : ℕ → ℕ → ℕ → Type 0} {count : ℕ} {path : List ℕ} {stages : List Stage} {places order : List ℕ} (s p : ℕ) → Walks Edge Below count path stages places order → s < count → ((t : ℕ) → Below s p t → stage_at stages t ≡ Done) → Walks Edge Below count path stages (set places s p) order
 Walks-scan {Edge = Edge} {Below = Below} {count = count} {path = path} {stages = stages} {places = places} {order = order} s p w lt done = record {
   stage_count = w.stage_count;
@@ -95,7 +95,7 @@ Walks-scan {Edge = Edge} {Below = Below} {count = count} {path = path} {stages =
           ]
         ]
 
--- the last node of the path goes into the order
+-- the last node of the path goes to the end of the order
 pub Walks-leave : {Edge : ℕ → ℕ → Type 0} {Below : ℕ → ℕ → ℕ → Type 0} {count : ℕ} (path : List ℕ) {stages : List Stage} {places order : List ℕ} (s : ℕ) → Walks Edge Below count (path ++ s ∷ []) stages places order → ((t : ℕ) → Edge s t → stage_at stages t ≡ Done) → Walks Edge Below count path (set stages s Done) places (order ++ s ∷ [])
 Walks-leave {Edge = Edge} {Below = Below} {count = count} path {stages = stages} {places = places} {order = order} s w done = record {
   stage_count = length-set stages s Done ∙ w.stage_count;
@@ -131,13 +131,13 @@ Walks-leave {Edge = Edge} {Below = Below} {count = count} path {stages = stages}
         let here : get_or order k s ≡ s = get_or_default order k s d less ∙ is in
         let e : Done ≡ Open = sym (w.ordered s (k, less, here)) ∙ at in cc
 
--- the node that a walk is at is one of the graph's
+-- a node on the path is a node of the graph
 pub at-within : {Edge : ℕ → ℕ → Type 0} {Below : ℕ → ℕ → ℕ → Type 0} {count : ℕ} {path : List ℕ} {stages : List Stage} {places order : List ℕ} (s : ℕ) → Walks Edge Below count path stages places order → Contains path s → s < count
 at-within {Edge = Edge} {Below = Below} {count = count} {path = path} {stages = stages} {places = places} {order = order} s w h =
     let at : stage_at stages s ≡ Open = w.opened s h in
     omega (arith, w.stage_count, stage-within stages s (λ fresh. let e : Open ≡ New = sym at ∙ fresh in cc))
 
--- an edge back to a node on the path closes a ring
+-- an edge from the end of the path back to a node on it closes a ring
 pub IsRing-end : {Edge : ℕ → ℕ → Type 0} {Below : ℕ → ℕ → ℕ → Type 0} {count : ℕ} (path : List ℕ) {stages : List Stage} {places order : List ℕ} (s first : ℕ) (ring : List ℕ) → Walks Edge Below count (path ++ s ∷ []) stages places order → Edge s first → IsEndFrom (path ++ s ∷ []) first ring → IsRing Edge count ring
 IsRing-end {Edge = Edge} {Below = Below} {count = count} path {stages = stages} {places = places} {order = order} s first ring w edge end =
     subst (IsRing Edge count) (sym end.end_is) (record {
@@ -153,7 +153,7 @@ IsRing-end {Edge = Edge} {Below = Below} {count = count} path {stages = stages} 
     inside i lt =
         subst (Contains trail) (sym (get_or-drop end.start trail i 0)) (contains_at trail (end.start + i) (omega (arith, lt, length-drop end.start trail)))
 
--- a walk whose path is empty and that met every node has an order
+-- when the path is empty and every node was met, the order is complete
 pub IsOrderOf-walked : {Edge : ℕ → ℕ → Type 0} {Below : ℕ → ℕ → ℕ → Type 0} {count : ℕ} {stages : List Stage} {places order : List ℕ} → Walks Edge Below count [] stages places order → ((s : ℕ) → s < count → stage_at stages s ≢ New) → IsOrderOf Edge count order
 IsOrderOf-walked {Edge = Edge} {Below = Below} {count = count} {stages = stages} {places = places} {order = order} w met = record {
   nodes = λ i lt. within i lt;
@@ -175,7 +175,7 @@ IsOrderOf-walked {Edge = Edge} {Below = Below} {count = count} {stages = stages}
     done s Open is met = absurd (none_open s is)
     done s Done is met = is
 
--- a node further on was met, and so were all that were
+-- when a node gets a stage that isn't New, all nodes that were met stay met
 pub StaysMet-set : (stages : List Stage) (s : ℕ) (x : Stage) → x ≢ New → StaysMet stages (set stages s x)
 StaysMet-set stages s x old a met is =
     let lt = stage-within stages a met in
@@ -184,7 +184,7 @@ StaysMet-set stages s x old a met is =
       | inr ge ↦ met (sym (get_or-set_other stages s a x New (λ e. omega (arith, lt, ge, e))) ∙ is)
     ]
 
--- the same lists
+-- a walk with equal lists is the same walk
 pub Walks-same : {Edge : ℕ → ℕ → Type 0} {Below : ℕ → ℕ → ℕ → Type 0} {count : ℕ} {p q : List ℕ} {a b : List Stage} {c d x y : List ℕ} → p ≡ q → a ≡ b → c ≡ d → x ≡ y → Walks Edge Below count p a c x → Walks Edge Below count q b d y
 Walks-same {Edge = Edge} {Below = Below} {count = count} {p = p} {q = q} {a = a} {b = b} {c = c} {d = d} {x = x} {y = y} path stages places order w =
     subst (λ (l : List ℕ). Walks Edge Below count l b d y) path

@@ -8,7 +8,7 @@ use Rattle.gg_walk.specs.Graph.{node_at, IsOrderOf, IsRing}
 use Rattle.gg_walk.specs.Lists.{HasTarget}
 use Rattle.gg_walk.proofs.RingLemmas.{no_ring}
 
--- what holds of each place of a list of one, two, four and five
+-- a fact that is shown at each place of a list of one, two, four or five elements holds at every place below its length
 one : (P : ℕ → Type 0) → P 0 → (k : ℕ) → k < 1 → P k
 one P a zero lt = a
 one P a (suc k) lt = absurd (omega arith)
@@ -26,7 +26,7 @@ five : (P : ℕ → Type 0) → P 0 → P 1 → P 2 → P 3 → P 4 → (k : ℕ
 five P a b c d e zero lt = a
 five P a b c d e (suc k) lt = four (λ i. P (suc i)) b c d e k (omega arith)
 
--- what holds of each number of a list
+-- what holds of each number in a list holds of any number that is in it
 each-at : (P : ℕ → Type 0) (xs : List ℕ) (t k : ℕ) → AllByRecursion P xs → k < length xs → get_or xs k t ≡ t → P t
 each-at P [] t k all lt is = absurd (omega (arith, lt))
 each-at P (x ∷ xs) t zero all lt is = subst P is all.0
@@ -35,7 +35,7 @@ each-at P (x ∷ xs) t (suc k) all lt is = each-at P xs t k all.1 (omega arith) 
 each : (P : ℕ → Type 0) (xs : List ℕ) → AllByRecursion P xs → (t : ℕ) → Contains xs t → P t
 each P xs all t h = each-at P xs t h.0 all h.1 h.2
 
--- a number that is none of a list
+-- a number that differs from each number in a list isn't in it
 absent : (xs : List ℕ) (t : ℕ) → AllByRecursion (λ x. eqb x t ≡ false) xs → ¬ Contains xs t
 absent xs t none h = true≢false (sym (eq-eqb t t refl) ∙ each-at (λ x. eqb x t ≡ false) xs t h.0 none h.1 h.2)
 
@@ -56,7 +56,7 @@ ring-alone = record {
   round = ((0, lit< tt, refl), lit< tt);
 }
 
--- two nodes, each a target of the other; the first has it twice, and a place without a target between
+-- two nodes, each a target of the other; the first has it at two places, and a place without a target between them
 abbrev pair : List (List ℕ)
 pair = (1 ∷ 2 ∷ 1 ∷ []) ∷ (0 ∷ []) ∷ []
 
@@ -68,7 +68,7 @@ ring-pair = record {
   round = (((0, lit< tt, refl), lit< tt), ((0, lit< tt, refl), lit< tt));
 }
 
--- five nodes, each with the next as its target, the last with the first; the third has two targets besides
+-- five nodes, each with the next as its target, and the last with the first; the third also has node 0 as a target
 abbrev five_around : List (List ℕ)
 five_around = (1 ∷ []) ∷ (2 ∷ []) ∷ (0 ∷ 3 ∷ 3 ∷ []) ∷ (4 ∷ []) ∷ (0 ∷ []) ∷ []
 
@@ -82,7 +82,7 @@ ring-five = record {
 
 -- ---- an order
 
--- a node with two targets, one of them twice, which have a target together
+-- a node with two targets, one of them at two places, which have the same target
 abbrev diamond : List (List ℕ)
 diamond = (1 ∷ 2 ∷ 1 ∷ []) ∷ (3 ∷ []) ∷ (3 ∷ []) ∷ [] ∷ []
 
@@ -106,15 +106,15 @@ acyclic-diamond ring = no_ring (HasTarget diamond) 4 (3 ∷ 1 ∷ 2 ∷ 0 ∷ []
 
 -- ---- near misses
 
--- node 0 stands before its target 1
+-- node 0 comes before its target 1
 early : ¬ IsOrderOf (HasTarget diamond) 4 (3 ∷ 0 ∷ 1 ∷ 2 ∷ [])
 early o = absent (3 ∷ []) 1 (refl, tt) (o.after 1 1 (lit< tt) ((0, lit< tt, refl), lit< tt))
 
--- node 0 isn't there
+-- node 0 is missing
 missed : ¬ IsOrderOf (HasTarget diamond) 4 (3 ∷ 1 ∷ 2 ∷ [])
 missed o = absent (3 ∷ 1 ∷ 2 ∷ []) 0 (refl, (refl, (refl, tt))) (o.every 0 (lit< tt))
 
--- node 3 is there twice
+-- node 3 comes twice
 twice : ¬ IsOrderOf (HasTarget diamond) 4 (3 ∷ 1 ∷ 3 ∷ 2 ∷ 0 ∷ [])
 twice o = o.once 0 2 0 (lit< tt) (lit< tt) refl
 
@@ -126,10 +126,10 @@ no_order-pair order o = no_ring (HasTarget pair) 2 order (0 ∷ 1 ∷ []) o ring
 not_closed : ¬ IsRing (HasTarget diamond) 4 (0 ∷ 1 ∷ 3 ∷ [])
 not_closed r = absent [] 0 tt r.round.1.1.0
 
--- a node too many
+-- node 0 comes twice
 too_long : ¬ IsRing (HasTarget pair) 2 (0 ∷ 1 ∷ 0 ∷ [])
 too_long r = r.once 0 2 0 (lit< tt) (lit< tt) refl
 
--- no node
+-- no node at all
 no_node : ¬ IsRing (HasTarget pair) 2 []
 no_node r = r.round

@@ -1,4 +1,4 @@
--- A file of a command never has a row without a text, whatever the words are.
+-- Whatever the words are, no row of a file of a command is without a text.
 use Rattle.std.proofs.Common.{◌≡◌, ℕ, ◌+◌, min, Bool, cond, true, false, true≢false, zero, suc, List, [], ◌∷◌, ◌++◌, length, drop, Option, None, Some, is_some, refl, sym, ap, ◌∙◌, subst}
 use Rattle.std.specs.Prelude.{◌&&◌, ⊤, encode_utf8, find, fold, slice_get}
 use Rattle.std.specs.List.{list_all}
@@ -22,7 +22,7 @@ abbrev pub AreFull : Text → List Row → Type 0
 AreFull id [] = ⊤
 AreFull id (r ∷ rs) = (r.id ≡ id → has_value r.values ≡ true) × AreFull id rs
 
--- and so has the argument whose values are being read
+-- the argument whose values are being read has a value too
 abbrev pub IsPendingFull : Text → Option (Text × List Text) → Type 0
 IsPendingFull id None = ⊤
 IsPendingFull id (Some p) = p.0 ≡ id → has_value p.1 ≡ true
@@ -52,7 +52,7 @@ find-passes p (y ∷ ys) x e = go (p y) refl (find-passes p ys x) e
     go true is later found = subst (λ z. p z ≡ true) (some-same y x found) is
     go false is later found = later found
 
--- what is found has what all have
+-- if all elements pass a test, so does the one that is found
 pub find-all : {X : Type 0} (p t : X → Bool) (xs : List X) (x : X) → find p xs ≡ Some x → list_all t xs ≡ true → t x ≡ true
 find-all p t [] x e all = absurd (true≢false (sym (ap is_some e)))
 find-all p t (y ∷ ys) x e all = go (p y) (t y) refl (find-all p t ys x) e all
@@ -156,7 +156,7 @@ module _ (id : Text) where
     full-after_flag w word h plain full = full-plain w word h full
     full-after_flag w word h refused full = full-plain w word h full
 
-    -- the argument is no option, and nothing has a short name
+    -- no option is this argument, and no argument has a short name
     module _ (no_option : (name : Text) (a : Rule) → arg_by_long c name ≡ Some a → a.id ≡ id → ⊥) (no_short : (x : ℕ) → arg_by_short c x ≡ None) where
       full-option : (a : Rule) (v : Option Text) (h : Held) → (a.id ≡ id → ⊥) → IsHeldFull id h → IsHeldFull id (option_met c a v h).0
       full-option a None h other full = ((full-settled h full).0, λ e. absurd (other e))
@@ -174,7 +174,7 @@ module _ (id : Text) where
           go true = full-option a v h (other a refl) full
           go false = full-flag a v h (other a refl) full
 
-      -- a bundle of flags holds what it held
+      -- a bundle of flags leaves what is held as it is
       bundle-holds : (k : ℕ) (flags : Text) (skip : ℕ) (o : Outcome) (h : Held) → (bundle_met c k flags skip o h).0 ≡ h
       unfolding bundle_met
       bundle-holds zero flags skip o h = refl

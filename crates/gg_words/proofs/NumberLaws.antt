@@ -1,4 +1,4 @@
--- Why a text is no number in a range.
+-- Why a text is no number of a range.
 use Rattle.std.proofs.Common.{◌≡◌, ◌<◌, ◌^◌, ℕ, Bool, List, length, Option, None, Some, Err, refl, cond, nat_lt, true, false, arith, rules}
 use Rattle.std.specs.Prelude.{nat_le, ◌&&◌}
 use Rattle.std.specs.Str.{all_ascii_digits}
@@ -10,7 +10,7 @@ use Rattle.gg_words.specs.Number.{number_in}
 pub digits_model : IsNumeralModel (λ ds. all_ascii_digits ds ≡ true) (digits_value 10)
 digits_model = numerals_by_value _ (search rules)
 
--- digits that `parse` refuses are none, or write a number past all ranges
+-- digits that `parse` refuses are no number of a range: they are empty, or too large for any
 pub parse-refuses : {E : Type 0} (least most : ℕ) (text : List ℕ) (e : E) → most < 2 ^ 32 → all_ascii_digits text ≡ true → ParsesUnsigned 32 10 text (Err e)
     → None ≡ number_in least most text
 parse-refuses {E} least most text e fits digits parsed =

@@ -16,7 +16,7 @@ use Rattle.gg_words.specs.declared.command.Cmd.TheVariants.{Run, Replay, Check}
 ok-same : {X E : Type 0} (x y : X) → ◌≡◌ {A = Result X E} (Ok x) (Ok y) → x ≡ y
 ok-same x y e = cc
 
--- a text that is a number in a range, by the test
+-- a text that passes the test of a range is a number of it
 within-by : (least most : ℕ) (front is : Bool) (v n : ℕ) (text : List ℕ) → (front && nat_le least v && nat_le v most) ≡ is
     → option_map_or (λ (m : ℕ). Ok m) (cond is (Some v) None) (Err text) ≡ Ok n → IsWithin least most n
 within-by least most front true v n text e given =
@@ -25,7 +25,7 @@ within-by least most front true v n text e given =
     subst (IsWithin least most) (ok-same v n given) (leb-true least v inner.1, leb-true v most outer.1)
 within-by least most front false v n text e given = absurd (cc)
 
--- an option's number, where its default is in the range
+-- an option's number is in its range if the default is
 number-within : (least most default : ℕ) → IsWithin least most default → (given : Option (List ℕ)) (n : ℕ) → number_of least most default given ≡ Ok n → IsWithin least most n
 number-within least most default within None n is = subst (IsWithin least most) (ok-same default n is) within
 number-within least most default within (Some text) n is =
@@ -38,7 +38,7 @@ capacity-within rows k is = number-within 1 4096 2 (omega arith, omega arith) (f
 workers-within : (rows : List Row) (w : ℕ) → workers_of rows ≡ Ok w → IsWithin 0 64 w
 workers-within rows w is = number-within 0 64 0 (omega arith, omega arith) (first_of (codes "workers") rows) w is
 
--- where a command comes of a number, there is the number, and the command is the one that comes of it
+-- if a command depends on a number, the number was read, and the command is the one for this number
 from-number : {P : Type 0} (r : Result ℕ Text) (next : ℕ → Result Cmd Text) (cmd : Cmd) → ((n : ℕ) → r ≡ Ok n → next n ≡ Ok cmd → P) → with_number r next ≡ Ok cmd → P
 from-number (Ok n) next cmd then is = then n refl is
 from-number (Err value) next cmd then is = absurd (cc)

@@ -76,12 +76,12 @@ capacity-twice : fault_of golden_app (line (codes "replay" ∷ codes "c" ∷ cod
 unfolding clap_on_literals
 capacity-twice = refl
 
--- a value is no file
+-- the value of an option isn't a file
 capacity-takes-the-steps : fault_of golden_app (line (codes "replay" ∷ codes "c" ∷ codes "p" ∷ codes "t" ∷ codes "--capacity" ∷ codes "s" ∷ [])) ≡ kind.MissingRequiredArgument ∷ []
 unfolding clap_on_literals
 capacity-takes-the-steps = refl
 
--- the other options of `run` are none of `replay`
+-- `replay` doesn't have the other options of `run`
 workers : fault_of golden_app (line (codes "replay" ∷ codes "c" ∷ codes "p" ∷ codes "t" ∷ codes "s" ∷ codes "--workers" ∷ codes "2" ∷ [])) ≡ kind.UnknownArgument ∷ []
 unfolding clap_on_literals
 workers = refl

@@ -1,4 +1,4 @@
--- Where clap refuses nothing, a command is found, and each of its files was given.
+-- If clap refuses nothing, a command is found, and each of its files was given.
 use Rattle.std.proofs.Common.{◌≡◌, ℕ, Bool, cond, true, false, not, true≢false, List, [], ◌∷◌, Option, None, Some, is_some, refl, sym, ap, ◌∙◌, subst, inl, inr}
 use Rattle.std.specs.Prelude.{◌&&◌, ◌||◌, find, option_and_then, option_map, slice_get}
 use Rattle.std.specs.List.{list_all}
@@ -42,14 +42,14 @@ is-there : (b : Bool) → (not b && true) ≡ false → b ≡ true
 is-there true e = refl
 is-there false e = absurd (true≢false e)
 
--- a check that refuses nothing found no fault
+-- if a check refuses nothing, it has neither of these faults
 check-none : (a b c : Bool) → check_kinds a b c ≡ [] → (b ≡ false) × (c ≡ false)
 check-none true b c e = absurd (cons≢nil _ _ e)
 check-none false true c e = absurd (cons≢nil _ _ e)
 check-none false false true e = absurd (cons≢nil _ _ e)
 check-none false false false e = (refl, refl)
 
--- a level that refuses nothing: what is below it doesn't, and its check doesn't
+-- if a level refuses nothing, neither does what is below it, nor its own check
 level-none : (s : Shape) (names : Names) (h : Held) (words : List Text) (has : Bool) (below : Kinds) → level_fault s names h words has below ≡ []
     → (below ≡ []) × (check_fault s (finished s.rules (walk s.rules names h words).held) has ≡ [])
 level-none s names h words has below e =
@@ -75,7 +75,7 @@ given-text id (r ∷ rs) full given = go (bytes_eq r.id id) refl (given-text id 
     go true is later h = first-there r.values (full.0 (Rattle.gg_words.proofs.FileLaws.same-text r.id id is))
     go false is later h = later h
 
--- the rule isn't this argument, unless it is a positional
+-- the rule is a positional, or isn't this argument
 abbrev is_apart : Text → Rule → Bool
 is_apart id a = is_some a.index || not (bytes_eq a.id id)
 
@@ -87,7 +87,7 @@ apart id a name e long is = go (is_some a.index) (bytes_eq a.id id) e long (subs
     go false true h k t = true≢false (sym h)
     go false false h k t = true≢false (sym t)
 
--- a file of a command without short options has a text where it was given
+-- in a command without short options, a file that was given has a text
 file-text : (id : Text) (c : List Rule) → list_all (is_apart id) c ≡ true → ((x : ℕ) → arg_by_short c x ≡ None) → (names : Names) (words : List Text)
     → is_given id (finished c (walk c names nothing_held words).held) ≡ true → is_some (first_of id (finished c (walk c names nothing_held words).held)) ≡ true
 file-text id c all no_short names words given =
@@ -112,7 +112,7 @@ replay_built = shape_at whole.subs 1
 abbrev check_built : Shape
 check_built = shape_at whole.subs 2
 
--- one of these files isn't given
+-- one of these files was not given
 abbrev lacks : List Row → List Text → Bool
 lacks rows [] = false
 lacks rows (id ∷ ids) = not (is_given id rows) || lacks rows ids
@@ -122,7 +122,7 @@ abbrev are_apart : List Rule → List Text → Bool
 are_apart c [] = true
 are_apart c (id ∷ ids) = list_all (is_apart id) c && are_apart c ids
 
--- where none of a command's files is lacking, each has a text
+-- if none of a command's files is missing, each has a text
 file-texts : (c : List Rule) → ((x : ℕ) → arg_by_short c x ≡ None) → (words : List Text) (ids : List Text) → are_apart c ids ≡ true
     → lacks (finished c (walk c [] nothing_held words).held) ids ≡ false → HaveTexts ids (finished c (walk c [] nothing_held words).held)
 file-texts c no_short words [] all none = tt
@@ -131,7 +131,7 @@ file-texts c no_short words (id ∷ ids) all none =
     let given = either-false (not (is_given id (finished c (walk c [] nothing_held words).held))) (lacks (finished c (walk c [] nothing_held words).held) ids) none in
     (file-text id c apart.0 no_short [] words (not-false _ given.0), file-texts c no_short words ids apart.1 given.1)
 
--- a command that refuses nothing lacks none of its files
+-- if a command refuses nothing, none of its files is missing
 none-lacking : (s : Shape) (words : List Text) (ids : List Text)
     → check_fault s (rows_at s words).1 false ≡ check_kinds false false (lacks (rows_at s words).1 ids)
     → level_fault s [] nothing_held words false [] ≡ [] → lacks (rows_at s words).1 ids ≡ false
@@ -146,11 +146,11 @@ replay-texts words e = file-texts replay_built.rules (λ x. refl) words replay_f
 check-texts : (words : List Text) → level_fault check_built [] nothing_held words false [] ≡ [] → HaveTexts check_files (rows_at check_built words).1
 check-texts words e = file-texts check_built.rules (λ x. refl) words check_files refl (none-lacking check_built words check_files refl e)
 
--- the command that is entered, of these three
+-- the command that is entered: the first of these three whose test holds
 abbrev entering : (run replay check : Bool) → Option Shape
 entering run replay check = cond run (Some run_built) (cond replay (Some replay_built) (cond check (Some check_built) None))
 
--- the command that was entered, by which of the three it is
+-- the files of the command that was entered
 by-command : (words : List Text) (run replay check : Bool)
     → option_map_or (λ (s : Shape). level_fault s [] nothing_held words false []) (entering run replay check) [] ≡ []
     → is_some (option_map (λ (s : Shape). rows_at s words) (entering run replay check)) ≡ true

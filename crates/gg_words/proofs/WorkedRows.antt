@@ -8,7 +8,7 @@ use Rattle.gg_words.specs.Line.{golden_app}
 use Rattle.gg_words.specs.Meaning.{Says}
 use Rattle.gg_words.specs.declared.command.Cmd.TheVariants.{Run, Check}
 
--- the words behind the program's own name
+-- the words after the program's own name
 abbrev pub line : List Text → List Text
 line words = codes "golden" ∷ words
 
@@ -232,12 +232,12 @@ no-word : fault_of golden_app (line ([])) ≡ kind.MissingSubcommand ∷ []
 unfolding clap_on_literals
 no-word = refl
 
--- a call without even a name
+-- a call without words, not even a name
 nothing : fault_of golden_app [] ≡ kind.MissingSubcommand ∷ []
 unfolding clap_on_literals
 nothing = refl
 
--- the first word isn't looked at
+-- the first word may be any
 other-name : Says (codes "--mono" ∷ codes "check" ∷ codes "c" ∷ codes "p" ∷ []) (Ok (Check (codes "c") (codes "p") 2))
 unfolding clap_on_literals
 other-name = record { taken = refl; found = refl }

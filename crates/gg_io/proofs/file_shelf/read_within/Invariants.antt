@@ -2,7 +2,7 @@ use Rattle.std.proofs.Common.{◌+◌, ◌-◌, ◌≤◌, length}
 use Rattle.std.specs.Io.KnownBytes.{Consumes}
 use Rattle.gg_io.proofs.file_shelf.read_within.Given as goal
 
--- what was read so far is within the limit, and is what was taken of the file
+-- what was read so far is within the limit, and is what was taken from the file
 abbrev pub invariant-parts : goal.invariant-parts
 invariant-parts g l = record {
   within : length l.bytes.items ≤ l.limit;

@@ -1,4 +1,4 @@
--- An expression asks for one level less at each operation; the steps between stand below it.
+-- Each operand has one level less than its operation. Within a level the functions are ordered by the number that is added.
 use Rattle.std.proofs.Common.{◌+◌, ◌*◌}
 use Rattle.gg_row.proofs.expression.+expression.Given as goal
 

@@ -1,4 +1,4 @@
--- One turn takes one argument of those that may still come.
+-- Each turn of the loop takes one of the arguments that may still come.
 use Rattle.std.proofs.Common.{◌≡◌, ◌<◌, ◌+◌, ◌-◌, ◌∙◌, Ok, true, false, sym, ap, subst, arith}
 use Rattle.gg_row.specs.Reading.{Misses, arguments_at, TakesArgument}
 use Rattle.gg_row.proofs.Depth.{arguments_at-level}

@@ -1,4 +1,4 @@
--- The modules after the call are the old ones with the last one changed, or the old ones.
+-- The modules after the call are the modules before it, with the last one changed if the call succeeded.
 use Rattle.std.proofs.Common.{◌≡◌, suc, ◌-◌, [], ◌∷◌, length, is_ok, if◌then◌else◌, slice_set, sym, ◌∙◌, ap, refl, arith}
 use Rattle.gg_ast.specs.contracts.circuit.Circuit.{the_view}
 use Rattle.gg_ast.specs.Tree.{CircuitTree, on_last, with_port}
