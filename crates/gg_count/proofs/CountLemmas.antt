@@ -20,7 +20,7 @@ use Rattle.gg_count.specs.Graph.{gathered, gathered_over, value_below}
 use Rattle.gg_count.specs.Sites.{Site, Held, held, held_by, held_by_kind, held_at, module_at, site_below, sites, top_site, all_sites}
 use Rattle.gg_count.proofs.PassLemmas.{numbers_of, gathered_over-same}
 
--- the sites of the instances that are held
+-- the sites of these instances of a site, each with all below it
 abbrev pub sites_under : ℕ → List ModuleTree → Site → List Held → List Site
 sites_under levels modules here hs = flat_map (λ h. sites levels modules (site_below here h)) hs
 
@@ -65,7 +65,7 @@ held_by-below modules [] t c = absurd (omega (arith, c.1))
 held_by-below modules (s ∷ ss) t c =
     first-below modules s.kind (held_by_kind modules s.kind) (held_by modules ss) t refl (held_by-below modules ss) c
 
--- the same of their own, the same with all below
+-- if two functions give the same for what each module has of its own, the values with all below are the same
 pub value-same : (how : Gathering) (modules : List ModuleTree) (f g : ℕ → ℕ) → ((k : ℕ) → k < length modules → f k ≡ g k) → (levels k : ℕ) → k < length modules → value_below how modules f levels k ≡ value_below how modules g levels k
 value-same how modules f g same zero k lt = same k lt
 value-same how modules f g same (suc levels) k lt =
@@ -103,7 +103,7 @@ deeper n s = max n s.depth
 abbrev no_depth : ℕ → ℕ
 no_depth k = 0
 
--- with the depth of each of these instances, as seen from depth d
+-- the greatest of a and of how deep each of these instances reaches, if their parent is at depth d
 abbrev depths_from : List ModuleTree → ℕ → ℕ → ℕ → List Held → ℕ
 depths_from modules levels d a hs = fold (λ n h. max n (capped (suc d + value_below Height modules no_depth levels h.number))) a hs
 
@@ -127,7 +127,7 @@ height-under modules levels here below acc (h ∷ hs) =
 cap_max : (m acc d : ℕ) → min (max acc d) m ≡ max (min acc m) (min (d + 0) m)
 cap_max m acc d = omega arith
 
--- the deepest site lies as deep as the graph is high
+-- the depth of the deepest site is the depth of the given site plus the height of the graph below it
 pub height-is : (modules : List ModuleTree) (levels acc : ℕ) (here : Site) → capped (fold deeper acc (sites levels modules here)) ≡ max (capped acc) (capped (here.depth + value_below Height modules no_depth levels here.number))
 height-is modules zero acc here = cap_max (2 ^ 64 - 1) acc here.depth
 height-is modules (suc levels) acc here =
@@ -179,7 +179,7 @@ least-below own acc (s ∷ all) j h = go (nat_eq s.number j) refl h (λ r. least
         omega (arith, least-start own (min acc (own s.number)) all, ap own same)
     go false is h later = later h
 
--- the least is that of a site
+-- the least is attained: it is what a module that is reached has of its own
 record Attained (own : ℕ → ℕ) (reached : ℕ → Bool) (m : ℕ) : Type 0 where
   pub place : ℕ
   pub reaches : reached place ≡ true
@@ -203,7 +203,7 @@ least-attained own acc (s ∷ all) =
     there true b h = refl
     there false b h = h
 
--- the place of a module that has a memory that is too deep
+-- the place of a module if it has a memory that is too deep, else a number that isn't a place
 abbrev deep_number : List ModuleTree → ℕ → ℕ
 deep_number modules k = deep_place k (module_at modules k).statements
 

@@ -1,4 +1,4 @@
--- One pass over the modules: what is known of them while it is under way.
+-- One pass over the modules, and what is known of their values on the way.
 use Rattle.std.proofs.Common.{◌≡◌, ◌≢◌, ℕ, zero, suc, ◌+◌, ◌<◌, ◌≤◌, List, [], ◌∷◌, ◌++◌, length, get_or, take, drop, set, map, Option, Some, None, option_to_list, refl, sym, ap, ◌∙◌, subst, inl, inr, ◌⊎◌, eqb, eq-eqb, arith, true, false}
 use Rattle.std.specs.Prelude.{Contains, AllPairs, fold}
 use Rattle.std.specs.List.{IsDistinct, list_any, filter_map, cons_option}
@@ -21,12 +21,12 @@ use Rattle.gg_count.specs.Graph.{gathered, gathered_over, value_below}
 abbrev pub numbers_of : List Held → List ℕ
 numbers_of hs = map (λ h. h.number) hs
 
--- one instance more, if there is one
+-- gathering the first instance, if there is one, and then the rest is gathering them all
 pub gathered_over-cons : (how : Gathering) (value : ℕ → ℕ) (own : ℕ) (first : Option Held) (rest : List Held) → gathered_over how value (gathered_over how value own (option_to_list first)) rest ≡ gathered_over how value own (cons_option first rest)
 gathered_over-cons how value own None rest = refl
 gathered_over-cons how value own (Some h) rest = refl
 
--- no instance, nothing gathered
+-- without instances, what is gathered is what the module has of its own
 pub gathered_over-none : (how : Gathering) (value : ℕ → ℕ) (own : ℕ) (hs : List Held) → ((t : ℕ) → ¬ Contains (numbers_of hs) t) → gathered_over how value own hs ≡ own
 gathered_over-none how value own [] none = refl
 gathered_over-none how value own (h ∷ hs) none = absurd (none h.number (0, omega arith, refl))
@@ -34,7 +34,7 @@ gathered_over-none how value own (h ∷ hs) none = absurd (none h.number (0, ome
 there : (t n : ℕ) (ns : List ℕ) → Contains ns t → Contains (n ∷ ns) t
 there t n ns (k, lt, is) = (suc k, omega (arith, lt), is)
 
--- the same values, the same gathered
+-- what is gathered is the same if the values of all modules that are held are the same
 pub gathered_over-same : (how : Gathering) (f g : ℕ → ℕ) (own : ℕ) (hs : List Held) → ((t : ℕ) → Contains (numbers_of hs) t → f t ≡ g t) → gathered_over how f own hs ≡ gathered_over how g own hs
 gathered_over-same how f g own [] same = refl
 gathered_over-same how f g own (h ∷ hs) same =
@@ -42,7 +42,7 @@ gathered_over-same how f g own (h ∷ hs) same =
     gathered_over-same how f g (gathered how own (f h.number)) hs (λ t later. same t (there t h.number (numbers_of hs) later))
     ∙ ap (λ v. gathered_over how g (gathered how own v) hs) here
 
--- The first i modules of the order have their values, with all below them down to so many levels or more; the others have what
+-- The first i modules of the order have their values, with all below them down to i - 1 levels or more; the others have what
 -- they have of their own.
 pub record IsGathered (how : Gathering) (modules : List ModuleTree) (own order : List ℕ) (i : ℕ) (values : List ℕ) : Type 0 where
   pub count : length values ≡ length own
@@ -56,14 +56,14 @@ gathered-begun how modules own order = record {
   left = λ k h. refl;
 }
 
--- the module that comes next doesn't stand before
+-- the next module of an order isn't among those before it
 once : (order : List ℕ) (i : ℕ) → AllPairs (λ a b. a ≢ b) order → i < length order → ¬ Contains (take i order) (get_or order i 0)
 once order i distinct lt (k, within, is) =
     let less : k < i = omega (arith, within, length-take i order) in
     distinct k i (get_or order i 0) less lt
     (sym (get_or-take i order k (get_or order i 0) less) ∙ is ∙ get_or_default order i 0 (get_or order i 0) lt)
 
--- the values that a module gets from those that it holds
+-- what a module gathers from the modules that it holds is its value
 value_next : (how : Gathering) (modules : List ModuleTree) (own order : List ℕ) (i : ℕ) (values : List ℕ) (k levels : ℕ) → IsGathered how modules own order i values → ((t : ℕ) → HoldsModule modules k t → Contains (take i order) t) → ¬ Contains (take i order) k → i + 1 ≤ suc levels → gathered_over how (λ j. get_or values j 0) (get_or values k 0) (held_at modules k) ≡ value_below how modules (λ j. get_or own j 0) levels k
 value_next how modules own order i values k zero h after new le =
     gathered_over-none how (λ j. get_or values j 0) (get_or values k 0) (held_at modules k) (λ t holds. nothing t (after t holds))
@@ -124,12 +124,12 @@ order_length modules order o =
     below : (q : ℕ) → Contains order q → q < length modules
     below q (k, lt, is) = subst (λ (m : ℕ). m < length modules) (get_or_default order k 0 q lt ∙ is) (o.nodes k lt)
 
--- in the end each module has its value
+-- at the end of the order each module has its value
 pub gathered-all : (how : Gathering) (modules : List ModuleTree) (own order values : List ℕ) → IsOrderOf (HoldsModule modules) (length modules) order → IsGathered how modules own order (length order) values → (k levels : ℕ) → k < length modules → length modules ≤ suc levels → get_or values k 0 ≡ value_below how modules (λ j. get_or own j 0) levels k
 gathered-all how modules own order values o h k levels lt le =
     h.done k levels (below-all order (length order) k (omega arith) (o.every k lt)) (omega (arith, order_length modules order o, le))
 
--- what is gathered, with its parts as they are had
+-- what is gathered, with equal values and statements in place of those of the modules
 pub gathered-lent : (how : Gathering) (modules : List ModuleTree) (values lent : List ℕ) (k own found : ℕ) (statements : List Stmt) → found ≡ gathered_over how (λ j. get_or lent j 0) own (held_by modules statements) → lent ≡ values → statements ≡ (module_at modules k).statements → found ≡ gathered_over how (λ j. get_or values j 0) own (held_at modules k)
 gathered-lent how modules values lent k own found statements is same held =
     is

@@ -1,4 +1,4 @@
--- A circuit by hand, with its sites and counts, and counts with the first that is above its limit:
+-- A circuit by hand, with its sites and counts; and for some counts, the first that is above its limit:
 --
 --      1  circuit T :
 --      2    module T :
@@ -59,7 +59,7 @@ numbers = refl
 depths : map (λ (s : Site). s.depth) (sites_of circuit) ≡ 0 ∷ 1 ∷ 2 ∷ 2 ∷ []
 depths = refl
 
--- an instance of a module that isn't there is none, and a module that the top doesn't reach has no site
+-- an instance of a module that isn't there has no site, and neither has a module that the top doesn't reach
 four_sites : length (sites_of circuit) ≡ 4
 four_sites = refl
 
@@ -68,7 +68,7 @@ four_sites = refl
 counted : counts_of modules (3 ∷ 5 ∷ 7 ∷ 11 ∷ []) 0 ≡ record { depth = 2; signals = 22; memory = Some 65537; words = 131078; instances = 3 }
 counted = refl
 
--- words aren't those of one of each module
+-- words are counted for each site, not once for each module
 not_once : (counts_of modules (3 ∷ 5 ∷ 7 ∷ 11 ∷ []) 0).words ≢ 65541
 not_once e = omega (arith, e)
 

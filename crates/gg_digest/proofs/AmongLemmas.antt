@@ -1,4 +1,4 @@
--- What is among the elements of lists that are made of others, by their elements.
+-- The elements of lists that `map`, `flat_map` and `filter_map` make, and the elements that they are made of.
 use Rattle.std.proofs.Common.{◌≡◌, ◌⊎◌, inl, inr, ℕ, zero, suc, ◌<◌, List, [], ◌∷◌, Option, Some, None, length, get_or, map, refl, sym, ap, ◌∙◌, subst, arith}
 use Rattle.std.specs.Prelude.{Contains, flat_map, filter_map}
 use Rattle.std.specs.List.{cons_option}
@@ -8,7 +8,7 @@ use Rattle.std.proofs.lemmas.List.Elements.{Contains-append_left, Contains-appen
 pub further : {A : Type 0} (x : A) (xs : List A) (y : A) → Contains xs y → Contains (x ∷ xs) y
 further x xs y c = (suc c.0, omega (arith, c.1), c.2)
 
--- an element at a place, whatever stands for one past the end
+-- the element at a place, which `get_or` gives with any default
 pub record Element {A : Type 0} (xs : List A) (i : ℕ) : Type 0 where
   pub element : A
   pub among : Contains xs element
@@ -22,7 +22,7 @@ element-at (x ∷ xs) (suc i) lt = let e = element-at xs i (omega (arith, lt)) i
 pub in-map : {A B : Type 0} (f : A → B) (xs : List A) (x : A) → Contains xs x → Contains (map f xs) (f x)
 in-map f xs x c = (c.0, omega (arith, c.1, length-map xs f), get_or-map f xs c.0 x (f x) c.1 ∙ ap f c.2)
 
--- What an element of a list is made of.
+-- An element of xs that y is made of.
 pub record MadeOf {A B : Type 0} (Made : A → B → Type 0) (xs : List A) (y : B) : Type 0 where
   pub of : A
   pub among : Contains xs of

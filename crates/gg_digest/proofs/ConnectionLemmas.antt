@@ -1,4 +1,4 @@
--- A table of connections that gets one more.
+-- A table of connections that gets one more connection.
 use Rattle.std.proofs.Common.{◌≡◌, ℕ, zero, suc, ◌<◌, List, [], ◌∷◌, ◌++◌, length, Option, Some, None, Bool, true, false, true≢false, refl, sym, ap, ◌∙◌, arith}
 use Rattle.std.specs.Prelude.{slice_get, option_map, if◌then◌else◌, Contains, IfSome, is_some}
 use Rattle.std.specs.Str.{bytes_eq}
@@ -13,7 +13,7 @@ use Rattle.gg_digest.specs.Connection.{Connection, connection_by, connection_in}
 use Rattle.gg_digest.specs.Memories.{or_later}
 use Rattle.gg_digest.specs.Views.{connection, source_at, TellsConnections}
 
--- what an element of a list is, with one more behind
+-- the elements of a list are the same with one more after them
 get-push : {A : Type 0} (xs : List A) (x : A) (i : ℕ) → i < length xs → slice_get (xs ++ x ∷ []) i ≡ slice_get xs i
 get-push [] x i lt = absurd (omega (arith, lt))
 get-push (y ∷ ys) x zero lt = refl
@@ -28,7 +28,7 @@ is-there f [] i other lt = absurd (omega (arith, lt))
 is-there f (y ∷ ys) zero other lt = refl
 is-there f (y ∷ ys) (suc i) other lt = is-there f ys i other (omega (arith, lt))
 
--- a sink that is new
+-- a new sink is noted with its source, and the other sinks keep theirs
 noted-new : (sources : List Source) (s : Source) (p : Option ℕ) (b : Bool) (n : ℕ) → length sources ≡ n → ((i : ℕ) → p ≡ Some i → i < n) → source_at (sources ++ s ∷ []) (place_after p b n) ≡ or_later (source_at sources p) (if b then Some (connection s) else None)
 noted-new sources s (Some i) b n count within =
     let lt : i < length sources = omega (arith, within i refl, count) in
@@ -41,7 +41,7 @@ noted names sources name s count q =
     ap (source_at (sources ++ s ∷ [])) (place_of-append q names name)
     ∙ noted-new sources s (place_of q names) (bytes_eq q name) (length names) count (λ i e. place_of-below q names i e)
 
--- a sink that is noted stays
+-- a sink that is noted already keeps its source
 noted-old : (names : List (List ℕ)) (sources : List Source) (name q : List ℕ) (c : Connection) (p : Option ℕ) (b : Bool) → place_of q names ≡ p → Decides b (q ≡ name) → length sources ≡ length names → Contains names name → source_at sources p ≡ or_later (source_at sources p) (if b then Some c else None)
 noted-old names sources name q c (Some i) b is d count there =
     sym (is-there connection sources i (if b then Some c else None) (omega (arith, place_of-below q names i is, count)))

@@ -1,4 +1,4 @@
--- One module's digest more.
+-- The digests of the first modules, with the digest of the next one.
 use Rattle.std.proofs.Common.{◌≡◌, ℕ, ◌<◌, ◌+◌, List, [], ◌∷◌, ◌++◌, length, get_or, ◌∙◌, ap, sym, subst, arith, below_more}
 use Rattle.std.proofs.lemmas.List.{get_or_append_left, get_or_push, length-append}
 use Rattle.gg_ast.specs.Tree.{ModuleTree}

@@ -1,4 +1,4 @@
--- The signals and memories of sites, one site more.
+-- The signals and memories of the sites, with one more site.
 use Rattle.std.proofs.Common.{◌≡◌, ℕ, ◌+◌, ◌<◌, List, [], ◌∷◌, ◌++◌, length, map, take, get_or, refl, sym, ap, ◌∙◌, subst, append_assoc}
 use Rattle.std.specs.Prelude.{flat_map}
 use Rattle.std.proofs.lemmas.List.{map-append, take_more, append-nil, length-map}
@@ -23,7 +23,7 @@ pub map-twice : {A B C : Type 0} (f : B → C) (g : A → B) (xs : List A) → m
 map-twice f g [] = refl
 map-twice f g (x ∷ xs) = ap (λ l. f (g x) ∷ l) (map-twice f g xs)
 
--- the signals of a site, as they are kept
+-- the signals of a site are made from those that its module's digest keeps
 pub signals-kept : (types : Types) (modules : List ModuleTree) (place : Place) (digest : Digest) → IsDigest types modules place.number digest → signals_at types modules (site_of place) ≡ map (λ o. flat_signal modules (site_of place) (own_of o)) digest.signals.items
 signals-kept types modules place digest h =
     ap (map (flat_signal modules (site_of place))) (sym h.signals) ∙ map-twice (flat_signal modules (site_of place)) own_of digest.signals.items
@@ -39,7 +39,7 @@ one_more f places i p lt is =
     ∙ flat_map-append f (map site_of (take i places)) (site_of p ∷ [])
     ∙ ap (λ l. flat_map f (map site_of (take i places)) ++ l) (append-nil (f (site_of p)))
 
--- the signals of one site more
+-- the signals of the sites so far, with those of one more site
 pub signals-more : (types : Types) (modules : List ModuleTree) (places : List Place) (i : ℕ) (p : Place) (digest : Digest) → i < length places → p ≡ get_or places i p → IsDigest types modules p.number digest → flat_signals types modules (map site_of (take (i + 1) places)) ≡ flat_signals types modules (map site_of (take i places)) ++ map (λ o. flat_signal modules (site_of p) (own_of o)) digest.signals.items
 signals-more types modules places i p digest lt is h =
     one_more (signals_at types modules) places i p lt is
@@ -50,7 +50,7 @@ memories-more types modules places i p digest lt is h =
     one_more (memories_at modules) places i p lt is
     ∙ ap (λ l. flat_memories modules (map site_of (take i places)) ++ l) (memories-kept types modules p digest h)
 
--- the digest of a place
+-- the entry at a module's place is the module's digest
 pub digest-at : (types : Types) (modules : List ModuleTree) (digests : List Digest) (k : ℕ) (d : Digest) → AreDigests types modules digests → k < length modules → d ≡ get_or digests k d → IsDigest types modules k d
 digest-at types modules digests k d h lt is = subst (λ (x : Digest). IsDigest types modules k x) (sym is) (h.each k d lt)
 
@@ -85,7 +85,7 @@ table-even table xs h =
     ∙ sym (length-map xs (λ (x : FlatSignal). x.path))
     ∙ sym (ap (λ (s : Signals). length s.paths) h)
 
--- ---- one signal more of a site
+-- ---- one more signal of a site
 
 pub seam : {A B : Type 0} (f : A → B) (xs : List B) (all : List A) (i : ℕ) (a : A) → i < length all → a ≡ get_or all i a → (xs ++ map f (take i all)) ++ f a ∷ [] ≡ xs ++ map f (take (i + 1) all)
 seam f xs all i a lt is =

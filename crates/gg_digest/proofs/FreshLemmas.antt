@@ -1,4 +1,4 @@
--- Of words that differ, a front differs, and the next is new.
+-- If all words of a list differ, so do the first ones, and the next word is new.
 use Rattle.std.proofs.Common.{◌≡◌, ℕ, ◌+◌, ◌<◌, List, [], ◌∷◌, ◌++◌, length, map, take, drop, get_or, refl, sym, ap, ◌∙◌, subst, arith, append_assoc, length-append}
 use Rattle.std.specs.Prelude.{Contains, flat_map}
 use Rattle.std.proofs.lemmas.List.{get_or_append_left, get_or_push, map-append, take-append-drop}
@@ -17,7 +17,7 @@ last-new xs w differ c =
     differ c.0 (length xs) w c.1 (omega (arith, length-append xs (w ∷ [])))
     (get_or_append_left xs (w ∷ []) w c.0 c.1 ∙ c.2 ∙ sym (get_or_push xs w w (length xs) refl))
 
--- the words of some elements
+-- the words of the first k elements differ, if all do
 front-differs : {A : Type 0} (name : A → List ℕ) (xs : List (List ℕ)) (all : List A) (k : ℕ) → Differ (xs ++ map name all) → Differ (xs ++ map name (take k all))
 front-differs name xs all k differ = Differ-front (xs ++ map name (take k all)) (map name (drop k all)) (subst Differ same differ)
   where
@@ -32,7 +32,7 @@ pub next-new : {A : Type 0} (name : A → List ℕ) (xs : List (List ℕ)) (all 
 next-new name xs all i a differ lt is =
     last-new (xs ++ map name (take i all)) (name a) (subst Differ (sym (seam name xs all i a lt is)) (front-differs name xs all (i + 1) differ))
 
--- the words of some parts
+-- the words of the first k parts differ, if all do
 pub parts-front : {X A B : Type 0} (name : B → List ℕ) (f : A → List B) (g : X → A) (all : List X) (k : ℕ) → Differ (map name (flat_map f (map g all))) → Differ (map name (flat_map f (map g (take k all))))
 parts-front name f g all k differ = Differ-front (map name (flat_map f (map g (take k all)))) (map name (flat_map f (map g (drop k all)))) (subst Differ same differ)
   where

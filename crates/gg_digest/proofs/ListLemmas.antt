@@ -11,7 +11,7 @@ filter_map-one h x = go (h x) refl
     go None e = rw e refl
     go (Some y) e = rw e refl
 
--- one element more
+-- a list made by `filter_map` with one more element
 pub filter_map-more : {X Y : Type 0} (h : X → Option Y) (before now after : List Y) (all : List X) (i : ℕ) (x : X) → i < length all → x ≡ get_or all i x → now ≡ before ++ filter_map h (take i all) → after ≡ now ++ option_to_list (h x) → after ≡ before ++ filter_map h (take (i + 1) all)
 filter_map-more h before now after all i x lt is so step =
     step

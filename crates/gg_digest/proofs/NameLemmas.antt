@@ -13,13 +13,13 @@ Differ names = AllPairs (λ a b. a ≢ b) names
 pub Differ-tail : (n : List ℕ) (ns : List (List ℕ)) → Differ (n ∷ ns) → Differ ns
 Differ-tail n ns d = λ i j e lt within. d (suc i) (suc j) e (omega arith) (omega arith)
 
--- the name at a place is one of the list
+-- a place with a name is in the list
 pub slice_get-at : (ns : List (List ℕ)) (name : List ℕ) (k : ℕ) → slice_get ns k ≡ Some name → (k < length ns) × (slice_index_or ns k name ≡ name)
 slice_get-at [] name k h = absurd (cc)
 slice_get-at (n ∷ ns) name zero h = (omega arith, cc)
 slice_get-at (n ∷ ns) name (suc k) h = let r = slice_get-at ns name k h in (omega arith, r.1)
 
--- a test that decides is true, or false
+-- a test that decides a fact is true if the fact holds, and false if it doesn't
 test_true : (b : Bool) {P : Type 0} → Decides b P → P → b ≡ true
 test_true b d p = d.1 p
 
@@ -27,7 +27,7 @@ test_false : (b : Bool) (P : Type 0) → Decides b P → (P → ⊥) → b ≡ f
 test_false true P d differs = absurd (differs (d.0 refl))
 test_false false P d differs = refl
 
--- in a list of distinct names a name's place is the one where it stands
+-- in a list of distinct names, the place of a name is where it stands
 pub place_of-at : (names : List (List ℕ)) (name : List ℕ) (k : ℕ) → slice_get names k ≡ Some name → Differ names → place_of name names ≡ Some k
 place_of-at [] name k h d = absurd (cc)
 place_of-at (n ∷ ns) name zero h d =
@@ -48,7 +48,7 @@ place_of-missing (n ∷ ns) name lacks =
     let rest = place_of-missing ns name (λ h. lacks (suc h.0, omega (arith, h.1), h.2)) in
     rw (test_false (bytes_eq name n) (name ≡ n) (bytes_eq-Decides name n) differs, rest) refl
 
--- a place that a name has is in the list, and the name stands there
+-- the place of a name is in the list, and the name stands there
 pub place_of-path : (names : List (List ℕ)) (name : List ℕ) (k : ℕ) → place_of name names ≡ Some k → (k < length names) × (slice_index_or names k [] ≡ name)
 place_of-path [] name k h = absurd (cc)
 place_of-path (n ∷ ns) name k h = go (bytes_eq name n) (bytes_eq-Decides name n) (place_of name ns) (place_of-path ns name) h

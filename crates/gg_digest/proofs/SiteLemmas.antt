@@ -1,4 +1,4 @@
--- The sites while they are made.
+-- The list of sites while it is made.
 use Rattle.std.proofs.Common.{◌≡◌, ℕ, zero, suc, ◌+◌, ◌-◌, ◌<◌, List, [], ◌∷◌, ◌++◌, length, map, take, get_or, Option, Some, None, sym, ap, ◌∙◌, subst, arith, append_assoc}
 use Rattle.std.specs.Prelude.{flat_map, Contains, IfSome}
 use Rattle.std.proofs.lemmas.List.{flat_map_more, map-append, take_more, length-map, get_or-map}
@@ -11,7 +11,7 @@ use Rattle.gg_digest.specs.declared.digest.Instance.{Instance}
 use Rattle.gg_digest.specs.declared.sites.Around.{Around}
 use Rattle.gg_digest.specs.Views.{held_of}
 
--- The sites are those before, a site, and those of the first instances that it holds, down to so many levels in all.
+-- The list has the sites before, then the site `here`, then those of some of the instances that it holds, down to so many levels.
 pub record Grown (modules : List ModuleTree) (levels : ℕ) (here : Site) (before : List Site) (hs : List Held) (all : List Site) : Type 0 where
   pub is : all ≡ (before ++ here ∷ []) ++ flat_map (λ h. sites (levels - 1) modules (site_below here h)) hs
 
@@ -21,7 +21,7 @@ grown-more modules levels here before hs h all new g is = record {
       ∙ flat_map_more (λ h. sites (levels - 1) modules (site_below here h)) (before ++ here ∷ []) hs h;
 }
 
--- in the end they are the site with all below it
+-- with all instances of the site, the list has the sites before and the site with all below it
 pub grown-all : (modules : List ModuleTree) (levels : ℕ) (here : Site) (before all : List Site) → 0 < levels → Grown modules levels here before (held_at modules here.number) all → all ≡ before ++ sites levels modules here
 grown-all modules zero here before all some g = absurd (omega arith)
 grown-all modules (suc levels) here before all some g =
@@ -36,7 +36,7 @@ next-site here path h s e p =
     let d : here.depth + 1 ≡ suc here.depth = omega arith in
     e ∙ (λ i. record { path = joined (p i) h.name; number = h.number; depth = d i; outer = Some (record { path = p i; number = here.number; name = h.name }) })
 
--- the module of an instance is one
+-- the module of an instance is one of the circuit's
 pub held-below : (modules : List ModuleTree) (k : ℕ) (items : List Instance) (i : ℕ) (x : Instance) → map held_of items ≡ held_at modules k → i < length items → x ≡ get_or items i x → x.number < length modules
 held-below modules k items i x same lt is =
     held_by-below modules (module_at modules k).statements x.number

@@ -1,4 +1,4 @@
--- A circuit by hand, and what its flat circuit is:
+-- A circuit by hand, and the signals and memories of its flat circuit:
 --
 --      1  circuit T :
 --      2    module T :
@@ -120,7 +120,7 @@ child =
 abbrev circuit : CircuitTree
 circuit = record { line = 1; name = codes "T"; modules = parent ∷ child ∷ [] }
 
--- each name is known
+-- each name is known, with the type UInt<4>
 abbrev known : Types
 known k r = Some (uint 4)
 
@@ -130,7 +130,7 @@ all = flat_signals known circuit.modules (sites_of circuit)
 abbrev memories : List FlatMemory
 memories = flat_memories circuit.modules (sites_of circuit)
 
--- ---- its signals: no Clock is one, and those of the two instances are apart
+-- ---- its signals: no Clock is a signal, and each of the two instances has its own
 
 paths : map (λ (x : FlatSignal). x.path) all ≡ codes "z" ∷ codes "a.x" ∷ codes "a.y" ∷ codes "a.m.r.addr" ∷ codes "a.m.r.en" ∷ codes "a.m.r.data" ∷ codes "b.x" ∷ codes "b.y" ∷ codes "b.m.r.addr" ∷ codes "b.m.r.en" ∷ codes "b.m.r.data" ∷ []
 paths = refl
@@ -138,7 +138,7 @@ paths = refl
 shapes : map (λ (x : FlatSignal). x.shape) all ≡ uint 4 ∷ uint 4 ∷ uint 4 ∷ uint 2 ∷ uint 1 ∷ uint 4 ∷ uint 4 ∷ uint 4 ∷ uint 2 ∷ uint 1 ∷ uint 4 ∷ []
 shapes = refl
 
--- ---- their drives: an instance's input is driven in the parent, all else where it stands
+-- ---- their drives: an instance's input is driven in the parent, all else in its own instance
 
 abbrev at : List ℕ → ℕ → Scope
 at path number = record { path = path; number = number }
@@ -157,7 +157,7 @@ own_drives path memory addr en =
 drives : map (λ (x : FlatSignal). x.drive) all ≡ Gets (at [] 0) (to (port_of (codes "a") (codes "y"))) ∷ Gets (at [] 0) (to (port_of (codes "b") (codes "y"))) ∷ (own_drives (codes "a") (codes "a.m") (codes "a.m.r.addr") (codes "a.m.r.en") ++ Gets (at [] 0) (to (port_of (codes "a") (codes "y"))) ∷ own_drives (codes "b") (codes "b.m") (codes "b.m.r.addr") (codes "b.m.r.en"))
 drives = refl
 
--- ---- its memories: the parent's first, though it stands below the instances
+-- ---- its memories: the parent's comes first, though its line comes after those of the instances
 
 memory_paths : map (λ (x : FlatMemory). x.path) memories ≡ codes "t" ∷ codes "a.m" ∷ codes "b.m" ∷ []
 memory_paths = refl
@@ -165,7 +165,7 @@ memory_paths = refl
 depths : map (λ (x : FlatMemory). x.bank.depth) memories ≡ 1 ∷ 3 ∷ 3 ∷ []
 depths = refl
 
--- ---- what is no flat circuit of it
+-- ---- what isn't a flat circuit of it
 
 -- a circuit with twelve signals
 one_too_many : (flat : FlatCircuit) → length flat.paths ≡ 12 → ¬ IsFlatWith known circuit flat
@@ -176,7 +176,7 @@ one_too_many flat count h =
 abbrev four : Ty
 four = record { kind = kinds.UInt; width = 4; positive = lit≤ tt; bounded = lit≤ tt }
 
--- a.x, driven by what its own instance gives, signal 2, in place of what the other gives, signal 7
+-- `a.x` can't be driven by the output of its own instance, signal 2, in place of that of the other, signal 7
 pub own_instance : ¬ IsComputed known (signals_of all) (at [] 0) (uint 4) (to (port_of (codes "b") (codes "y"))) (Computed (record { ty = four; op = Ref 2 } ∷ []))
 own_instance h = other (Names-of h.line h.computed ((h.stands.names 7).1 refl))
   where

@@ -136,7 +136,7 @@ all = flat_signals (types_of circuit) circuit.modules (sites_of circuit)
 abbrev listed : Signals
 listed = record { paths = paths; shapes = uint 1 ∷ uint 8 ∷ uint 4 ∷ uint 5 ∷ [] }
 
--- the signals are those of the module but its clock; the node has its expression's type
+-- the signals are those of the module without its clock, and the node has the type of its expression
 signals : signals_of all ≡ listed
 unfolding types_of digit
 signals = refl
@@ -217,7 +217,7 @@ all_driven = (
   ),
 )
 
--- it is a flat circuit of the circuit
+-- `flat` is a flat circuit of the circuit
 right : IsFlat circuit flat
 unfolding types_of digit
 right = record {
@@ -231,12 +231,12 @@ right = record {
   outs = refl;
 }
 
--- without the register's connection it is none
+-- without the register's connection it isn't
 unconnected : IsFlat circuit (flat_with (record register { next = None } ∷ [])) → ⊥
 unfolding types_of digit
 unconnected h = ((h.drivers 2 (lit≤ tt)).register register).next_is
 
--- nor with a register that no signal holds
+-- with a register that no signal holds it isn't
 one_too_many : IsFlat circuit (flat_with (register ∷ register ∷ [])) → ⊥
 unfolding types_of digit
 one_too_many h = let counted : 2 ≡ 1 = h.register_count in omega (arith, counted)

@@ -1,4 +1,4 @@
--- The flat circuit of the circuit in WorkedText, and what is none.
+-- The flat circuit of the circuit in WorkedText, and circuits that aren't flat circuits of it.
 use Rattle.std.proofs.Common.{◌≡◌, ℕ, zero, suc, ◌<◌, List, [], ◌∷◌, ◌++◌, length, take, drop, true, Bool, Some, None, codes, refl, ap, ◌∙◌, arith, lit≤}
 use Rattle.std.specs.Prelude.{slice_index_or, is_some}
 use Rattle.gg_bits.specs.declared.types.Kind.TheVariants as kinds
@@ -140,7 +140,7 @@ signals : signals_of all ≡ listed
 unfolding types_of
 signals = refl
 
--- the parent's memory comes before those of its instances, though it stands below them
+-- the parent's memory comes before those of its instances, though its line comes after theirs
 memories : memory_paths banks ≡ codes "k" ∷ codes "a.m" ∷ codes "b.m" ∷ []
 memories = refl
 
@@ -153,11 +153,11 @@ a = record { path = codes "a"; number = 0 }
 abbrev b : Scope
 b = record { path = codes "b"; number = 0 }
 
--- what a name names
+-- a known name names the signal at the place of its path
 names : (scope : Scope) (r : Reference) (s : ℕ) → is_some (types_of circuit scope.number r) ≡ true → place_of (joined scope.path (written r)) paths ≡ Some s → named (types_of circuit) listed scope r ≡ Some s
 names scope r s known is = ap (λ (t : Bool). named_if t paths (joined scope.path (written r))) known ∙ is
 
--- a signal that gets what a name names, which has this type
+-- a line of one reference connects the sink to the signal that a name names
 gets : (scope : Scope) (ty sink : Ty) (r : Reference) (s : ℕ) → is_some (types_of circuit scope.number r) ≡ true → place_of (joined scope.path (written r)) paths ≡ Some s → shape_at shapes s ≡ shape ty → takes (shape sink) (shape ty) ≡ true → IsComputed (types_of circuit) listed scope (shape sink) (Some (ConnectedTo (NamedTerm r))) (Computed (node ty (does.Ref s) ∷ []))
 gets scope ty sink r s known is typed fits =
     gets_name (types_of circuit) listed scope (shape sink) r (node ty (does.Ref s)) s
@@ -177,7 +177,7 @@ gets_zero scope = record {
 abbrev registers : List Register
 registers = register 4 ∷ register 14 ∷ []
 
--- the register that takes i's value, signal s
+-- the register that takes the value of `i`, signal s
 register_of : (scope : Scope) (s : ℕ) → is_some (types_of circuit scope.number (Local (codes "i"))) ≡ true → place_of (joined scope.path (codes "i")) paths ≡ Some s → shape_at shapes s ≡ shape one → IsRegisterOf (types_of circuit) listed scope (shape one) None (Some (ConnectedTo (NamedTerm (Local (codes "i"))))) (register s)
 register_of scope s known is typed = record {
   typed = refl;
@@ -200,7 +200,7 @@ none = record { word = uint 0; depth = 0; latency = Zero; readers = []; writers 
 
 -- ---- its parts
 
--- signal s has the driver that is meant
+-- signal s has the driver that the circuit says
 abbrev IsDrivenAt : ℕ → Type 0
 IsDrivenAt s =
     IsDrivenBy (types_of circuit) listed (memory_paths banks) registers (count_before is_outside all s) (count_before is_register all s) (shape_at shapes s) (drive_at all s) (driver_at flat s)
@@ -289,7 +289,7 @@ memories_are (suc (suc (suc n))) said any lt = absurd (omega (arith, lt))
 
 -- ---- rows
 
--- it is a flat circuit of the circuit
+-- `flat` is a flat circuit of the circuit
 right : IsFlat circuit flat
 unfolding types_of
 right = record {
@@ -303,36 +303,36 @@ right = record {
   outs = refl;
 }
 
--- with one signal too many it is none
+-- with one signal too many it isn't
 one_too_many : IsFlat circuit (record flat { paths = paths ++ codes "y" ∷ []; signals = flat.signals ++ zeroed ∷ [] }) → ⊥
 unfolding types_of
 one_too_many h = let counted : 25 ≡ 24 = ap length h.paths in omega (arith, counted)
 
--- nor with a path without its dot
+-- with a path without its dot it isn't
 without_dot : IsFlat circuit (record flat { paths = codes "z" ∷ codes "kr.addr" ∷ drop 2 paths }) → ⊥
 unfolding types_of
 without_dot h = let same : codes "kr.addr" ≡ codes "k.r.addr" = ap (λ (ps : List (List ℕ)). slice_index_or ps 1 []) h.paths in cc
 
--- nor where the address of b's memory is a's register
+-- with a's register as the address of b's memory it isn't
 looked_at_other : IsFlat circuit (with_signals (of_parent ++ (of_a ++ (take 2 of_b ++ (follows one 13 ∷ drop 3 of_b))))) → ⊥
 unfolding types_of
 looked_at_other h =
     let same : 23 ≡ 13 = named_other (types_of circuit) listed b (shape one) (Local (codes "q")) (node one (does.Ref 13)) 13 23 refl refl (h.drivers 16 (lit≤ tt)) in
     omega (arith, same)
 
--- nor where an instance's input is driven by its own output, and not by the other's
+-- with an instance's input driven by its own output, and not by the other's, it isn't
 own_output : IsFlat circuit (with_signals (of_parent ++ ((follows one 5 ∷ drop 1 of_a) ++ of_b))) → ⊥
 unfolding types_of
 own_output h =
     let same : 15 ≡ 5 = named_other (types_of circuit) listed top (shape one) (PortOf (codes "b") (codes "o")) (node one (does.Ref 5)) 5 15 refl refl (h.drivers 4 (lit≤ tt)) in
     omega (arith, same)
 
--- nor where the second instance shares the first's register
+-- with a second instance that shares the first one's register it isn't
 shared_register : IsFlat circuit (with_signals (of_parent ++ (of_a ++ (take 9 of_b ++ (signal one (Held 0) ∷ []))))) → ⊥
 unfolding types_of
 shared_register h = let held : Held 0 ≡ Held 1 = (h.drivers 23 (lit≤ tt)).held in cc
 
--- nor where the instances' memories come before the parent's
+-- with the instances' memories before the parent's it isn't
 children_first : IsFlat circuit (record flat { memories = memory_of_a ∷ memory_of_b ∷ memory_of_parent ∷ [] }) → ⊥
 children_first h =
     let word : shape one ≡ shape three = (h.memories 0 (record { path = []; bank = none }) memory_of_a (lit≤ tt)).word in

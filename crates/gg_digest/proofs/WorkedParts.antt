@@ -29,7 +29,7 @@ use Rattle.gg_digest.specs.IsFlat.{IsLineFor, IsComputed}
 use Rattle.gg_digest.specs.Meaning.{Signals, named, shape_named, value_named, takes}
 use Rattle.gg_digest.specs.Signals.{Types}
 
--- ---- of the text
+-- ---- parts of the text
 
 abbrev pub on : ℕ → StmtKind → Stmt
 on line kind = record { line = line; kind = kind }
@@ -40,7 +40,7 @@ port line name direction ty = record { line = line; name = name; direction = dir
 abbrev pub field : ℕ → MemoryField → Field
 field line kind = record { line = line; kind = kind }
 
--- ---- of the flat circuit
+-- ---- parts of the flat circuit
 
 abbrev pub ty_of : (kind : Kind) (w : ℕ) → 1 ≤ w → w ≤ 128 → Ty
 ty_of kind w positive bounded = record { kind = kind; width = w; positive = positive; bounded = bounded }
@@ -54,11 +54,11 @@ value n = record { 0 = n }
 abbrev pub signal : Ty → Driver → Signal
 signal ty driver = record { ty = ty; driver = driver }
 
--- a signal that another of the same type drives
+-- a signal that is driven by another of the same type
 abbrev pub follows : Ty → ℕ → Signal
 follows ty s = signal ty (Computed (node ty (Ref s) ∷ []))
 
--- ---- facts of each number below another
+-- ---- facts about each number below another
 
 abbrev pub AllBelow : ℕ → (ℕ → Type 0) → Type 0
 AllBelow zero P = Unit {0}
@@ -78,7 +78,7 @@ named_one n p s does (suc k) lt e = absurd (omega arith)
 pub names_one : (n : Node) (p s : ℕ) → n.op ≡ Ref p → Names (n ∷ []) s ↔ (p ≡ s)
 names_one n p s does = (λ h. named_one n p s does h.0 h.1 h.2, λ e. (zero, lit≤ tt, does ∙ ap Ref e))
 
--- The name is that of signal p, which has the type of the node and can be connected to the sink.
+-- The node refers to signal p, which the reference names. The signal has the node's type and can be connected to the sink.
 pub record IsNamed (types : Types) (signals : Signals) (scope : Scope) (sink : Shape) (r : Reference) (n : Node) (p : ℕ) : Type 0 where
   pub does : n.op ≡ Ref p
   pub names : named types signals scope r ≡ Some p
@@ -98,11 +98,11 @@ line_of_name types signals scope sink r n p h = record {
   );
 }
 
--- a signal that gets what the name names
+-- a line of that node computes the connection to the reference
 pub gets_name : (types : Types) (signals : Signals) (scope : Scope) (sink : Shape) (r : Reference) (n : Node) (p : ℕ) → IsNamed types signals scope sink r n p → IsComputed types signals scope sink (Some (ConnectedTo (NamedTerm r))) (Computed (n ∷ []))
 gets_name types signals scope sink r n p h = record { line = n ∷ []; computed = refl; stands = line_of_name types signals scope sink r n p h }
 
--- a driver of one reference names the signal that is meant
+-- if a line of one reference computes the connection, it refers to the signal that is named
 pub named_other : (types : Types) (signals : Signals) (scope : Scope) (sink : Shape) (r : Reference) (n : Node) (p q : ℕ) → n.op ≡ Ref p → named types signals scope r ≡ Some q → IsComputed types signals scope sink (Some (ConnectedTo (NamedTerm r))) (Computed (n ∷ [])) → q ≡ p
 named_other types signals scope sink r n p q does names h =
     let same : n ∷ [] ≡ h.line = let e = h.computed in cc in

@@ -1,5 +1,4 @@
--- A circuit by hand, with two instances of one module, a memory in each, and an input of the one that feeds back from the other;
--- its flat circuit and its tree:
+-- A circuit by hand: a memory, and two instances of one module that feed each other and have a memory each:
 --
 --      1  circuit P :
 --      2    module C :

@@ -1,4 +1,4 @@
--- What is meant by the same part of a circuit does the same.
+-- Drivers, registers and memories of two flat circuits do the same if they stand for the same part of a circuit.
 use Rattle.std.proofs.Common.{◌≡◌, ℕ, List, Option, None, Some, refl, sym, ap, ◌∙◌, subst, ◌==◌, if◌then◌else◌}
 use Rattle.std.specs.Prelude.{slice_index_or}
 use Rattle.gg_bits.specs.Shape.{Shape, shape}
@@ -21,7 +21,7 @@ use Rattle.gg_digest.specs.Signals.{Types}
 
 -- ---- drivers
 
--- Two drivers of a signal of this shape give the same, and the second names what the first names.
+-- Two drivers of a signal of this shape give the same value, and the second names all signals that the first names.
 pub record AlikeDrivers (sink : Shape) (d e : Driver) : Type 0 where
   pub value : (state : State) (inputs values : List ℕ) → driver_value state inputs values sink d ≡ driver_value state inputs values sink e
   pub names : (s : ℕ) → NamesSignal d s → NamesSignal e s
@@ -50,7 +50,7 @@ drivers_alike types signals memories rs qs inputs states sink (Answers memory pl
 
 -- ---- registers
 
--- Two registers become the same.
+-- Two registers get the same next value.
 pub record AlikeRegisters (a b : Register) : Type 0 where
   pub next : (values : List ℕ) (own : ℕ) → next_register values a own ≡ next_register values b own
 
@@ -93,7 +93,7 @@ held_alike types signals scope sink reset next rs qs r d e h k = λ a b. registe
 
 -- ---- memories
 
--- Two memories hold the same at first, and become the same.
+-- Two memories hold the same at the opening, and the same after each cycle.
 pub record AlikeMemories (a b : Memory) : Type 0 where
   pub opens : opening_bank a ≡ opening_bank b
   pub next : (values : List ℕ) (bank : Bank) → next_bank values a bank ≡ next_bank values b bank

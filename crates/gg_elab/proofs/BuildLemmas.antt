@@ -87,7 +87,7 @@ added_one true n = refl
 added_one false n = omega arith
 
 module _ (types : Types) (signals : Signals) (memories : List (List ℕ)) where
-  -- the same, of what is the same
+  -- a signal's drive says the same of its driver for equal counts, shapes, drives and drivers
   moved : (regs : List Register) (i i' st st' : ℕ) (sh sh' : Shape) (d d' : Drive) (r r' : Driver) → i ≡ i' → st ≡ st' → sh ≡ sh' → d ≡ d' → r ≡ r' → IsDrivenBy types signals memories regs i st sh d r → IsDrivenBy types signals memories regs i' st' sh' d' r'
   moved regs i i' st st' sh sh' d d' r r' ei es eh ed er h =
       subst (λ (x : ℕ). IsDrivenBy types signals memories regs x st' sh' d' r') ei
@@ -96,7 +96,7 @@ module _ (types : Types) (signals : Signals) (memories : List (List ℕ)) where
       (subst (λ (x : Drive). IsDrivenBy types signals memories regs i st sh x r') ed
       (subst (λ (x : Driver). IsDrivenBy types signals memories regs i st sh d x) er h))))
 
-  -- what is driven is so with more registers
+  -- a driver is still as the drive says if there are more registers
   kept : (regs more : List Register) (i st : ℕ) (sh : Shape) (d : Drive) (r : Driver) → IsDrivenBy types signals memories regs i st sh d r → IsDrivenBy types signals memories (regs ++ more) i st sh d r
   kept regs more i st sh Outside r h = h
   kept regs more i st sh (Gets scope c) r h = h
@@ -107,7 +107,7 @@ module _ (types : Types) (signals : Signals) (memories : List (List ℕ)) where
   }
   kept regs more i st sh (Answers memory place l addr en) r h = h
 
-  -- what is made drives
+  -- a driver that is made for a drive, with the register that is made with it, is as the drive says
   made : (regs : List Register) (i : ℕ) (sh : Shape) (d : Drive) (r : Driver) (register : Option Register) → IsMade types signals memories i (length regs) sh d r register → IsDrivenBy types signals memories (regs ++ option_to_list register) i (length regs) sh d r
   made regs i sh Outside r register h = h.0
   made regs i sh (Gets scope c) r register h = h.0
@@ -119,7 +119,7 @@ module _ (types : Types) (signals : Signals) (memories : List (List ℕ)) where
   }
   made regs i sh (Answers memory place l addr en) r register h = h.0
 
-  -- a register is made just for what holds one
+  -- a register is made exactly if the drive holds one
   registers_made : (i st : ℕ) (sh : Shape) (d : Drive) (r : Driver) (register : Option Register) → IsMade types signals memories i st sh d r register → length (option_to_list register) ≡ one_if (is_register d)
   registers_made i st sh Outside r register h = ap (λ (o : Option Register). length (option_to_list o)) h.1
   registers_made i st sh (Gets scope c) r register h = ap (λ (o : Option Register). length (option_to_list o)) h.1
@@ -127,7 +127,7 @@ module _ (types : Types) (signals : Signals) (memories : List (List ℕ)) where
   registers_made i st sh (Holds scope reset next) r (Some register) h = refl
   registers_made i st sh (Answers memory place l addr en) r register h = ap (λ (o : Option Register). length (option_to_list o)) h.1
 
-  -- an input is made just for what the outside drives
+  -- an input is made exactly if the outside drives the signal
   inputs_made : (i st : ℕ) (sh : Shape) (d : Drive) (r : Driver) (register : Option Register) → IsMade types signals memories i st sh d r register → is_input_driver r ≡ is_outside d
   inputs_made i st sh Outside r register h = ap is_input_driver h.0
   inputs_made i st sh (Gets scope c) r register h = ap is_input_driver h.0.computed

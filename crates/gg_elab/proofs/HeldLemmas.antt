@@ -5,14 +5,14 @@ use Rattle.std.proofs.lemmas.List.Sums.{sum_by-cons}
 use Rattle.gg_digest.specs.Flat.{Drive, Outside}
 use Rattle.gg_digest.specs.IsFlat.{is_register}
 
--- The signal at this place holds register r.
+-- The place of a signal that holds register r.
 pub record HoldsRegister (drives : List Drive) (r : ℕ) : Type 0 where
   pub place : ℕ
   pub within : place < length drives
   pub holds : is_register (slice_index_or drives place Outside) ≡ true
   pub number : count_by is_register (take place drives) ≡ r
 
--- one, where a test passes
+-- 1 if a test passes, else 0
 abbrev pub one_if : Bool → ℕ
 one_if b = cond b 1 0
 

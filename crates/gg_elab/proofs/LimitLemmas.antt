@@ -1,4 +1,4 @@
--- The counts of a circuit's own signals, and what is answered of the limits.
+-- How many signals each module has of its own, and what is answered about the limits.
 use Rattle.std.proofs.Common.{◌≡◌, ℕ, suc, ◌+◌, ◌<◌, List, [], ◌∷◌, length, map, get_or, Option, Some, refl, sym, ap, ◌∙◌, arith}
 use Rattle.std.proofs.lemmas.List.{length-map}
 use Rattle.gg_ast.specs.Tree.{ModuleTree}
@@ -26,7 +26,7 @@ counted types modules ds h =
     counted-from types 0 modules ds h.count (λ j any lt.
     sym (length-map (get_or ds j any).signals.items own_of) ∙ ap (λ l. length l) (h.each j any lt).signals ∙ ap (λ n. length (own_signals types n (module_at modules j))) (omega arith))
 
--- what is found of the counts is what is above its limit
+-- the first excess of the counts is the first excess of the circuit
 pub excess-found : (types : Types) (modules : List ModuleTree) (o : Option ℕ) (top : ℕ) (own : List ℕ) (counts : Counts) (found : Option Excess) → o ≡ Some top → own ≡ own_counts types 0 modules → counts ≡ counts_of modules own top → found ≡ first_excess counts → excess_over types modules o ≡ found
 excess-found types modules o top own counts found is same counts_are found_is =
     ap (excess_over types modules) is

@@ -39,7 +39,7 @@ length-shapes_of nodes = length-map nodes (λ (m : Node). shape m.ty)
 pub length-push : {A : Type 0} (xs : List A) (x : A) → length (xs ++ x ∷ []) ≡ length xs + 1
 length-push xs x = omega (arith, length-append xs (x ∷ []))
 
--- the shape of an old node
+-- the shape of an old node is the same
 pub shape_at-push : (nodes : List Node) (n : Node) (k : ℕ) → k < length nodes → shape_at (shapes_of (nodes ++ n ∷ [])) k ≡ shape_at (shapes_of nodes) k
 shape_at-push nodes n k lt =
     let within : k < length (shapes_of nodes) = omega (arith, length-shapes_of nodes) in
@@ -94,7 +94,7 @@ value_at-last v shapes nodes n =
     ∙ ap (λ k. value_at (before ++ op_value v shapes before n.op ∷ []) k) (sym count)
     ∙ get_or-append_seam before (op_value v shapes before n.op) [] 0
 
--- the shapes of a line with one more node and of what follows
+-- the shapes of a line with one more node, and of what follows
 shapes_of-before : (nodes : List Node) (n : Node) (more : List Shape) → shapes_of (nodes ++ n ∷ []) ++ more ≡ shapes_of nodes ++ (shape n.ty ∷ more)
 shapes_of-before nodes n more = ap (λ l. l ++ more) (shapes_of-push nodes n) ∙ append_assoc (shapes_of nodes) (shape n.ty ∷ []) more
 
@@ -111,7 +111,7 @@ StandsFor-push w nodes n k e h = record {
   named = λ s t. Names-push nodes n s (h.named s t);
 }
 
--- the shape of a node, where more shapes follow
+-- the shape of a node is the same if more shapes follow
 shape_at-more : (nodes : List Node) (more : List Shape) (k : ℕ) → k < length nodes → shape_at (shapes_of nodes ++ more) k ≡ shape_at (shapes_of nodes) k
 shape_at-more nodes more k lt =
     let within : k < length (shapes_of nodes) = omega (arith, length-shapes_of nodes) in
@@ -151,7 +151,7 @@ HaveShapes-push w nodes n own h = λ k lt. at k (omega (arith, lt, length-push n
 
 -- ---- the node of each kind of expression
 
--- what a line needs for one more node that stands for e
+-- what one more node has to satisfy to stand for e
 pub record Fresh (w : Where) (nodes : List Node) (n : Node) (e : Term) : Type 0 where
   pub node : shape n.ty ≡ shape_of w e
   pub has : HasShape (HasType w.signals.shapes) (shapes_of nodes) (length nodes) (shape_of w e) n.op
@@ -173,11 +173,12 @@ HaveShapes-fresh : (w : Where) (nodes : List Node) (n : Node) (e : Term) → Fre
 HaveShapes-fresh w nodes n e h typed =
     HaveShapes-push w nodes n (subst (λ (s : Shape). HasShape (HasType w.signals.shapes) (shapes_of nodes) (length nodes) s n.op) (sym h.node) h.has) typed
 
--- the shape of an operand, where more shapes follow
+-- the shape of an operand is the same if more shapes follow
 operand_shape : (w : Where) (nodes : List Node) (k : ℕ) (e : Term) (more : List Shape) → StandsFor w nodes k e → shape_at (shapes_of nodes ++ more) k ≡ shape_of w e
 operand_shape w nodes k e more h = shape_at-more nodes more k h.within ∙ h.node
 
--- what the operands' nodes, added before, left
+-- what holds after the operands' nodes were added: old nodes stand for what they stood for, all nodes have their shapes, and
+-- only what e names is named anew
 pub record Kept (w : Where) (old mid : List Node) (e : Term) : Type 0 where
   pub kept : (i : ℕ) (f : Term) → StandsFor w old i f → StandsFor w mid i f
   pub typed : HaveShapes w old → HaveShapes w mid
@@ -246,7 +247,8 @@ added_no_literal w old n l none z =
 
 -- ---- operations
 
--- What an operation needs of the line: where it has its result type, its shape and value there, and that it names what its operands do.
+-- What an operation needs of the line: its shape and value there if it has a result type, and that the line names all signals
+-- that its operands name.
 pub record Operation (w : Where) (mid : List Node) (e : Term) (result : Result Shape Bad) (op : Op) : Type 0 where
   pub shaped : shape_of w e ≡ accepted result
   pub has : (to : Shape) → result ≡ Ok to → HasShape (HasType w.signals.shapes) (shapes_of mid) (length mid) to op

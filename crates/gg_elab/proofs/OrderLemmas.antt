@@ -1,4 +1,4 @@
--- An order of modules, as the type checks give it, is one of those that the counts want.
+-- An order of modules as gg_names defines it is an order of modules as gg_count defines it.
 use Rattle.std.proofs.Common.{◌≡◌, ℕ, List, [], ◌∷◌, ◌++◌, length, Option, Some, None, option_to_list, refl, ap, ◌∙◌, subst}
 use Rattle.std.specs.Prelude.{Contains, option_map, flat_map}
 use Rattle.std.specs.List.{cons_option}
@@ -12,7 +12,7 @@ use Rattle.gg_count.proofs.PassLemmas.{numbers_of}
 use Rattle.gg_names.specs.Modules as names
 use Rattle.gg_walk.specs.Graph.{IsOrderOf}
 
--- the module of a statement's instance, in both
+-- the module of a statement's instance is the same in both definitions
 same-kind : (modules : List ModuleTree) (kind : StmtKind) → numbers_of (option_to_list (held_by_kind modules kind)) ≡ names.held_by_kind modules kind
 same-kind modules (says.Wire name ty) = refl
 same-kind modules (says.Node name value) = refl

@@ -25,6 +25,6 @@ finished (Ok s) w old mid new e x P same h f =
     subst (λ (t : Term). Stands w old new t s) (sym same) (whole, typed)
 finished (Err e) w old mid new t x P same h f = tt
 
--- an operand's term, by the pointer that holds its expression
+-- what stands for a term stands for an equal term: an operand, and what its pointer holds
 pub operand : (w : Where) (old new : List Node) (a b : Term) (stand : Stand) → a ≡ b → Stands w old new a stand → Stands w old new b stand
 operand w old new a b stand e h = subst (λ (t : Term). Stands w old new t stand) e h

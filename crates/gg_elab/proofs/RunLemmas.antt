@@ -40,7 +40,7 @@ module _ (types : Types) (all : List FlatSignal) (banks : List FlatMemory) (port
       subst (λ (shapes : List Shape). AlikeDrivers (shape_at shapes s) (driver_at f s) (driver_at g s)) (sym other.shapes)
       (drivers_alike types (signals_of all) (memory_paths banks) f.registers g.registers (count_before is_outside all s) (count_before is_register all s) _ (drive_at all s) _ _ (one.drivers s lt) (other.drivers s lt))
 
-  -- the register that a signal holds
+  -- the registers that a signal holds in the two flat circuits are alike
   register_at : (s r : ℕ) (drive : Drive) (d e : Driver) → is_register drive ≡ true → IsDrivenBy types (signals_of all) (memory_paths banks) f.registers (count_before is_outside all s) r (shape_at (signals_of all).shapes s) drive d → IsDrivenBy types (signals_of all) (memory_paths banks) g.registers (count_before is_outside all s) r (shape_at (signals_of all).shapes s) drive e → AlikeAt f.registers g.registers r
   register_at s r Outside d e is h k = absurd (cc)
   register_at s r (Gets scope c) d e is h k = absurd (cc)

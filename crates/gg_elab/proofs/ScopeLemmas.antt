@@ -13,7 +13,7 @@ use Rattle.gg_digest.specs.Meaning.{Signals, named, named_if}
 use Rattle.gg_digest.specs.Signals.{Types}
 use Rattle.gg_digest.proofs.NameLemmas.{Differ, place_of-at, place_of-missing}
 
--- what a search for a path answers is its place
+-- the answer of a search for a path is the path's place
 pub found-path : (paths : List (List ℕ)) (path : List ℕ) (r : Option ℕ) → Differ paths → IfSome r (λ s. slice_get paths s ≡ Some path) → IfNone r (¬ Contains paths path) → r ≡ place_of path paths
 found-path paths path (Some s) differ found missing = sym (place_of-at paths path s found differ)
 found-path paths path None differ found missing = sym (place_of-missing paths path missing)
@@ -26,7 +26,7 @@ pub is-unknown : (r : Option Ty) (o : Option Shape) → option_map (λ t. shape 
 is-unknown (Some t) o e h = absurd (true≢false h)
 is-unknown None o e h = ap is_some (sym e)
 
--- a signal that is named is one
+-- a signal that a reference names is one of the circuit's
 pub named-below : (types : Types) (signals : Signals) (scope : Scope) (r : Reference) (s : ℕ) → named types signals scope r ≡ Some s → s < length signals.paths
 named-below types signals scope r s e = go (is_some (types scope.number r)) e
   where

@@ -53,7 +53,7 @@ memories-begun paths flat none = record {
   each = λ m other any lt. absurd (omega (arith, lt));
 }
 
--- what is known of the memories of one circuit holds of them in another
+-- the memories that were added to an old circuit are those of the new one
 pub memories-own : (paths : List (List ℕ)) (said : List FlatMemory) (old new : FlatCircuit) → HasMemories paths said old new → HasMemories paths said new new
 memories-own paths said old new h = record { rest = refl; count = h.count; each = h.each }
 
@@ -64,7 +64,7 @@ memories-on paths said all one two three h g = record {
   each = g.each;
 }
 
--- one memory more
+-- one more memory
 pub memories-push : (paths : List (List ℕ)) (said : List FlatMemory) (x : FlatMemory) (base old new : FlatCircuit) (memory : Memory) → HasMemories paths said base old → new ≡ record old { memories = old.memories ++ memory ∷ [] } → IsMemoryOf paths x memory → HasMemories paths (said ++ x ∷ []) base new
 memories-push paths said x base old new memory h is of = record {
   rest = is ∙ ap (λ (f : FlatCircuit). record f { memories = old.memories ++ memory ∷ [] }) h.rest ∙ ap (λ (l : List Memory). record base { memories = l }) (sym items);
@@ -99,7 +99,7 @@ with_top types modules o top sites ports flat is same own h =
 
 -- ---- ports
 
--- one port more
+-- the numbers of the ports' names, with one more port
 pub names-more : (paths : List (List ℕ)) (way : Direction) (before now after : List ℕ) (ports : List Port) (i : ℕ) (p : Port) → i < length ports → p ≡ get_or ports i p → now ≡ before ++ map (number_of paths) (port_names way (take i ports)) → after ≡ now ++ map (number_of paths) (port_names way (p ∷ [])) → after ≡ before ++ map (number_of paths) (port_names way (take (i + 1) ports))
 names-more paths way before now after ports i p lt is so step =
     let one = map (number_of paths) (port_names way (p ∷ [])) in
@@ -110,7 +110,7 @@ names-more paths way before now after ports i p lt is so step =
     ∙ ap (λ l. before ++ map (number_of paths) l) (sym (filter_map-append (port_name way) (take i ports) (p ∷ [])))
     ∙ ap (λ l. before ++ map (number_of paths) (port_names way l)) (ap (λ y. take i ports ++ y ∷ []) is ∙ sym (take_more ports i p lt))
 
--- what is made of names that are lent
+-- a list made from lent names is the list made from the names themselves
 pub ports-named : {A R : Type 0} (items lent : List A) (now : A → List ℕ) (of : List ℕ → List ℕ → R) (made : List R) (path other : List ℕ) → made ≡ map (λ a. of path (now a)) lent → lent ≡ items → path ≡ other → made ≡ map (of other) (map now items)
 ports-named items lent now of made path other is same at =
     is ∙ ap (map (λ a. of path (now a))) same ∙ ap (λ p. map (λ a. of p (now a)) items) at ∙ sym (map-twice (of other) now items)

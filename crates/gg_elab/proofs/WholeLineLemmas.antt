@@ -1,4 +1,4 @@
--- Laws of a whole line.
+-- A whole line: as it is, cut for a sink or a condition, and a line of 0.
 use Rattle.std.proofs.Common.{◌≡◌, ℕ, ◌+◌, ◌-◌, ◌≤◌, ◌^◌, List, [], ◌∷◌, ◌++◌, length, refl, sym, ap, ◌∙◌, subst, arith, inl, inr, Bool, true, false, ◌&&◌, if◌then◌else◌}
 use Rattle.std.specs.Prelude.{nat_le, nat_lt, ◌==◌, pos, ◌-ℤ◌}
 use Rattle.std.proofs.lemmas.List.{append-nil}
@@ -27,7 +27,7 @@ last_node n k e = omega arith
 
 -- ---- 0
 
--- 0 in so many bits is 0
+-- 0 extended to any width is 0
 pub extended-zero : (s : Shape) (w : ℕ) → extended s w 0 ≡ 0
 extended-zero s w = ap (pattern_of w) (number-zero s.kind s.width) ∙ zero-mod (2 ^ w)
   where
@@ -39,7 +39,7 @@ extended-zero s w = ap (pattern_of w) (number-zero s.kind s.width) ∙ zero-mod 
         go true e = refl
         go false e = absurd (let le : 2 ^ (n - 1) ≤ 0 = grind (arith, nat_tests) in omega (arith, pow_pos (n - 1)))
 
--- a line with a 0 behind it gives 0
+-- a line with a 0 at its end gives 0
 module _ (old new : List Node) (sink : Shape) (z : IsZeroOf old new sink) where
   pub zero_shape : line_shape new ≡ sink
   zero_shape =
@@ -145,7 +145,7 @@ module _ (w : Where) (nodes : List Node) (e : Term) (k : ℕ) (h : Added w [] no
   uint_only UInt e = refl
   uint_only SInt e = absurd (cc)
 
-  -- the line, cut for a condition, is one
+  -- the line, cut for a condition, gives the condition's value
   pub condition_stands : (new : List Node) → IsCut (is_condition (shape_of w e)) nodes (uint 1) new → IsConditionOf w.types w.signals w.scope e new
   condition_stands new c = go (is_condition (shape_of w e)) refl c
     where
@@ -179,7 +179,7 @@ module _ (w : Where) (nodes : List Node) (e : Term) (k : ℕ) (h : Added w [] no
         bit = zero_shape nodes new (uint 1) c;
       }
 
--- a line of 0 alone gives what no connection and `is invalid` give
+-- a line of 0 alone may be connected to its sink
 pub IsLine-zero : (w : Where) (new : List Node) (sink : Shape) → IsZeroOf [] new sink → IsSource (HasType w.signals.shapes) sink new
 IsLine-zero w new sink z = record {
   line = record { some = omega (arith, ap (λ (l : List Node). length l) z.added); typed = zero_typed [] new sink z w (λ k lt. absurd (omega arith)) };

@@ -49,7 +49,7 @@ next_registers-at signals (register ∷ registers) [] i some count lt = absurd (
 next_registers-at signals (register ∷ registers) (own ∷ old) zero some count lt = refl
 next_registers-at signals (register ∷ registers) (own ∷ old) (suc i) some count lt = next_registers-at signals registers old i some (omega arith) (omega arith)
 
--- some register of a list that has one
+-- some register of a list that isn't empty
 pub some-register : (registers : List Register) (i : ℕ) → i < length registers → Register
 some-register [] i within = absurd (omega arith)
 some-register (register ∷ registers) i within = register

@@ -52,7 +52,7 @@ reset_or-agree v w sink None other same = refl
 reset_or-agree v w sink (Some reset) other same =
     ap₂ (λ condition init. if condition == 1 then init else other) (line_value-agree v w reset.condition (λ s named. same s (inl named))) (connected-agree v w sink reset.init (λ s named. same s (inr named)))
 
--- what a register becomes depends on the signals that it names
+-- a register's next value depends on the signals that the register names, and on no other
 pub next_register-agree : (v w : List ℕ) (register : Register) (own : ℕ) → ((s : ℕ) → RegisterNames register s → value_at v s ≡ value_at w s) → next_register v register own ≡ next_register w register own
 next_register-agree v w register own same =
     ap (reset_or v (shape register.ty) register.reset) (connected_or-agree v w (shape register.ty) register.next own (λ s named. same s (inr named)))

@@ -1,4 +1,4 @@
--- What is worked out along an order is settled, and a run.
+-- A row that is worked out along an order is settled, and the rows of all cycles are a run.
 use Rattle.std.proofs.Common.{◌≡◌, ℕ, zero, suc, ◌<◌, ◌≤◌, ◌+◌, Bool, true, false, List, length, take, get_or, replicate, refl, sym, ◌∙◌, subst, arith, add-one}
 use Rattle.std.specs.Prelude.{fold, Option, Some, None, ◌==◌, if◌then◌else◌}
 use Rattle.std.proofs.lemmas.List.{length-map, get_or-map}
@@ -23,7 +23,7 @@ use Rattle.gg_flat.proofs.AdvanceLemmas.{length-next_registers, next_registers-a
 use Rattle.gg_flat.proofs.BankLemmas.{AreBanks-next, AreBanks-opening, memories-valued}
 use Rattle.gg_flat.proofs.RunLemmas.{IsRunFrom-none, IsRunFrom-push}
 
--- the front of the order, worked out
+-- after i steps along the order, its first i signals have their drivers' values
 Partly-along : (circuit : FlatCircuit) (order : List ℕ) (state : State) (inputs start : List ℕ) → IsWellFormed circuit → IsOrder circuit order → IsState circuit state → IsInputs circuit inputs → AreTyped (signal_shapes circuit) start → (i : ℕ) → i ≤ length order → Partly circuit state inputs order i (fold (with_signal circuit state inputs) start (take i order))
 Partly-along circuit order state inputs start formed o st ins typed zero le = Partly-none circuit state inputs order start typed
 Partly-along circuit order state inputs start formed o st ins typed (suc i) le =
@@ -44,7 +44,7 @@ Settled-along circuit order state inputs formed o st ins =
     (subst (λ done. Partly circuit state inputs order (length order) (fold (with_signal circuit state inputs) (replicate (length circuit.signals) 0) done)) (take-length order)
     (Partly-along circuit order state inputs (replicate (length circuit.signals) 0) formed o st ins zeros (length order) (omega arith)))
 
--- a register's next value is of its type
+-- a register's next value has its type
 next_register-fits : (signals : List ℕ) (register : Register) (own : ℕ) → Fits (shape register.ty) own → Fits (shape register.ty) (next_register signals register own)
 next_register-fits signals register own fits = after register.reset (before register.next)
   where
@@ -60,7 +60,7 @@ next_register-fits signals register own fits = after register.reset (before regi
     after None other = other
     after {other} (Some reset) fit = choice (line_value signals reset.condition == 1) (connected_value signals (shape register.ty) reset.init) other (pattern_of-lt (shape register.ty).width _) fit
 
--- registers after a cycle are of their types
+-- the registers' next values have their types
 registers-typed : (circuit : FlatCircuit) (own signals : List ℕ) → AreTyped (register_shapes circuit) own → AreTyped (register_shapes circuit) (next_registers signals circuit.registers own)
 registers-typed circuit own signals typed =
     let long : length (register_shapes circuit) ≡ length circuit.registers = length-map circuit.registers (λ (register : Register). shape register.ty) in
@@ -98,7 +98,7 @@ IsState-at circuit start columns n rows formed st run zero le = st
 IsState-at circuit start columns n rows formed st run (suc t) le =
     IsState-next circuit (state_at circuit start rows t) (row_at rows t) formed (run.settled t (omega arith)).typed (IsState-at circuit start columns n rows formed st run t (omega arith))
 
--- the rows worked out along an order, where the columns have inputs in each cycle
+-- the rows worked out along an order are a run from a start, if the columns have inputs in each cycle
 pub IsRunFrom-along : (circuit : FlatCircuit) (order : List ℕ) (start : Start) (columns : List (List ℕ)) (n : ℕ) → IsWellFormed circuit → IsOrder circuit order → IsState circuit start.state → ((t : ℕ) → t < n → IsInputs circuit (inputs_at columns (later start.cycle t))) → IsRunFrom circuit start columns n (rows_from circuit order start columns n)
 IsRunFrom-along circuit order start columns zero formed o st typed = IsRunFrom-none circuit start columns
 IsRunFrom-along circuit order start columns (suc n) formed o st typed =
@@ -108,6 +108,6 @@ IsRunFrom-along circuit order start columns (suc n) formed o st typed =
     subst (λ m. IsRunFrom circuit start columns m (rows_from circuit order start columns (suc n))) (add-one n)
     (IsRunFrom-push circuit start columns n rows _ run (Settled-along circuit order (state_at circuit start rows n) (inputs_at columns (later start.cycle n)) formed o state (typed n (omega arith))))
 
--- the rows worked out along an order are a run
+-- the rows worked out along an order are a run from the opening
 pub IsRun-along : (circuit : FlatCircuit) (order : List ℕ) (columns : List (List ℕ)) (n : ℕ) → IsWellFormed circuit → IsOrder circuit order → IsColumns circuit n columns → IsRun circuit columns n (rows_along circuit order columns n)
 IsRun-along circuit order columns n formed o typed = IsRunFrom-along circuit order (opening_start circuit) columns n formed o (IsState-opening circuit) typed.inputs

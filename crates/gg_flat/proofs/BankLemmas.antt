@@ -1,4 +1,4 @@
--- What memories hold after a cycle is of their counts and types.
+-- What memories hold after a cycle has the right counts and types.
 use Rattle.std.proofs.Common.{◌≡◌, ℕ, zero, suc, ◌<◌, List, [], ◌∷◌, length, map, replicate, get_or, set, refl, sym, ◌∙◌, ap, subst, arith, Bool, true, false}
 use Rattle.std.specs.Prelude.{if◌then◌else◌, ◌==◌, ◌&&◌, All}
 use Rattle.std.proofs.lemmas.List.{length-map, length-replicate, length-set}
@@ -62,7 +62,7 @@ module _ (signals : List ℕ) (word : Shape) (depth : ℕ) where
       by true = (is 0 writer (omega arith)).input.1
       by false = fits
 
-  -- past the end of values that are of a shape there is a 0
+  -- a value at any place is of the shape, if all values of the list are: past the end it is 0
   past-fits : (values : List ℕ) (i : ℕ) → ((k : ℕ) → k < length values → Fits word (value_at values k)) → Fits word (value_at values i)
   past-fits [] zero fits = pow_pos word.width
   past-fits [] (suc i) fits = pow_pos word.width

@@ -22,18 +22,18 @@ use Rattle.gg_flat.proofs.WorkedCircuits.{one, three, eight, node, value, counte
 unlisted : ¬ IsWellFormed (record counter { ins = [] })
 unlisted formed = absurd (omega (arith, (formed.drivers 0 (lit< tt)).0))
 
--- a signal with a driver of its own is listed among them
+-- a signal that isn't an input is listed among the in-signals
 listed : ¬ IsWellFormed (record toggle { ins = 1 ∷ [] })
 listed formed = held (formed.ins 0 (lit< tt)).1
   where
     held : Held 0 ≡ Input 0 → ⊥
     held is = cc
 
--- an out-signal past the end
+-- an out-signal past the last signal
 no_output : ¬ IsWellFormed (record toggle { outs = 2 ∷ [] })
 no_output formed = absurd (omega (arith, formed.outs 0 (lit< tt)))
 
--- two signals of one path
+-- two signals with the same path
 doubled_path : ¬ IsWellFormed (record toggle { paths = (113 ∷ []) ∷ (113 ∷ []) ∷ [] })
 doubled_path formed = formed.distinct 0 1 [] (lit< tt) (lit< tt) refl
 
@@ -46,15 +46,15 @@ no_path formed = absurd (omega (arith, formed.named))
 abbrev lone : Driver → FlatCircuit
 lone driver = record { paths = (113 ∷ []) ∷ []; signals = record { ty = three; driver = driver } ∷ []; registers = []; memories = []; ins = []; outs = [] }
 
--- there is no such register
+-- a signal holds a register that isn't there
 no_register : ¬ IsWellFormed (lone (Held 0))
 no_register formed = absurd (omega (arith, (formed.drivers 0 (lit< tt)).0))
 
--- there is no memory
+-- a read register of a memory that isn't there
 no_memory : ¬ IsWellFormed (lone (ReadRegister 0 0))
 no_memory formed = absurd (omega (arith, (formed.drivers 0 (lit< tt)).0))
 
--- a line of no node
+-- a line without nodes
 no_node : ¬ IsWellFormed (lone (Computed []))
 no_node formed = absurd (omega (arith, (formed.drivers 0 (lit< tt)).line.some))
 
@@ -68,7 +68,7 @@ too_wide formed = absurd (omega (arith, (formed.drivers 0 (lit< tt)).width))
 no_fit : ¬ IsWellFormed (lone (Computed (node one (Literal (value 2)) ∷ [])))
 no_fit formed = absurd (omega (arith, (formed.drivers 0 (lit< tt)).line.typed 0 (lit< tt)))
 
--- a reference to no signal
+-- a reference to a signal that isn't there
 no_signal : ¬ IsWellFormed (lone (Computed (node one (Ref 1) ∷ [])))
 no_signal formed = absurd (omega (arith, ((formed.drivers 0 (lit< tt)).line.typed 0 (lit< tt)).0))
 
@@ -80,12 +80,12 @@ other_width formed = absurd (omega (arith, ap (λ (s : Shape). s.width) ((formed
 not_before : ¬ IsWellFormed (lone (Computed (node one (Literal (value 1)) ∷ node one (One Not 1) ∷ [])))
 not_before formed = absurd (omega (arith, ((formed.drivers 0 (lit< tt)).line.typed 1 (lit< tt)).0))
 
--- the width of a result, 0 where there is none
+-- the width of a result, 0 if there is none
 abbrev width_of : Result Shape Bad → ℕ
 width_of (Ok shape) = shape.width
 width_of (Err bad) = 0
 
--- a sum of another width than its own
+-- a sum in a node of another width
 other_sum : ¬ IsWellFormed (lone (Computed (node one (Literal (value 1)) ∷ node one (Two Add 0 0) ∷ [])))
 other_sum formed = absurd (omega (arith, ap width_of ((formed.drivers 0 (lit< tt)).line.typed 1 (lit< tt)).2))
 

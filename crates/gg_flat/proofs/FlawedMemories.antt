@@ -18,7 +18,7 @@ use Rattle.gg_flat.proofs.WorkedForms.{only, both, four, apart, differ, pair, qu
 use Rattle.gg_flat.proofs.WorkedCircuits.{eight, node, value}
 use Rattle.gg_flat.proofs.WorkedMemories.{two, copy, high, signal}
 
--- A circuit with one memory. Signal 0 is the data of its reader, 1 its address and 2 its enable, 3 a mask of two bits.
+-- A circuit with one memory. Signal 0 is the data of its reader, 1 the reader's address, 2 its enable, and 3 has two bits.
 abbrev lone : Driver → Memory → FlatCircuit
 lone driver memory =
     record {
@@ -105,7 +105,7 @@ circle driver = record sound { signals = signal two driver ∷ copy two 0 ∷ hi
 circle-loop : IsLoop (circle (MemoryWord 0 0 1 2)) (0 ∷ 1 ∷ [])
 circle-loop = (pair 0 1 (apart 0 1 refl), (record { signal = lit< tt; names = inl refl }, record { signal = lit< tt; names = (0, lit< tt, refl) }))
 
--- a read register breaks it
+-- a read register breaks the loop
 circle-late : ¬ IsLoop (circle (ReadRegister 0 0)) (0 ∷ 1 ∷ [])
 circle-late loop = loop.1.0.names
 
@@ -169,19 +169,19 @@ doubled_port formed = unlike (formed.reads 0 (lit< tt) 1 (lit< tt))
     unlike : MemoryWord 0 0 1 2 ≡ MemoryWord 0 1 1 2 → ⊥
     unlike is = absurd (omega (arith, ap number is))
 
--- five words want an address of three bits
+-- a memory of five words with an address of two bits, not three
 narrow_address : ¬ IsWellFormed (lone (MemoryWord 0 0 1 2) (memory 5 (reader ∷ []) []))
 narrow_address formed = absurd (omega (arith, ap (λ (s : Shape). s.width) ((formed.memories 0 (memory 5 [] []) (lit< tt)).readers 0 reader (lit< tt)).address.1))
 
--- two words want an address of one bit
+-- a memory of two words with an address of two bits, not one
 wide_address : ¬ IsWellFormed (lone (MemoryWord 0 0 1 2) (memory 2 (reader ∷ []) []))
 wide_address formed = absurd (omega (arith, ap (λ (s : Shape). s.width) ((formed.memories 0 (memory 2 [] []) (lit< tt)).readers 0 reader (lit< tt)).address.1))
 
--- an enable of a writer of two bits
+-- a writer's enable of two bits
 wide_enable : ¬ IsWellFormed (lone (MemoryWord 0 0 1 2) (memory 3 (reader ∷ []) (record writer { en = 3 } ∷ [])))
 wide_enable formed = absurd (omega (arith, ap (λ (s : Shape). s.width) ((formed.memories 0 (memory 3 [] []) (lit< tt)).writers 0 writer (lit< tt)).enable.1))
 
--- an enable that is no signal
+-- a reader's enable that isn't a signal
 no_enable : ¬ IsWellFormed (lone (MemoryWord 0 0 1 4) (memory 3 (record reader { en = 4 } ∷ []) []))
 no_enable formed = absurd (omega (arith, ((formed.memories 0 (memory 3 [] []) (lit< tt)).readers 0 reader (lit< tt)).enable.0))
 
@@ -193,10 +193,10 @@ narrow_word formed = absurd (omega (arith, ap (λ (s : Shape). s.width) ((formed
 wide_write : ¬ IsWellFormed (lone (MemoryWord 0 0 1 2) (memory 3 (reader ∷ []) (record writer { word = 1 } ∷ [])))
 wide_write formed = absurd (omega (arith, ap (λ (s : Shape). s.width) ((formed.memories 0 (memory 3 [] []) (lit< tt)).writers 0 writer (lit< tt)).input.1))
 
--- a mask of two bits
+-- a writer's mask of two bits
 wide_mask : ¬ IsWellFormed (lone (MemoryWord 0 0 1 2) (memory 3 (reader ∷ []) (record writer { mask = 3 } ∷ [])))
 wide_mask formed = absurd (omega (arith, ap (λ (s : Shape). s.width) ((formed.memories 0 (memory 3 [] []) (lit< tt)).writers 0 writer (lit< tt)).masked.1))
 
--- no word
+-- a memory without words
 no_depth : ¬ IsWellFormed (lone (MemoryWord 0 0 1 2) (memory 0 (reader ∷ []) []))
 no_depth formed = absurd (omega (arith, (formed.memories 0 (memory 0 [] []) (lit< tt)).some))

@@ -15,7 +15,7 @@ pub record HoldsNodes (nodes : List Node) (signals : List ℕ) (k : ℕ) (scratc
   pub values : take k scratch ≡ fold (with_node signals (shapes_of nodes)) [] (take k nodes)
   pub fits : (i : ℕ) → i < k → Fits (shape_at (shapes_of nodes) i) (value_at scratch i)
 
--- an operation at place k looks at no value from place k on
+-- an operation at place k uses no value from place k on
 op_value-take : (signals : List ℕ) (shapes : List Shape) (before : List ℕ) (k : ℕ) (to : Shape) (op : Op) → HasShape (HasValue signals) shapes k to op → op_value signals shapes before op ≡ op_value signals shapes (take k before) op
 op_value-take signals shapes before k to (Ref s) has = refl
 op_value-take signals shapes before k to (Literal value) has = refl
@@ -24,7 +24,7 @@ op_value-take signals shapes before k to (Two op i j) has = rw (get_or-take k be
 op_value-take signals shapes before k to (Fix op i n m) has = rw (get_or-take k before i 0 has.0)
 op_value-take signals shapes before k to (Mux c i j) has = rw (get_or-take k before c 0 has.0, get_or-take k before i 0 has.1, get_or-take k before j 0 has.2)
 
--- some node of a line that has one
+-- some node of a line that isn't empty
 some-node : (nodes : List Node) (k : ℕ) → k < length nodes → Node
 some-node [] k within = absurd (omega arith)
 some-node (node ∷ nodes) k within = node

@@ -1,4 +1,4 @@
--- What an order says of the signals before a place, and why a circuit that has one has no loop.
+-- What an order says of the signals before a place, and why a circuit that has an order has no loop.
 use Rattle.std.proofs.Common.{◌≡◌, ℕ, ◌<◌, List, [], ◌∷◌, length, take, sym, ◌∙◌, subst, arith}
 use Rattle.std.specs.Prelude.{Contains}
 use Rattle.std.proofs.lemmas.List.{get_or-take, get_or_default, length-take}
@@ -30,7 +30,7 @@ pub read-before : (circuit : FlatCircuit) (order : List ℕ) (i a s : ℕ) → I
 read-before circuit order i a s o lt at reads =
     stands-before order i s (o.after i s lt (subst (λ x. Reads circuit x s) (sym at) reads))
 
--- where signals read each other in turn, from the one at place i on, the last one read stands before i
+-- if signals read each other in turn, from the one at place i on, the last one that is read stands before i
 pub turn-before : (circuit : FlatCircuit) (order : List ℕ) (i a : ℕ) (rest : List ℕ) (first : ℕ) → IsOrder circuit order → i < length order → value_at order i ≡ a → ReadsInTurn circuit first (a ∷ rest) → StandsBefore order i first
 turn-before circuit order i a [] first o lt at turn = read-before circuit order i a first o lt at turn
 turn-before circuit order i a (b ∷ rest) first o lt at turn =
@@ -48,7 +48,7 @@ place-of circuit order s o lt =
 pub not-before : (circuit : FlatCircuit) (order : List ℕ) (i s : ℕ) → IsOrder circuit order → i < length order → value_at order i ≡ s → StandsBefore order i s → ⊥
 not-before circuit order i s o lt at earlier = o.once earlier.place i 0 earlier.before lt (earlier.is ∙ sym at)
 
--- no signal that stands in the order is read in turn from itself on
+-- no signal reads itself in turn, if there is an order
 no-turn : (circuit : FlatCircuit) (order : List ℕ) (first : ℕ) (rest : List ℕ) → IsOrder circuit order → first < length circuit.signals → ReadsInTurn circuit first (first ∷ rest) → ⊥
 no-turn circuit order first rest o known turn =
     let at = place-of circuit order first o known in

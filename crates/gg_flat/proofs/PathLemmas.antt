@@ -28,6 +28,6 @@ missing-path paths path missing member =
 pub found-path : (paths : List (List ℕ)) (path : List ℕ) → list_any (bytes_eq path) paths ≡ true → Contains paths path
 found-path paths path found = Contains-from_any (λ x y. (bytes_eq-Decides x y).0) path paths found
 
--- paths that differ by `==` differ
+-- paths that are distinct by `bytes_eq` differ
 pub distinct-paths : (paths : List (List ℕ)) → IsDistinct bytes_eq paths → AllPairs (λ a b. a ≢ b) paths
 distinct-paths paths h = AllPairs-from_IsDistinct bytes_eq-Decides paths h

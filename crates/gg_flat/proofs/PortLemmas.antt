@@ -9,7 +9,7 @@ use Rattle.gg_flat.specs.Line.{value_at}
 use Rattle.gg_flat.specs.declared.ports.Port.{Port}
 use Rattle.gg_flat.specs.Ports.{port_at, ports_at}
 
--- one more signal
+-- the ports of the first signals, with the port of the next one
 ports_at-more : (circuit : FlatCircuit) (ss : List ℕ) (i : ℕ) (port : Port) → i < length ss → port_at circuit (value_at ss i) ≡ Some port
     → ports_at circuit (take (i + 1) ss) ≡ ports_at circuit (take i ss) ++ port ∷ []
 ports_at-more circuit ss i port lt is =

@@ -9,7 +9,7 @@ use Rattle.gg_flat.specs.Settled.{Settled}
 use Rattle.gg_flat.specs.Run.{Start, later, IsRunFrom, state_at, row_at, inputs_at, after_rows}
 
 module _ (circuit : FlatCircuit) (start : Start) where
-  -- rows more leave the states before them
+  -- more rows don't change the states before them
   pub state_at-append : (rows others : List (List ℕ)) (t : ℕ) → t ≤ length rows → state_at circuit start (rows ++ others) t ≡ state_at circuit start rows t
   state_at-append rows others zero le = refl
   state_at-append rows others (suc t) le =
@@ -20,7 +20,7 @@ module _ (circuit : FlatCircuit) (start : Start) where
   pub IsRunFrom-none : (columns : List (List ℕ)) → IsRunFrom circuit start columns 0 []
   IsRunFrom-none columns = record { count = refl; settled = λ t lt. absurd (omega arith) }
 
-  -- the row that was pushed
+  -- the last row is the one that was pushed
   row_at-push : (rows : List (List ℕ)) (row : List ℕ) (t : ℕ) → length rows ≡ t → row_at (rows ++ row ∷ []) t ≡ row
   row_at-push rows row t count = subst (λ n. row_at (rows ++ row ∷ []) n ≡ row) count (get_or-append_seam rows row [] [])
 
@@ -68,7 +68,7 @@ module _ (circuit : FlatCircuit) (start : Start) where
       ∙ ap (next_state circuit (state_at circuit start (rows ++ others) (n + t))) (sym (row_at-after rows others n t count))
       ∙ ap (state_at circuit start (rows ++ others)) (let same : suc (n + t) ≡ n + suc t = omega arith in same)
 
-  -- the rows of a run, and behind them those of the run that goes on, are a run
+  -- the rows of a run, followed by those of the run that goes on, are a run
   pub IsRunFrom-on : (columns : List (List ℕ)) (n more : ℕ) (rows others : List (List ℕ)) → IsRunFrom circuit start columns n rows → IsRunFrom circuit (after_rows circuit start rows n) columns more others → IsRunFrom circuit start columns (n + more) (rows ++ others)
   IsRunFrom-on columns n more rows others run on =
       record {
@@ -91,7 +91,7 @@ module _ (circuit : FlatCircuit) (start : Start) where
           (subst (λ u. At (n + k) (inputs_at columns u) (row_at others k)) (later-later start.cycle n k)
           (subst (λ state. Settled circuit state (inputs_at columns (later (later start.cycle n) k)) (row_at others k)) (state_at-after rows others n k run.count (omega (arith, lt, is, on.count))) (on.settled k (omega (arith, lt, is))))))
 
-  -- the first rows of a run, and the rest
+  -- the first rows of a run are a run, and so are the rest from the state after the first
   early-run : (columns : List (List ℕ)) (n more : ℕ) (front back : List (List ℕ)) → length front ≡ n → IsRunFrom circuit start columns (n + more) (front ++ back) → IsRunFrom circuit start columns n front
   early-run columns n more front back count run =
       record {

@@ -1,4 +1,4 @@
--- A memory that is served all accesses of its due list holds what it holds after the cycle.
+-- A memory after all accesses of its due list holds what it holds after the cycle.
 use Rattle.std.proofs.Common.{◌≡◌, ℕ, suc, ◌+◌, ◌<◌, inl, inr, get_or, replicate, take, List, [], ◌∷◌, ◌++◌, length, map, set, refl, sym, ◌∙◌, ap, ap₂, arith}
 use Rattle.std.specs.Prelude.{fold, ◌==◌, ◌&&◌, if◌then◌else◌}
 use Rattle.std.proofs.lemmas.List.{length-append, length-replicate, append_assoc, take_more}
@@ -15,7 +15,7 @@ use Rattle.gg_flat.specs.Line.{value_at}
 use Rattle.gg_flat.specs.Served.{Access, ByReader, ByWriter, AccessNames, SomeNames, MemoryNames, by_readers, by_writers, due_of, due_list, written, after_access, after_accesses}
 use Rattle.gg_flat.proofs.WordLemmas.{written-all}
 
--- a memory that holds these
+-- what a memory holds, from its words and its read registers
 abbrev bank_of : List ℕ → List ℕ → Bank
 bank_of words reads = record { words = words; reads = reads }
 
@@ -28,7 +28,7 @@ empty [] count = refl
 empty (x ∷ xs) count = absurd (omega arith)
 
 module _ (signals : List ℕ) where
-  -- the writers alone
+  -- after the accesses of all writers the words are written, and the read registers are as before
   fold-writers : (w : ℕ) (writers : List Writer) (words reads : List ℕ) → fold (after_access signals) (bank_of words reads) (by_writers w writers) ≡ bank_of (fold (written signals) words writers) reads
   fold-writers w [] words reads = refl
   fold-writers w (writer ∷ writers) words reads = fold-writers (suc w) writers (written signals words writer) reads
@@ -36,7 +36,7 @@ module _ (signals : List ℕ) where
   all-writers : (writers : List Writer) (words reads : List ℕ) → fold (after_access signals) (bank_of words reads) (by_writers 0 writers) ≡ bank_of (next_words signals writers words) reads
   all-writers writers words reads = fold-writers 0 writers words reads ∙ ap (λ w. bank_of w reads) (written-all signals writers words)
 
-  -- the readers alone, where `done` stands before their read registers
+  -- after the accesses of these readers their read registers, which come after `done`, have what they find
   fold-readers : (words done rest : List ℕ) (readers : List Reader) → length rest ≡ length readers → fold (after_access signals) (bank_of words (done ++ rest)) (by_readers (length done) readers) ≡ bank_of words (done ++ map (found_word signals words) readers)
   fold-readers words done [] [] count = refl
   fold-readers words done [] (reader ∷ readers) count = absurd (omega arith)
@@ -74,7 +74,7 @@ all-served signals memory bank is =
     ap (fold (after_access signals) bank) (take-length (due_list memory))
     ∙ all-due signals memory.latency memory.readers memory.writers bank.words bank.reads is.reads.count
 
--- ---- one access more
+-- ---- one more access
 
 pub served-more : (signals : List ℕ) (memory : Memory) (bank : Bank) (j : ℕ) (any : Access) → j < length (due_list memory) → after_accesses signals memory bank (j + 1) ≡ after_access signals (after_accesses signals memory bank j) (get_or (due_list memory) j any)
 served-more signals memory bank j any lt =

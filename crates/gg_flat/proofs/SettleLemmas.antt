@@ -23,7 +23,7 @@ pub record Partly (circuit : FlatCircuit) (state : State) (inputs order : List �
 pub Partly-none : (circuit : FlatCircuit) (state : State) (inputs order signals : List ℕ) → AreTyped (signal_shapes circuit) signals → Partly circuit state inputs order 0 signals
 Partly-none circuit state inputs order signals typed = record { typed = typed; driven = λ j lt. absurd (omega arith) }
 
--- a write at the signal at place i leaves what the signal's driver gives that stands at place i or before it
+-- a write to the signal at place i doesn't change the driver's value of a signal at place i or before it
 still-driven : (circuit : FlatCircuit) (order : List ℕ) (state : State) (inputs signals : List ℕ) (i j value : ℕ) → IsOrder circuit order → i < length order → j ≤ i → driver_value state inputs signals (shape_at (signal_shapes circuit) (value_at order j)) (driver_at circuit (value_at order j)) ≡ driver_value state inputs (set signals (value_at order i) value) (shape_at (signal_shapes circuit) (value_at order j)) (driver_at circuit (value_at order j))
 still-driven circuit order state inputs signals i j value o lt le =
     let within : j < length order = omega arith in

@@ -28,7 +28,7 @@ pub pattern_of-lt : (w : ℕ) (z : ℤ) → pattern_of w z < 2 ^ w
 pattern_of-lt w (pos a) = omega (arith, pow_pos w)
 pattern_of-lt w (negsuc a) = omega (arith, pow_pos w)
 
--- one value is written over
+-- typed values stay typed if one is replaced by a value of its type
 pub AreTyped-set : (shapes : List Shape) (values : List ℕ) (i value : ℕ) → AreTyped shapes values → i < length shapes → Fits (shape_at shapes i) value → AreTyped shapes (set values i value)
 AreTyped-set shapes values i value typed within fits =
     record {
@@ -44,7 +44,7 @@ AreTyped-set shapes values i value typed within fits =
         let other : k ≢ i = λ same. true≢false (sym ((Decides-eqb k i).1 same) ∙ e) in
         subst (λ x. Fits (shape_at shapes k) x) (sym (get_or-set_other values i k value 0 other)) (typed.fits k known)
 
--- where references have a type, they have a value of that type
+-- references that have a type have a value of that type
 pub HasShape-value : (shapes : List Shape) (values : List ℕ) (nodes : List Shape) (k : ℕ) (to : Shape) (op : Op) → AreTyped shapes values → HasShape (HasType shapes) nodes k to op → HasShape (HasValue values) nodes k to op
 HasShape-value shapes values nodes k to (Ref s) typed is = (omega (arith, is.0, typed.count), subst (λ x. Fits x (value_at values s)) is.1 (typed.fits s is.0))
 HasShape-value shapes values nodes k to (Literal value) typed is = is
@@ -69,7 +69,7 @@ shape_at-in_shapes circuit place within = get_or-map (shape_at (signal_shapes ci
 
 -- ---- the readers of memories
 
--- what is known of signal s, the data of reader r of memory m
+-- signal s is the data of reader r of memory m
 pub record HasReader (circuit : FlatCircuit) (m r s : ℕ) : Type 0 where
   pub memory : Memory
   pub reader : Reader
@@ -80,12 +80,12 @@ pub record HasReader (circuit : FlatCircuit) (m r s : ℕ) : Type 0 where
   pub sink : shape_at (signal_shapes circuit) s ≡ shape memory.word
   pub driver : driver_at circuit s ≡ reader_driver memory.latency m r reader
 
--- some memory of a list that has one
+-- some memory of a list that isn't empty
 pub some-memory : (memories : List Memory) (m : ℕ) → m < length memories → Memory
 some-memory [] m within = absurd (omega arith)
 some-memory (memory ∷ memories) m within = memory
 
--- a memory that has a reader is one of the list
+-- the place of a memory that has a reader is in the list
 pub within-readers : (memories : List Memory) (m r : ℕ) → r < length (slice_index_or (map (λ (k : Memory). k.readers) memories) m []) → m < length memories
 within-readers [] zero r lt = absurd (omega arith)
 within-readers [] (suc m) r lt = absurd (omega arith)
@@ -115,7 +115,7 @@ has-reader circuit m r s formed of =
       driver = ap (driver_at circuit) (sym of.1) ∙ formed.reads m within r of.0 ∙ ap (λ (l : Latency). reader_driver l m r reader) latency;
     }
 
--- the signals that a read of latency 0 names
+-- a read of latency 0 names the address and the enable of its reader
 pub word-names : (latency : Latency) (m r : ℕ) (reader : Reader) (addr en : ℕ) → reader_driver latency m r reader ≡ MemoryWord m r addr en → (reader.addr ≡ addr) × (reader.en ≡ en)
 word-names Zero m r reader addr en is = (cc, cc)
 word-names (Late under) m r reader addr en is = absurd (cc)
@@ -125,7 +125,7 @@ read_count-late : (latency : Latency) (m r : ℕ) (reader : Reader) (readers : L
 read_count-late Zero m r reader readers is = absurd (cc)
 read_count-late (Late under) m r reader readers is = refl
 
--- what a reader finds is of the word's type
+-- what a reader finds has the word's type
 pub read_word-fits : (word : Shape) (words : List ℕ) (addr en : ℕ) → ((a : ℕ) → Fits word (value_at words a)) → Fits word (read_word words addr en)
 read_word-fits word words addr en fits = by (en == 1)
   where
@@ -162,7 +162,7 @@ HasSource-from circuit state inputs signals s (ReadRegister m r) formed st ins t
     (omega (arith, has.within, st.held.count), omega (arith, has.inside, count), subst (λ x. Fits x (value_at (bank_at state.banks m).reads r)) (sym has.sink) (subst (λ k. Fits (shape k.word) (value_at (bank_at state.banks m).reads r)) has.found (bank.reads.fits r)))
 HasSource-from circuit state inputs signals s (Computed line) formed st ins typed is may = IsSource-value (signal_shapes circuit) signals (shape_at (signal_shapes circuit) s) line typed may
 
--- what a driver that can be evaluated gives is of the signal's type
+-- the value of a driver that can be evaluated has the signal's type
 pub driver_value-fits : (state : State) (inputs signals : List ℕ) (sink : Shape) (driver : Driver) → HasSource state inputs signals sink driver → Fits sink (driver_value state inputs signals sink driver)
 driver_value-fits state inputs signals sink (Input place) has = has.1
 driver_value-fits state inputs signals sink (Held register) has = has.1
@@ -170,7 +170,7 @@ driver_value-fits state inputs signals sink (MemoryWord memory reader addr en) h
 driver_value-fits state inputs signals sink (ReadRegister memory reader) has = has.2
 driver_value-fits state inputs signals sink (Computed line) has = pattern_of-lt sink.width _
 
--- zeros are of every shape
+-- zeros are typed values for any shapes
 pub AreTyped-zeros : (shapes : List Shape) (n : ℕ) → n ≡ length shapes → AreTyped shapes (replicate n 0)
 AreTyped-zeros shapes n count =
     record {

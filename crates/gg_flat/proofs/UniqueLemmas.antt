@@ -1,4 +1,4 @@
--- Along an order there is one settled row, and so one run.
+-- A circuit with an order has one settled row for a state and inputs, and so one run.
 use Rattle.std.proofs.Common.{◌≡◌, ℕ, zero, suc, ◌<◌, ◌≤◌, List, [], length, refl, sym, ◌∙◌, ap, subst, arith, below_more}
 use Rattle.std.proofs.lemmas.List.{ext_get_or, length-map}
 use Rattle.std.proofs.lemmas.Grind.{same_number_lists}

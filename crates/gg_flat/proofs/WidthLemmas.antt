@@ -24,6 +24,6 @@ first_width-next (suc more) w depth some past =
           ∙ ap (λ v. first_width (suc more - 1) v depth) (let same : suc w ≡ w + 1 = omega arith in same)
     ]
 
--- a power of two that a u64 holds
+-- in a u64, 1 shifted left by w places is 2 ^ w
 pub shift-small : (w : ℕ) → w < 32 → 1 * 2 ^ w % 18446744073709551616 ≡ 2 ^ w
 shift-small w small = (one_shifted w 18446744073709551615 refl (omega arith)).0

@@ -1,4 +1,4 @@
--- Small circuits by hand, with a list of the signals of each to work them out along.
+-- Small circuits by hand, each with a list of its signals along which it is worked out.
 use Rattle.std.proofs.Common.{ℕ, ◌≤◌, List, [], ◌∷◌, Some, None, lit≤}
 use Rattle.gg_bits.specs.declared.types.Kind.TheVariants.{UInt}
 use Rattle.gg_bits.specs.declared.types.Ty.{Ty}
@@ -42,8 +42,8 @@ next_count = node eight (Ref 2) ∷ node one (Literal (value 1)) ∷ node nine (
 abbrev pub next_or_zero : List Node
 next_or_zero = node one (Ref 0) ∷ node eight (Literal (value 0)) ∷ node nine (Ref 3) ∷ node eight (Fix Bits 2 7 0) ∷ node eight (Mux 0 1 3) ∷ []
 
--- A counter with a synchronous reset, of which only the output counts: signal 0 is the input `reset`, 1 the output `out`,
--- 2 the register `c`, and 3 the node `n`, which is `add(c, 1)`.
+-- A counter with a synchronous reset, whose only out-signal is `out`: signal 0 is the input `reset`, 1 the output `out`, 2 the
+-- register `c`, and 3 the node `n`, which is `add(c, 1)`.
 abbrev pub counter : FlatCircuit
 counter =
     record {

@@ -1,4 +1,4 @@
--- The small circuits are well formed, and their lists are orders of them: so their worked rows are the run.
+-- The small circuits are well formed, and their lists are orders of them, so their worked rows are the run.
 use Rattle.std.proofs.Common.{◌≡◌, ◌≢◌, ℕ, zero, suc, ◌<◌, [], ◌∷◌, length, take, Bool, true, false, eqb, eq-eqb, true≢false, refl, sym, ◌∙◌, ap, arith, lit<, lit≤}
 use Rattle.std.specs.Prelude.{Contains, AllPairs, slice_index_or}
 use Rattle.std.proofs.lemmas.List.Kept.{AllPairs-cons}
@@ -18,7 +18,7 @@ use Rattle.gg_flat.proofs.AlongLemmas.{IsRun-along}
 use Rattle.gg_flat.proofs.WorkedCircuits.{value, counter, counter_order, toggle, toggle_order, loaded, loaded_order}
 use Rattle.gg_flat.proofs.WorkedRows.{counter_inputs, loaded_inputs}
 
--- what holds of each place of a list of one, two, three, four and five
+-- a fact that holds at each place of a list of one, two, three, four and five elements
 pub only : (P : ℕ → Type 0) → P 0 → (k : ℕ) → k < 1 → P k
 only P first zero lt = first
 only P first (suc k) lt = absurd (omega arith)
@@ -47,7 +47,7 @@ pub differ : (a b : ℕ) → eqb a b ≡ false → (a ∷ []) ≢ (b ∷ [])
 differ a b unequal e = apart a b unequal (ap (λ l. value_at l 0) e)
 
 module _ {X : Type 0} where
-  -- one, two and four that differ
+  -- lists of one, two and four elements that differ
   pub single : (x : X) → AllPairs (λ a b. a ≢ b) (x ∷ [])
   single x i j d lt within = absurd (omega arith)
 
@@ -79,11 +79,11 @@ referred (Two op i j) = 0
 referred (Fix op i n m) = 0
 referred (Mux c i j) = 0
 
--- an operation that is no reference to a signal
+-- an operation that isn't a reference can't be one to signal s
 pub other : {A : Type 0} (op : Op) (s : ℕ) → is_reference op ≡ false → op ≡ Ref s → A
 other op s none is = absurd (true≢false (sym (ap is_reference is) ∙ none))
 
--- a reference is to one signal
+-- equal references are to the same signal
 pub same : (s t : ℕ) → Ref s ≡ Ref t → s ≡ t
 same s t is = ap referred is
 

@@ -1,4 +1,4 @@
--- Circuits with memories by hand, with a list of the signals of each to work them out along, and what they give.
+-- Circuits with memories by hand, each with a list of its signals along which it is worked out, and what they give.
 use Rattle.std.proofs.Common.{◌≡◌, ℕ, List, [], ◌∷◌, refl, lit≤}
 use Rattle.gg_bits.specs.declared.types.Ty.{Ty}
 use Rattle.gg_bits.specs.declared.ops.Op1.TheVariants.{Not}
@@ -34,7 +34,7 @@ two = uint_type 2 (lit≤ tt) (lit≤ tt)
 abbrev pub signal : Ty → Driver → Signal
 signal ty driver = record { ty = ty; driver = driver }
 
--- a signal that is another
+-- a signal that is a copy of another
 abbrev pub copy : Ty → ℕ → Signal
 copy ty s = signal ty (Computed (node ty (Ref s) ∷ []))
 
@@ -82,7 +82,7 @@ ports_inputs = (1 ∷ 1 ∷ 3 ∷ 1 ∷ []) ∷ (15 ∷ 33 ∷ 85 ∷ 0 ∷ []) 
 ports-o0 : column (rows_along ports ports_order ports_inputs 4) 2 ≡ 0 ∷ 240 ∷ 0 ∷ 222 ∷ []
 ports-o0 = refl
 
--- `o1` is 00, f0, 00, 00: it reads where `v` is odd
+-- `o1` is 00, f0, 00, 00: it reads when `v` is odd
 ports-o1 : column (rows_along ports ports_order ports_inputs 4) 3 ≡ 0 ∷ 240 ∷ 0 ∷ 0 ∷ []
 ports-o1 = refl
 
@@ -119,18 +119,18 @@ late_order = 0 ∷ 1 ∷ 2 ∷ 4 ∷ 5 ∷ 6 ∷ 7 ∷ 8 ∷ 9 ∷ 10 ∷ 3 ∷ 
 abbrev pub late_inputs : List (List ℕ)
 late_inputs = (1 ∷ 1 ∷ 3 ∷ 1 ∷ 0 ∷ []) ∷ (1 ∷ 0 ∷ 1 ∷ 1 ∷ 0 ∷ []) ∷ (17 ∷ 34 ∷ 51 ∷ 68 ∷ 0 ∷ []) ∷ []
 
--- where it reads after the writes `o` is 00, 11, 00, 00, 44
+-- if it reads after the writes, `o` is 00, 11, 00, 00, 44
 late-new : column (rows_along (late New) late_order late_inputs 5) 3 ≡ 0 ∷ 17 ∷ 0 ∷ 0 ∷ 68 ∷ []
 late-new = refl
 
--- where it reads before them `o` is 00, 00, 00, 00, 22
+-- if it reads before them, `o` is 00, 00, 00, 00, 22
 late-old : column (rows_along (late Old) late_order late_inputs 5) 3 ≡ 0 ∷ 0 ∷ 0 ∷ 0 ∷ 34 ∷ []
 late-old = refl
 
 late-undefined : column (rows_along (late Undefined) late_order late_inputs 5) 3 ≡ 0 ∷ 0 ∷ 0 ∷ 0 ∷ 34 ∷ []
 late-undefined = refl
 
--- From cycle 3 on, from a word of 22 at address 1: `o` is 00 and then 22.
+-- from cycle 3 on, with a word of 22 at address 1, `o` is 00 and then 22
 abbrev pub from_three : Start
 from_three = record { cycle = 3; state = record { registers = []; banks = record { words = 0 ∷ 34 ∷ 0 ∷ []; reads = 0 ∷ [] } ∷ [] } }
 
@@ -139,7 +139,7 @@ late-from_three = refl
 
 -- ---- one access after another
 
--- the fields of a memory alone: a reader's `addr`, `en` and `data`, and a writer's `addr`, `en`, `data` and `mask`
+-- a memory whose fields are signals 0 to 6: a reader's `addr`, `en` and `data`, and a writer's `addr`, `en`, `data` and `mask`
 abbrev pub alone : UnderWrite → Memory
 alone under =
     record {
@@ -153,11 +153,11 @@ alone under =
 abbrev pub holding : Bank
 holding = record { words = 7 ∷ 8 ∷ []; reads = 9 ∷ [] }
 
--- both are at address 1, and the writer writes 5
+-- the reader and the writer are at address 1, and the writer writes 5
 abbrev pub given : List ℕ
 given = 1 ∷ 1 ∷ 0 ∷ 1 ∷ 1 ∷ 5 ∷ 1 ∷ []
 
--- no access yet
+-- before any access
 served-none : after_accesses given (alone Old) holding 0 ≡ holding
 served-none = refl
 
@@ -209,14 +209,14 @@ four_given = 1 ∷ 1 ∷ 0 ∷ 1 ∷ 1 ∷ 0 ∷ 1 ∷ 1 ∷ 5 ∷ 1 ∷ 1 ∷ 1
 abbrev four_holding : Bank
 four_holding = record { words = 7 ∷ 8 ∷ []; reads = 9 ∷ 9 ∷ [] }
 
--- between the writers the readers have the old word, and the word is that of `w`
+-- between the writers the readers have the old word, and the memory has the word of `w`
 between-old : after_accesses four_given (four_ports (Late Old)) four_holding 3 ≡ record { words = 7 ∷ 5 ∷ []; reads = 8 ∷ 8 ∷ [] }
 between-old = refl
 
--- where they read new words they have not read yet
+-- if they read new words, they haven't read yet
 between-new : after_accesses four_given (four_ports (Late New)) four_holding 1 ≡ record { words = 7 ∷ 5 ∷ []; reads = 9 ∷ 9 ∷ [] }
 between-new = refl
 
--- at the end the word is that of `x`, and both have read it
+-- at the end the memory has the word of `x`, and both readers have read it
 ended-new : after_accesses four_given (four_ports (Late New)) four_holding 4 ≡ record { words = 7 ∷ 6 ∷ []; reads = 6 ∷ 6 ∷ [] }
 ended-new = refl

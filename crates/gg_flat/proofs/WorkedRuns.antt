@@ -1,4 +1,4 @@
--- The circuits with memories are well formed, and their lists are orders of them: so their worked rows are the run.
+-- The circuits with memories are well formed, and their lists are orders of them, so their worked rows are the run.
 use Rattle.std.proofs.Common.{◌≡◌, ◌≢◌, ℕ, zero, suc, ◌<◌, inl, inr, List, [], ◌∷◌, length, map, take, get_or, Bool, true, false, eqb, true≢false, refl, sym, ap, ◌*◌, ◌+◌, arith, lit<, lit≤}
 use Rattle.std.specs.Prelude.{Contains, AllPairs, slice_index_or, if◌then◌else◌}
 use Rattle.std.proofs.lemmas.List.Kept.{AllPairs-cons}
@@ -23,9 +23,9 @@ use Rattle.gg_flat.proofs.WorkedCircuits.{eight, value}
 use Rattle.gg_flat.proofs.WorkedForms.{only, both, three, four, five, apart, other, same}
 use Rattle.gg_flat.proofs.WorkedMemories.{ports, ports_order, ports_inputs, late, late_order, late_inputs}
 
--- ---- what holds of each place, and numbers that differ
+-- ---- facts that hold at each place, and numbers that differ
 
--- what holds of each place of a list of six, and of six and more
+-- a fact that holds at each place of a list of six elements, and of more than six
 six : (P : ℕ → Type 0) → P 0 → P 1 → P 2 → P 3 → P 4 → P 5 → (k : ℕ) → k < 6 → P k
 six P first second third fourth fifth sixth zero lt = first
 six P first second third fourth fifth sixth (suc k) lt = five (λ i. P (suc i)) second third fourth fifth sixth k (omega arith)
@@ -62,7 +62,7 @@ module _ {X : Type 0} (code : X → ℕ) where
   fresh-apart n (x ∷ xs) is zero d lt = apart n (code x) (not_then (eqb n (code x)) (is_fresh n (map code xs)) is).0
   fresh-apart n (x ∷ xs) is (suc k) d lt = fresh-apart n xs (not_then (eqb n (code x)) (is_fresh n (map code xs)) is).1 k d (omega arith)
 
-  -- things that have different codes differ
+  -- elements with different codes differ
   all-apart : (xs : List X) → are_fresh (map code xs) ≡ true → AllPairs (λ a b. a ≢ b) xs
   all-apart [] is = λ i j d lt within. absurd (omega arith)
   all-apart (x ∷ xs) is =

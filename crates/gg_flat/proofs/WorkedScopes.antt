@@ -54,7 +54,7 @@ letter : (byte : ℕ) → byte ≢ 46 → ¬ Contains (byte ∷ []) 46
 letter byte other (zero, lt, is) = other is
 letter byte other (suc k, lt, is) = absurd (omega arith)
 
--- ---- whose the signals are
+-- ---- the instance that each signal belongs to
 
 none-some : {k : ℕ} {A : Type 0} → None ≡ Some k → A
 none-some e = absurd (cc)
@@ -120,7 +120,7 @@ names (suc (suc k)) s is = let past : suc (suc k) < 2 = is.known in absurd (omeg
 
 -- ---- what drivers name
 
--- a copy names the one signal
+-- a copy names only the signal that it copies
 named : (a t : ℕ) → Contains (Ref a ∷ []) (Ref t) → a ≡ t
 named a t (zero, lt, is) = same a t is
 named a t (suc k, lt, is) = absurd (omega arith)
@@ -176,7 +176,7 @@ scoped =
 
 -- ---- flaws
 
--- the top reads a node of `u`, which is no port of it
+-- the top reads a node of `u` that isn't one of its ports
 pub reads-within : ¬ IsScoped (with (copy eight 4) (copy eight 2)) tree
 reads-within is =
     hidden (is.drivers 0 1 4 (inl (record { own = own-top 1 (lit< tt); inner = no-input })) (0, lit< tt, refl))

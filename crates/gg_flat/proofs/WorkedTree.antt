@@ -28,7 +28,7 @@ top = record { parent = None; «module» = 0; first = 0; end = 2; ports = record
 abbrev lower : Instance
 lower = record { parent = Some 0; «module» = 1; first = 1; end = 2; ports = record { signal = 1; is_input = false } ∷ []; memories = 0 ∷ [] }
 
--- the tree where `u` is this instance
+-- the tree with this instance as `u`
 abbrev with_lower : Instance → InstanceTree
 with_lower instance =
     record {
@@ -60,7 +60,7 @@ below (suc zero) positive lt =
     }
 below (suc (suc k)) positive lt = absurd (omega arith)
 
--- no two have the same parent
+-- no two instances have the same parent
 no_siblings : (i j above : ℕ) → i < j → j < 2 → (instance_at tree i).parent ≡ Some above → ⊥
 no_siblings zero j above before lt is = cc
 no_siblings (suc i) j above before lt is = absurd (omega arith)
@@ -113,15 +113,15 @@ tree-is =
 own_parent : ¬ IsTree circuit (with_lower (record lower { parent = Some 1 }))
 own_parent is = let k = is.below 1 (lit< tt) (lit< tt) in let same : 1 ≡ k.above = ap parent_place k.parent in absurd (omega (arith, k.before))
 
--- signals past those of the parent
+-- an instance with signals past those of its parent
 past_parent : ¬ IsTree circuit (with_lower (record lower { end = 3 }))
 past_parent is = let inside : 3 ≤ 2 = (is.each 1 (lit< tt)).inside in absurd (omega arith)
 
--- a port that is a signal of the parent
+-- an instance with a port that is a signal of its parent
 parents_port : ¬ IsTree circuit (with_lower (record lower { ports = record { signal = 0; is_input = false } ∷ [] }))
 parents_port is = let held : 1 ≤ 0 = ((is.each 1 (lit< tt)).ports 0 (record { signal = 0; is_input = false }) (lit< tt)).0 in absurd (omega arith)
 
--- the path of an instance that has a dot behind its parent's
+-- an instance whose name, after its parent's path, has a dot
 dotted : ¬ IsTree circuit (record tree { paths = [] ∷ (117 ∷ 46 ∷ 118 ∷ []) ∷ [] })
 dotted is = flawed (is.below 1 (lit< tt) (lit< tt))
   where
@@ -131,7 +131,7 @@ dotted is = flawed (is.below 1 (lit< tt) (lit< tt))
         let path : (117 ∷ 46 ∷ 118 ∷ []) ≡ k.path.name = subst (λ above. (117 ∷ 46 ∷ 118 ∷ []) ≡ joined (path_at ([] ∷ (117 ∷ 46 ∷ 118 ∷ []) ∷ []) above) k.path.name) (sym same) k.path.is in
         k.path.plain (subst (λ (name : List ℕ). Contains name 46) path (1, lit< tt, refl))
 
--- a signal of `u` without `u` in its path
+-- a signal of `u` whose path doesn't begin with `u`
 no_prefix : ¬ IsTree (record circuit { paths = (113 ∷ []) ∷ (114 ∷ []) ∷ [] }) tree
 no_prefix is =
     let begins = is.signals 1 1 (record { known = lit< tt; holds = (lit≤ tt, lit< tt); deeper = none }) in

@@ -1,4 +1,4 @@
--- What the sites of a circuit have of their own has different paths, where each module's names differ.
+-- All that the sites of a circuit have of their own has different paths, if the names of each module differ.
 use Rattle.std.proofs.Common.{◌≡◌, ◌≢◌, ℕ, zero, suc, List, [], ◌∷◌, ◌++◌, map, refl, sym, ap, ap₂, ◌∙◌, subst, arith, append-nil}
 use Rattle.std.specs.Prelude.{Contains, flat_map}
 use Rattle.std.proofs.lemmas.List.{map-append}
@@ -13,11 +13,11 @@ use Rattle.gg_tree.proofs.JoinLemmas.{joined-twice}
 use Rattle.gg_digest.proofs.AmongLemmas.{further, MadeOf, from-map, in-map, from-flat_map}
 use Rattle.gg_formed.proofs.DifferLemmas.{Differ-none, Differ-append, Differ-map, IsDotless, behind-once, first-once}
 
--- a name of an instance, and one of what is in it
+-- the name of something in an instance: the instance's name, a dot, and its name there
 abbrev pub behind : Held → List ℕ → List ℕ
 behind h r = h.name ++ 46 ∷ r
 
--- behind one path, different names make different paths
+-- after the same path, different names make different paths
 pub joined-same : (p a b : List ℕ) → joined p a ≡ joined p b → a ≡ b
 joined-same [] a b e = e
 joined-same (c ∷ cs) a b e = behind-once (c ∷ cs) a b e
@@ -26,8 +26,8 @@ map-same : {A B : Type 0} (f g : A → B) (xs : List A) → ((x : A) → f x ≡
 map-same f g [] h = refl
 map-same f g (x ∷ xs) h = ap₂ (λ y l. y ∷ l) (h x) (map-same f g xs h)
 
--- What is said of the names of modules: what each has of its own differs; so do its instances' names, which are words; and
--- nothing of its own is named as something in an instance.
+-- What is known of the names of modules: what each has of its own differs; so do its instances' names, which aren't empty and
+-- have no dot; and nothing of its own is named as something in an instance.
 pub record AreApart (modules : List ModuleTree) (own : ℕ → List (List ℕ)) : Type 0 where
   pub differ : (k : ℕ) → Differ (own k)
   pub held : (k : ℕ) → Differ (map (λ (h : Held). h.name) (held_at modules k))
@@ -41,7 +41,7 @@ module _ (modules : List ModuleTree) (own : ℕ → List (List ℕ)) (are : AreA
   names_below zero k = own k
   names_below (suc n) k = own k ++ flat_map (λ h. map (behind h) (names_below n h.number)) (held_at modules k)
 
-  -- along the instances of a module
+  -- the names in the instances of a module differ, if those of each module do
   along-differ : (n k : ℕ) → ((j : ℕ) → Differ (names_below n j)) → (hs : List Held) → ((h : Held) → Contains hs h → Contains (held_at modules k) h) → Differ (map (λ (h : Held). h.name) hs) → Differ (flat_map (λ h. map (behind h) (names_below n h.number)) hs)
   along-differ n k below [] each differ = Differ-none
   along-differ n k below (h ∷ hs) each differ =
@@ -83,7 +83,7 @@ module _ (modules : List ModuleTree) (own : ℕ → List (List ℕ)) (are : AreA
       (along-paths n x below hs (λ y c. some y (further h hs y c)))
       ∙ sym (map-append (joined x.path) (map (behind h) (names_below n h.number)) (flat_map (λ h. map (behind h) (names_below n h.number)) hs))
 
-  -- the paths below a site are the names from there on, behind its path
+  -- the paths from a site on are the names from its module on, after the site's path
   paths-are : (n : ℕ) (x : Site) → flat_map own_paths (sites n modules x) ≡ map (joined x.path) (names_below n x.number)
   paths-are zero x = append-nil (own_paths x)
   paths-are (suc n) x =

@@ -1,4 +1,4 @@
--- The fields of a memory's ports among the signals of its module, and what answers a signal that a reader gives.
+-- The fields of a memory's ports are signals of its module, and a signal that a reader answers is the reader's data.
 use Rattle.std.proofs.Common.{◌≡◌, ◌⊎◌, inl, inr, ℕ, zero, suc, ◌+◌, ◌<◌, Bool, true, false, List, [], ◌∷◌, ◌++◌, Option, Some, None, length, get_or, refl, sym, ap, ◌∙◌, subst, arith, codes, if◌then◌else◌, nat_lt}
 use Rattle.std.specs.Prelude.{Contains, flat_map, filter_map, option_map, option_to_list, option_and_then, unwrap_or}
 use Rattle.std.proofs.lemmas.Bool.{ltb-true}
@@ -41,14 +41,14 @@ among-readers memory bank place (q ∷ ports) (suc r) p o lt is has =
     Contains-append_right (reader_signals memory bank place q) (readers_signals memory bank (suc place) ports) o
     (among-readers memory bank (suc place) ports r p o (omega (arith, lt)) is (subst (λ i. Contains (reader_signals memory bank i p) o) same has))
 
--- the fields of the reader at a place
+-- the fields of the reader at a place are signals of the memory
 pub reader-among : (memory : List ℕ) (bank : Bank) (r : ℕ) (p : List ℕ) (o : Own) → r < length bank.readers → get_or bank.readers r p ≡ p → Contains (reader_signals memory bank r p) o → Contains (memory_signals memory (Some bank)) o
 reader-among memory bank r p o lt is has =
     let same : r ≡ 0 + r = omega arith in
     Contains-append_left (readers_signals memory bank 0 bank.readers) (flat_map (writer_signals memory bank) bank.writers) o
     (among-readers memory bank 0 bank.readers r p o lt is (subst (λ i. Contains (reader_signals memory bank i p) o) same has))
 
--- the fields of a writer
+-- the fields of a writer are signals of the memory
 pub writer-among : (memory : List ℕ) (bank : Bank) (p : List ℕ) (o : Own) → Contains bank.writers p → Contains (writer_signals memory bank p) o → Contains (memory_signals memory (Some bank)) o
 writer-among memory bank p o c has =
     Contains-append_right (readers_signals memory bank 0 bank.readers) (flat_map (writer_signals memory bank) bank.writers) o
@@ -138,7 +138,7 @@ latency_answering d (Answered memory port place latency) = latency
 no-answer : (cause : Cause) (memory port : List ℕ) (place : ℕ) (latency : Latency) → is_answered cause ≡ false → cause ≡ Answered memory port place latency → ⊥
 no-answer cause memory port place latency none e = let never : true ≡ false = sym (ap is_answered e) ∙ none in absurd (cc)
 
--- a bank's reader answers with its data
+-- A signal is the data of the reader at this place of the memory of this name.
 pub record AnsweredBy (memory : List ℕ) (name : List ℕ) (bank : Bank) (place : ℕ) (latency : Latency) (o : Own) : Type 0 where
   pub is : memory ≡ name
   pub data_of : IsAnswerOf name bank place latency o

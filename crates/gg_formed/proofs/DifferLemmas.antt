@@ -1,4 +1,4 @@
--- Lists of words no two of which are the same, made of others; words by the name with which they begin.
+-- Lists of words that all differ, made of other such lists; and words by the name that they begin with.
 use Rattle.std.proofs.Common.{◌≡◌, ◌⊎◌, inl, inr, ℕ, ◌+◌, ◌-◌, ◌<◌, ◌≤◌, List, [], ◌∷◌, ◌++◌, Option, Some, None, option_to_list, length, get_or, map, refl, sym, ap, ◌∙◌, subst, arith, length-append}
 use Rattle.std.specs.Prelude.{Contains, flat_map, filter_map}
 use Rattle.std.specs.List.{cons_option}
@@ -21,7 +21,7 @@ Differ-none i j d lt within = absurd (omega (arith, within))
 pub Differ-one : (w : List ℕ) → Differ (w ∷ [])
 Differ-one w i j d lt within = absurd (omega (arith, lt, within))
 
--- two lists of words that have none in common
+-- two lists of words that differ, with no word in common, differ together
 pub Differ-append : (xs ys : List (List ℕ)) → Differ xs → Differ ys → ((w : List ℕ) → Contains xs w → ¬ Contains ys w) → Differ (xs ++ ys)
 Differ-append xs ys one other apart i j d lt within same = go (cases_lt i (length xs)) (cases_lt j (length xs))
   where
@@ -43,7 +43,7 @@ Differ-map f xs once differ i j d lt within same =
     let inside : j < length xs = omega (arith, within, length-map xs f) in
     differ i j [] lt inside (once (get_or xs i []) (get_or xs j []) (sym (get_or-map f xs i [] d (omega (arith, lt, inside))) ∙ same ∙ get_or-map f xs j [] d inside))
 
--- the first list of words may as well stand behind the second
+-- the first two of three lists of words that differ may change places
 pub Differ-turned : (xs ys zs : List (List ℕ)) → Differ (xs ++ (ys ++ zs)) → Differ (ys ++ (xs ++ zs))
 Differ-turned xs ys zs differ =
     let behind = Differ-behind xs (ys ++ zs) differ in
@@ -65,7 +65,7 @@ abbrev pub head_of : List ℕ → ℕ
 head_of [] = 0
 head_of (b ∷ bs) = b
 
--- what is behind a dot
+-- in equal words, what follows the dot is the same if what comes before it is
 pub behind-once : (a r s : List ℕ) → a ++ 46 ∷ r ≡ a ++ 46 ∷ s → r ≡ s
 behind-once [] r s e = ap tail_of e
 behind-once (b ∷ bs) r s e = behind-once bs r s (ap tail_of e)
@@ -73,7 +73,7 @@ behind-once (b ∷ bs) r s e = behind-once bs r s (ap tail_of e)
 abbrev pub IsDotless : List ℕ → Type 0
 IsDotless w = ¬ Contains w 46
 
--- the name before the first dot
+-- in equal words, the name before the first dot is the same
 pub first-once : (a b r s : List ℕ) → IsDotless a → IsDotless b → a ++ 46 ∷ r ≡ b ++ 46 ∷ s → a ≡ b
 first-once [] [] r s plain other e = refl
 first-once [] (y ∷ ys) r s plain other e = absurd (other (0, omega arith, sym (ap head_of e)))
@@ -96,13 +96,13 @@ same-first w a b plain other (inl x) (inr y) = absurd (plain (subst (λ l. Conta
 same-first w a b plain other (inr x) (inl y) = absurd (other (subst (λ l. Contains l 46) (sym x.1 ∙ y) (dot-within a x.0)))
 same-first w a b plain other (inr x) (inr y) = first-once a b x.0 y.0 plain other (sym x.1 ∙ y.1)
 
--- words that begin in different names differ
+-- no word begins with a name of each of two lists, if all their names differ
 pub begins-apart : (xs ys : List (List ℕ)) (w : List ℕ) → Differ (xs ++ ys) → ((n : List ℕ) → Contains (xs ++ ys) n → IsDotless n) → BeginsIn xs w → BeginsIn ys w → ⊥
 begins-apart xs ys w differ plain a b =
     let same = same-first w a.first b.first (plain a.first (Contains-append_left xs ys a.first a.among)) (plain b.first (Contains-append_right xs ys b.first b.among)) a.is b.is in
     Differ-parts xs ys a.first differ a.among (subst (Contains ys) (sym same) b.among)
 
--- Parts whose words begin in different names, and differ in each.
+-- the words of all parts differ, if those of each part do and begin with the part's names, and all names differ
 pub parts-differ : {A : Type 0} (names words : A → List (List ℕ)) (xs : List A) → Differ (flat_map names xs) → ((n : List ℕ) → Contains (flat_map names xs) n → IsDotless n) → ((x : A) → Contains xs x → Differ (words x)) → ((x : A) (w : List ℕ) → Contains xs x → Contains (words x) w → BeginsIn (names x) w) → Differ (flat_map words xs)
 parts-differ names words [] differ plain each begins = Differ-none
 parts-differ names words (x ∷ xs) differ plain each begins =
@@ -113,7 +113,7 @@ parts-differ names words (x ∷ xs) differ plain each begins =
     later : (w : List ℕ) → MadeOf (λ y z. Contains (words y) z) xs w → BeginsIn (flat_map names xs) w
     later w m = begins-more (names m.of) (flat_map names xs) w (λ n c. in-flat_map names xs m.of n m.among c) (begins m.of w (further x xs m.of m.among) m.made)
 
--- what is kept of a list, part by part
+-- the names of what `filter_map` keeps, element by element
 pub filter_map-parts : {A B : Type 0} (f : A → Option B) (name : B → List ℕ) (xs : List A) → map name (filter_map f xs) ≡ flat_map (λ x. map name (option_to_list (f x))) xs
 filter_map-parts f name [] = refl
 filter_map-parts f name (x ∷ xs) = go (f x) (filter_map-parts f name xs)

@@ -1,4 +1,4 @@
--- The flat circuit of a circuit is well formed, where its lines and registers fit and no two paths are the same.
+-- The flat circuit of a circuit is well formed, if its lines and registers fit and no two paths are the same.
 use Rattle.std.proofs.Common.{◌≡◌, ℕ, zero, suc, ◌<◌, Bool, true, false, List, [], ◌∷◌, ◌++◌, Option, Some, None, length, get_or, map, refl, sym, ap, ◌∙◌, subst, subst₂, arith, codes, unwrap_or}
 use Rattle.std.specs.Prelude.{All, Contains, flat_map, filter_map}
 use Rattle.std.proofs.lemmas.List.{length-map, get_or-map}
@@ -36,13 +36,13 @@ use Rattle.gg_formed.proofs.PassingLemmas.{passing, passed-at, Passes, passing-a
 
 -- ---- elements by their paths
 
--- an element's path has the number of the place where it stands
+-- the number of an element's path is the element's place
 pub number-at : {A : Type 0} (path : A → List ℕ) (xs : List A) (s : ℕ) (d : A) → Differ (map path xs) → s < length xs → number_of (map path xs) (path (get_or xs s d)) ≡ s
 number-at path xs s d differ lt =
     ap (λ o. unwrap_or o 0)
     (place_of-at (map path xs) (path (get_or xs s d)) s (slice_get-get_or (map path xs) s [] (omega (arith, lt, length-map xs path)) ∙ ap Some (get_or-map path xs s d [] lt)) differ)
 
--- Behind a path's number stands the element that has it.
+-- Element x stands at place n.
 pub record Stands {A : Type 0} (xs : List A) (x : A) (n : ℕ) : Type 0 where
   pub inside : n < length xs
   pub is : (d : A) → get_or xs n d ≡ x
@@ -53,7 +53,7 @@ stands-at path xs x differ c =
     let is : (d : _) → get_or xs c.0 d ≡ x = λ d. e.is d ∙ sym (e.is x) ∙ c.2 in
     subst (Stands xs x) (sym (ap (λ y. number_of (map path xs) (path y)) (sym c.2) ∙ number-at path xs c.0 x differ c.1)) (record { inside = c.1; is = is })
 
--- ---- what a drive tells
+-- ---- what a drive says
 
 abbrev memory_read : List ℕ → Drive → List ℕ
 memory_read d Outside = d
@@ -139,7 +139,7 @@ module _ (types : Types) (modules : List ModuleTree) (top : ℕ) (flat : FlatCir
   signal-in : (x : Site) (o : Own) → Contains (all_sites modules top) x → Contains (own_at x) o → Contains all (flat_signal modules x o)
   signal-in x o c k = in-flat_map (signals_at types modules) (all_sites modules top) x (flat_signal modules x o) c (in-map (flat_signal modules x) (own_at x) o k)
 
-  -- what stands behind its number
+  -- a site's own signal stands at the number of its path
   place-of : (x : Site) (o : Own) → Contains (all_sites modules top) x → Contains (own_at x) o → Stands all (flat_signal modules x o) (number_of paths (joined x.path o.name))
   place-of x o c k = stands-at (λ (y : FlatSignal). y.path) all (flat_signal modules x o) signals (signal-in x o c k)
 
@@ -180,7 +180,7 @@ module _ (types : Types) (modules : List ModuleTree) (top : ℕ) (flat : FlatCir
       subst (λ (y : FlatMemory). IsMemoryOf paths y (get_or flat.memories m any)) (a.is.is (flat_memory a.site a.bank))
       (is_flat.memories m (flat_memory a.site a.bank) any (omega (arith, lt, is_flat.memory_count)))
 
-  -- a field of the reader at a place, and of a writer
+  -- a field of the reader at a place, and of a writer, has its type
   reader-field : (m : ℕ) (a : MemoryAt m) (r : ℕ) (port field : List ℕ) (cause : Cause) (to : Shape) → r < length a.bank.bank.readers → get_or a.bank.bank.readers r port ≡ port → Contains (reader_signals a.bank.name a.bank.bank r port) (own (field_name a.bank.name port field) cause to) → Stands all (flat_signal modules a.site (own (field_name a.bank.name port field) cause to)) (field_number paths (joined a.site.path a.bank.name) port field)
   reader-field m a r port field cause to lt at has =
       field-at a.site a.bank port field cause to a.there
@@ -253,7 +253,7 @@ module _ (types : Types) (modules : List ModuleTree) (top : ℕ) (flat : FlatCir
       ap (λ (y : FlatMemory). number_of (memory_paths banks) y.path) (sym (a.is.is (flat_memory a.site a.bank)))
       ∙ number-at (λ (y : FlatMemory). y.path) banks m (flat_memory a.site a.bank) memories lt
 
-  -- the reader at a place of a memory
+  -- the readers of a memory are those of its bank
   reader-there : (m : ℕ) → (lt : m < length flat.memories) → (a : MemoryAt m) → readers_at flat m ≡ map (reader_of paths (joined a.site.path a.bank.name)) a.bank.bank.readers
   reader-there m lt a =
       let any = (element-at flat.memories m lt).element in
@@ -455,7 +455,7 @@ module _ (types : Types) (modules : List ModuleTree) (top : ℕ) (flat : FlatCir
     reads = reads;
   }
 
--- the flat circuit of a circuit with a top
+-- the flat circuit of a circuit with a top is well formed
 pub circuit-formed : (circuit : CircuitTree) (flat : FlatCircuit) (top : ℕ) → place_of circuit.name (module_names circuit) ≡ Some top → IsFlat circuit flat → AreFitting flat → Differ flat.paths → Differ (memory_paths (flat_memories circuit.modules (sites_of circuit))) → IsWellFormed flat
 circuit-formed circuit flat top known is_flat fits signals memories =
     formed (types_of circuit) circuit.modules top flat at_top fits (subst Differ at_top.paths signals) (subst (λ (l : List Site). Differ (memory_paths (flat_memories circuit.modules l))) same memories)

@@ -1,4 +1,4 @@
--- Where no name of a circuit comes twice and all are words, the paths of its sites, signals and memories differ.
+-- If all names of a circuit are valid and none is repeated, the paths of its sites, signals and memories differ.
 use Rattle.std.proofs.Common.{◌≡◌, ◌≢◌, ◌⊎◌, inl, inr, ℕ, zero, suc, ◌<◌, List, [], ◌∷◌, ◌++◌, Option, Some, None, option_to_list, length, get_or, map, refl, sym, ap, ap₂, ◌∙◌, subst, arith}
 use Rattle.std.specs.Prelude.{Contains, All, flat_map, filter_map, option_map}
 use Rattle.std.proofs.lemmas.List.{map-append, length-map, get_or-map}
@@ -89,7 +89,7 @@ kind-begins types k says.Skip w c = absurd (omega (arith, c.1))
 kind-begins types k (says.Stop clock condition code label) w c = absurd (omega (arith, c.1))
 kind-begins types k (says.Report word arguments label) w c = absurd (omega (arith, c.1))
 
--- What is said of a memory's ports: no name comes twice, and none has a dot.
+-- The names of a memory's ports: none comes twice, and none has a dot.
 abbrev HasPorts : StmtKind → Type 0
 HasPorts kind = (b : OwnBank) → bank_of_kind kind ≡ Some b → Differ (b.bank.readers ++ b.bank.writers) × ((p : List ℕ) → Contains (b.bank.readers ++ b.bank.writers) p → IsDotless p)
 
@@ -109,7 +109,7 @@ kind-apart types k says.Skip h = Differ-none
 kind-apart types k (says.Stop clock condition code label) h = Differ-none
 kind-apart types k (says.Report word arguments label) h = Differ-none
 
--- ---- the ports of memories, where nothing is repeated
+-- ---- the ports of memories, if no name is repeated
 
 abbrev bank_or : OwnBank → Option OwnBank → OwnBank
 bank_or b None = b
@@ -322,7 +322,7 @@ module _ (circuit : CircuitTree) (are_names : AreNamesOfCircuit circuit) (once :
 
   -- ---- sites
 
-  -- one name for each module, the same in all
+  -- a name that stands for the module itself, the same for all modules, so that each site has one path
   abbrev mark : List ℕ
   mark = 42 ∷ []
 

@@ -27,7 +27,7 @@ use Rattle.gg_formed.proofs.PassingLemmas.{passing, passing-append, passing-none
 abbrev pub from_outside : FlatSignal → Bool
 from_outside x = is_outside x.drive
 
--- ---- what is said of every element holds of each list that is made so
+-- ---- facts that hold of each element of a list
 
 abbrev Each : {A : Type 0} → (A → Type 0) → List A → Type 0
 Each P xs = (i : ℕ) (d : _) → i < length xs → P (get_or xs i d)
@@ -46,7 +46,7 @@ each-map P f [] h i d lt = absurd (omega (arith, lt))
 each-map P f (x ∷ xs) h zero d lt = h 0 x (omega arith)
 each-map P f (x ∷ xs) h (suc i) d lt = each-map P f xs (λ j e inside. h (suc j) e (omega (arith, inside))) i d (omega (arith, lt))
 
--- ---- what statements declare the outside doesn't drive
+-- ---- the outside drives nothing that a statement declares
 
 abbrev is_from_outside : Cause → Bool
 is_from_outside FromOutside = true
@@ -129,7 +129,7 @@ held-signals types modules x h =
     each-map (λ (y : FlatSignal). from_outside y ≡ false) (flat_signal modules x) (own_signals types x.number (module_at modules x.number))
     (λ i d lt. held-drive modules x (get_or (own_signals types x.number (module_at modules x.number)) i d).name (get_or (own_signals types x.number (module_at modules x.number)) i d).cause h)
 
--- along the instances of a site, where it is so below each
+-- along the instances of a site, if it is so from each of them on
 along-inside : (types : Types) (modules : List ModuleTree) (n : ℕ) (x : Site) → ((y : Site) → has_outer y ≡ true → Each (λ (z : FlatSignal). from_outside z ≡ false) (flat_signals types modules (sites n modules y))) → (hs : List Held) → Each (λ (y : FlatSignal). from_outside y ≡ false) (flat_signals types modules (flat_map (λ k. sites n modules (site_below x k)) hs))
 along-inside types modules n x below [] = λ i d lt. absurd (omega (arith, lt))
 along-inside types modules n x below (h ∷ hs) =
@@ -143,7 +143,7 @@ below-inside types modules (suc n) x h =
     each-append (λ (y : FlatSignal). from_outside y ≡ false) (signals_at types modules x) (flat_signals types modules (flat_map (λ k. sites n modules (site_below x k)) (held_at modules x.number)))
     (held-signals types modules x h) (along-inside types modules n x (below-inside types modules n) (held_at modules x.number))
 
--- the sites below one
+-- the sites below a site
 abbrev rest_of : ℕ → List ModuleTree → Site → List Site
 rest_of zero modules x = []
 rest_of (suc n) modules x = flat_map (λ k. sites n modules (site_below x k)) (held_at modules x.number)
@@ -158,7 +158,7 @@ rest-inside types modules (suc n) x = along-inside types modules n x (below-insi
 
 -- ---- the inputs of the top
 
--- a path that stands behind some has their number
+-- the number of a signal's path is how many signals come before it
 number-here : (paths : List (List ℕ)) (before : List FlatSignal) (x : FlatSignal) (rest : List FlatSignal) → Differ paths → map (λ (y : FlatSignal). y.path) (before ++ x ∷ rest) ≡ paths → number_of paths x.path ≡ length before
 number-here paths before x rest differ is = ap (λ o. unwrap_or o 0) (place_of-at paths x.path (length before) found differ)
   where
@@ -207,7 +207,7 @@ module _ (modules : List ModuleTree) (top : ℕ) (paths : List (List ℕ)) (diff
           let k = rw (e, w) at h in
           rw (e, w) (next_to (of_port (own p.name Connected s)) k next)
 
--- the input ports of the top are the places of the signals that the outside drives
+-- the numbers of the top's input ports are the places of the signals that the outside drives
 pub inputs-are : (types : Types) (modules : List ModuleTree) (top : ℕ) → Differ (map (λ (x : FlatSignal). x.path) (flat_signals types modules (all_sites modules top))) → map (number_of (map (λ (x : FlatSignal). x.path) (flat_signals types modules (all_sites modules top)))) (port_names Input (module_at modules top).ports) ≡ passing from_outside 0 (flat_signals types modules (all_sites modules top))
 inputs-are types modules top differ =
     sym (ap (passing from_outside 0) parts
@@ -236,7 +236,7 @@ inputs-are types modules top differ =
 
 -- ---- the ports of the top are signals
 
--- a name among those of a direction is that of a port's signal
+-- each name among those of the ports of a direction is the name of a port's signal
 pub port-named : (way : Direction) (ports : List Port) (name : List ℕ) → Contains (port_names way ports) name → MadeOf (λ (o : Own) n. o.name ≡ n) (filter_map own_of_port ports) name
 port-named way ports name c =
     let m = from-filter_map (port_name way) ports name c in

@@ -1,14 +1,14 @@
--- The places of a list where a test passes, in order, each by how many pass before it.
+-- The places of a list where a test passes, in order, each at as many as pass before it.
 use Rattle.std.proofs.Common.{◌≡◌, ℕ, zero, suc, ◌+◌, ◌<◌, Bool, true, false, cond, if◌then◌else◌, List, [], ◌∷◌, ◌++◌, length, take, get_or, map, refl, ap, ◌∙◌, arith}
 use Rattle.std.specs.Prelude.{count_by}
 use Rattle.std.proofs.lemmas.List.Sums.{sum_by-cons}
 
--- the places where the test passes, where the first is k
+-- the places where the test passes, counted from k
 abbrev pub passing : {A : Type 0} → (A → Bool) → ℕ → List A → List ℕ
 passing p k [] = []
 passing p k (x ∷ xs) = if p x then k ∷ passing p (suc k) xs else passing p (suc k) xs
 
--- a place where it passes stands behind as many as pass before it
+-- a place where the test passes is listed after as many as pass before it
 pub passed-at : {A : Type 0} (p : A → Bool) (xs : List A) (k s : ℕ) (d : A) (e : ℕ) → s < length xs → p (get_or xs s d) ≡ true → (count_by p (take s xs) < length (passing p k xs)) × (get_or (passing p k xs) (count_by p (take s xs)) e ≡ k + s)
 passed-at p [] k s d e lt h = absurd (omega (arith, lt))
 passed-at p (x ∷ xs) k zero d e lt h = rw h (omega arith, omega arith)
@@ -22,7 +22,7 @@ passed-at p (x ∷ xs) k (suc s) d e lt h = go (p x) (passed-at p xs (suc k) s d
         let same : c ≡ count_by p (take s xs) = omega (arith, is) in
         (omega (arith, same, n.0), ap (λ i. get_or (passing p (suc k) xs) i e) same ∙ n.1 ∙ omega arith)
 
--- What stands at a place of these: a place where the test passes.
+-- The entry at place j of the list: a place where the test passes, with j such places before it.
 pub record Passes {A : Type 0} (p : A → Bool) (xs : List A) (k j value : ℕ) : Type 0 where
   pub place : ℕ
   pub inside : place < length xs
@@ -59,7 +59,7 @@ passing-append p (x ∷ xs) ys k = go (p x) (passing-append p xs ys (suc k) ∙ 
     go true n = ap (λ l. k ∷ l) n
     go false n = n
 
--- where no element passes there is none
+-- if no element passes, the list is empty
 pub passing-none : {A : Type 0} (p : A → Bool) (xs : List A) (k : ℕ) → ((i : ℕ) (d : A) → i < length xs → p (get_or xs i d) ≡ false) → passing p k xs ≡ []
 passing-none p [] k h = refl
 passing-none p (x ∷ xs) k h = rw (h 0 x (omega arith)) (passing-none p xs (suc k) (λ i d lt. h (suc i) d (omega (arith, lt))))

@@ -46,7 +46,7 @@ fields-differ before (f ∷ fields) differ h =
 abbrev sides : List Field → List (List ℕ)
 sides fields = flat_map (λ (f : Field). readers_said f.kind) fields ++ flat_map (λ (f : Field). writers_said f.kind) fields
 
--- names in front of the first or of the second of two lists are among them
+-- if names are put in front of the first or the second of two lists, all elements are among the names and the old elements
 in-first : (names xs ys all : List (List ℕ)) (w : List ℕ) → (Contains (xs ++ ys) w → Contains all w) → Contains ((names ++ xs) ++ ys) w → Contains (names ++ all) w
 in-first names xs ys all w rest c = go (Contains-append_cases names (xs ++ ys) w (subst (λ l. Contains l w) (append_assoc names xs ys) c))
   where
@@ -78,7 +78,7 @@ sides-named (f ∷ fs) w c = go f.kind (sides-named fs w) c
     go (field.Readers names) rest c = in-first names (flat_map (λ (f : Field). readers_said f.kind) fs) (flat_map (λ (f : Field). writers_said f.kind) fs) (ports_named fs) w rest c
     go (field.Writers names) rest c = in-second names (flat_map (λ (f : Field). readers_said f.kind) fs) (flat_map (λ (f : Field). writers_said f.kind) fs) (ports_named fs) w rest c
 
--- names that stand nowhere behind them, in front of words that differ
+-- words that differ still do with new names in front of them
 fresh-front : (names all sided : List (List ℕ)) → Differ (names ++ all) → ((w : List ℕ) → Contains sided w → Contains all w) → Differ sided → Differ (names ++ sided)
 fresh-front names all sided differ in_all d = Differ-append names sided (Differ-front names all differ) d (λ w a b. Differ-parts names all w differ a (in_all w b))
 
@@ -147,7 +147,7 @@ words-differ (suc (suc zero)) (suc (suc (suc zero))) d lt within same = let firs
 words-differ (suc (suc (suc i))) j d lt within same = absurd (omega (arith, lt, within))
 words-differ i (suc (suc (suc (suc j)))) d lt within same = absurd (omega (arith, within))
 
--- fields of ports of different names
+-- the fields of ports with different names differ
 ports-apart : (words : List (List ℕ)) (of : List ℕ → List (List ℕ)) → Differ words → ((p : List ℕ) → of p ≡ map (dot p) words) → (ports : List (List ℕ)) → Differ ports → ((p : List ℕ) → Contains ports p → IsDotless p) → Differ (flat_map of ports)
 ports-apart words of differ is ports apart plain =
     parts-differ (λ p. p ∷ []) of ports (subst Differ (sym single) apart) (λ n c. plain n (subst (λ l. Contains l n) single c))

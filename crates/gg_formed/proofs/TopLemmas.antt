@@ -15,7 +15,7 @@ abbrev is_none : {A : Type 0} → List A → Bool
 is_none [] = true
 is_none (x ∷ xs) = false
 
--- a test that makes no fault
+-- a test whose failure is a fault is true if there is no fault
 no-fault : (b : Bool) (fault : Fault) → fault_if (not b) fault ≡ [] → b ≡ true
 no-fault true fault h = cc
 no-fault false fault h = absurd (true≢false (sym (ap is_none h)))

@@ -1,4 +1,4 @@
--- A ring of signals is a loop, and how it is turned.
+-- A ring of signals is a loop, however it is turned; and the place of its least path.
 use Rattle.std.proofs.Common.{◌≡◌, ℕ, ◌+◌, ◌-◌, ◌<◌, List, [], ◌∷◌, ◌++◌, length, take, drop, refl, ap, ◌∙◌, subst, inl, inr, arith, below_more, length-append, length-drop}
 use Rattle.std.specs.Ordering.{nat_cmp, ordering_reverse}
 use Rattle.std.specs.Cmp.Lexicographic.{slice_cmp, nat_list_cmp_total}
@@ -31,7 +31,7 @@ IsLoop-ring circuit count (first ∷ rest) r = (r.once, in-turn circuit first (f
 
 -- ---- a ring that is turned
 
--- where a signal of the turned list stood
+-- the place in the ring of the signal at place i of the turned list
 record StoodAt (ring turned : List ℕ) (i : ℕ) : Type 0 where
   place : ℕ
   within : place < length ring
@@ -91,7 +91,7 @@ least-first paths signals = (
       not-before_itself (path_at paths (value_at signals 0)) (subst (λ (k : ℕ). IsBefore (path_at paths (value_at signals k)) (path_at paths (value_at signals 0))) same before),
 )
 
--- the one at place i is before the least so far
+-- a signal whose path is before the least so far becomes the least
 pub least-moved : (paths : List (List ℕ)) (signals : List ℕ) (i least : ℕ) → IsBefore (path_at paths (value_at signals i)) (path_at paths (value_at signals least)) → IsLeastBelow paths signals i least → IsLeastBelow paths signals (i + 1) i
 least-moved paths signals i least less h =
     let path = λ (k : ℕ). path_at paths (value_at signals k) in (
@@ -101,7 +101,7 @@ least-moved paths signals i least less h =
           (not-before_itself (path i)),
     )
 
--- the one at place i isn't
+-- otherwise the least stays
 pub least-kept : (paths : List (List ℕ)) (signals : List ℕ) (i least : ℕ) → ¬ IsBefore (path_at paths (value_at signals i)) (path_at paths (value_at signals least)) → IsLeastBelow paths signals i least → IsLeastBelow paths signals (i + 1) least
 least-kept paths signals i least not h =
     let path = λ (k : ℕ). path_at paths (value_at signals k) in

@@ -1,4 +1,4 @@
--- Laws of marks.
+-- The marks of the signals that nodes name, node by node.
 use Rattle.std.proofs.Common.{◌≡◌, ℕ, ◌+◌, ◌<◌, List, [], ◌∷◌, ◌++◌, length, take, Bool, sym, ap, ◌∙◌, subst, inl, inr, ◌⊎◌, arith}
 use Rattle.std.specs.Prelude.{slice_index_or}
 use Rattle.std.proofs.lemmas.List.{length-map, take_more, get_or-map}
@@ -21,7 +21,7 @@ Marks-then P Q R a b c from_p from_q cases first second = record {
   ];
 }
 
--- where nothing is named nothing is marked
+-- if nothing is named, nothing is marked
 pub Marks-none : (P : ℕ → Type 0) (a : List Bool) → ((s : ℕ) → P s → ⊥) → Marks P a a
 Marks-none P a none = record { kept = λ s h. h; marked = λ s p. absurd (none s p); only = λ s h. inl h }
 

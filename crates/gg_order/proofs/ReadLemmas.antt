@@ -18,7 +18,7 @@ use Rattle.gg_flat.specs.WellFormed.{IsWellFormed, IsRegister, IsReset, MayDrive
 use Rattle.gg_flat.specs.Reads.{Names, NamesSignal, ResetNames, NextNames, RegisterNames}
 use Rattle.gg_flat.proofs.TypedLemmas.{has-reader, word-names}
 
--- a line over signals names one of them
+-- a line over signals names only these
 line_within : (shapes : List Shape) (nodes : List Node) (s : ℕ) → IsLine (HasType shapes) nodes → Names nodes s → s < length shapes
 line_within shapes nodes s line h =
     let ops = map (λ (m : Node). m.op) nodes in

@@ -1,4 +1,4 @@
--- A tree of the top alone: when it is the tree of a circuit, and the circuit keeps to its scopes.
+-- A tree of the top alone is the tree of a circuit without instances and memories, and the circuit keeps to its scopes.
 use Rattle.std.proofs.Common.{◌≡◌, ◌≢◌, ◌⊎◌, inl, inr, ℕ, zero, suc, ◌<◌, ◌≤◌, ◌∙◌, List, [], ◌∷◌, length, Some, None, refl, sym, ap, subst, arith, lit<}
 use Rattle.std.specs.Prelude.{Contains, All, AllPairs, slice_index_or}
 use Rattle.std.proofs.lemmas.List.{get_or_default}

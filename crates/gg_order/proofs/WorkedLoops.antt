@@ -1,4 +1,4 @@
--- Loops by hand as they are told, and lists of signals that are none.
+-- A loop by hand as it is reported, and lists of signals that aren't a loop or aren't reported.
 use Rattle.std.proofs.Common.{◌≡◌, ◌≢◌, ℕ, List, [], ◌∷◌, eqb, false, true≢false, refl, sym, ap, ◌∙◌, lit<}
 use Rattle.std.specs.Prelude.{AllPairs}
 use Rattle.std.specs.List.{IsDistinct}
@@ -56,10 +56,10 @@ turned = (distinct (0 ∷ 2 ∷ 1 ∷ []) ((refl, (refl, tt)), ((refl, tt), (tt,
 turned-not_told : ¬ IsToldLoop circle (0 ∷ 2 ∷ 1 ∷ [])
 turned-not_told told = told.least 2 (lit< tt) refl
 
--- a, c, b: turned round; a doesn't read c
+-- a, c, b: in reverse; a doesn't read c
 reversed : ¬ IsLoop circle (1 ∷ 2 ∷ 0 ∷ [])
 reversed loop = apart 0 2 refl (copied 0 2 loop.1.0.names)
 
--- 0, a, b, c: no signal of a loop reads 0
+-- 0, a, b, c: c doesn't read 0
 entered : ¬ IsLoop circle (3 ∷ 1 ∷ 0 ∷ 2 ∷ [])
 entered loop = apart 1 3 refl (copied 1 3 loop.1.1.1.1.names)

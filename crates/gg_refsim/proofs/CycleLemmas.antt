@@ -1,4 +1,4 @@
--- Where a circuit has an order, a state and inputs have one cycle.
+-- If a circuit has an order, there is one cycle from a state and inputs.
 use Rattle.std.proofs.Common.{◌≡◌, ℕ, List, ◌++◌, length, take, drop, sym, ap, ◌∙◌, arith}
 use Rattle.std.proofs.lemmas.List.{take-append-le, take_all}
 use Rattle.gg_flat.specs.Circuit.{FlatCircuit}
@@ -19,7 +19,7 @@ Cycle-once circuit order before inputs printed others after next ordered one oth
 pub Cycle-of : (circuit : FlatCircuit) (before : State) (inputs row printed : List ℕ) (after : State) → Settled circuit before inputs row → printed ≡ outputs circuit row → after ≡ next_state circuit before row → Cycle circuit before inputs printed after
 Cycle-of circuit before inputs row printed after settled outputs_are next = record { row = row; settled = settled; outputs_are = outputs_are; next = next }
 
--- what a list is after a slice of all of it was written
+-- a list that is written over from start to end is the new list
 pub written_whole : {A : Type 0} (n : ℕ) (new old : List A) → length new ≡ length old → n ≡ length new → take n (new ++ drop (length new) old) ≡ new
 written_whole n new old same count =
     take-append-le n new (drop (length new) old) (omega arith) ∙ take_all n new (omega arith)

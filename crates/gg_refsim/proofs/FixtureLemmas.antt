@@ -14,7 +14,7 @@ use Rattle.gg_flat.proofs.WorkedForms.{only, apart}
 use Rattle.gg_order.proofs.ReadLemmas.{names_within, register-names_within}
 use Rattle.gg_refsim.specs.Fixture.{IsFixture, fixture_reader, fixture_top, fixture_tree, field_names}
 
--- what follows from what holds of an answer
+-- if a fact holds of an answer, so does what follows from it
 pub if-ok : {T E : Type 0} (result : Result T E) (P Q : T → Type 0) → ((x : T) → P x → Q x) → IfOk result P → IfOk result Q
 if-ok (Ok x) P Q f h = f x h
 if-ok (Err e) P Q f h = h
@@ -94,7 +94,7 @@ module _ (circuit : FlatCircuit) (f : IsFixture circuit) where
       counted : length circuit.memories ≡ 1
       counted = sym (length-map circuit.memories (λ memory. length memory.readers + length memory.writers)) ∙ ap (λ (l : List ℕ). length l) f.ports
 
-  -- what is a field
+  -- the fields of the memory are signals 1 to 7
   is-field : (j s : ℕ) → j < 1 → IsFieldOf circuit fixture_tree j s → (k : ℕ) × (k < 7) × (s ≡ suc k)
   is-field zero s lt has =
       let found : Contains fields s = subst (λ (l : List ℕ). Contains l s) fields-are has in

@@ -11,7 +11,7 @@ use Rattle.gg_refsim.specs.Cycle.{Cycle}
 pub state-next : (circuit : FlatCircuit) (start : Start) (columns : List (List ℕ)) (n : ℕ) (rows : List (List ℕ)) (before after : State) (inputs printed : List ℕ) (cycle : Cycle circuit before inputs printed after) → IsRunFrom circuit start columns n rows → before ≡ state_at circuit start rows n → after ≡ state_at circuit start (rows ++ cycle.row ∷ []) (n + 1)
 state-next circuit start columns n rows before after inputs printed cycle run is = cycle.next ∙ state_at-next circuit start columns n rows cycle.row before run is
 
--- a run of one more cycle
+-- a run with one more cycle is a run
 pub IsRunFrom-next : (circuit : FlatCircuit) (start : Start) (columns : List (List ℕ)) (n : ℕ) (rows : List (List ℕ)) (before after : State) (inputs printed : List ℕ) (cycle : Cycle circuit before inputs printed after) → IsRunFrom circuit start columns n rows → before ≡ state_at circuit start rows n → inputs ≡ inputs_at columns (later start.cycle n) → IsRunFrom circuit start columns (n + 1) (rows ++ cycle.row ∷ [])
 IsRunFrom-next circuit start columns n rows before after inputs printed cycle run is given =
     IsRunFrom-push circuit start columns n rows cycle.row run

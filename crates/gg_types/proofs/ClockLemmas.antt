@@ -1,4 +1,4 @@
--- Drivers by the places of names, and steps by squaring.
+-- The list of the places that drivers lead to: how each statement changes it, and many steps at once by squaring.
 use Rattle.std.proofs.Common.{◌≡◌, ◌≢◌, ℕ, zero, suc, ◌+◌, ◌/◌, ◌%◌, ◌<◌, Bool, true, false, List, [], ◌∷◌, ◌++◌, length, get_or, map, slice_index, slice_set, Option, Some, None, refl, sym, ap, subst, ◌∙◌, if◌then◌else◌, true≢false, unwrap_or, inl, inr, eqb, eqb-true, arith}
 use Rattle.std.proofs.lemmas.List.{length-set, get_or-set_same, get_or-set_other, length-map, get_or-map}
 use Rattle.std.proofs.lemmas.Slice.Eq.{bytes_eq-Decides}
@@ -19,7 +19,7 @@ if_same false x = refl
 
 -- ---- drivers
 
--- at first each name leads to its own place
+-- before any statement each name leads to its own place
 pub own-tells : (ways : List (List ℕ × Way)) (next : List ℕ) → length next ≡ length ways → ((k : ℕ) → k < length ways → slice_index next k ≡ k) → TellsNext ways [] next
 own-tells ways next len own = record {
   places = record { length_is = len; within = λ k lt. subst (λ j. j < length ways) (sym (own k lt)) lt };
@@ -45,7 +45,7 @@ after ways before s name place = ap (λ l. if is_followed (find_named name ways)
 kept : (ways : List (List ℕ × Way)) (before : List Stmt) (s : Stmt) (next : List ℕ) → TellsNext ways before next → ((name : List ℕ) (place : ℕ) → place_in name ways ≡ Some place → next_place ways before name place ≡ next_place ways (before ++ s ∷ []) name place) → TellsNext ways (before ++ s ∷ []) next
 kept ways before s next tells same = record { places = tells.places; told = λ name k u. tells.told name k u ∙ same name k u }
 
--- after one more statement the places tell of it too
+-- the places, changed by what a statement drives, say where names lead after that statement
 pub follow-tells : (ways : List (List ℕ × Way)) (before : List Stmt) (s : Stmt) (next : List ℕ) → TellsNext ways before next → TellsNext ways (before ++ s ∷ []) (with_driven ways next (driven_by s.kind))
 follow-tells ways before s next tells = go (driven_by s.kind) refl
   where
@@ -56,7 +56,7 @@ follow-tells ways before s next tells = go (driven_by s.kind) refl
     go None is = kept ways before s next tells (λ name k u. sym (after ways before s name k ∙ ap (Place name k) is))
     go (Some d) is = at (place_in d.0 ways) refl
       where
-        -- a name that is not the driven one leads where it did
+        -- any other name than the driven one leads where it did
         other : (name : List ℕ) (k : ℕ) → bytes_eq name d.0 ≡ false → next_place ways before name k ≡ next_place ways (before ++ s ∷ []) name k
         other name k e = sym (after ways before s name k ∙ ap (Place name k) is ∙ ap (λ b. if is_followed (find_named name ways) then next_at ways k (if b then d.1 else lead_of name before) else k) e)
 
@@ -127,7 +127,7 @@ map-places n first second f s = record {
 pub at-map : (n : ℕ) (first second : List ℕ) → ArePlaces n first → (k : ℕ) → k < n → slice_index (map (slice_index second) first) k ≡ slice_index second (slice_index first k)
 at-map n first second f k lt = get_or-map (slice_index second) first k 0 0 (omega (arith, f.length_is))
 
--- twice as many steps are as many of two
+-- m + m steps are m double steps
 halved : (n : ℕ) (jump : List ℕ) → ArePlaces n jump → (m x : ℕ) → x < n → iterate (m + m) jump x ≡ iterate m (map (slice_index jump) jump) x
 halved n jump j zero x lt = refl
 halved n jump j (suc m) x lt =
@@ -136,7 +136,7 @@ halved n jump j (suc m) x lt =
     ∙ halved n jump j m (slice_index jump (slice_index jump x)) (j.within (slice_index jump x) (j.within x lt))
     ∙ ap (iterate m (map (slice_index jump) jump)) (sym (at-map n jump jump j x lt))
 
--- what a turn of the squaring keeps
+-- a turn of the squaring doesn't change the place that all steps lead to
 pub squared : (n left k all : ℕ) (jump reached : List ℕ) (odd : Bool) → ArePlaces n jump → ArePlaces n reached → odd ≡ eqb (left % 2) 1 → k < n → all ≡ iterate left jump (slice_index reached k) → all ≡ iterate (left / 2) (map (slice_index jump) jump) (slice_index (if odd then map (slice_index jump) reached else reached) k)
 squared n left k all jump reached true j r is lt h =
     let one : left % 2 ≡ 1 = eqb-true (left % 2) 1 (sym is) in
@@ -172,7 +172,7 @@ module _ (ways : List (List ℕ × Way)) (statements : List Stmt) where
   stays zero next k h = refl
   stays (suc n) next k h = ap (iterate n next) h ∙ stays n next k h
 
-  -- a name leads where its place does
+  -- n steps from a name lead to an input port exactly if n steps from its place do
   follows : (next : List ℕ) → TellsNext ways statements next → (n : ℕ) (name : List ℕ) (k : ℕ) → place_in name ways ≡ Some k → is_outside (find_named (followed ways statements n name) ways) ≡ is_outside (way_at ways (iterate n next k))
   follows next tells zero name k u = ap is_outside (placed-way name ways k u)
   follows next tells (suc n) name k u = go (is_followed (find_named name ways)) refl (lead_of name statements) refl (follows next tells n)

@@ -1,4 +1,4 @@
--- What is seen of a module rests on its circuit, its place and its flags alone.
+-- What is seen of a module depends only on its circuit, its place and its flags.
 use Rattle.std.proofs.Common.{◌≡◌, ℕ, Bool, List, ◌++◌, map, ap, ◌∙◌}
 use Rattle.std.specs.Str.{bytes_eq}
 use Rattle.gg_ast.specs.declared.module.Port.{Port}

@@ -1,4 +1,4 @@
--- The number that digits spell, and the types that have it.
+-- The number that digits spell, and the types that it belongs to.
 use Rattle.std.proofs.Common.{◌≡◌, ◌≢◌, ℕ, zero, suc, ◌+◌, ◌-◌, ◌*◌, ◌%◌, ◌<◌, ◌≤◌, ◌^◌, List, [], ◌∷◌, length, take, get_or, Bool, true, false, ◌&&◌, Some, None, refl, sym, ap, ◌∙◌, subst, arith, if◌then◌else◌, nat_le, le-ltb, lt-ltb, ne_eqb, pos, negsuc, neg_ℤ, true≢false, ⊎_elim}
 use Rattle.std.specs.Prelude.{ℤ, ◌-ℤ◌, ◌==◌, fold, nat_lt, unsigned_abs}
 use Rattle.std.specs.Bool.{one_answer}
@@ -20,7 +20,7 @@ use Rattle.gg_types.specs.Types.{is_width, literal_shape}
 
 -- ---- digits
 
--- a number grows with each further digit
+-- further digits don't make a number smaller
 fold-grows : (radix n : ℕ) (digits : List ℕ) → 1 ≤ radix → n ≤ fold (λ m c. m * radix + digit c) n digits
 fold-grows radix n [] some = omega arith
 fold-grows radix n (c ∷ digits) some =
@@ -37,7 +37,7 @@ fold-next radix a n zero c (d ∷ digits) some lt is at =
 fold-next radix a n (suc i) c (d ∷ digits) some lt is at =
     fold-next radix (a * radix + digit d) n i c digits some (omega arith) is at
 
--- the digits so far with one more are at most all of them
+-- the number of the digits so far and the next one is at most the number of all digits
 pub digits_number-next : (radix n i c : ℕ) (digits : List ℕ) → 1 ≤ radix → i < length digits → n ≡ digits_number radix (take i digits) → c ≡ get_or digits i 0 → n * radix + digit c ≤ digits_number radix digits
 digits_number-next radix n i c digits some lt is at = fold-next radix 0 n i c digits some lt is at
 
@@ -61,7 +61,7 @@ of_below p (suc n) c h lt = ⊎_elim
     (λ (l : n ≤ c). let e : n ≡ c = omega arith in subst (λ k. p k ≡ true) e (and_left (p n) (below p n) h))
     (cases_lt c n)
 
--- a digit's worth by the ranges of bytes, as the library tells it, and 16 for what is no digit
+-- the value of a digit by the library's `digit_value`, and 16 for any other byte
 abbrev ranged : ℕ → ℕ
 ranged c = if nat_lt (digit_value c) 16 then digit_value c else 16
 
@@ -80,12 +80,12 @@ digit-of_other c lt large = digit-ranged c lt ∙ rw (le-ltb (digit_value c) 16 
 
 -- ---- numbers of a type
 
--- half of the numbers of w bits
+-- 2 ^ w is twice 2 ^ (w - 1)
 twice : (w : ℕ) → 1 ≤ w → 2 ^ w ≡ 2 ^ (w - 1) * 2
 twice zero some = absurd (omega arith)
 twice (suc v) some = let same : suc v - 1 ≡ v = omega arith in pow-suc 2 v ∙ ap (λ (k : ℕ). 2 ^ k * 2) (sym same)
 
--- a UInt of w bits has the natural numbers below 2 ^ w
+-- the natural numbers of a UInt of w bits are those below 2 ^ w
 pub natural_unsigned : (w m : ℕ) → is_number_of UInt w (pos m) ≡ nat_lt m (2 ^ w)
 natural_unsigned w m = one_answer (is_number_of UInt w (pos m)) (nat_lt m (2 ^ w)) (signed_Decides (pos (m % 2 ^ w)) (pos m)) (to, from)
   where
@@ -102,7 +102,7 @@ pub negative_unsigned : (w m : ℕ) → is_number_of UInt w (neg_ℤ (pos m)) �
 negative_unsigned w zero = natural_unsigned w 0 ∙ lt-ltb 0 (2 ^ w) (pow_pos w)
 negative_unsigned w (suc m) = sym (ne_eqb (suc m) 0 (λ e. absurd (omega (arith, e))))
 
--- a pattern of an SInt stands for a natural number where it is below half
+-- a natural number that a pattern of an SInt stands for is below 2 ^ (w - 1)
 signed_number_of : (w p m : ℕ) → 1 ≤ w → p < 2 ^ w → number_of SInt w p ≡ pos m → m < 2 ^ (w - 1)
 signed_number_of w p m some small e = by (nat_lt p (2 ^ (w - 1))) refl e
   where
@@ -110,7 +110,7 @@ signed_number_of w p m some small e = by (nat_lt p (2 ^ (w - 1))) refl e
     by true h is = let same : p ≡ m = ap unsigned_abs is in let lt = ltb-true p (2 ^ (w - 1)) h in omega arith
     by false h is = absurd (omega (arith, ints, is, small))
 
--- and else for a negative one
+-- a negative number that a pattern of an SInt stands for is at least -2 ^ (w - 1)
 signed_negative_of : (w p k : ℕ) → 1 ≤ w → number_of SInt w p ≡ negsuc k → suc k ≤ 2 ^ (w - 1)
 signed_negative_of w p k some e = by (nat_lt p (2 ^ (w - 1))) refl e
   where
@@ -143,7 +143,7 @@ negative_signed w (suc k) some = one_answer (is_number_of SInt w (negsuc k)) (na
     from : number_of SInt w (2 ^ w - 1 - k % 2 ^ w) ≡ negsuc k → nat_le (suc k) (2 ^ (w - 1)) ≡ true
     from e = le-leb (suc k) (2 ^ (w - 1)) (signed_negative_of w (2 ^ w - 1 - k % 2 ^ w) k some e)
 
--- a number that a type has is below 2 ^ w in size
+-- a number of size 2 ^ w or more belongs to no type of w bits
 pub too_large : (kind : Kind) (w m : ℕ) (negative : Bool) → 1 ≤ w → 2 ^ w ≤ m → is_number_of kind w (signed_number negative m) ≡ false
 too_large UInt w m true some large = negative_unsigned w m ∙ ne_eqb m 0 (λ e. absurd (omega (arith, e, pow_pos w)))
 too_large UInt w m false some large = natural_unsigned w m ∙ le-ltb m (2 ^ w) large
@@ -152,7 +152,7 @@ too_large SInt w m false some large = natural_signed w m some ∙ le-ltb m (2 ^ 
 
 -- ---- the pattern of a number
 
--- a pattern is that of the number that it stands for
+-- the pattern of the number that a pattern stands for is that pattern
 pub pattern_of-number : (kind : Kind) (w p : ℕ) → p < 2 ^ w → pattern_of w (number_of kind w p) ≡ p
 pattern_of-number UInt w p small = mod-eq_of_lt small
 pattern_of-number SInt w p small = by (nat_lt p (2 ^ (w - 1)))
@@ -167,7 +167,7 @@ pattern_of-number SInt w p small = by (nat_lt p (2 ^ (w - 1)))
     by true = mod-eq_of_lt small
     by false = ap (pattern_of w) less ∙ back
 
--- where a pattern stands for a number, the number is one of the type
+-- a number that a pattern of a type stands for belongs to the type
 pub stands_for : (kind : Kind) (w p : ℕ) (z : ℤ) → p < 2 ^ w → number_of kind w p ≡ z → is_number_of kind w z ≡ true
 stands_for kind w p z small is =
     let own : pattern_of w z ≡ p = ap (pattern_of w) (sym is) ∙ pattern_of-number kind w p small in
@@ -182,7 +182,7 @@ literal_shape-none l e = go (is_width l.width)
     go true = rw e refl
     go false = refl
 
--- a literal that has no shape, but a width, fits no pattern of its type
+-- no pattern of a literal's type stands for its number if the literal doesn't fit
 pub literal-no_other : (l : Literal) → literal_fits l ≡ false → (p : ℕ) → p < 2 ^ l.width → number_of l.kind l.width p ≢ literal_number l
 literal-no_other l e p small is = true≢false (sym (stands_for l.kind l.width p (literal_number l) small is) ∙ e)
 
@@ -192,7 +192,7 @@ literal-stands l e = (signed_Decides (number_of l.kind l.width (literal_value l)
 
 -- ---- the tests of the code, by kind and sign
 
--- 1 shifted left by fewer than 128
+-- in a u128, 1 shifted left by k places, k below 128, is 2 ^ k
 shifted : (k : ℕ) → k < 128 → 1 * 2 ^ k % 340282366920938463463374607431768211456 ≡ 2 ^ k
 shifted k lt = (one_shifted k 340282366920938463463374607431768211455 refl (omega arith)).0
 

@@ -1,5 +1,5 @@
--- The definitions of literals at small and outside values: each radix, both cases of letters, signs, and of each kind the least
--- and the greatest that fit with the next that doesn't.
+-- The definitions of literals, worked by hand: each radix, letters of both cases, signs, and for each kind the least and the
+-- greatest number that fits, with the next one that doesn't.
 use Rattle.std.proofs.Common.{◌≡◌, ℕ, Bool, true, false, List, None, Some, codes, refl}
 use Rattle.std.specs.Prelude.{pos, negsuc}
 use Rattle.gg_bits.specs.declared.types.Kind.{Kind}
@@ -61,7 +61,7 @@ thirteen_is_too_large : literal_shape (written SInt 4 Hexadecimal false (codes "
 unfolding digit
 thirteen_is_too_large = refl
 
--- a UInt is 0 at least, which may be written -0
+-- the least number of a UInt is 0, which may be written -0
 minus_zero : literal_shape (written UInt 1 Decimal true (codes "0")) ≡ Some (uint 1)
 unfolding digit
 minus_zero = refl
@@ -70,7 +70,7 @@ minus_one : literal_shape (written UInt 1 Decimal true (codes "1")) ≡ None
 unfolding digit
 minus_one = refl
 
--- the greatest of UInt<8>, and the next
+-- the greatest number of UInt<8>, and the next one
 greatest_unsigned : literal_fits (written UInt 8 Hexadecimal false (codes "ff")) ≡ true
 unfolding digit
 greatest_unsigned = refl
@@ -79,7 +79,7 @@ past_the_greatest_unsigned : literal_fits (written UInt 8 Hexadecimal false (cod
 unfolding digit
 past_the_greatest_unsigned = refl
 
--- the least of SInt<8> and the one below it, the greatest and the one above it
+-- the least number of SInt<8> and the one below it, the greatest number and the one above it
 least : literal_fits (written SInt 8 Decimal true (codes "128")) ≡ true
 unfolding digit
 least = refl
@@ -109,7 +109,7 @@ one_bit_past : literal_fits (written SInt 1 Decimal false (codes "1")) ≡ false
 unfolding digit
 one_bit_past = refl
 
--- the widest: 2 ^ 128 - 1 and 2 ^ 128, and -1, whose bits are all ones
+-- 128 bits: 2 ^ 128 - 1 fits, 2 ^ 128 doesn't, and the bits of -1 are all ones
 widest : literal_fits (written UInt 128 Hexadecimal false (codes "ffffffffffffffffffffffffffffffff")) ≡ true
 unfolding digit
 widest = refl

@@ -1,4 +1,4 @@
--- What a name has of its own by its place.
+-- The type data of a name, by the name's place.
 use Rattle.std.proofs.Common.{◌≡◌, ℕ, zero, suc, ◌+◌, ◌<◌, ◌≤◌, Bool, true, false, List, [], ◌∷◌, ◌++◌, length, length-append, take, get_or, Option, Some, None, refl, sym, ap, ◌∙◌, if◌then◌else◌, arith}
 use Rattle.std.specs.Option.{option_map}
 use Rattle.std.specs.Str.{bytes_eq}
@@ -6,7 +6,7 @@ use Rattle.gg_ast.specs.Places.{place_of}
 use Rattle.gg_types.specs.declared.sort.Own.{Own}
 use Rattle.gg_types.specs.Named.{find_named, owned}
 
--- what the list has at a place
+-- the list's entry at a place, if there is one
 abbrev pub entry_at : List Own → Option ℕ → Option (Option Own)
 entry_at ts None = None
 entry_at [] (Some k) = None
@@ -49,7 +49,7 @@ abbrev rest_of : {A : Type 0} → List A → List A
 rest_of [] = []
 rest_of (x ∷ xs) = xs
 
--- the next name
+-- the names with their type data, with one more entry
 pub owned-push : (ds : List (List ℕ)) (ts : List Own) (t : Own) (name : List ℕ) → take (length ts + 1) ds ≡ take (length ts) ds ++ name ∷ [] → owned ds (ts ++ t ∷ []) ≡ owned ds ts ++ (name, Some t) ∷ []
 owned-push [] ts t name next = absurd (omega (arith, ap length next ∙ length-append (take (length ts) []) (name ∷ []), nothing (length ts), nothing (length ts + 1)))
   where

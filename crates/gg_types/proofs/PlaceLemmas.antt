@@ -30,7 +30,7 @@ place-within name (d ∷ ds) k h = go (bytes_eq name d.0) refl (place_in name ds
         let below = rest j u in
         omega arith
 
--- what has no place has no way
+-- a name without a place has no way
 pub way-placed : (name : List ℕ) (ways : List (List ℕ × Way)) → place_in name ways ≡ None → find_named name ways ≡ None
 way-placed name [] h = refl
 way-placed name (d ∷ ds) h = go (bytes_eq name d.0) refl (place_in name ds) refl (way-placed name ds)
@@ -44,7 +44,7 @@ way-placed name (d ∷ ds) h = go (bytes_eq name d.0) refl (place_in name ds) re
         let e : Some (j + 1) ≡ None = sym (ap (λ b. if b then Some 0 else option_map (λ k. k + 1) (place_in name ds)) t ∙ ap (option_map (λ k. k + 1)) u) ∙ h in
         cc
 
--- two names at one place are the same
+-- two names with the same place are the same
 pub place-same : (a b : List ℕ) (ways : List (List ℕ × Way)) (k : ℕ) → place_in a ways ≡ Some k → place_in b ways ≡ Some k → a ≡ b
 place-same a b [] k h g = cc
 place-same a b (d ∷ ds) k h g = go (bytes_eq a d.0) refl (bytes_eq b d.0) refl (place_in a ds) refl (place_in b ds) refl (place-same a b ds)
@@ -82,7 +82,7 @@ place-same a b (d ∷ ds) k h g = go (bytes_eq a d.0) refl (bytes_eq b d.0) refl
         let z : j ≡ i = omega arith in
         rest i u (v ∙ ap Some z)
 
--- the way of a name is that at its place
+-- the way of a name is the way at its place
 pub placed-way : (name : List ℕ) (ways : List (List ℕ × Way)) (k : ℕ) → place_in name ways ≡ Some k → find_named name ways ≡ way_at ways k
 placed-way name [] k h = absurd (some_apart k h)
 placed-way name (d ∷ ds) k h = go (bytes_eq name d.0) refl (place_in name ds) refl (placed-way name ds)

@@ -48,7 +48,7 @@ clocks-more ports i p lt is =
 
 -- ---- the next names
 
--- a list in three parts
+-- the first two of a list's three parts, as `take` gives them
 record Parts {X : Type 0} (done now whole : List X) : Type 0 where
   before : take (length done) whole ≡ done
   next : take (length done + length now) whole ≡ take (length done) whole ++ now
@@ -64,7 +64,7 @@ parts done now rest whole e =
 next-of : (done now rest names : List (List ℕ)) (count : ℕ) → names ≡ (done ++ now) ++ rest → count ≡ length done → AreNext names count now
 next-of done now rest names count e n = rw n (parts done now rest names e).next
 
--- a port's name is the next
+-- the name of the port at place i comes after the first i names
 pub port-next : (ports : List Port) (statements : List Stmt) (names : List (List ℕ)) (i count : ℕ) (p : Port) → names ≡ names_after ports statements → count ≡ i → i < length ports → p ≡ get_or ports i p → AreNext names count (p.name ∷ [])
 port-next ports statements names i count p all n lt is =
     let grown : port_names (take (i + 1) ports) ≡ port_names (take i ports) ++ p.name ∷ [] =
@@ -95,7 +95,7 @@ names_after-more ports statements i s lt is =
     ∙ names_after-append ports (take i statements) (s ∷ [])
     ∙ ap (λ l. names_after ports (take i statements) ++ l) (append-nil (name_by s))
 
--- a statement's name is the next
+-- a statement's name, if it has one, comes after the names of the ports and of the statements before it
 pub statement-next : (ports : List Port) (statements : List Stmt) (names : List (List ℕ)) (i count : ℕ) (s : Stmt) → names ≡ names_after ports statements → count ≡ length (names_after ports (take i statements)) → i < length statements → s ≡ get_or statements i s → AreNext names count (name_by s)
 statement-next ports statements names i count s all n lt is =
     next-of (names_after ports (take i statements)) (name_by s) (flat_map name_by (drop (i + 1) statements)) names count
@@ -105,6 +105,6 @@ statement-next ports statements names i count s all n lt is =
     ∙ ap (λ l. l ++ flat_map name_by (drop (i + 1) statements)) (names_after-more ports statements i s lt is))
     n
 
--- .. and as many more names there are
+-- a statement adds as many names as it declares
 pub count-more : (ports : List Port) (statements : List Stmt) (i : ℕ) (s : Stmt) → i < length statements → s ≡ get_or statements i s → length (names_after ports (take (i + 1) statements)) ≡ length (names_after ports (take i statements)) + length (name_by s)
 count-more ports statements i s lt is = ap length (names_after-more ports statements i s lt is) ∙ length-append (names_after ports (take i statements)) (name_by s)

@@ -46,14 +46,14 @@ names-by (s ∷ ss) =
     ∙ ap (λ l. l ++ map name_of (flat_map (λ (t : Stmt). ways_by t.kind) ss)) (name-by s.kind)
     ∙ ap (λ l. name_by s ++ l) (names-by ss)
 
--- the names are those that the module declares
+-- the names with ways are those that the module declares
 pub ways-names : (m : ModuleTree) → map (λ (w : List ℕ × Way). w.0) (ways_of m) ≡ names_in m
 ways-names m =
     map-append name_of (map port_way m.ports) (flat_map (λ (s : Stmt). ways_by s.kind) m.statements)
     ∙ ap (λ l. l ++ map name_of (flat_map (λ (s : Stmt). ways_by s.kind) m.statements)) (port-names m.ports)
     ∙ ap (λ l. map (λ (p : Port). p.name) m.ports ++ l) (names-by m.statements)
 
--- the ways are those of the ports and then those of the statements
+-- the ways of the ports come first, and then those of the statements
 pub ways-split : (m : ModuleTree) (ports : List Port) (ss : List Stmt) → ports ≡ m.ports → ss ≡ m.statements → map (λ (p : Port). way_of_port p.direction) ports ++ map (λ (w : List ℕ × Way). w.1) (flat_map (λ (s : Stmt). ways_by s.kind) ss) ≡ map (λ (w : List ℕ × Way). w.1) (ways_of m)
 ways-split m ports ss p s =
     ap (λ l. map (λ (p : Port). way_of_port p.direction) l ++ map way_of (flat_map (λ (t : Stmt). ways_by t.kind) ss)) p
@@ -61,7 +61,7 @@ ways-split m ports ss p s =
     ∙ ap (λ l. l ++ map way_of (flat_map (λ (t : Stmt). ways_by t.kind) m.statements)) (port-ways m.ports)
     ∙ sym (map-append way_of (map port_way m.ports) (flat_map (λ (t : Stmt). ways_by t.kind) m.statements))
 
--- a place is one of the names
+-- the place of a name is below the number of names
 pub place-there : (name : List ℕ) (ways : List (List ℕ × Way)) (o : Option ℕ) → o ≡ place_in name ways → IfSome o (λ place. place < length ways)
 place-there name ways None is = tt
 place-there name ways (Some k) is = place-within name ways k (sym is)

@@ -399,13 +399,13 @@ module _ (circuit : CircuitTree) where
       (port-own-wide m.ports (module-ports m none))
       (none-back (along (port_faults (top m)) m.ports) (along (faults_of (scope_of circuit.modules m) (leads_to_input m) (map port_own m.ports)) m.statements) none)
 
-  -- each type of a circuit without faults
+  -- in a circuit without faults of types, the type of each reference has a width of 1 to 128, or is a Clock
   pub sort-wide : type_faults circuit ≡ [] → (k : ℕ) → k < length circuit.modules → (r : Reference) → IfSome (sort_named circuit.modules (module_at circuit.modules k) r) IsWide
   sort-wide h k lt r =
       let m = module_at circuit.modules k in
       reference-wide (scope_of circuit.modules m) (known_in circuit.modules m) (scope-wide circuit.modules (all-modules circuit.modules h) m) (known-wide h k lt) r
 
--- what is looked up among the names of a module is its type
+-- a type that a look-up finds is the type of the reference
 pub looked_up : (rs : List (Reference × Role)) (known : List (List ℕ × Option Own)) (r : Reference) (found : Option Sort) → option_map (λ s. Some s) found ≡ known_entry rs known r → found ≡ sort_of_reference rs known r
 looked_up rs known r None h = ap known_sort h
 looked_up rs known r (Some s) h = ap known_sort h
@@ -415,7 +415,7 @@ any-default [] i d e lt = absurd (omega arith)
 any-default (x ∷ xs) zero d e lt = refl
 any-default (x ∷ xs) (suc i) d e lt = any-default xs i d e (omega arith)
 
--- .. has a width of 1 to 128, or is a Clock
+-- a type that a look-up finds in a typed circuit has a width of 1 to 128, or is a Clock
 pub typing-wide : (circuit : CircuitTree) (order : List ℕ) (lists : List (List Own)) (k : ℕ) (r : Reference) (list : List Own) (found : Option Sort) (s : Sort) → IsTyped circuit order lists → k < length circuit.modules → list ≡ get_or lists k list → option_map (λ x. Some x) found ≡ known_entry (scope_of circuit.modules (module_at circuit.modules k)) (owned (names_in (module_at circuit.modules k)) list) r → found ≡ Some s → IsWide s
 typing-wide circuit order lists k r list found s typed lt is looked there =
     let m = module_at circuit.modules k in

@@ -1,4 +1,4 @@
--- The definitions of the faults of types on circuits with instances and memories, and on their near misses.
+-- The definitions of the faults of types on circuits with instances and memories, and on variants of them that have faults.
 use Rattle.std.proofs.Common.{◌≡◌, ℕ, false, List, [], ◌∷◌, ◌++◌, None, Some, codes, refl}
 use Rattle.gg_bits.specs.declared.ops.Op1.TheVariants.{AsSInt, Not, Andr}
 use Rattle.gg_bits.specs.declared.ops.Op2.TheVariants.{Add, Cat, Xor}
@@ -80,7 +80,7 @@ faults_of top modules = type_faults (record { line = 1; name = top; modules = mo
 --     12  reader => r
 --     13  writer => w
 --
--- and one more line, 14.
+-- and one more statement, on line 14.
 
 abbrev memory_module : GroundType → ℕ → List Stmt → ModuleTree
 memory_module ty depth statements =
@@ -114,7 +114,7 @@ many_bits = refl
 most_bits : with_memory (SInt 128) 3 [] ≡ []
 most_bits = refl
 
--- an address of three words has two bits, one of five has three, one of one has one
+-- the address of a memory of three words has two bits, of five words three bits, and of one word one bit
 address : given (codes "r") (codes "addr") (local (codes "a")) ≡ []
 address = refl
 
@@ -145,14 +145,14 @@ signed_mask : given (codes "w") (codes "mask") (UnaryTerm AsSInt one) ≡ WrongK
 unfolding digit
 signed_mask = refl
 
--- `data` is a word
+-- `data` has the type of a word
 wide_data : given (codes "w") (codes "data") (BinaryTerm Cat (local (codes "v")) (local (codes "v"))) ≡ TooWide 14 16 8 ∷ []
 wide_data = refl
 
 short_data : given (codes "w") (codes "data") (local (codes "a")) ≡ []
 short_data = refl
 
--- `clk` is a Clock (F9), isn't invalid (F14), and where it is read it leads to no input port (F14)
+-- `clk` is a Clock (F9), can't be invalid (F14), and leads to no input port when it is read (F14)
 clocked : given (codes "r") (codes "clk") (local (codes "clock")) ≡ []
 clocked = refl
 
@@ -200,29 +200,29 @@ later_modules ty statements =
 abbrev later : GroundType → List Stmt → List Fault
 later ty statements = faults_of (codes "Top") (later_modules ty statements)
 
--- `q <= not(b.p)`, and p has 200 bits: the operation's result is told on the earlier line
+-- `q <= not(b.p)`, and p has 200 bits: the operation's result is reported on the earlier line
 wide_result : later (UInt 200) (on 6 (Connect (Local (codes "q")) (UnaryTerm Not (port (codes "b") (codes "p")))) ∷ []) ≡ WrongWidth 6 200 ∷ WrongWidth 8 200 ∷ []
 wide_result = refl
 
 no_result : later (UInt 0) (on 6 (Node (codes "n") (UnaryTerm Not (port (codes "b") (codes "p")))) ∷ []) ≡ WrongWidth 6 0 ∷ WrongWidth 8 0 ∷ []
 no_result = refl
 
--- `q <= b.p`: a bare reference is no result, but it may be wider than its sink
+-- `q <= b.p`: a bare reference isn't a result, but it may be wider than its sink (F13)
 wide_reference : later (UInt 200) (on 6 (Connect (Local (codes "q")) (port (codes "b") (codes "p"))) ∷ []) ≡ TooWide 6 200 8 ∷ WrongWidth 8 200 ∷ []
 wide_reference = refl
 
 empty_reference : later (UInt 0) (on 6 (Connect (Local (codes "q")) (port (codes "b") (codes "p"))) ∷ []) ≡ WrongWidth 8 0 ∷ []
 empty_reference = refl
 
--- `node n = b.p`, `node o = andr(n)`: a node is no result either, and one bit is none too many
+-- `node n = b.p`, `node o = andr(n)`: a reference in a node isn't a result either, and the result of `andr` has one bit
 through_node : later (UInt 200) (on 6 (Node (codes "n") (port (codes "b") (codes "p"))) ∷ on 6 (Node (codes "o") (UnaryTerm Andr (local (codes "n")))) ∷ []) ≡ WrongWidth 8 200 ∷ []
 through_node = refl
 
--- a width above 4,294,967,295 is told as that: `node n = shl(b.p, 4294967295)`
+-- a width above 4,294,967,295 is reported as 4,294,967,295: `node n = shl(b.p, 4294967295)`
 widest : first (later (UInt 200) (on 6 (Node (codes "n") (FixedTerm fixed.Shl (port (codes "b") (codes "p")) 4294967295 0)) ∷ [])) ≡ Some (WrongWidth 6 4294967295)
 widest = refl
 
--- bits that are there: `node n = bits(b.p, 150, 149)`
+-- parameters that name bits that are there: `node n = bits(b.p, 150, 149)`
 wide_bits : later (UInt 200) (on 6 (Node (codes "n") (FixedTerm fixed.Bits (port (codes "b") (codes "p")) 150 149)) ∷ []) ≡ WrongWidth 8 200 ∷ []
 wide_bits = refl
 
@@ -231,7 +231,7 @@ wide_condition : later (UInt 2) (on 6 (Node (codes "n") (MuxTerm (port (codes "b
 unfolding digit
 wide_condition = refl
 
--- another kind: `q <= b.p`
+-- a source of another kind than the sink: `q <= b.p`
 signed_port : later (SInt 8) (on 6 (Connect (Local (codes "q")) (port (codes "b") (codes "p"))) ∷ []) ≡ WrongKind 6 word.Connect ∷ []
 signed_port = refl
 
@@ -242,11 +242,11 @@ no_port = refl
 a_port : sort_named (later_modules (UInt 8) []) (module_of 2 (codes "Top") [] (on 5 (Instance (codes "b") (codes "B")) ∷ [])) (PortOf (codes "b") (codes "p")) ≡ Some (sort.Bits kind.UInt 8)
 a_port = refl
 
--- F14: an output port that is a Clock, and an instance's Clock, which is no end: `reg d : UInt<1>, b.p`
+-- F14: an output port that is a Clock, and a Clock from an instance, which leads to no input port: `reg d : UInt<1>, b.p`
 clock_port : later Clock (on 6 (Register (codes "d") (UInt 1) (port (codes "b") (codes "p")) None) ∷ []) ≡ WrongClock 6 (codes "b.p") ∷ WrongClock 8 (codes "p") ∷ []
 clock_port = refl
 
--- .. through a wire too: `wire k : Clock`, `k <= b.p`, `reg d : UInt<1>, k`
+-- the same through a wire: `wire k : Clock`, `k <= b.p`, `reg d : UInt<1>, k`
 clock_port_through_wire : later Clock (on 6 (Wire (codes "k") Clock) ∷ on 6 (Connect (Local (codes "k")) (port (codes "b") (codes "p"))) ∷ on 6 (Register (codes "d") (UInt 1) (local (codes "k")) None) ∷ [])
     ≡ WrongClock 6 (codes "b.p") ∷ WrongClock 6 (codes "k") ∷ WrongClock 8 (codes "p") ∷ []
 clock_port_through_wire = refl
@@ -256,18 +256,18 @@ clock_ring : later (UInt 8) (on 6 (Wire (codes "k") Clock) ∷ on 6 (Wire (codes
     ≡ WrongClock 6 (codes "l") ∷ WrongClock 6 (codes "k") ∷ []
 clock_ring = refl
 
--- a Clock among the arguments of `printf`: `printf(clock, k)`, where `k is invalid` stands later
+-- F14: a Clock among the arguments of `printf` that leads to no input port: `printf(clock, k)`, and later `k is invalid`
 clock_printed : later (UInt 8) (on 6 (Wire (codes "k") Clock) ∷ on 6 (Report Printf (Value (local (codes "clock")) ∷ Value (local (codes "k")) ∷ []) None) ∷ on 6 (Invalid (Local (codes "k"))) ∷ [])
     ≡ WrongClock 6 (codes "k") ∷ WrongClock 6 (codes "k") ∷ []
 clock_printed = refl
 
--- a module that the top doesn't reach is judged too: line 11 is `o <= UInt<4>("h10")`
+-- a module that the top doesn't reach is checked too: line 11 is `o <= UInt<4>("h10")`
 unreached : faults_of (codes "Top") (later_modules (UInt 8) [] ++ module_of 9 (codes "Dead") (output 10 (codes "o") (UInt 4) ∷ []) (on 11 (Connect (Local (codes "o")) (number 4 (codes "10"))) ∷ []) ∷ [])
     ≡ LiteralTooLarge 11 ∷ []
 unfolding digit
 unreached = refl
 
--- two Clocks of a module below the top, and of the top
+-- a module with two Clock inputs: below the top that is no fault, in the top the second one is F14
 abbrev two_clocks : List Port
 two_clocks = input 3 (codes "c") Clock ∷ input 4 (codes "d") Clock ∷ []
 
@@ -345,6 +345,6 @@ own_clock = refl
 wide_input : pair line_20 (on 23 (Connect (PortOf (codes "a") (codes "k")) (FixedTerm fixed.Shl (port (codes "b") (codes "n")) 1 0))) ≡ TooWide 23 9 8 ∷ []
 wide_input = refl
 
--- two faults: the first in the text, whatever their numbers
+-- of two faults the first in the text is reported, whatever their numbers
 two_faults : first (pair (on 20 (Invalid (PortOf (codes "a") (codes "clock")))) (on 23 (Connect (PortOf (codes "a") (codes "k")) (UnaryTerm AsSInt (port (codes "b") (codes "n")))))) ≡ Some (WrongClock 20 (codes "a.clock"))
 two_faults = refl

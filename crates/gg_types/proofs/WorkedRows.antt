@@ -1,5 +1,5 @@
--- The definitions of the faults of types, and of types, on a counter of eight bits and on its near misses. The lines are
--- those of the text:
+-- The definitions of the faults of types, and of types, on a counter of eight bits and on variants of it that have faults. The
+-- lines are those of the text:
 --
 --      1  circuit Counter :
 --      2    module Counter :
@@ -53,7 +53,7 @@ signal name = NamedTerm (Local name)
 abbrev number : ℕ → List ℕ → Term
 number width digits = ConstantTerm (hexadecimal kind.UInt width false digits)
 
--- wherever the parts of an expression lie in memory
+-- an operation of two operands
 abbrev two : Op2 → Term → Term → Term
 two op a b = BinaryTerm op a b
 
@@ -80,7 +80,7 @@ register_with condition init = on 7 (Register (codes "c") (UInt 8) (signal (code
 abbrev register : Stmt
 register = register_with (number 1 (codes "0")) (signal (codes "c"))
 
--- line 9, with this source of the second operand's value
+-- line 9, with these digits in the second operand
 abbrev node_n : List ℕ → Stmt
 node_n digits = on 9 (Node (codes "n") (two Add (signal (codes "c")) (number 1 digits)))
 
@@ -151,13 +151,13 @@ wide_init : faults (register_with (number 1 (codes "0")) (number 9 (codes "0")) 
 unfolding digit
 wide_init = refl
 
--- A clock through the wire k: lines 12 to 14 are `wire k : Clock`, `k <= clock`, `reg d : UInt<1>, k`.
+-- a clock through the wire k: lines 12 to 14 are `wire k : Clock`, `k <= clock`, `reg d : UInt<1>, k`
 through_wire : faults (whole ++ on 12 (Wire (codes "k") Clock) ∷ connect 13 (codes "k") (signal (codes "clock"))
     ∷ on 14 (Register (codes "d") (UInt 1) (signal (codes "k")) None) ∷ []) ≡ []
 unfolding digit
 through_wire = refl
 
--- F14: line 13 is the register, line 14 `k is invalid`
+-- F14: lines 12 to 14 are `wire k : Clock`, `reg d : UInt<1>, k`, `k is invalid`
 from_nowhere : faults (whole ++ on 12 (Wire (codes "k") Clock) ∷ on 13 (Register (codes "d") (UInt 1) (signal (codes "k")) None)
     ∷ on 14 (Invalid (Local (codes "k"))) ∷ []) ≡ WrongClock 13 (codes "k") ∷ WrongClock 14 (codes "k") ∷ []
 unfolding digit
@@ -172,7 +172,7 @@ below_top : faults_named (codes "Top") (record { line = 6; name = codes "k"; dir
 unfolding digit
 below_top = refl
 
--- ---- what is told of one expression or one statement
+-- ---- what is reported of one expression or one statement
 
 -- the counter with this statement on line 12
 abbrev faults_with : StmtKind → List Fault
@@ -187,7 +187,7 @@ left_first : faults_of_node (two Add (bits (signal (codes "c")) 8 0) (number 1 (
 unfolding digit
 left_first = refl
 
--- of a mux the condition, then the branches: `mux(UInt<1>("h2"), bits(c, 8, 0), UInt<0>("h0"))`
+-- in a mux the condition, then the branches: `mux(UInt<1>("h2"), bits(c, 8, 0), UInt<0>("h0"))`
 condition_first : faults_of_node (MuxTerm (number 1 (codes "2")) (bits (signal (codes "c")) 8 0) (number 0 (codes "0")))
     ≡ LiteralTooLarge 12 ∷ WrongParameter 12 (word.Fixed fixed.Bits) ∷ WrongWidth 12 0 ∷ []
 unfolding digit
@@ -225,14 +225,14 @@ clock_chosen : faults_of_node (MuxTerm (signal (codes "reset")) (signal (codes "
 unfolding digit
 clock_chosen = refl
 
--- A register's type, its clock, its condition and its init, in this order: line 12 is `reg d : UInt<0>, reset with :`, line 13
--- `reset => (c, UInt<1>("h2"))`.
+-- a register's type, its clock, its condition and its init, in this order: line 12 is `reg d : UInt<0>, reset with :`, line 13
+-- `reset => (c, UInt<1>("h2"))`
 register_in_order : faults_with (Register (codes "d") (UInt 0) (signal (codes "reset")) (Some (record { line = 13; condition = signal (codes "c"); init = number 1 (codes "2") })))
     ≡ WrongWidth 12 0 ∷ WrongKind 12 word.Register ∷ WrongKind 13 word.Register ∷ LiteralTooLarge 13 ∷ []
 unfolding digit
 register_in_order = refl
 
--- `reg d : Clock, clock`
+-- a register can't be a Clock (F9): `reg d : Clock, clock`
 clock_kept : faults_with (Register (codes "d") Clock (signal (codes "clock")) None) ≡ WrongKind 12 word.Register ∷ []
 unfolding digit
 clock_kept = refl
@@ -257,29 +257,29 @@ through_nodes : faults (whole ++ on 12 (Node (codes "k") (signal (codes "clock")
 unfolding digit
 through_nodes = refl
 
--- and a width: `node m = n`, `node o = m`, `wire w : UInt<8>`, `w <= o`
+-- a width through a chain of nodes: `node m = n`, `node o = m`, `wire w : UInt<8>`, `w <= o`
 wide_through_nodes : faults (whole ++ on 12 (Node (codes "m") (signal (codes "n"))) ∷ on 13 (Node (codes "o") (signal (codes "m")))
     ∷ on 14 (Wire (codes "w") (UInt 8)) ∷ connect 15 (codes "w") (signal (codes "o")) ∷ []) ≡ TooWide 15 9 8 ∷ []
 unfolding digit
 wide_through_nodes = refl
 
--- ---- printf, assert, assume, cover: by their arguments, where `clock` and `reset` are declared
+-- ---- printf, assert, assume, cover: the faults of their arguments, if `clock` and `reset` are declared
 
 abbrev faults_of_arguments : Report → List Argument → List Fault
 faults_of_arguments report arguments =
     report_faults ((Local (codes "clock"), InputPort) ∷ (Local (codes "reset"), InputPort) ∷ []) (λ name. true)
     ((codes "clock", Some (Single sort.Clock)) ∷ (codes "reset", Some (Single (sort.Bits kind.UInt 1))) ∷ []) 12 (word.Report report) arguments
 
--- `printf(clock, "x", clock)`: a text and a Clock may stand among the rest
+-- `printf(clock, "x", clock)`: a text and a Clock may be among the arguments after the first
 printed : faults_of_arguments Printf (Value (signal (codes "clock")) ∷ Text (codes "x") ∷ Value (signal (codes "clock")) ∷ []) ≡ []
 printed = refl
 
--- `printf("x", UInt<1>("h2"))`: a text is no clock
+-- `printf("x", UInt<1>("h2"))`: a text isn't a clock
 text_first : faults_of_arguments Printf (Text (codes "x") ∷ Value (number 1 (codes "2")) ∷ []) ≡ WrongKind 12 (word.Report Printf) ∷ LiteralTooLarge 12 ∷ []
 unfolding digit
 text_first = refl
 
--- `assert(reset, clock)`, `assume(reset)`, `cover(reset)`: the first is a clock
+-- `assert(reset, clock)`, `assume(reset)`, `cover(reset)`: the first argument has to be a clock
 asserted : faults_of_arguments Assert (Value (signal (codes "reset")) ∷ Value (signal (codes "clock")) ∷ []) ≡ WrongKind 12 (word.Report Assert) ∷ []
 asserted = refl
 

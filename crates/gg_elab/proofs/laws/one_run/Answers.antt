@@ -1,4 +1,4 @@
--- Two flat circuits of a circuit are alike part by part.
+-- Two flat circuits of a circuit have the same runs, since they are alike part by part.
 use Rattle.gg_elab.proofs.SameLemmas.{runs_same}
 use Rattle.gg_elab.proofs.laws.one_run.Goals as goal
 
