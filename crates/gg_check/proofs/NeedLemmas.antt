@@ -1,4 +1,4 @@
--- What a channel of a plan needs, it needs in the circuit.
+-- What a channel of a plan needs is what it needs in the circuit.
 use Rattle.std.proofs.Common.{◌≡◌, ℕ, zero, suc, ◌<◌, List, [], ◌∷◌, length, map, refl, sym, ◌∙◌, ap, subst, inl, inr, ◌⊎◌, arith}
 use Rattle.std.specs.Prelude.{Contains}
 use Rattle.gg_flat.specs.declared.line.Node.{Node}
@@ -32,7 +32,7 @@ Names-back globals (node ∷ nodes) t (suc k, lt, is) =
     let rest = Names-back globals nodes t (k, omega (arith, lt), is) in
     (rest.0, (suc rest.1.0, omega (arith, rest.1.1), rest.1.2), rest.2)
 
--- a signal of the part that stands for one of the whole, and that a driver names
+-- the part has a signal that stands for signal t of the whole, and the driver names it
 record IsNamedAs (globals : List ℕ) (driver : Driver) (t : ℕ) : Type 0 where
   pub place : ℕ
   pub within : place < length globals
@@ -43,7 +43,7 @@ word-named : (m r addr en m' r' addr' en' t : ℕ) → MemoryWord m r addr en �
 word-named m r addr en m' r' addr' en' t e (inl is) = inl (cc)
 word-named m r addr en m' r' addr' en' t e (inr is) = inr (cc)
 
--- the part's driver is no in-signal's
+-- the driver isn't an in-signal's
 abbrev NotInput : Driver → Type 0
 NotInput driver = (place : ℕ) → driver ≡ Input place → ⊥
 
@@ -63,7 +63,7 @@ named-out ins globals held memories a t whole (Computed line) from other named =
 
 -- ---- paths
 
--- the part gets just these signals of the whole from outside
+-- the in-signals of the part stand for exactly these signals of the whole
 pub record Gets (part : FlatCircuit) (globals taken : List ℕ) : Type 0 where
   pub not_taken : (a place : ℕ) → a < length globals → (Contains taken (value_at globals a) → ⊥) → driver_at part a ≡ Input place → ⊥
   pub input : (a : ℕ) → a < length globals → Contains taken (value_at globals a) → (place : ℕ) × (driver_at part a ≡ Input place)
@@ -85,7 +85,7 @@ module _ (whole part : FlatCircuit) (globals held memories taken : List ℕ) (is
       let step = step-out a next reads.0 in
       (step.2, step.3, path-out next b path reads.1)
 
-  -- and the other way round
+  -- a path of the part from signal a to the one that stands for signal t of the whole
   pub record IsBack (a t : ℕ) : Type 0 where
     pub path : List ℕ
     pub place : ℕ

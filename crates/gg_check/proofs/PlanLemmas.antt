@@ -1,4 +1,4 @@
--- The needs of a plan's channels are those of the circuit.
+-- The needs of a plan's channels are their needs in the circuit.
 use Rattle.std.proofs.Common.{◌≡◌, ℕ, zero, suc, ◌+◌, ◌<◌, ◌≤◌, List, [], ◌∷◌, length, map, filter, get_or, Bool, true, false, cond, ◌==◌, eq-eqb, true-eqb, refl, sym, ◌∙◌, ap, subst, inl, inr, ◌⊎◌, arith}
 use Rattle.std.specs.Prelude.{◌↔◌, Contains, AllPairs, slice_index_or}
 use Rattle.std.specs.List.{range_with_len}
@@ -32,7 +32,7 @@ use Rattle.gg_check.proofs.NeedLemmas.{Gets, path-back, path-out}
 there : {A : Type 0} (x y : A) (xs : List A) → Contains xs x → Contains (y ∷ xs) x
 there x y xs (k, lt, is) = (suc k, omega (arith, lt), is)
 
--- what is found is of the list, and passes the test
+-- the item is in the list and passes the test
 record IsPicked {A : Type 0} (test : A → Bool) (xs : List A) (x : A) : Type 0 where
   pub listed : Contains xs x
   pub passes : test x ≡ true
@@ -89,12 +89,12 @@ module _ (wires : List Wire) (m : ℕ) where
   gives : (c : ℕ) → c < length wires → (wire_at wires c).producer ≡ m → Contains (channels_from wires m) c
   gives c lt e = kept (λ k. (wire_at wires k).producer == m) (range_with_len 0 (length wires)) c (below-range (length wires) c lt) (eq-eqb (wire_at wires c).producer m e)
 
--- what f makes of an element is an element of what f makes of the list
+-- what f makes of an element is among what f makes of the list
 mapped-has : {A : Type 0} (f : A → ℕ) (xs : List A) (x : A) → Contains xs x → Contains (map f xs) (f x)
 mapped-has f xs x (k, lt, is) =
     (k, omega (arith, lt, length-map xs f), get_or_default (map f xs) k (f x) (f x) (omega (arith, lt, length-map xs f)) ∙ get_or-map f xs k x (f x) lt ∙ ap f is)
 
--- an element of what f makes of a list
+-- y is what f makes of an element of the list
 record IsMadeOf (f : ℕ → ℕ) (xs : List ℕ) (y : ℕ) : Type 0 where
   pub place : ℕ
   pub within : place < length xs
@@ -107,7 +107,7 @@ made-of f xs y (k, lt, is) =
 
 -- ---- a machine's piece
 
--- a signal of a part has one number there
+-- a signal of the whole has only one number in a part
 one-number : (globals : List ℕ) (a b : ℕ) → AllPairs (λ x y. ¬ (x ≡ y)) globals → a < length globals → b < length globals → value_at globals a ≡ value_at globals b → a ≡ b
 one-number globals a b once la lb e = by (cases_order a b)
   where
@@ -129,7 +129,7 @@ piece-gets whole piece globals held memories taken is ins = record {
 }
 
 module _ (design : Ordered) (listed : Listed) (wires : List Wire) (m : ℕ) (part : Part) (cut : IsCutPart design listed wires m part) where
-  -- the in-signal at a place is that of the channel at that place
+  -- the in-signal at a place is the signal of the channel at that place
   in-signal : (place : ℕ) → place < length part.piece.ins → value_at part.globals (value_at part.piece.ins place) ≡ (wire_at wires (value_at (channels_to wires m) place)).signal
   in-signal place lt =
       let count : length part.piece.ins ≡ length (channels_to wires m) =
@@ -141,7 +141,7 @@ module _ (design : Ordered) (listed : Listed) (wires : List Wire) (m : ℕ) (par
   in-count : length part.piece.ins ≡ length (channels_to wires m)
   in-count = sym (length-map part.piece.ins (value_at part.globals)) ∙ ap (λ (l : List ℕ). length l) cut.ins ∙ length-map (channels_to wires m) (λ c. (wire_at wires c).signal)
 
-  -- the number in the part of the signal of a channel that the machine gives
+  -- the number in the part of signal s of the whole
   record IsOut (s : ℕ) : Type 0 where
     pub out : ℕ
     pub within : out < length part.globals
@@ -176,7 +176,7 @@ module _ (design : Ordered) (listed : Listed) (wires : List Wire) (m : ℕ) (par
             (subst (λ x. IsPathInside design.circuit (signals_of wires (channels_to wires m)) x (map (value_at part.globals) need.reached.path) (value_at part.globals (value_at part.piece.ins need.place))) is inside));
       }
 
-  -- and the other way round
+  -- a need in the circuit is one of the part
   need-back : (channels : List ℕ) (c d out : ℕ) → channels ≡ channels_to wires m → (wire_at wires c).producer ≡ m → out < length part.globals → value_at part.globals out ≡ (wire_at wires c).signal
       → NeedsChannel design.circuit listed wires c d → IsNeed part channels out d
   need-back channels c d out same e lt is needs =
@@ -236,7 +236,7 @@ needs-by design request listed wires plan c needs total machines lt are (inr pas
     (subst (λ (x : Machine). NeedsIn x.body x.ins (wire_at wires c).signal needs) (get_or_past plan.machines (wire_at wires c).producer no_machine past) are)
     (omega (arith, past, total))
 
--- the needs of a channel of the plan are those of the circuit
+-- the needs of a channel of the plan are its needs in the circuit
 pub channel-needs : (design : Ordered) (request : Request) (default : ℕ) (plan : Plan) → IsPlan design request default plan → (c : ℕ) (any : Channel)
     → c < length (wires_of design.circuit design.tree (listed_of design.tree request))
     → AreChannelNeeds design.circuit (listed_of design.tree request) (wires_of design.circuit design.tree (listed_of design.tree request)) c (slice_index_or plan.channels c any).needs

@@ -40,7 +40,7 @@ list-same (x ∷ xs) (y ∷ ys) e h =
     let head : x ≡ y = h 0 (omega arith) in
     let rest : xs ≡ ys = list-same xs ys (omega (arith, e)) (λ k lt. h (suc k) (omega (arith, lt))) in cc
 
--- what two functions make of a list is the same, where they agree on its elements
+-- two functions that agree on the elements of a list make the same of it
 map-on : (f g : ℕ → List ℕ) (xs : List ℕ) → ((d : ℕ) → Contains xs d → f d ≡ g d) → map f xs ≡ map g xs
 map-on f g [] h = refl
 map-on f g (x ∷ xs) h =

@@ -1,4 +1,4 @@
--- The text of a cut is one, for all designs that are alike.
+-- The text of a cut is the same for all designs that are alike.
 use Rattle.std.proofs.Common.{◌≡◌, ℕ, zero, suc, ◌+◌, ◌<◌, ◌≤◌, List, [], ◌∷◌, ◌++◌, length, map, refl, sym, ◌∙◌, ap, subst, inl, inr, ◌⊎◌, arith}
 use Rattle.std.specs.Prelude.{codes, flat_map, Contains, AllPairs, slice_index_or}
 use Rattle.std.specs.List.{range_with_len}
@@ -22,13 +22,13 @@ use Rattle.gg_cut.specs.declared.wires.Wire.{Wire}
 use Rattle.gg_check.specs.Alike.{AreAlike}
 use Rattle.gg_check.specs.CheckText.{AreChannelNeeds, IsCutText, IsPathInside, IsTextOfCut, NeedsChannel, channel_line, channel_name, channel_text, machine_line, machine_text}
 
--- ---- needs are one list
+-- ---- ascending lists of the same numbers are equal
 
--- of an ascending list the first is less than the others
+-- the first of an ascending list is less than the others
 head-least : (x : ℕ) (xs : List ℕ) (d : ℕ) → AllPairs (λ a b. a < b) (x ∷ xs) → Contains xs d → x < d
 head-least x xs d up (k, lt, is) = subst (λ y. x < y) is (up 0 (suc k) d (omega arith) (omega (arith, lt)))
 
--- without its first it is ascending too
+-- an ascending list without its first is ascending
 tail-up : (x : ℕ) (xs : List ℕ) → AllPairs (λ a b. a < b) (x ∷ xs) → AllPairs (λ a b. a < b) xs
 tail-up x xs up i j d lt within = up (suc i) (suc j) d (omega (arith, lt)) (omega (arith, within))
 
@@ -37,7 +37,7 @@ head-or : (x : ℕ) (xs : List ℕ) (d : ℕ) → Contains (x ∷ xs) d → (x �
 head-or x xs d (zero, lt, is) = inl is
 head-or x xs d (suc k, lt, is) = inr (k, omega (arith, lt), is)
 
--- an element of one list but for its first is one of the other's but for its first
+-- if a list has all of an ascending list and both begin with the same number, this holds of the rests too
 others : (x y : ℕ) (xs ys : List ℕ) → x ≡ y → AllPairs (λ a b. a < b) (x ∷ xs) → ((d : ℕ) → Contains (x ∷ xs) d → Contains (y ∷ ys) d) → (d : ℕ) → Contains xs d → Contains ys d
 others x y xs ys e up into d has = by (head-or y ys d (into d (suc has.0, omega (arith, has.1), has.2)))
   where
@@ -62,9 +62,9 @@ pub needs-same : (circuit : FlatCircuit) (listed : Listed) (wires : List Wire) (
 needs-same circuit listed wires c one other a b =
     ascending-same one other a.ascending b.ascending (λ d h. (b.each d).1 ((a.each d).0 h)) (λ d h. (a.each d).1 ((b.each d).0 h))
 
--- ---- the text of a design's cut is one
+-- ---- a cut of a design has one text
 
--- what f and g make of the numbers from a on, where they agree there
+-- f and g make the same of the numbers from a on if they agree on them
 lines-same : (f g : ℕ → List ℕ) (a n : ℕ) → ((k : ℕ) → a ≤ k → k < a + n → f k ≡ g k) → flat_map f (range_with_len a n) ≡ flat_map g (range_with_len a n)
 lines-same f g a zero h = refl
 lines-same f g a (suc n) h =
@@ -81,7 +81,7 @@ cut-text-once design request default listed wires text other a b =
     (needs-same design.circuit listed wires c (slice_index_or a.needs c []) (slice_index_or b.needs c []) (a.are c (omega (arith, lt))) (b.are c (omega (arith, lt))))))
     ∙ sym b.is
 
--- ---- and all designs that are alike have it
+-- ---- designs that are alike have the same text
 
 numbered-same : {A B : Type 0} (f g : ℕ → A → List B) → ((k : ℕ) (x : A) → f k x ≡ g k x) → (n : ℕ) (xs : List A) → numbered f n xs ≡ numbered g n xs
 numbered-same f g h n [] = refl
@@ -165,7 +165,7 @@ module _ (one other : Ordered) (s : AreAlike one other) (request : Request) (def
         (λ c le lt. channel-line-same c (slice_index_or a.needs c [])));
   }
 
--- the text of a request's cut of one design is that of the other's
+-- a text of a request's cut of one design is a text of its cut of any that is alike
 text-of-cut-carried : (one other : Ordered) → AreAlike one other → (request : Request) (default : ℕ) (text : List ℕ) → IsTextOfCut one request default text → IsTextOfCut other request default text
 text-of-cut-carried one other s request default text a =
     let listed = listed_of other.tree request in

@@ -1,4 +1,4 @@
--- The first fault of a request is one, for all designs that are alike.
+-- The first fault of a request is the same for all designs that are alike.
 use Rattle.std.proofs.Common.{◌≡◌, ℕ, ◌++◌, List, [], ◌∷◌, Option, map, refl, ap, ◌∙◌}
 use Rattle.std.specs.Prelude.{flat_map, option_map}
 use Rattle.gg_flat.specs.Circuit.{FlatCircuit, readers_at}

@@ -26,7 +26,7 @@ others : flat_map (machine_text design both_units listed) (1 ∷ 2 ∷ 3 ∷ 4 �
 unfolding digits
 others = refl
 
--- a line with two needs, one with one, and one without
+-- a line with two needs, one with one need, and one with none
 two-needs : channel_text design both_units 1 listed wires 4 (1 ∷ 2 ∷ []) ≡ codes "channel a.q a hub: UInt<8> capacity 1 needs a.x a.k\n"
 unfolding digits
 two-needs = refl
@@ -63,7 +63,7 @@ q-needs-x = record {
   reads = (five-free, record { signal = omega arith; names = (0, omega arith, refl) }, refl);
 }
 
--- `a.p` reads `a.x` alone, from which no path goes on: so it doesn't need `a.k`
+-- `a.p` reads only `a.x`, from which no path goes on: so it doesn't need `a.k`
 two-ends : (path : List ℕ) → IsPathInside circuit two_three 2 path 3 → ⊥
 two-ends [] e = absurd (omega (arith, e))
 two-ends (next ∷ path) h = h.0 (0, omega arith, refl)

@@ -1,4 +1,4 @@
--- Which paths of a tree hold which, and which signals': an instance's those of all that lies in it, a memory's those of its fields.
+-- Which paths of a tree hold others: an instance's path holds those of all that lies in it, a memory's path those of its fields.
 use Rattle.std.proofs.Common.{◌≡◌, ◌≢◌, ℕ, zero, suc, ◌<◌, ◌≤◌, List, [], length, true, sym, ◌∙◌, ap, subst, Some, inl, inr, ◌⊎◌, arith}
 use Rattle.gg_flat.specs.Circuit.{FlatCircuit}
 use Rattle.gg_flat.specs.Tree.{InstanceTree, IsTree, IsInnermost, IsJustBelow, path_at, instance_at, memory_at, parent_place}
@@ -42,7 +42,7 @@ module _ (circuit : FlatCircuit) (tree : InstanceTree) (fits : IsTree circuit tr
       (covers-lies-by fuel i below.above (omega (arith, below.before, le)) li (omega (arith, below.before, lk))
       (below-covers (path_at tree.paths i) (path_at tree.paths below.above) (path_at tree.paths (suc k)) below.path h))
 
-  -- an instance whose path is another's, or holds it, is that other one, or has it below it
+  -- an instance lies in each instance whose path covers its own
   pub covers-lies : (i k : ℕ) → i < length tree.instances → k < length tree.instances → Covers (path_at tree.paths i) (path_at tree.paths k) → lies tree k i ≡ true
   covers-lies i k li lk h = covers-lies-by k i k (omega arith) li lk h
 
@@ -91,11 +91,11 @@ module _ (circuit : FlatCircuit) (tree : InstanceTree) (fits : IsTree circuit tr
         by q lt rest (inl same) = scoped.apart q j lt lj (sym same)
         by q lt rest (inr up) = rest up
 
-    -- a memory's path holds no instance's
+    -- a memory's path holds no instance's path
     pub memory-no-instance : (j k : ℕ) → j < length tree.memories → k < length tree.instances → HoldsPath (path_at tree.memory_paths j) (path_at tree.paths k) → ⊥
     memory-no-instance j k lj lk h = memory-by k j k (omega arith) lj lk h
 
-    -- what holds a path just below an instance's is no memory's
+    -- a memory's path doesn't hold a path that stands just below an instance's
     memory-below : (j k : ℕ) (path : List ℕ) → j < length tree.memories → k < length tree.instances → IsJustBelow (path_at tree.paths k) path → HoldsPath (path_at tree.memory_paths j) path → ⊥
     memory-below j k path lj lk below h = by (below-covers (path_at tree.memory_paths j) (path_at tree.paths k) path below h)
       where
@@ -103,7 +103,7 @@ module _ (circuit : FlatCircuit) (tree : InstanceTree) (fits : IsTree circuit tr
         by (inl same) = scoped.apart k j lk lj (sym same)
         by (inr up) = memory-no-instance j k lj lk up
 
-    -- nor a memory's
+    -- a memory's path holds no memory's path
     pub memory-no-memory : (i j : ℕ) → i < length tree.memories → j < length tree.memories → HoldsPath (path_at tree.memory_paths i) (path_at tree.memory_paths j) → ⊥
     memory-no-memory i j li lj h = memory-below i (memory_at tree j).instance (path_at tree.memory_paths j) li (fits.held j lj).instance (fits.held j lj).path h
 
@@ -112,7 +112,7 @@ module _ (circuit : FlatCircuit) (tree : InstanceTree) (fits : IsTree circuit tr
     pub field-held : (j s : ℕ) → j < length tree.memories → IsFieldOf circuit tree j s → HoldsPath (path_at tree.memory_paths j) (path_at circuit.paths s)
     field-held j s lt field = within-held (path_at tree.memory_paths j) (path_at circuit.paths s) (named circuit tree fits scoped j lt) (scoped.fields j s lt field).path
 
-    -- a signal that a memory's path holds is its field
+    -- a signal whose path a memory's path holds is a field of that memory
     pub held-field : (k j s : ℕ) → IsInnermost tree k s → j < length tree.memories → HoldsPath (path_at tree.memory_paths j) (path_at circuit.paths s) → IsFieldOf circuit tree j s
     held-field k j s inner lj h = by (scoped.named k s inner)
       where
@@ -127,11 +127,11 @@ module _ (circuit : FlatCircuit) (tree : InstanceTree) (fits : IsTree circuit tr
             at (Outer o) = absurd (memory-no-memory j m.place lj m.known o)
             at (Inner o) = absurd (memory-no-memory m.place j m.known lj o)
 
-    -- an instance's path that holds a memory's, is or holds that of the memory's instance
+    -- an instance's path that holds a memory's covers the path of the memory's instance
     pub memory-covers : (i j : ℕ) → j < length tree.memories → HoldsPath (path_at tree.paths i) (path_at tree.memory_paths j) → Covers (path_at tree.paths i) (path_at tree.paths (memory_at tree j).instance)
     memory-covers i j lj h = below-covers (path_at tree.paths i) (path_at tree.paths (memory_at tree j).instance) (path_at tree.memory_paths j) (fits.held j lj).path h
 
-    -- what holds a signal's path is or holds the path of the innermost instance
+    -- an instance's path that holds a signal's covers the path of the signal's innermost instance
     pub held-covers : (i k s : ℕ) → IsInnermost tree k s → i < length tree.instances → HoldsPath (path_at tree.paths i) (path_at circuit.paths s) → Covers (path_at tree.paths i) (path_at tree.paths k)
     held-covers i k s inner li h = by (scoped.named k s inner)
       where
@@ -144,7 +144,7 @@ module _ (circuit : FlatCircuit) (tree : InstanceTree) (fits : IsTree circuit tr
             at (Outer o) = subst (λ q. Covers (path_at tree.paths i) (path_at tree.paths q)) m.holder (memory-covers i m.place m.known o)
             at (Inner o) = absurd (memory-no-instance m.place i m.known li o)
 
-    -- an instance below the top whose path is or holds that of the innermost instance, holds the signal's
+    -- the path of an instance below the top that covers the path of a signal's innermost instance holds the signal's path
     pub covers-held : (i k s : ℕ) → IsInnermost tree k s → 0 < i → i < length tree.instances → Covers (path_at tree.paths i) (path_at tree.paths k) → HoldsPath (path_at tree.paths i) (path_at circuit.paths s)
     covers-held i k s inner low li (inl same) =
         subst (λ p. HoldsPath p (path_at circuit.paths s)) (sym same)
@@ -153,7 +153,7 @@ module _ (circuit : FlatCircuit) (tree : InstanceTree) (fits : IsTree circuit tr
         holds-trans (path_at tree.paths i) (path_at tree.paths k) (path_at circuit.paths s) h
         (within-held (path_at tree.paths k) (path_at circuit.paths s) (holds-some (path_at tree.paths i) (path_at tree.paths k) h) (fits.signals k s inner))
 
-    -- an instance below the top whose path is or holds that of a memory's instance, holds the memory's
+    -- the path of an instance below the top that covers the path of a memory's instance holds the memory's path
     pub covers-memory : (i j : ℕ) → 0 < i → i < length tree.instances → j < length tree.memories → Covers (path_at tree.paths i) (path_at tree.paths (memory_at tree j).instance) → HoldsPath (path_at tree.paths i) (path_at tree.memory_paths j)
     covers-memory i j low li lj (inl same) =
         subst (λ p. HoldsPath p (path_at tree.memory_paths j)) (sym same)

@@ -89,7 +89,7 @@ module _ (circuit : FlatCircuit) (tree : InstanceTree) (listed : Listed) (formed
   -- ---- the choice
 
   module _ (m : ℕ) (globals memories : List ℕ) (low : m < first_source listed) (signals : (s : ℕ) → Contains globals s ↔ Gets circuit tree listed fits scoped apart m s) (once : AllPairs (λ a b. a ≢ b) globals) (banks : (k : ℕ) → Contains memories k ↔ HasMemory tree listed m k) (memories-once : AllPairs (λ a b. a ≢ b) memories) where
-    -- what isn't taken is made
+    -- a signal that the machine has and doesn't take, it makes
     maker : (s : ℕ) → Contains globals s → ¬ Takes (wires_of circuit tree listed) m s → Makes circuit tree listed (wires_of circuit tree listed) m s
     maker s h not-taken = by ((signals s).0 h)
       where

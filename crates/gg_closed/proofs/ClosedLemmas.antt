@@ -1,4 +1,4 @@
--- A machine is closed: what the driver, the register and the memory of a signal that it makes name, it makes or takes.
+-- A machine is closed: it makes or takes what is named by the driver, the register or the memory of a signal that it makes.
 use Rattle.std.proofs.Common.{◌≡◌, ◌≢◌, ℕ, ◌+◌, ◌<◌, ◌≤◌, List, [], length, get_or, true, refl, sym, ◌∙◌, ap, subst, Some, inl, inr, ◌⊎◌, slice_get, true-eqb, arith}
 use Rattle.std.specs.Prelude.{◌==◌, map, Contains, All}
 use Rattle.std.proofs.lemmas.Bool.{cases_lt, ne_eqb, eq-eqb}
@@ -31,7 +31,7 @@ use Rattle.gg_closed.proofs.OnceLemmas.{channel-one}
 use Rattle.gg_closed.proofs.MakerLemmas.{Gets, HasWire, IsOwned, find-unit, chosen-out, no-channel, gives, takes, owned, visible}
 use Rattle.gg_closed.proofs.WrittenLemmas.{IsWord, IsWrittenIn, made}
 
--- the driver of a reader's data names its address and its enable alone
+-- the driver of a reader's data names only the reader's address and enable
 reader-names : (latency : Latency) (m r t : ℕ) (reader : Reader) → NamesSignal (reader_driver latency m r reader) t → (reader.addr ≡ t) ⊎ (reader.en ≡ t)
 reader-names Zero m r t reader named = named
 reader-names (One under) m r t reader named = absurd named
@@ -47,7 +47,7 @@ module _ (circuit : FlatCircuit) (tree : InstanceTree) (listed : Listed) (formed
   abbrev memory_of : ℕ → ℕ
   memory_of i = (memory_at tree (value_at listed.memories i)).memory
 
-  -- a memory with a reader is the circuit's
+  -- only a memory of the circuit has readers
   pub reader-known : (m r : ℕ) → r < length (readers_at circuit m) → m < length circuit.memories
   reader-known m r lt = by (cases_lt m (length circuit.memories))
     where
@@ -60,7 +60,7 @@ module _ (circuit : FlatCircuit) (tree : InstanceTree) (listed : Listed) (formed
   word-driver : (m s : ℕ) → (w : IsWord circuit tree listed m s) → driver_at circuit s ≡ reader_driver (latency_at circuit (memory_of w.place)) (memory_of w.place) w.reader (reader_at (readers_at circuit (memory_of w.place)) w.reader)
   word-driver m s w = ap (driver_at circuit) w.is ∙ formed.reads (memory_of w.place) (reader-known (memory_of w.place) w.reader w.there) w.reader w.there
 
-  -- what the driver of a signal that the machine makes names, it makes or takes
+  -- a machine makes or takes what is named by the driver of a signal that it makes
   pub closed : (m s t : ℕ) → m < first_source listed → Makes circuit tree listed (wires_of circuit tree listed) m s → NamesSignal (driver_at circuit s) t → Gets circuit tree listed fits scoped apart m t
   closed m s t low makes named = by (made circuit tree listed fits scoped apart m s low makes)
     where
@@ -78,7 +78,7 @@ module _ (circuit : FlatCircuit) (tree : InstanceTree) (listed : Listed) (formed
               subst (λ u. Takes (wires_of circuit tree listed) (first_memory listed + w.place) u) e
               (takes circuit tree listed fits scoped apart (reader_at (readers_at circuit (memory_of w.place)) w.reader).en (outside_memory tree listed w.place) (first_memory listed + w.place) (en-wire circuit tree listed w.place w.reader w.known w.there))
 
-  -- and what its register names
+  -- and what is named by that signal's register
   pub register-closed : (m s r t : ℕ) (register : Register) → m < first_source listed → Makes circuit tree listed (wires_of circuit tree listed) m s → driver_at circuit s ≡ Held r → slice_get circuit.registers r ≡ Some register → RegisterNames register t → Gets circuit tree listed fits scoped apart m t
   register-closed m s r t register low makes held found named = by (made circuit tree listed fits scoped apart m s low makes)
     where
@@ -108,7 +108,7 @@ module _ (circuit : FlatCircuit) (tree : InstanceTree) (listed : Listed) (formed
 
   -- ---- memories
 
-  -- the machine of a listed memory, by its place among the listed ones; and of another
+  -- the owner of a listed memory is the machine of its place among the listed ones; the owner of another is its instance's machine
   pub owner-listed : (i : ℕ) → i < length listed.memories → memory_owner tree listed (value_at listed.memories i) ≡ first_memory listed + i
   owner-listed i lt =
       ap (memory_or (length listed.units) (owner_of_instance tree listed.units (memory_at tree (value_at listed.memories i)).instance))
@@ -131,14 +131,14 @@ module _ (circuit : FlatCircuit) (tree : InstanceTree) (listed : Listed) (formed
   flip-all : (j : ℕ) (places : List ℕ) → All (λ k. j ≢ k) places → All (λ k. k ≢ j) places
   flip-all j places none i d lt same = none i d lt (sym same)
 
-  -- the fields of a memory that isn't listed have no channel
+  -- a field of a memory that isn't listed has no channel, and belongs to the machine of the memory's instance
   pub unlisted-owned : (j s : ℕ) → j < length tree.memories → All (λ k. j ≢ k) listed.memories → IsFieldOf circuit tree j s → IsOwned circuit tree listed fits scoped apart s (memory_at tree j).instance
   unlisted-owned j s lt none field =
       owned circuit tree listed fits scoped apart (memory_at tree j).instance s (scoped.fields j s lt field).own
       (λ i d inside other. none i d inside (field-one circuit tree fits scoped j (get_or listed.memories i d) s lt (apart.memories i d inside) field other))
       (λ port. absurd (port-no-field circuit tree fits scoped (memory_at tree j).instance j s lt port field))
 
-  -- the fields of a machine's memories it makes or takes
+  -- a machine makes or takes the fields of its memories
   pub fields-closed : (m k s : ℕ) → HasMemory tree listed m k → Contains (memory_fields circuit k) s → s < length circuit.signals → Gets circuit tree listed fits scoped apart m s
   fields-closed m k s has field lt = by (find-listed has.place)
     where
@@ -158,7 +158,7 @@ module _ (circuit : FlatCircuit) (tree : InstanceTree) (listed : Listed) (formed
           ends (inl w) = inr (takes circuit tree listed fits scoped apart s (outside_memory tree listed at.place) (first_memory listed + at.place) w)
           ends (inr w) = inl (gives circuit tree listed fits scoped apart s (first_memory listed + at.place) (outside_memory tree listed at.place) w)
 
-  -- the data of a machine's memories it doesn't take
+  -- a machine doesn't take the data of its memories' readers
   pub words-made : (m k r : ℕ) → HasMemory tree listed m k → r < length (readers_at circuit k) → ¬ Takes (wires_of circuit tree listed) m (reader_at (readers_at circuit k) r).word
   words-made m k r has lt taken = by (find-listed has.place)
     where
@@ -181,7 +181,7 @@ module _ (circuit : FlatCircuit) (tree : InstanceTree) (listed : Listed) (formed
           let below = unit_or_hub-below tree listed.units (memory_at tree (value_at listed.memories at.place)).instance in
           omega (arith, number, out, below)
 
-  -- the memory that a signal's driver reads is that of the machine that makes the signal
+  -- a machine that makes the data of a memory's reader has that memory
   pub banks-closed : (m s j r : ℕ) → Makes circuit tree listed (wires_of circuit tree listed) m s → j < length tree.memories → IsDataOf circuit (memory_at tree j).memory r s → HasMemory tree listed m (memory_at tree j).memory
   banks-closed m s j r makes lt word = by (find-listed j)
     where

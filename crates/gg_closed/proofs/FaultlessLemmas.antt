@@ -1,4 +1,4 @@
--- What a request without a fault lists lies apart.
+-- What a request without a fault lists is apart: no unit lies in another (AreApart).
 use Rattle.std.proofs.Common.{◌≡◌, ℕ, zero, suc, ◌+◌, ◌<◌, ◌≤◌, List, [], ◌∷◌, ◌++◌, length, map, get_or, Bool, true, false, not, refl, sym, ◌∙◌, ap, Some, None, inl, inr, ◌⊎◌, arith}
 use Rattle.std.specs.Prelude.{Option, ◌||◌, find, cond, if◌then◌else◌, option_map, unwrap_or, nat_lt, All, AllPairs}
 use Rattle.std.specs.List.{list_any, range_with_len}
@@ -25,7 +25,7 @@ use Rattle.gg_closed.specs.Apart.{AreFew}
 use Rattle.gg_closed.proofs.ListLemmas.{AllPairs-map}
 use Rattle.std.specs.Prelude.{bytes_eq}
 
--- ---- no fault of two
+-- ---- neither of two has a fault
 
 none-first : {A : Type 0} (a b : Option A) → or_else a b ≡ None → a ≡ None
 none-first None b e = refl
@@ -39,7 +39,7 @@ none-map : {A B : Type 0} (f : A → B) (a : Option A) → option_map f a ≡ No
 none-map f None e = refl
 none-map f (Some x) e = absurd (cc)
 
--- ---- none found
+-- ---- nothing is found
 
 none-found : {A : Type 0} (test : A → Bool) (xs : List A) → find (λ x. not (test x)) xs ≡ None → All (λ x. test x ≡ true) xs
 none-found test [] e = λ k d lt. absurd (omega (arith, lt))
@@ -106,7 +106,7 @@ unclashed clash earlier (path ∷ paths) e = by (cases_Bool (list_any (clash pat
 -- ---- what is listed
 
 module _ (tree : InstanceTree) where
-  -- an instance path is that of an instance below the top
+  -- an instance path is the path of an instance below the top
   lower-place : (path : List ℕ) → is_instance_path tree path ≡ true → (0 < instance_of tree path) × (instance_of tree path < length tree.paths)
   lower-place path e = by (place_of tree.paths path) refl (ap is_lower (sym refl) ∙ e)
     where
@@ -160,7 +160,7 @@ module _ (tree : InstanceTree) where
       flip : {a b : Bool} → (a ≡ false) × (b ≡ false) → (b ≡ false) × (a ≡ false)
       flip p = (p.1, p.0)
 
--- a request without a fault
+-- for a request without a fault
 module _ (design : Ordered) (request : Request) (none : first_fault design request ≡ None) where
   abbrev tree : InstanceTree
   tree = design.tree

@@ -1,4 +1,4 @@
--- What a path that holds another says, over plain lists.
+-- What follows from a path holding another, for paths as plain lists.
 use Rattle.std.proofs.Common.{◌≡◌, ◌≢◌, ℕ, ◌<◌, List, [], ◌∷◌, ◌++◌, length, refl, sym, ◌∙◌, ap, subst, inl, inr, append_assoc, length-append, arith}
 use Rattle.std.specs.Prelude.{Contains}
 use Rattle.std.proofs.lemmas.List.{append_cancel_left}
@@ -27,9 +27,9 @@ holds-trans p q r h k =
       is = k.is ∙ ap (λ l. l ++ 46 ∷ k.rest) h.is ∙ append_assoc p (46 ∷ h.rest) (46 ∷ k.rest);
     }
 
--- ---- two fronts of one path
+-- ---- two paths that hold the same path
 
--- what two paths that hold one are to each other
+-- two paths that hold the same path are equal, or one holds the other
 pub data Fronts (p q : List ℕ) : Type 0 where
   Equal : p ≡ q → Fronts p q
   Outer : HoldsPath p q → Fronts p q
@@ -51,7 +51,7 @@ fronts-of p q path h k = fronts p q h.rest k.rest (sym h.is ∙ k.is)
 
 -- ---- names below a path
 
--- what stands below a path that isn't empty, the path holds
+-- a path that isn't empty holds each path within it
 pub within-held : (q path : List ℕ) → q ≢ [] → IsWithin q path → HoldsPath q path
 within-held [] path some h = absurd (some refl)
 within-held (b ∷ q) path some h = record { rest = h.rest; is = h.is }
@@ -59,7 +59,7 @@ within-held (b ∷ q) path some h = record { rest = h.rest; is = h.is }
 pub below-held : (q path : List ℕ) → q ≢ [] → IsJustBelow q path → HoldsPath q path
 below-held q path some h = within-held q path some (record { rest = h.name; is = h.is })
 
--- what holds a path just below another is that other one, or holds it
+-- a path that holds one just below q covers q
 pub below-covers : (p q path : List ℕ) → IsJustBelow q path → HoldsPath p path → Covers p q
 below-covers p [] path below h = absurd (below.plain (subst (λ (l : List ℕ). Contains l 46) (sym h.is ∙ below.is) (dot-in p h.rest)))
 below-covers p (b ∷ q) path below h = by (fronts-of p (b ∷ q) path h (record { rest = below.name; is = below.is }))

@@ -18,7 +18,7 @@ use Rattle.gg_closed.proofs.ListLemmas.{Somewhere, Contains-map, map-cases, flat
 
 -- ---- fields
 
--- the channel of a reader's data, from the memory; and one of another field, to it
+-- the channel of a reader's data, out of the memory; and the channel of another field, into it
 pub record IsWordWire (readers : List Reader) (outside number : ℕ) (w : Wire) : Type 0 where
   pub reader : ℕ
   pub known : reader < length readers
@@ -48,7 +48,7 @@ writer-case outside number writer w (suc (suc (suc zero)), lt, e) =
     record { field = (3, omega arith, ap (λ (v : Wire). v.signal) e); producer = sym (ap (λ (v : Wire). v.producer) e); consumer = sym (ap (λ (v : Wire). v.consumer) e) }
 writer-case outside number writer w (suc (suc (suc (suc k))), lt, e) = absurd (omega (arith, lt))
 
--- the fields of memories by lists
+-- the fields of these readers and writers
 abbrev fields-of : List Reader → List Writer → List ℕ
 fields-of readers writers = flat_map (λ reader. reader_fields reader) readers ++ flat_map (λ writer. writer_fields writer) writers
 
@@ -154,7 +154,7 @@ pub record IsTrayWire (circuit : FlatCircuit) (listed : Listed) (w : Wire) : Typ
   pub known : place < length circuit.outs
   pub is : w ≡ wire (value_at circuit.outs place) 0 (first_tray circuit listed + place)
 
--- the machine outside a unit, and outside a listed memory
+-- the machine at the other end of a unit's channels, and of a listed memory's
 abbrev pub outside_unit : InstanceTree → Listed → ℕ → ℕ
 outside_unit tree listed i = owner_of_instance tree listed.units (parent_place (instance_at tree (value_at listed.units i)).parent)
 
@@ -206,7 +206,7 @@ module _ (circuit : FlatCircuit) (tree : InstanceTree) (listed : Listed) where
   only v w (zero, lt, e) = e
   only v w (suc k, lt, e) = absurd (omega (arith, lt))
 
-  -- each channel is of one of the kinds
+  -- each channel is of one of these kinds
   pub kind-of : (w : Wire) → Contains wires w → Kind circuit tree listed w
   kind-of w h = first (Contains-append_cases sources (ports ++ (fields ++ trays)) w h)
     where

@@ -1,4 +1,4 @@
--- What lists contain that are put together of others, and pairs of them.
+-- What a list contains that is made from other lists; and pairs of its items.
 use Rattle.std.proofs.Common.{◌≡◌, ◌≢◌, ℕ, zero, suc, ◌+◌, ◌<◌, ◌≤◌, List, [], ◌∷◌, ◌++◌, length, map, get_or, Bool, true, false, refl, sym, ◌∙◌, ap, subst, inl, inr, ◌⊎◌, arith}
 use Rattle.std.specs.Prelude.{filter, cond, flat_map, Contains, All, AllPairs}
 use Rattle.std.proofs.lemmas.Bool.{cases_lt, cases_Bool}
@@ -53,7 +53,7 @@ Contains-filter test (y ∷ ys) x h e = by (Contains-cases y x ys h) (λ r. Cont
     by (inr r) rest (inl t) = subst (λ b. Contains (cond b (y ∷ filter test ys) (filter test ys)) x) (sym t) (there y x (filter test ys) (rest r))
     by (inr r) rest (inr t) = subst (λ b. Contains (cond b (y ∷ filter test ys) (filter test ys)) x) (sym t) (rest r)
 
--- an item of a filter is the list's, and passes
+-- the item is in the list and passes the test
 pub record IsKept {A : Type 0} (test : A → Bool) (xs : List A) (x : A) : Type 0 where
   pub among : Contains xs x
   pub passes : test x ≡ true
@@ -100,7 +100,7 @@ numbered-in f n (x ∷ xs) (suc i) d y lt h =
     Contains-append_right (f n x) (numbered f (suc n) xs) y
     (numbered-in f (suc n) xs i d y (omega (arith, lt)) (subst (λ k. Contains (f k (get_or xs i d)) y) (let same : n + suc i ≡ suc n + i = omega arith in same) h))
 
--- an item of a numbered list is made of one of its items, with its number
+-- the item is among what f makes of an item of the list and that item's number
 pub record IsNumbered {A B : Type 0} (f : ℕ → A → List B) (n : ℕ) (xs : List A) (y : B) : Type 0 where
   pub place : ℕ
   pub within : place < length xs

@@ -14,7 +14,7 @@ use Rattle.gg_cut.proofs.PathLemmas.{first_place-Some}
 use Rattle.gg_closed.specs.Longest.{listed_paths}
 use Rattle.gg_closed.proofs.LongestLemmas.{ArePaths}
 
--- the path of the instance that an instance path names is that path
+-- an instance path is the path of the instance that it names
 instance-path : (tree : InstanceTree) (path : List ℕ) → is_instance_path tree path ≡ true → path_at tree.paths (instance_of tree path) ≡ path
 instance-path tree path e = by (place_of tree.paths path) refl
   where
@@ -27,7 +27,7 @@ instance-path tree path e = by (place_of tree.paths path) refl
         ap (λ p. path_at tree.paths (unwrap_or p 0)) f
         ∙ sym ((bytes_eq-Decides path (path_at tree.paths k)).0 ((first_place-Some (bytes_eq path) tree.paths k f).passes []))
 
--- items that pass a test by what is made of them
+-- a test of what f makes of an item can be done before f or after it
 kept-map : {A B : Type 0} (f : A → B) (test : B → Bool) (xs : List A) → map f (filter (λ x. test (f x)) xs) ≡ filter test (map f xs)
 kept-map f test [] = refl
 kept-map f test (x ∷ xs) = by (test (f x)) ∙ ap (λ l. cond (test (f x)) (f x ∷ l) l) (kept-map f test xs)
@@ -42,7 +42,7 @@ all-paths paths n e =
     ext_get_or [] (map (path_at paths) (range_with_len 0 n)) paths (length-map-range_with_len (path_at paths) 0 n ∙ sym e)
     (λ i lt. get_or-map-range_with_len (path_at paths) 0 n i i [] (omega (arith, lt, length-map-range_with_len (path_at paths) 0 n)) (let same : 0 + i ≡ i = omega arith in same))
 
--- the paths of the listed memories, by their places or by the request
+-- the paths of the listed memories are, in order, the paths of the tree's memories that the request has
 pub memory-paths : (tree : InstanceTree) (request : Request) → length tree.memory_paths ≡ length tree.memories → map (path_at tree.memory_paths) (listed_of tree request).memories ≡ filter (is_among request.memories) tree.memory_paths
 memory-paths tree request named =
     kept-map (path_at tree.memory_paths) (is_among request.memories) (range_with_len 0 (length tree.memories))

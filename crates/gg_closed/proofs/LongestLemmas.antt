@@ -17,9 +17,9 @@ use Rattle.gg_closed.proofs.MakerLemmas.{IsNoField, owner-signal, any-contains}
 use Rattle.gg_closed.proofs.HoldLemmas.{Fronts, Equal, Outer, Inner, fronts-of, holds-shorter}
 use Rattle.gg_closed.proofs.BelowLemmas.{covers-lies, lies-covers, memory-no-instance, memory-no-memory, field-held, held-field, held-covers, covers-held, memory-covers, covers-memory}
 
--- ---- the longest
+-- ---- the longest path
 
--- there is one
+-- at most one machine has it
 pub longest-one : (Has : List ℕ → Type 0) (paths : List (List ℕ)) (m n : ℕ) → IsOfLongest Has paths m → IsOfLongest Has paths n → m ≡ n
 longest-one Has paths zero zero a b = refl
 longest-one Has paths zero (suc k) a b = absurd (a k b.known b.has)
@@ -33,12 +33,12 @@ longest-one Has paths (suc j) (suc k) a b = by (cases_eq j k)
         let y = b.longest j a.known other a.has in
         absurd (omega (arith, x, y))
 
--- two properties that the same paths have
+-- properties that the same paths have make the same machine's path the longest
 pub longest-same : (Has Other : List ℕ → Type 0) (paths : List (List ℕ)) (m : ℕ) → ((i : ℕ) → i < length paths → Has (path_at paths i) → Other (path_at paths i)) → ((i : ℕ) → i < length paths → Other (path_at paths i) → Has (path_at paths i)) → IsOfLongest Has paths m → IsOfLongest Other paths m
 longest-same Has Other paths zero to back h = λ i lt other. h i lt (back i lt other)
 longest-same Has Other paths (suc k) to back h = record { known = h.known; has = to k h.known h.has; longest = λ i lt ne other. h.longest i lt ne (back i lt other) }
 
--- two paths that are or hold one
+-- two paths that cover the same path are equal, or one holds the other
 covers-fronts : (p q path : List ℕ) → Covers p path → Covers q path → Fronts p q
 covers-fronts p q path (inl a) (inl b) = Equal (a ∙ sym b)
 covers-fronts p q path (inl a) (inr k) = Inner (subst (HoldsPath q) (sym a) k)
@@ -81,7 +81,7 @@ module _ (circuit : FlatCircuit) (tree : InstanceTree) (listed : Listed) (fits :
       by (inr le) (inl lt) = absurd (true≢false (sym e ∙ (apart.apart j i 0 lt li).1))
       by (inr le) (inr ge) = omega (arith, le, ge)
 
-  -- two units whose paths hold one are one
+  -- two units are the same if their paths are equal or one holds the other
   fronts-one : (i j : ℕ) → i < length listed.units → j < length listed.units → Fronts (path_at tree.paths (value_at listed.units i)) (path_at tree.paths (value_at listed.units j)) → i ≡ j
   fronts-one i j li lj (Equal same) = lies-one i j li lj (covers-lies circuit tree fits (value_at listed.units j) (value_at listed.units i) (unit-at j lj) (unit-at i li) (inl (sym same)))
   fronts-one i j li lj (Outer h) = sym (lies-one j i lj li (covers-lies circuit tree fits (value_at listed.units i) (value_at listed.units j) (unit-at i li) (unit-at j lj) (inr h)))
@@ -92,7 +92,7 @@ module _ (circuit : FlatCircuit) (tree : InstanceTree) (listed : Listed) (fits :
 
   -- ---- instances
 
-  -- a memory's path is no instance's and holds none
+  -- a memory's path covers no instance's
   memory-covers-none : (j k : ℕ) → j < length listed.memories → k < length tree.instances → Covers (path_at paths (length listed.units + j)) (path_at tree.paths k) → ⊥
   memory-covers-none j k lj lk h = by (subst (λ p. Covers p (path_at tree.paths k)) (are.memory j lj) h)
     where
@@ -103,7 +103,7 @@ module _ (circuit : FlatCircuit) (tree : InstanceTree) (listed : Listed) (fits :
   unit-covers : (i k : ℕ) → i < length listed.units → Covers (path_at paths i) (path_at tree.paths k) → Covers (path_at tree.paths (value_at listed.units i)) (path_at tree.paths k)
   unit-covers i k li h = subst (λ p. Covers p (path_at tree.paths k)) (are.unit i li) h
 
-  -- a listed path that is or holds an instance's is that of a unit in which it lies
+  -- a listed path that covers an instance's path is the path of a unit in which the instance lies
   covering : (k i : ℕ) → k < length tree.instances → i < length paths → Covers (path_at paths i) (path_at tree.paths k) → (i < length listed.units) × (lies tree k (value_at listed.units i) ≡ true)
   covering k i lk lt h = by (place-of i lt)
     where
@@ -148,11 +148,11 @@ module _ (circuit : FlatCircuit) (tree : InstanceTree) (listed : Listed) (fits :
     unit-holds : (i : ℕ) → i < length listed.units → HoldsPath (path_at paths i) (path_at circuit.paths s) → HoldsPath (path_at tree.paths (value_at listed.units i)) (path_at circuit.paths s)
     unit-holds i li h = subst (λ p. HoldsPath p (path_at circuit.paths s)) (are.unit i li) h
 
-    -- a listed memory whose path holds the signal's has it as a field
+    -- a listed memory whose path holds the signal's has the signal as a field
     memory-holds : (j : ℕ) → j < length listed.memories → HoldsPath (path_at paths (length listed.units + j)) (path_at circuit.paths s) → IsFieldOf circuit tree (value_at listed.memories j) s
     memory-holds j lj h = held-field circuit tree fits scoped k (value_at listed.memories j) s inner (memory-in j lj) (subst (λ p. HoldsPath p (path_at circuit.paths s)) (are.memory j lj) h)
 
-    -- where no listed memory has it, what holds it is or holds the instance
+    -- where no listed memory has the signal as a field, the machine of the longest path that holds the signal's is its instance's
     plain-longest : IsNoField circuit tree listed s → IsOfLongest (λ path. HoldsPath path (path_at circuit.paths s)) paths (owner_of_instance tree listed.units k)
     plain-longest none =
         longest-same (λ path. Covers path (path_at tree.paths k)) (λ path. HoldsPath path (path_at circuit.paths s)) paths (owner_of_instance tree listed.units k) to back (instance-longest k inner.known)
@@ -172,7 +172,7 @@ module _ (circuit : FlatCircuit) (tree : InstanceTree) (listed : Listed) (fits :
                 (held-covers circuit tree fits scoped (value_at listed.units i) k s inner (unit-at i less) (unit-holds i less h))
             by (Behind j lj e) = absurd (none j 0 lj (memory-holds j lj (subst (λ n. HoldsPath (path_at paths n) (path_at circuit.paths s)) e h)))
 
-    -- a field of a listed memory is held by that memory's path, which is longer than a unit's that holds it
+    -- the longest path that holds the path of a field of a listed memory is the memory's
     field-longest : (j : ℕ) → j < length listed.memories → IsFieldOf circuit tree (value_at listed.memories j) s → IsLongest (λ path. HoldsPath path (path_at circuit.paths s)) paths (length listed.units + j)
     field-longest j lj field =
         record {
@@ -241,7 +241,7 @@ module _ (circuit : FlatCircuit) (tree : InstanceTree) (listed : Listed) (fits :
   -- ---- memories
 
   module _ (j : ℕ) (lj : j < length tree.memories) where
-    -- a listed memory whose path is this one's, or holds it, is this one
+    -- a listed memory whose path covers this memory's path is this memory
     memory-same : (i : ℕ) → i < length listed.memories → Covers (path_at paths (length listed.units + i)) (path_at tree.memory_paths j) → value_at listed.memories i ≡ j
     memory-same i li h = by (subst (λ p. Covers p (path_at tree.memory_paths j)) (are.memory i li) h)
       where
@@ -249,7 +249,7 @@ module _ (circuit : FlatCircuit) (tree : InstanceTree) (listed : Listed) (fits :
         by (inl same) = one-place tree.memory_paths (value_at listed.memories i) j fits.memory_distinct (let known = memory-in i li in omega (arith, known, fits.memory_named)) (omega (arith, lj, fits.memory_named)) same
         by (inr up) = absurd (memory-no-memory circuit tree fits scoped (value_at listed.memories i) j (memory-in i li) lj up)
 
-    -- a unit's path isn't a memory's
+    -- a unit's path that covers the memory's path holds it
     unit-memory : (i : ℕ) → i < length listed.units → Covers (path_at paths i) (path_at tree.memory_paths j) → HoldsPath (path_at tree.paths (value_at listed.units i)) (path_at tree.memory_paths j)
     unit-memory i li h = by (subst (λ p. Covers p (path_at tree.memory_paths j)) (are.unit i li) h)
       where
@@ -257,7 +257,7 @@ module _ (circuit : FlatCircuit) (tree : InstanceTree) (listed : Listed) (fits :
         by (inl same) = absurd (scoped.apart (value_at listed.units i) j (unit-at i li) lj same)
         by (inr up) = up
 
-    -- where it is listed
+    -- where the memory is listed, its own path is the longest
     own-longest : (u : ℕ) → u < length listed.memories → value_at listed.memories u ≡ j → IsLongest (λ path. Covers path (path_at tree.memory_paths j)) paths (length listed.units + u)
     own-longest u lu is =
         record {
@@ -285,7 +285,7 @@ module _ (circuit : FlatCircuit) (tree : InstanceTree) (listed : Listed) (fits :
             let one = same-place o lo (memory-same o lo (subst (λ n. Covers (path_at paths n) (path_at tree.memory_paths j)) e h)) in
             absurd (ne (omega (arith, e, one)))
 
-    -- where it isn't
+    -- where it isn't, the machine of the longest path is its instance's
     held-longest : ((i : ℕ) → i < length listed.memories → value_at listed.memories i ≢ j) → IsOfLongest (λ path. Covers path (path_at tree.memory_paths j)) paths (owner_of_instance tree listed.units (memory_at tree j).instance)
     held-longest none =
         longest-same (λ path. Covers path (path_at tree.paths (memory_at tree j).instance)) (λ path. Covers path (path_at tree.memory_paths j)) paths (owner_of_instance tree listed.units (memory_at tree j).instance) to back

@@ -1,4 +1,4 @@
--- What machines make and take: what is written in an instance its machine makes, and what is visible there it makes or takes.
+-- What machines make and take: the machine of an instance makes what is written there, and makes or takes what is visible there.
 use Rattle.std.proofs.Common.{◌≡◌, ◌≢◌, ℕ, zero, suc, ◌+◌, ◌<◌, List, [], ◌∷◌, length, map, get_or, Bool, true, false, not, refl, sym, ◌∙◌, ap, subst, Some, None, inl, inr, ◌⊎◌, eq-eqb, true-eqb, arith}
 use Rattle.std.specs.Prelude.{◌||◌, ◌==◌, if◌then◌else◌, filter, Contains, All}
 use Rattle.std.specs.List.{range_with_len, list_any}
@@ -50,7 +50,7 @@ range-below n c h =
     let is = sym (get_or-range_with_len 0 n h.0 c lt) ∙ h.2 in
     omega (arith, lt, is)
 
--- the signals of the channels that pass a test
+-- the signal of a channel that passes a test is among the signals of all that pass
 pub chosen-in : (wires : List Wire) (test : Wire → Bool) (w : Wire) → Contains wires w → test w ≡ true → Contains (signals_of wires (filter (λ c. test (wire_at wires c)) (range_with_len 0 (length wires)))) w.signal
 chosen-in wires test w h e =
     let c = channel-of wires w h in
@@ -58,7 +58,7 @@ chosen-in wires test w h e =
     (Contains-map (λ c. (wire_at wires c).signal) (filter (λ c. test (wire_at wires c)) (range_with_len 0 (length wires))) c.number
     (Contains-filter (λ c. test (wire_at wires c)) (range_with_len 0 (length wires)) c.number (in-range (length wires) c.number c.known) (ap test c.is ∙ e)))
 
--- a channel of the signal that passes the test
+-- a channel of signal s that passes the test
 pub record HasWire (wires : List Wire) (test : Wire → Bool) (s : ℕ) : Type 0 where
   pub wire : Wire
   pub among : Contains wires wire
@@ -75,7 +75,7 @@ chosen-out wires test s h =
 
 -- ---- decisions
 
--- a port of these of signal s
+-- one of these ports has signal s
 pub record HasPort (ports : List InstancePort) (s : ℕ) : Type 0 where
   pub port : InstancePort
   pub among : Contains ports port
@@ -94,7 +94,7 @@ find-port (p ∷ ports) s = by (cases_eq p.signal s) (find-port ports s)
         at q (zero, lt, e) is = ne (ap (λ (x : InstancePort). x.signal) e ∙ is)
         at q (suc k, lt, e) is = none (record { port = q; among = (k, omega (arith, lt), e); is = is })
 
--- an instance is a unit, or none
+-- an instance is a unit, or it isn't
 pub find-unit : (units : List ℕ) (k : ℕ) → Somewhere (λ unit. k ≡ unit) units ⊎ All (λ unit. k ≢ unit) units
 find-unit [] k = inr (λ i d lt. absurd (omega (arith, lt)))
 find-unit (u ∷ units) k = by (cases_eq k u) (find-unit units k)
@@ -130,7 +130,7 @@ any-contains (x ∷ xs) s e = by (x == s) refl e (λ f. any-contains xs s f)
     by false f e rest = let h = rest e in (suc h.0, omega (arith, h.1), h.2)
 
 module _ (circuit : FlatCircuit) (tree : InstanceTree) (listed : Listed) where
-  -- a listed memory has the signal as a field, or none has
+  -- one of these memories has the signal as a field, or none of them has
   pub find-field-in : (places : List ℕ) (s : ℕ) → Somewhere (λ j. IsFieldOf circuit tree j s) places ⊎ All (λ j. IsFieldOf circuit tree j s → ⊥) places
   find-field-in [] s = inr (λ i d lt. absurd (omega (arith, lt)))
   find-field-in (j ∷ places) s = by (find-number (memory_fields circuit (memory_at tree j).memory) s) (find-field-in places s)
@@ -172,7 +172,7 @@ module _ (circuit : FlatCircuit) (tree : InstanceTree) (listed : Listed) (fits :
   pub takes : (s p c : ℕ) → Contains wires (wire s p c) → Takes (wires_of circuit tree listed) c s
   takes s p c h = chosen-in wires (λ w. w.consumer == c) (wire s p c) h (eq-eqb c c refl)
 
-  -- a channel of a signal that has none
+  -- a signal without a channel is the signal of no channel
   pub no-channel : (s : ℕ) (w : Wire) → IsInner (wires_of circuit tree listed) s → Contains wires w → w.signal ≡ s → ⊥
   no-channel s w inner h e = let c = channel-of wires w h in inner c.number c.known (ap (λ (v : Wire). v.signal) c.is ∙ e)
 
@@ -306,7 +306,7 @@ module _ (circuit : FlatCircuit) (tree : InstanceTree) (listed : Listed) (fits :
       by (inl w) = subst (λ j. Gets (owner_of_instance tree listed.units j) s) same (inl (gives s (outside_memory tree listed at.place) (first_memory listed + at.place) w))
       by (inr w) = subst (λ j. Gets (owner_of_instance tree listed.units j) s) same (inr (takes s (first_memory listed + at.place) (outside_memory tree listed at.place) w))
 
-  -- an instance's own signal its machine makes or takes
+  -- the machine of an instance makes or takes the instance's own signals
   pub own : (k s : ℕ) → IsInnermost tree k s → Gets (owner_of_instance tree listed.units k) s
   own k s inner = by (find-port (instance_at tree k).ports s) (find-field-in circuit tree listed listed.memories s)
     where
@@ -315,7 +315,7 @@ module _ (circuit : FlatCircuit) (tree : InstanceTree) (listed : Listed) (fits :
       by (inr no-port) (inl at) = own-field k s inner at
       by (inr no-port) (inr none) = owned-gets k s inner (owned k s inner none (λ p. absurd (no-port (record { port = p.port; among = p.listed; is = p.is }))))
 
-  -- a port of an instance that another holds, the machine of that one makes or takes
+  -- the machine of an instance makes or takes the ports of the instances that this one holds
   pub child-port : (k c s : ℕ) → (instance_at tree c).parent ≡ Some k → IsPort tree c s → Gets (owner_of_instance tree listed.units k) s
   child-port k c s parent port = by (find-unit listed.units c)
     where
@@ -340,7 +340,7 @@ module _ (circuit : FlatCircuit) (tree : InstanceTree) (listed : Listed) (fits :
           subst (λ m. Gets m s) (owner-inner circuit tree listed fits apart c k port.known parent none)
           (owned-gets c s inner (owned c s inner (port-plain c s port) (λ p. (none, lower c parent))))
 
-  -- what is visible in an instance, its machine makes or takes
+  -- the machine of an instance makes or takes what is visible in the instance
   pub visible : (k t : ℕ) → IsVisible tree k t → Gets (owner_of_instance tree listed.units k) t
   visible k t (inl inner) = own k t inner
   visible k t (inr child) = child-port k child.child t child.parent child.port

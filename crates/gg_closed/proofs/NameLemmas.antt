@@ -1,4 +1,4 @@
--- Ports are no fields, and a field is one memory's: by the paths of their signals.
+-- No port is a field of a memory, and no signal is a field of two memories: by the paths of the signals.
 use Rattle.std.proofs.Common.{◌≡◌, ◌≢◌, ℕ, ◌<◌, List, [], ◌∷◌, ◌++◌, length, refl, sym, ◌∙◌, ap, subst, append_assoc, arith}
 use Rattle.std.specs.Prelude.{Contains}
 use Rattle.std.proofs.lemmas.List.{append_cancel_left}
@@ -21,7 +21,7 @@ same-head e = cc
 pub same-tail : {a b : ℕ} {xs ys : List ℕ} → a ∷ xs ≡ b ∷ ys → xs ≡ ys
 same-tail e = cc
 
--- up to the first dot
+-- equal lists have the same up to the first dot
 first-dot : (n m r q : List ℕ) → ¬ Contains n 46 → ¬ Contains m 46 → n ++ 46 ∷ r ≡ m ++ 46 ∷ q → n ≡ m
 first-dot [] [] r q a b e = refl
 first-dot [] (y ∷ m) r q a b e = absurd (b (0, omega arith, sym (same-head e)))
@@ -32,7 +32,7 @@ first-dot (x ∷ n) (y ∷ m) r q a b e =
     by : x ≡ y → n ≡ m → x ∷ n ≡ y ∷ m
     by e f = cc
 
--- what is within a path that is below another is, below that one, a name, a dot and a rest
+-- a path joined with a name and then with a rest is the path joined with the name, a dot and the rest
 below-within : (p n r : List ℕ) → joined p n ≢ [] → joined (joined p n) r ≡ joined p (n ++ 46 ∷ r)
 below-within [] [] r some = absurd (some refl)
 below-within [] (x ∷ n) r some = refl
@@ -49,7 +49,7 @@ module _ (circuit : FlatCircuit) (tree : InstanceTree) (fits : IsTree circuit tr
   pub named : (j : ℕ) → j < length tree.memories → path_at tree.memory_paths j ≢ []
   named j lt e = scoped.apart 0 j fits.top.there lt (fits.top.path ∙ sym e)
 
-  -- a field's path, below the instance that holds the memory
+  -- the path of a field: the path p of the memory's instance, the memory's name, a dot and a rest
   pub record IsFieldPath (j s : ℕ) (p : List ℕ) : Type 0 where
     pub name : List ℕ
     pub plain : ¬ Contains name 46
@@ -70,7 +70,7 @@ module _ (circuit : FlatCircuit) (tree : InstanceTree) (fits : IsTree circuit tr
         is = within.is ∙ ap (λ l. joined l within.rest) below.is ∙ below-within p below.name within.rest (λ e. named j lt (below.is ∙ e));
       }
 
-  -- a port is no field
+  -- a port is no field of a memory
   pub port-no-field : (k j s : ℕ) → j < length tree.memories → IsPort tree k s → IsFieldOf circuit tree j s → ⊥
   port-no-field k j s lt port field =
       let own = scoped.ports k s port in
@@ -81,7 +81,7 @@ module _ (circuit : FlatCircuit) (tree : InstanceTree) (fits : IsTree circuit tr
       let equal = joined-same p own.path.name (path.name ++ 46 ∷ path.rest) (sym short ∙ path.is) in
       own.path.plain (subst (λ (l : List ℕ). Contains l 46) (sym equal) (dot-in path.name path.rest))
 
-  -- a field is one memory's
+  -- a signal is a field of one memory only
   pub field-one : (i j s : ℕ) → i < length tree.memories → j < length tree.memories → IsFieldOf circuit tree i s → IsFieldOf circuit tree j s → i ≡ j
   field-one i j s li lj a b =
       let same = innermost-one circuit tree fits (memory_at tree i).instance (memory_at tree j).instance s (scoped.fields i s li a).own (scoped.fields j s lj b).own in

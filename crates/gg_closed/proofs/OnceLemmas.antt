@@ -25,7 +25,7 @@ use Rattle.gg_closed.proofs.NameLemmas.{port-no-field, field-one}
 some-port : InstancePort
 some-port = record { signal = 0; is_input = true }
 
--- a top input is an input of the top, and so on: the port of a signal among chosen ports
+-- one of these ports passes the test and has signal s
 pub record IsChosen (ports : List InstancePort) (test : InstancePort → Bool) (s : ℕ) : Type 0 where
   pub port : InstancePort
   pub among : Contains ports port
@@ -48,7 +48,7 @@ module _ (circuit : FlatCircuit) (tree : InstanceTree) (listed : Listed) (fits :
   pub top-port : (s : ℕ) (test : InstancePort → Bool) → IsChosen (instance_at tree 0).ports test s → IsPort tree 0 s
   top-port s test c = record { known = fits.top.there; port = c.port; listed = c.among; is = c.is }
 
-  -- two ports of an instance with one signal are one
+  -- two ports of an instance with the same signal are the same
   pub port-one : (k : ℕ) (p q : InstancePort) → k < length tree.instances → Contains (instance_at tree k).ports p → Contains (instance_at tree k).ports q → p.signal ≡ q.signal → p ≡ q
   port-one k p q lt a b same = by (cases_lt a.0 b.0) (cases_lt b.0 a.0)
     where
@@ -77,7 +77,7 @@ module _ (circuit : FlatCircuit) (tree : InstanceTree) (listed : Listed) (fits :
   pub same-instance : (k j s : ℕ) → IsPort tree k s → IsPort tree j s → k ≡ j
   same-instance k j s a b = innermost-one circuit tree fits k j s (scoped.ports k s a).own (scoped.ports j s b).own
 
-  -- the units' ports are distinct
+  -- the signals of the units' ports are distinct
   ports-once : AllPairs (λ a b. a ≢ b) (flattened (port_signals tree) listed.units)
   ports-once =
       AllPairs-flattened (λ a b. a ≢ b) (port_signals tree) listed.units
@@ -106,7 +106,7 @@ module _ (circuit : FlatCircuit) (tree : InstanceTree) (listed : Listed) (fits :
           (port-in (get_or listed.units i d) a (apart.known i d (omega (arith, less, lt))) x)
           (subst (IsPort tree (get_or listed.units j d)) (sym same) (port-in (get_or listed.units j d) b (apart.known j d lt) y)))
 
-  -- the listed memories' fields are distinct
+  -- the fields of the listed memories are distinct
   fields-once : AllPairs (λ a b. a ≢ b) (flattened (λ j. memory_fields circuit (memory_at tree j).memory) listed.memories)
   fields-once =
       AllPairs-flattened (λ a b. a ≢ b) (λ j. memory_fields circuit (memory_at tree j).memory) listed.memories
@@ -117,7 +117,7 @@ module _ (circuit : FlatCircuit) (tree : InstanceTree) (listed : Listed) (fits :
       let up = apart.ascending i j d less lt in
       absurd (omega (arith, one, up)))
 
-  -- the tops' ports are distinct
+  -- the signals of the top's ports that pass a test are distinct
   tops-once : (test : InstancePort → Bool) → AllPairs (λ a b. a ≢ b) (map (λ (port : InstancePort). port.signal) (filter test (instance_at tree 0).ports))
   tops-once test =
       AllPairs-map (λ a b. a ≢ b) (λ (port : InstancePort). port.signal) (filter test (instance_at tree 0).ports)
@@ -203,7 +203,7 @@ module _ (circuit : FlatCircuit) (tree : InstanceTree) (listed : Listed) (fits :
   pub wires-once : AllPairs (λ a b. a ≢ b) (map (λ (w : Wire). w.signal) (wires_of circuit tree listed))
   wires-once = subst (AllPairs (λ a b. a ≢ b)) (sym (wires-signals circuit tree listed)) signals-once
 
-  -- two channels of one signal are one
+  -- two channels of the same signal are the same
   pub channel-one : (v w : Wire) → Contains (wires_of circuit tree listed) v → Contains (wires_of circuit tree listed) w → v.signal ≡ w.signal → v ≡ w
   channel-one v w a b same =
       let all = wires_of circuit tree listed in

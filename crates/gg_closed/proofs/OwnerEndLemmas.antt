@@ -30,7 +30,7 @@ module _ (circuit : FlatCircuit) (tree : InstanceTree) (listed : Listed) (fits :
   top-owner : (s : ℕ) → IsPort tree 0 s → owner_of circuit tree listed s ≡ 0
   top-owner s port = port-owner 0 s port ∙ owner-top circuit tree listed fits apart
 
-  -- a field belongs to its memory, where that is listed
+  -- a field of a listed memory belongs to that memory's machine
   field-owner : (i s : ℕ) → i < length listed.memories → IsFieldOf circuit tree (value_at listed.memories i) s → owner_of circuit tree listed s ≡ first_memory listed + i
   field-owner i s lt field =
       ap (memory_or (length listed.units) (unit_or_hub (first_place (has_signal tree s) listed.units)))

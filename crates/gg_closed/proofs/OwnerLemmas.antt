@@ -15,7 +15,7 @@ use Rattle.gg_closed.proofs.TreeLemmas.{innermost}
 use Rattle.gg_closed.proofs.LongestLemmas.{ArePaths, longest-one, instance-longest, signal-longest, memory-longest}
 use Rattle.gg_closed.proofs.ListedLemmas.{listed-are, memory-paths}
 
--- the longest is one machine's
+-- a machine has the longest path exactly if it is the owner
 only : (Has : List ℕ → Type 0) (paths : List (List ℕ)) (owner m : ℕ) → IsOfLongest Has paths owner → IsOfLongest Has paths m ↔ (owner ≡ m)
 only Has paths owner m is = (λ other. longest-one Has paths owner m is other, λ same. subst (IsOfLongest Has paths) same is)
 
@@ -42,7 +42,7 @@ module _ (design : Ordered) (request : Request) (is : IsDesign design) (none : f
       only (λ path. Covers path (path_at design.tree.memory_paths j)) (listed_paths design.tree request) (memory_owner design.tree (listed_of design.tree request) j) m
       (memory-longest design.circuit design.tree (listed_of design.tree request) is.fitting is.scoped apart (listed_paths design.tree request) are j lt)
 
--- the machine of a listed path has that path as its name
+-- the name of a listed path's machine is that path
 pub machine-name : (design : Ordered) (request : Request) (k : ℕ) → IsDesign design → k < length (listed_paths design.tree request) → path_at (machine_names design request (listed_of design.tree request)) (k + 1) ≡ path_at (listed_paths design.tree request) k
 machine-name design request k is lt =
     ap (path_at (machine_names design request (listed_of design.tree request))) (let next : k + 1 ≡ suc k = omega arith in next)

@@ -44,7 +44,7 @@ module _ (circuit : FlatCircuit) (tree : InstanceTree) (listed : Listed) (fits :
   before : ParentsBefore tree
   before = parents-before circuit tree fits
 
-  -- no unit
+  -- instance k isn't a unit
   abbrev pub IsNoUnit : ℕ → Type 0
   IsNoUnit k = All (λ unit. k ≢ unit) listed.units
 
@@ -67,14 +67,14 @@ module _ (circuit : FlatCircuit) (tree : InstanceTree) (listed : Listed) (fits :
           read (x ∷ xs) zero d lt = refl
           read (x ∷ xs) (suc i) d lt = read xs i d (omega (arith, lt))
 
-  -- what isn't a unit is its parent's machine's
+  -- an instance that isn't a unit belongs to its parent's machine
   pub owner-inner : (k p : ℕ) → k < length tree.instances → (instance_at tree k).parent ≡ Some p → IsNoUnit k → owner_of_instance tree listed.units k ≡ owner_of_instance tree listed.units p
   owner-inner k p lt parent none =
       ap unit_or_hub
       (place-among (λ unit. lies tree k unit) (λ unit. lies tree p unit) listed.units
       (λ i d inside. lies-parent tree before k p (get_or listed.units i d) lt parent ∙ ap (λ b. b || lies tree p (get_or listed.units i d)) (ne_eqb k (get_or listed.units i d) (none i d inside))))
 
-  -- the top is the hub's
+  -- the top belongs to the hub
   pub owner-top : owner_of_instance tree listed.units 0 ≡ 0
   owner-top =
       ap unit_or_hub
@@ -93,7 +93,7 @@ module _ (circuit : FlatCircuit) (tree : InstanceTree) (listed : Listed) (fits :
           (λ e. let h = (above circuit tree fits k unit inner.known e).holds s inner.holds in
           and_from (nat_le (instance_at tree unit).first s) (nat_lt s (instance_at tree unit).end) (le-leb (instance_at tree unit).first s h.0) (lt-ltb s (instance_at tree unit).end h.1))
 
-  -- an instance that lies in unit i has its number
+  -- an instance that belongs to machine i + 1 lies in unit i
   pub owner-within : (k i : ℕ) → owner_of_instance tree listed.units k ≡ suc i → (i < length listed.units) × (lies tree k (value_at listed.units i) ≡ true)
   owner-within k i e = by (first_place (λ unit. lies tree k unit) listed.units) refl e
     where
@@ -104,7 +104,7 @@ module _ (circuit : FlatCircuit) (tree : InstanceTree) (listed : Listed) (fits :
           let at = first_place-Some (λ unit. lies tree k unit) listed.units j f in
           subst (λ n. (n < length listed.units) × (lies tree k (value_at listed.units n) ≡ true)) same (at.within, at.passes 0)
 
-  -- the parent of a unit isn't the unit's
+  -- the parent of a unit doesn't belong to the unit
   pub owner-outside : (i p : ℕ) → i < length listed.units → (instance_at tree (value_at listed.units i)).parent ≡ Some p → owner_of_instance tree listed.units p ≢ suc i
   owner-outside i p lt parent e =
       let lower = before (value_at listed.units i) p (unit-known i lt) parent in

@@ -18,7 +18,7 @@ module _ (circuit : FlatCircuit) (tree : InstanceTree) (fits : IsTree circuit tr
   or-right true b e = refl
   or-right false b e = e
 
-  -- it is that one, or its parent lies in that one
+  -- instance k has a parent, which stands before it and lies in instance i
   pub record Climbs (k i : ℕ) : Type 0 where
     pub parent : ℕ
     pub is : (instance_at tree k).parent ≡ Some parent
@@ -39,7 +39,7 @@ module _ (circuit : FlatCircuit) (tree : InstanceTree) (fits : IsTree circuit tr
   pub lies-up : (k q i : ℕ) → k < length tree.instances → (instance_at tree k).parent ≡ Some q → lies tree q i ≡ true → lies tree k i ≡ true
   lies-up k q i lt p e = lies-parent tree parents k q i lt p ∙ or-right (k == i) (lies tree q i) e
 
-  -- an instance's signals are those of each in which it lies
+  -- instance i stands no later than instance k, and holds all signals that k holds
   pub record Above (k i : ℕ) : Type 0 where
     pub low : i ≤ k
     pub holds : (s : ℕ) → Holds (instance_at tree k) s → Holds (instance_at tree i) s
@@ -81,7 +81,7 @@ module _ (circuit : FlatCircuit) (tree : InstanceTree) (fits : IsTree circuit tr
 
   -- ---- the innermost instance
 
-  -- what lies in another, and isn't that one, lies in one that the other holds
+  -- instance k lies in an instance whose parent is p
   pub record Between (k p : ℕ) : Type 0 where
     pub child : ℕ
     pub known : child < length tree.instances
@@ -140,14 +140,14 @@ module _ (circuit : FlatCircuit) (tree : InstanceTree) (fits : IsTree circuit tr
   pub lies-holder : (k s i : ℕ) → IsInnermost tree k s → i < length tree.instances → Holds (instance_at tree i) s → lies tree k i ≡ true
   lies-holder k s i inner lt holds = lies-holder-by i k s i (omega arith) inner lt holds
 
-  -- there is only one
+  -- a signal is innermost in one instance only
   pub innermost-one : (k j s : ℕ) → IsInnermost tree k s → IsInnermost tree j s → k ≡ j
   innermost-one k j s a b =
       let up = above k j a.known (lies-holder k s j a b.known b.holds) in
       let down = above j k b.known (lies-holder j s k b a.known a.holds) in
       omega (arith, up.low, down.low)
 
-  -- ---- and there is one
+  -- ---- each signal is innermost in an instance
 
   pub record Innermost (s : ℕ) : Type 0 where
     pub place : ℕ

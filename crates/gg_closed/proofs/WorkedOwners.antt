@@ -1,4 +1,4 @@
--- Owners by paths alone, worked by hand, beside those by the tree; and machines that are no owners.
+-- Owners by paths alone, worked by hand, compared with those by the tree; and machines that aren't owners.
 --
 -- The top has the output `top`, an instance `c` and an instance `cc` with the output `x` each. In `c` there are two memories, `m` and
 -- `n`, with one reader `r` each, and an instance `d` with the output `y`.
@@ -26,7 +26,7 @@ behind-held : (p rest : List ℕ) → rest_behind p (p ++ 46 ∷ rest) ≡ Some 
 behind-held [] rest = refl
 behind-held (a ∷ p) rest = ap (λ b. if b then rest_behind p (p ++ 46 ∷ rest) else None) (eq-eqb a a refl) ∙ behind-held p rest
 
--- what doesn't begin with a path and a dot, it doesn't hold
+-- a path doesn't hold what doesn't begin with the path and a dot
 not-held : (p q : List ℕ) → rest_behind p q ≡ None → ¬ HoldsPath p q
 not-held p q none h = clash (sym none ∙ ap (rest_behind p) h.is ∙ behind-held p h.rest)
   where
@@ -93,15 +93,15 @@ accepted = refl
 paths-of-one : listed_paths tree one ≡ codes "c" ∷ codes "c.m" ∷ []
 paths-of-one = refl
 
--- memories stand in the order of the tree
+-- the listed memories stand in the order of the tree
 paths-of-two : listed_paths tree two ≡ codes "c" ∷ codes "c.m" ∷ codes "c.n" ∷ []
 paths-of-two = refl
 
--- the names of the machines behind the hub
+-- the names of the machines after the hub
 names-of-two : map (path_at (machine_names design two (listed_of tree two))) (1 ∷ 2 ∷ 3 ∷ []) ≡ listed_paths tree two
 names-of-two = refl
 
--- by the tree: `top`, `c.x`, `c.m.r.addr`, `c.m.r.data`, `c.n.r.addr`, `c.d.y`, `cc.x`
+-- owners by the tree: of `top`, `c.x`, `c.m.r.addr`, `c.m.r.data`, `c.n.r.addr`, `c.d.y`, `cc.x`
 by-tree : map (owner_of circuit tree (listed_of tree one)) (0 ∷ 1 ∷ 2 ∷ 4 ∷ 5 ∷ 8 ∷ 9 ∷ []) ≡ 0 ∷ 1 ∷ 2 ∷ 2 ∷ 1 ∷ 1 ∷ 0 ∷ []
 by-tree = refl
 
@@ -110,11 +110,11 @@ two-by-tree = refl
 
 -- ---- owners by paths
 
--- where neither `c` nor `c.m` holds the signal's path, it is the hub's
+-- a signal whose path neither `c` nor `c.m` holds is the hub's
 hub : (s : ℕ) → rest_behind (codes "c") (path_at circuit.paths s) ≡ None → rest_behind (codes "c.m") (path_at circuit.paths s) ≡ None → IsLongestHolder design one s 0
 hub s unit memory = both (λ i. ¬ HoldsPath (path_at (listed_paths tree one) i) (path_at circuit.paths s)) (not-held (codes "c") (path_at circuit.paths s) unit) (not-held (codes "c.m") (path_at circuit.paths s) memory)
 
--- where `c` holds it and `c.m` doesn't, it is the unit's
+-- a signal whose path `c` holds and `c.m` doesn't is the unit's
 unit : (s : ℕ) → HoldsPath (codes "c") (path_at circuit.paths s) → rest_behind (codes "c.m") (path_at circuit.paths s) ≡ None → IsLongestHolder design one s 1
 unit s holds memory =
     record {
@@ -123,7 +123,7 @@ unit s holds memory =
       longest = both (λ i. i ≢ 0 → HoldsPath (path_at (listed_paths tree one) i) (path_at circuit.paths s) → length (path_at (listed_paths tree one) i) < 1) (λ ne h. absurd (ne refl)) (λ ne h. absurd (not-held (codes "c.m") (path_at circuit.paths s) memory h));
     }
 
--- where `c.m` holds it, it is the memory's, though `c` holds it too
+-- a signal whose path `c.m` holds is the memory's, though `c` holds the path too
 field : (s : ℕ) → HoldsPath (codes "c.m") (path_at circuit.paths s) → IsLongestHolder design one s 2
 field s holds =
     record {
@@ -144,7 +144,7 @@ owner-field = field 2 (record { rest = codes "r.addr"; is = refl })
 owner-word : IsLongestHolder design one 4 2
 owner-word = field 4 (record { rest = codes "r.data"; is = refl })
 
--- the memory `c.n` isn't listed
+-- the memory `c.n` isn't listed: its address is the unit's
 owner-unlisted : IsLongestHolder design one 5 1
 owner-unlisted = unit 5 (record { rest = codes "n.r.addr"; is = refl }) refl
 
@@ -154,7 +154,7 @@ owner-deeper = unit 8 (record { rest = codes "d.y"; is = refl }) refl
 owner-beside : IsLongestHolder design one 9 0
 owner-beside = hub 9 refl refl
 
--- where both memories are listed, `c.n` is machine 3
+-- where both memories are listed, it belongs to `c.n`, machine 3
 owner-later : IsLongestHolder design two 5 3
 owner-later =
     record {
@@ -168,12 +168,12 @@ owner-later =
 instances-by-tree : map (owner_of_instance tree (listed_of tree one).units) (0 ∷ 1 ∷ 2 ∷ 3 ∷ []) ≡ 0 ∷ 1 ∷ 1 ∷ 0 ∷ []
 instances-by-tree = refl
 
--- neither is the other, nor holds it
+-- a path doesn't cover one that differs from it and that it doesn't hold
 not-covered : (p q : List ℕ) → p ≢ q → rest_behind p q ≡ None → ¬ Covers p q
 not-covered p q differ none (inl same) = differ same
 not-covered p q differ none (inr holds) = not-held p q none holds
 
--- the unit's own instance, which its path is
+-- the unit's own instance, whose path is the unit's
 cover-itself : IsLongestCover design one (codes "c") 1
 cover-itself =
     record {
@@ -182,7 +182,7 @@ cover-itself =
       longest = both (λ i. i ≢ 0 → Covers (path_at (listed_paths tree one) i) (codes "c") → length (path_at (listed_paths tree one) i) < 1) (λ ne h. absurd (ne refl)) (λ ne h. absurd (not-covered (codes "c.m") (codes "c") (λ e. absurd (cc)) refl h));
     }
 
--- the instance `d` below it, which its path holds
+-- the instance `d` below it, whose path the unit's holds
 cover-deeper : IsLongestCover design one (codes "c.d") 1
 cover-deeper =
     record {
@@ -242,6 +242,6 @@ no-hub is = is 0 (lit< tt) (record { rest = codes "x"; is = refl })
 no-prefix : ¬ IsLongestHolder design one 9 1
 no-prefix is = longer-name is.has
 
--- no machine behind the listed ones is an owner
+-- no machine after the listed ones is an owner
 no-source : ¬ IsLongestHolder design one 1 3
 no-source is = let less : 2 < 2 = is.known in absurd (omega (arith, less))

@@ -1,4 +1,4 @@
--- Where what a machine makes is written: in an instance of that machine, but for the data of a listed memory.
+-- What a machine makes is written in an instance of that machine, except the data of a listed memory.
 use Rattle.std.proofs.Common.{◌≡◌, ◌≢◌, ℕ, zero, suc, ◌+◌, ◌<◌, List, length, Bool, true, false, not, refl, sym, ◌∙◌, ap, subst, Some, inl, inr, ◌⊎◌, true-eqb, arith}
 use Rattle.std.specs.Prelude.{◌==◌, if◌then◌else◌, filter, map, Contains, All}
 use Rattle.std.proofs.lemmas.List.{get_or_default}
@@ -21,7 +21,7 @@ use Rattle.gg_closed.proofs.NameLemmas.{port-no-field}
 use Rattle.gg_closed.proofs.OnceLemmas.{top-output, top-port, port-one}
 use Rattle.gg_closed.proofs.MakerLemmas.{HasPort, HasWire, find-port, find-unit, find-field-in, IsNoField, chosen-out, no-channel, owner-signal}
 
--- signal s is the data of a reader of listed memory i, whose machine is m
+-- signal s is the data of a reader of a listed memory, whose machine is m
 pub record IsWord (circuit : FlatCircuit) (tree : InstanceTree) (listed : Listed) (m s : ℕ) : Type 0 where
   pub place : ℕ
   pub known : place < length listed.memories
@@ -65,7 +65,7 @@ module _ (circuit : FlatCircuit) (tree : InstanceTree) (listed : Listed) (fits :
 
   -- ---- a signal without a channel
 
-  -- no listed memory has it as a field
+  -- a signal without a channel is no field of a listed memory
   pub inner-plain : (s : ℕ) → IsInner (wires_of circuit tree listed) s → IsNoField circuit tree listed s
   inner-plain s inner = by (find-field-in circuit tree listed listed.memories s)
     where
@@ -77,7 +77,7 @@ module _ (circuit : FlatCircuit) (tree : InstanceTree) (listed : Listed) (fits :
           has (inl w) = no-channel circuit tree listed fits scoped apart s (wire s (outside_memory tree listed at.place) (first_memory listed + at.place)) inner w refl
           has (inr w) = no-channel circuit tree listed fits scoped apart s (wire s (first_memory listed + at.place) (outside_memory tree listed at.place)) inner w refl
 
-  -- its instance isn't the top where it is an input, nor a unit where it is a port
+  -- nor is it a port of a unit, or an input of the top
   inner-no-unit : (k s : ℕ) → IsInner (wires_of circuit tree listed) s → HasPort (instance_at tree k).ports s → All (λ unit. k ≢ unit) listed.units
   inner-no-unit k s inner h = by (find-unit listed.units k)
     where

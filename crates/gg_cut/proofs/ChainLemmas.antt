@@ -86,7 +86,7 @@ module _ (tree : InstanceTree) (before : ParentsBefore tree) where
 
   -- ---- marks
 
-  -- where the instance is marked, it lies in a marked one; where it isn't, its parent tells
+  -- an instance that is marked lies in one of the units; one that isn't lies in one exactly if its parent does
   pub marked-here : (units : List ℕ) (marks : List Bool) (node : ℕ) → AreMarks units marks → node < length tree.instances → is_marked marks node ≡ true → true ≡ list_any (lies tree node) units
   marked-here units marks node are lt marked = sym (any-weaker units (sym (are node) ∙ marked))
     where
@@ -116,7 +116,7 @@ module _ (tree : InstanceTree) (before : ParentsBefore tree) where
   unmarked-top units marks node are lt unmarked parent =
       sym (any-same (lies tree node) (λ unit. node == unit) units (λ unit. lies-alone node unit lt parent) ∙ sym (are node) ∙ unmarked)
 
--- the marks with one more
+-- setting the mark of an instance adds just this mark
 pub marked-more : (marks : List Bool) (node k : ℕ) → node < length marks → is_marked (set marks node true) k ≡ (is_marked marks k || (node == k))
 marked-more marks node k lt = by (nat_eq k node) refl
   where
@@ -152,21 +152,21 @@ or-move : (a b c : Bool) → ((a || b) || c) ≡ (a || (b || c))
 or-move true b c = refl
 or-move false b c = refl
 
--- the chain goes on at the parent
+-- setting an instance's mark, and then those of all that its parent lies in, marks all that the instance lies in
 pub above-more : (tree : InstanceTree) → ParentsBefore tree → (marks : List Bool) (node p k : ℕ) → node < length tree.instances → node < length marks → (instance_at tree node).parent ≡ Some p → (is_marked (set marks node true) k || lies tree p k) ≡ (is_marked marks k || lies tree node k)
 above-more tree before marks node p k lt room parent =
     ap (λ b. b || lies tree p k) (marked-more marks node k room)
     ∙ or-move (is_marked marks k) (node == k) (lies tree p k)
     ∙ ap (λ b. is_marked marks k || b) (sym (lies-parent tree before node p k lt parent))
 
--- and ends where there is none
+-- where there is no parent, setting the mark is enough
 pub above-end : (tree : InstanceTree) → ParentsBefore tree → (marks : List Bool) (node k : ℕ) → node < length tree.instances → node < length marks → (instance_at tree node).parent ≡ None → is_marked (set marks node true) k ≡ (is_marked marks k || lies tree node k)
 above-end tree before marks node k lt room parent =
     marked-more marks node k room ∙ ap (λ b. is_marked marks k || b) (sym (lies-alone tree before node k lt parent))
 
 -- ---- units so far
 
--- The units before place i don't overlap; they are marked, and so is what they lie in.
+-- The units before place i don't overlap; they are marked in `own`, and what they lie in is marked in `above`.
 pub record Apart (tree : InstanceTree) (units : List (List ℕ)) (i : ℕ) (own above : List Bool) : Type 0 where
   pub clash : overlapping tree units ≡ first_clash (overlap tree) (take i units) (drop i units)
   pub marks : AreMarks (map (instance_of tree) (take i units)) own
@@ -178,7 +178,7 @@ pub Apart-none : (tree : InstanceTree) (units : List (List ℕ)) (own above : Li
 Apart-none tree units own above none empty count many = record { clash = refl; marks = none; higher = empty; own_count = count; above_count = many }
 
 module _ (tree : InstanceTree) (units : List (List ℕ)) (i : ℕ) (own above : List Bool) (path : List ℕ) (lt : i < length units) (read : path ≡ get_or units i path) (apart : Apart tree units i own above) where
-  -- a unit clashes with an earlier one just where it lies in one, or one lies in it
+  -- a unit overlaps an earlier one exactly if it lies in one, or one lies in it
   clash-is : list_any (overlap tree path) (take i units) ≡ (list_any (lies tree (instance_of tree path)) (map (instance_of tree) (take i units)) || is_marked above (instance_of tree path))
   clash-is =
       any-or (λ other. lies tree (instance_of tree path) (instance_of tree other)) (λ other. lies tree (instance_of tree other) (instance_of tree path)) (take i units)

@@ -44,7 +44,7 @@ port-signals outside unit (port ∷ ports) = ap₂ (λ s l. s ∷ l) (by port.is
     by true = refl
     by false = refl
 
--- the signals of the wires are those of the channels, in order
+-- the signals of `wires_of` are `channel_signals`, in the same order
 pub wires-signals : (circuit : FlatCircuit) (tree : InstanceTree) (listed : Listed) → map (λ (w : Wire). w.signal) (wires_of circuit tree listed) ≡ channel_signals circuit tree listed
 wires-signals circuit tree listed =
     let units = numbered (port_wires tree listed.units) 1 listed.units in
@@ -102,7 +102,7 @@ MarkedTo-more signals i old marks lt within before =
 
 -- ---- channels by name
 
--- the name of signal k is a channel's just where the signal is one
+-- the name of signal k is the name of a channel exactly if k is the signal of one
 pub named-channel : (paths : List (List ℕ)) (name : List ℕ) (k : ℕ) (signals : List ℕ) → AllPairs (λ a b. a ≢ b) paths → slice_get paths k ≡ Some name → All (λ s. s < length paths) signals → list_any (λ s. k == s) signals ≡ is_among (map (path_at paths) signals) name
 named-channel paths name k [] once found known = refl
 named-channel paths name k (s ∷ signals) once found known =
@@ -120,7 +120,7 @@ named-channel paths name k (s ∷ signals) once found known =
         let same : k ≡ s = one-place paths k s once holds.within (known 0 0 (omega arith)) (holds.is ∙ (bytes_eq-Decides name (path_at paths s)).0 f) in
         absurd (true≢false (sym (eq-eqb k s same) ∙ e))
 
--- a name that no signal has is no channel's
+-- a name that no signal has is the name of no channel
 pub unnamed-channel : (paths : List (List ℕ)) (name : List ℕ) (signals : List ℕ) → ¬ Contains paths name → All (λ s. s < length paths) signals → false ≡ is_among (map (path_at paths) signals) name
 unnamed-channel paths name [] missing known = refl
 unnamed-channel paths name (s ∷ signals) missing known =

@@ -1,4 +1,4 @@
--- What stands in a path behind a unit's path; and memories without counterparts.
+-- What follows a unit's path in a path; and memories without counterparts.
 use Rattle.std.proofs.Common.{◌≡◌, ◌≢◌, ℕ, List, [], ◌∷◌, ◌++◌, Bool, true, false, true-eqb, eq-eqb, refl, sym, ◌∙◌, ap, ap₂, Some, None}
 use Rattle.std.specs.Prelude.{Option, find, cond, not, ◌==◌, if◌then◌else◌}
 use Rattle.std.specs.List.{list_any}
@@ -26,7 +26,7 @@ find-same : (test other : List ℕ → Bool) (xs : List (List ℕ)) → ((x : Li
 find-same test other [] same = refl
 find-same test other (x ∷ xs) same = ap₂ (λ b rest. cond b (Some x) rest) (same x) (find-same test other xs same)
 
--- a set of the same paths tells the same
+-- the first memory without a counterpart can be found with any set that has the same paths
 pub unmatched-same : (set memories : List (List ℕ)) (share : List (List (List ℕ))) → ((path : List ℕ) → is_among set path ≡ is_among memories path) → find (λ path. list_any (lacks_in set path) share) memories ≡ unmatched memories share
 unmatched-same set memories share same =
     find-same (λ path. list_any (lacks_in set path) share) (λ path. list_any (lacks_in memories path) share) memories (λ path.

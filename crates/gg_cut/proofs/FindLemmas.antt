@@ -1,4 +1,4 @@
--- The first of a list that fails a test, item by item.
+-- The first item of a list that fails a test, item by item.
 use Rattle.std.proofs.Common.{◌≡◌, ℕ, ◌+◌, ◌<◌, List, [], ◌∷◌, ◌++◌, length, get_or, drop, Bool, true, false, refl, sym, ◌∙◌, ap, ap₂, inl, inr, Some, None, add-one, drop-cons, append_assoc, arith}
 use Rattle.std.specs.Prelude.{Option, find, cond, option_map, not, if◌then◌else◌}
 use Rattle.std.specs.List.{list_any}
@@ -8,7 +8,7 @@ use Rattle.std.proofs.lemmas.List.{length-append}
 use Rattle.gg_cut.specs.Listed.{is_among}
 use Rattle.gg_cut.specs.Fault.{or_else, first_clash, same_path, repeated, entries, unshared, IsTold}
 
--- the items from place i on, where one is read
+-- the items from place i on are the item at place i and those after it
 pub rest-at : {A : Type 0} (xs : List A) (i : ℕ) (x : A) → i < length xs → x ≡ get_or xs i x → drop i xs ≡ x ∷ drop (i + 1) xs
 rest-at xs i x lt read = drop-cons xs i x lt ∙ ap₂ (λ y l. y ∷ l) (sym read) (ap (λ n. drop n xs) (sym (add-one i)))
 
@@ -40,13 +40,13 @@ first_clash-append clash earlier (x ∷ xs) ys =
     by true rest = refl
     by false rest = rest
 
--- ---- what is told
+-- ---- faults that are reported
 
 pub or_else-map : {A B : Type 0} (f : A → B) (a b : Option A) → option_map f (or_else a b) ≡ or_else (option_map f a) (option_map f b)
 or_else-map f None b = refl
 or_else-map f (Some x) b = refl
 
--- a fault of the first is one of both; where the first has none, it is the second's
+-- a fault reported of the first is one of both; where the first has none, the fault of both is the second's
 pub told-first : (a b : Option CutFault) (cause : CutFault) → IsTold a cause → IsTold (or_else a b) cause
 told-first a b cause (inl memory) = inl memory
 told-first a b cause (inr is) = inr (ap (λ f. or_else f b) is)
@@ -54,7 +54,7 @@ told-first a b cause (inr is) = inr (ap (λ f. or_else f b) is)
 pub told-second : (a b : Option CutFault) → a ≡ None → or_else a b ≡ b
 told-second a b none = ap (λ f. or_else f b) none
 
--- a fault that is told of an equal one
+-- a fault reported of one is reported of an equal one
 pub told-same : (a b : Option CutFault) (cause : CutFault) → a ≡ b → IsTold a cause → IsTold b cause
 told-same a b cause same (inl memory) = inl memory
 told-same a b cause same (inr is) = inr (sym same ∙ is)
@@ -88,7 +88,7 @@ no-map : {A B : Type 0} (f : A → B) (a : Option A) → option_map f a ≡ None
 no-map f None e = refl
 no-map f (Some x) e = absurd (cc)
 
--- the groups before place i have no clash, and stand in `seen`
+-- the groups before place i have no clash, and their entries stand in `seen`
 pub record SeenGroups (share : List (List (List ℕ))) (i : ℕ) (seen : List (List ℕ)) : Type 0 where
   pub clash : repeated (entries share) ≡ first_clash same_path seen (entries (drop i share))
   pub total : length seen + length (entries (drop i share)) ≡ length (entries share)

@@ -18,7 +18,7 @@ use Rattle.gg_partfile.specs.declared.request.Request.{Request}
 use Rattle.gg_cut.specs.Channels.{flattened, port_signals, channel_signals}
 use Rattle.gg_cut.specs.Fault.{channel_fault}
 
--- each instance stands behind its parent
+-- each instance stands after its parent
 pub parents-before : (circuit : FlatCircuit) (tree : InstanceTree) → IsTree circuit tree → ParentsBefore tree
 parents-before circuit tree is zero parent lt some = absurd (clash (sym is.top.parent ∙ some))
   where
@@ -31,7 +31,7 @@ parents-before circuit tree is (suc k) parent lt some =
 
 -- ---- numbers below a bound
 
--- each is below n, by recursion
+-- each number of the list is below n, by recursion
 abbrev AllBelow : ℕ → List ℕ → Type 0
 AllBelow n [] = Unit {0}
 AllBelow n (x ∷ xs) = (x < n) × AllBelow n xs
@@ -89,7 +89,7 @@ module _ (circuit : FlatCircuit) (tree : InstanceTree) (formed : IsWellFormed ci
       (subst (λ (l : List Writer). AllBelow n (flat_map (λ writer. writer_fields writer) l)) (sym writers)
       (writers-below n memory.writers (λ k d inside. let w = typed.writers k d inside in (omega (arith, w.address.0, count), (omega (arith, w.enable.0, count), (omega (arith, w.input.0, count), (omega (arith, w.masked.0, count), tt)))))))
 
-  -- the signals of channels are the circuit's
+  -- the signals of channels are signals of the circuit
   pub signals-known : (listed : Listed) → All (λ unit. unit < length tree.instances) listed.units → All (λ place. place < length tree.memories) listed.memories → All (λ s. s < length circuit.signals) (channel_signals circuit tree listed)
   signals-known listed units memories =
       let n = length circuit.signals in

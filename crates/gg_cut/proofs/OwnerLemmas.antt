@@ -73,7 +73,7 @@ place-same p q (x ∷ xs) same = ap₂ (λ b rest. if b then Some 0 else option_
 
 -- ---- units by number
 
--- one more item, where none before it passes
+-- the first place where an item passes, with one more item at place n
 abbrev pub push-place : Option ℕ → ℕ → Bool → Option ℕ
 push-place (Some i) n b = Some i
 push-place None n true = Some n
@@ -93,7 +93,7 @@ first_place-push test (y ∷ ys) x = by (test y) (first_place test ys) (test x) 
     by false None true e = ap (option_map suc) e
     by false None false e = ap (option_map suc) e
 
--- the units before place i have their machines' numbers, at the first place of each
+-- each instance has the number of the first unit before place i that it is, else the hub's
 pub record Numbered (units : List ℕ) (i : ℕ) (old owners : List ℕ) : Type 0 where
   pub count : length owners ≡ length old
   pub numbers : (k : ℕ) → value_at owners k ≡ unit_or_hub (first_place (λ unit. k == unit) (take i units))
@@ -110,7 +110,7 @@ module _ (units : List ℕ) (i : ℕ) (old owners : List ℕ) (lt : i < length u
   kept k None e true f taken = absurd (taken refl (before.numbers k ∙ ap unit_or_hub e))
   kept k None e false f taken = before.numbers k ∙ ap unit_or_hub e
 
-  -- the unit has a number already
+  -- a unit that has a number keeps it
   pub Numbered-kept : value_at owners (value_at units i) ≢ 0 → Numbered units (i + 1) old owners
   Numbered-kept taken =
       record {
@@ -121,7 +121,7 @@ module _ (units : List ℕ) (i : ℕ) (old owners : List ℕ) (lt : i < length u
             ∙ ap unit_or_hub (sym (first-now k));
       }
 
-  -- the unit gets its number
+  -- a unit that has none gets the number of its place
   pub Numbered-new : value_at units i < length owners → value_at owners (value_at units i) ≡ 0 → Numbered units (i + 1) old (set owners (value_at units i) (i + 1))
   Numbered-new within free =
       record {
@@ -152,7 +152,7 @@ module _ (units : List ℕ) (i : ℕ) (old owners : List ℕ) (lt : i < length u
 
 -- ---- instances so far
 
--- the instances before place k have their machines; the others the number of their own unit
+-- the instances before place k have their machines' numbers; any other has the number of the unit that it is, else the hub's
 pub record OwnersSoFar (tree : InstanceTree) (units : List ℕ) (k : ℕ) (owners : List ℕ) : Type 0 where
   pub count : length owners ≡ length tree.instances
   pub done : (j : ℕ) → j < k → value_at owners j ≡ owner_of_instance tree units j

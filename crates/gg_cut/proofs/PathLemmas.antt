@@ -39,7 +39,7 @@ module _ {A : Type 0} (test : A → Bool) where
       or-true true b e = refl
       or-true false b e = e
 
--- what a slice holds at a place that it has
+-- the list has this path at place k
 pub record HoldsPath (paths : List (List ℕ)) (k : ℕ) (path : List ℕ) : Type 0 where
   pub within : k < length paths
   pub is : get_or paths k [] ≡ path
@@ -52,7 +52,7 @@ holds-path (p ∷ ps) zero path found = record { within = omega arith; is = same
     same e = cc
 holds-path (p ∷ ps) (suc k) path found = let rest = holds-path ps k path found in record { within = omega (arith, rest.within); is = rest.is }
 
--- two places of one path are one
+-- two places of the same path are the same place
 pub one-place : (paths : List (List ℕ)) (i j : ℕ) → AllPairs (λ a b. a ≢ b) paths → i < length paths → j < length paths → get_or paths i [] ≡ get_or paths j [] → i ≡ j
 one-place paths i j once li lj same = by (cases_lt i j) (cases_lt j i)
   where
@@ -61,7 +61,7 @@ one-place paths i j once li lj same = by (cases_lt i j) (cases_lt j i)
     by (inr le) (inl lt) = absurd (once j i [] lt li (sym same))
     by (inr le) (inr ge) = omega arith
 
--- what a look-up tells is the first place of the path
+-- what a look-up finds is the first place of the path
 pub look-up : (paths : List (List ℕ)) (path : List ℕ) (result : Option ℕ) → AllPairs (λ a b. a ≢ b) paths → IfSome result (λ k. slice_get paths k ≡ Some path) → IfNone result (¬ Contains paths path) → result ≡ place_of paths path
 look-up paths path result once found missing = by result found missing (place_of paths path) refl
   where
@@ -79,7 +79,7 @@ look-up paths path result once found missing = by result found missing (place_of
         let at = first_place-Some (bytes_eq path) paths j e in
         ap Some (one-place paths k j once holds.within at.within (holds.is ∙ (bytes_eq-Decides path (get_or paths j [])).0 (at.passes [])))
 
--- what a look-up tells of a set
+-- a path that a look-up finds is in the set, and one that it doesn't find isn't
 pub among-found : (paths : List (List ℕ)) (path : List ℕ) (k : ℕ) → slice_get paths k ≡ Some path → is_among paths path ≡ true
 among-found paths path k found =
     let holds = holds-path paths k path found in
@@ -92,7 +92,7 @@ among-missing paths path missing = by (is_among paths path) refl
     by true e = absurd (missing (found-path paths path e))
     by false e = refl
 
--- a set has just the paths that stand before place i
+-- the set has exactly the paths that stand before place i
 pub record Includes (paths : List (List ℕ)) (i : ℕ) (set : List (List ℕ)) : Type 0 where
   pub same : (path : List ℕ) → is_among set path ≡ is_among (take i paths) path
   pub few : length set ≤ i

@@ -19,7 +19,7 @@ filter-more test n =
     by true = refl
     by false = refl
 
--- they are below n, and at most n
+-- the numbers from a on that pass are below a + n, and there are at most n of them
 pub filter-below : (test : ℕ → Bool) (a n : ℕ) (xs : List ℕ) → xs ≡ filter test (range_with_len a n) → All (λ k. k < a + n) xs
 filter-below test a n xs is = subst (λ (l : List ℕ). All (λ k. k < a + n) l) (sym is) (each a n)
   where

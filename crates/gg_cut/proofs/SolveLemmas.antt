@@ -33,7 +33,7 @@ map-map : {A B C : Type 0} (g : B → C) (f : A → B) (xs : List A) → map g (
 map-map g f [] = refl
 map-map g f (x ∷ xs) = ap (λ l. g (f x) ∷ l) (map-map g f xs)
 
--- two functions that agree on the items of a list
+-- two functions that agree on the items of a list make the same list of it
 map-agree : {B : Type 0} (f g : ℕ → B) (xs : List ℕ) → ((i : ℕ) → i < length xs → f (value_at xs i) ≡ g (value_at xs i)) → map f xs ≡ map g xs
 map-agree f g [] same = refl
 map-agree f g (x ∷ xs) same = ap₂ (λ y l. y ∷ l) (same 0 (omega arith)) (map-agree f g xs (λ i lt. same (suc i) (omega arith)))

@@ -45,7 +45,7 @@ pub filter-none : (test : Wire → Bool) (xs : List Wire) → Each (λ w. test w
 filter-none test [] each = refl
 filter-none test (x ∷ xs) each = ap (λ b. cond b (x ∷ filter test xs) (filter test xs)) each.0 ∙ filter-none test xs each.1
 
--- the channels that pass a test, by their numbers, are the wires that do
+-- the channels that pass a test, by their numbers, are the wires that pass it
 filter-numbers : (test : Wire → Bool) (all : List Wire) (a : ℕ) (xs : List Wire) → ((k : ℕ) → k < length xs → wire_at all (a + k) ≡ wire_at xs k) → map (wire_at all) (filter (λ c. test (wire_at all c)) (range_with_len a (length xs))) ≡ filter test xs
 filter-numbers test all a [] same = refl
 filter-numbers test all a (x ∷ xs) same =
@@ -107,7 +107,7 @@ module _ (circuit : FlatCircuit) (tree : InstanceTree) (listed : Listed) where
       ++ (numbered (field_wires circuit tree listed.units) (first_memory listed) listed.memories
       ++ numbered tray_wires (first_tray circuit listed) circuit.outs)
 
-  -- what no source gives is given by a machine before the first source
+  -- a channel that isn't a source's is given by a machine before the first source
   pub rest-below : Each (Below (first_source listed)) rest_wires
   rest-below =
       let n = first_source listed in
@@ -159,7 +159,7 @@ module _ (circuit : FlatCircuit) (tree : InstanceTree) (listed : Listed) where
       ∙ source-one (suc k) i ins (omega arith)
       ∙ ap (λ m. wire (get_or ins i 0) m 0 ∷ []) (sym place)
 
-  -- a source gives its top input alone
+  -- a source gives only its top input
   pub source-gives : (m i : ℕ) → m ≡ first_source listed + i → i < length circuit.ins → signals_of (wires_of circuit tree listed) (channels_from (wires_of circuit tree listed) m) ≡ get_or circuit.ins i 0 ∷ []
   source-gives m i is lt =
       let wires = wires_of circuit tree listed in

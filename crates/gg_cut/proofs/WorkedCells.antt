@@ -20,7 +20,7 @@ use Rattle.gg_cut.specs.Hosts.{host_of}
 use Rattle.gg_cut.specs.Fault.{fault_in}
 use Rattle.gg_cut.proofs.WorkedPair.{output}
 
--- the paths of a cell's signals, behind its own
+-- the paths of a cell's signals, after the cell's own path
 abbrev cell_paths : List ℕ → List (List ℕ)
 cell_paths cell = map (λ name. cell ++ codes name) (".o" ∷ ".m.r.addr" ∷ ".m.r.en" ∷ ".m.r.data" ∷ ".m.s.addr" ∷ ".m.s.en" ∷ ".m.s.data" ∷ ".m.s.mask" ∷ ".in.o" ∷ [])
 
@@ -94,7 +94,7 @@ nested-names = refl
 
 -- ---- hosts
 
--- the hub, two units that share a host, a third alone, and what comes behind them
+-- the hub, two units that share a host, a third alone, and what comes after them
 two-share : map (host_of (codes "w" ∷ codes "u" ∷ codes "v" ∷ []) ((codes "v" ∷ codes "w" ∷ []) ∷ [])) (0 ∷ 1 ∷ 2 ∷ 3 ∷ 4 ∷ []) ≡ 0 ∷ 1 ∷ 2 ∷ 1 ∷ 3 ∷ []
 two-share = refl
 
@@ -120,17 +120,17 @@ memory-twice = refl
 an-instance : fault_in circuit tree (asks [] [] (codes "u.m" ∷ codes "u.in" ∷ [])) ≡ Some (UnknownMemory (codes "u.in"))
 an-instance = refl
 
--- the memory of a shared unit without its counterpart; that of a unit that shares nothing
+-- the memory of a unit that shares a host has no counterpart; the memory of a unit that shares none needs none
 unmatched-one : fault_in circuit tree (asks (codes "u" ∷ codes "v" ∷ codes "w" ∷ []) ((codes "v" ∷ codes "u" ∷ []) ∷ []) (codes "w.m" ∷ codes "u.m" ∷ [])) ≡ Some (Unmatched (codes "u.m"))
 unmatched-one = refl
 
 matched : fault_in circuit tree (asks (codes "u" ∷ codes "v" ∷ codes "w" ∷ []) ((codes "v" ∷ codes "u" ∷ []) ∷ []) (codes "w.m" ∷ codes "u.m" ∷ codes "v.m" ∷ [])) ≡ None
 matched = refl
 
--- of three units two have theirs listed
+-- two of three units have their memories listed
 unmatched-three : fault_in circuit tree (asks (codes "u" ∷ codes "v" ∷ codes "w" ∷ []) ((codes "u" ∷ codes "v" ∷ codes "w" ∷ []) ∷ []) (codes "v.m" ∷ codes "u.m" ∷ [])) ≡ Some (Unmatched (codes "v.m"))
 unmatched-three = refl
 
--- a unit within a cell whose memory is listed is no matter of its host
+-- units that share a host need no counterpart for the memory of a cell in which they lie
 within-parent : fault_in circuit tree (asks (codes "u.in" ∷ codes "v.in" ∷ []) ((codes "u.in" ∷ codes "v.in" ∷ []) ∷ []) (codes "u.m" ∷ [])) ≡ None
 within-parent = refl

@@ -70,7 +70,7 @@ listed = listed_of tree both_units
 units-listed : listed ≡ record { units = 1 ∷ 2 ∷ []; memories = [] }
 units-listed = refl
 
--- in the order of the request
+-- units are listed in the order of the request
 units-reversed : (listed_of tree (asks (codes "b" ∷ codes "a" ∷ []) [])).units ≡ 2 ∷ 1 ∷ []
 units-reversed = refl
 
@@ -86,7 +86,7 @@ wires = refl
 names : channel_names circuit (channel_signals circuit tree listed) ≡ codes "x" ∷ codes "a.x" ∷ codes "a.k" ∷ codes "a.p" ∷ codes "a.q" ∷ codes "b.m" ∷ codes "b.n" ∷ codes "q" ∷ []
 names = refl
 
--- the empty partition
+-- the empty partition: the channels from the source and to the tray
 alone : wires_of circuit tree (listed_of tree (asks [] [])) ≡ wire 0 1 0 ∷ wire 1 0 2 ∷ []
 alone = refl
 
@@ -98,14 +98,14 @@ capacities = refl
 accepted : fault_in circuit tree both_units ≡ None
 accepted = refl
 
--- what isn't in `units` is told before units of different modules
+-- what isn't in `units` is reported before units of different modules
 unknown-share : fault_in circuit tree (asks (codes "a" ∷ []) ((codes "a" ∷ codes "b" ∷ []) ∷ [])) ≡ Some (UnknownUnit (codes "b"))
 unknown-share = refl
 
 other-module : fault_in circuit tree (asks (codes "a" ∷ codes "b" ∷ []) ((codes "a" ∷ codes "b" ∷ []) ∷ [])) ≡ Some (OtherModule (codes "b"))
 other-module = refl
 
--- the top is no instance
+-- the top is no unit
 the-top : fault_in circuit tree (asks ([] ∷ []) []) ≡ Some (UnknownUnit [])
 the-top = refl
 
@@ -115,7 +115,7 @@ a-signal = refl
 twice : fault_in circuit tree (asks (codes "a" ∷ codes "b" ∷ codes "a" ∷ []) []) ≡ Some (Doubled (codes "a"))
 twice = refl
 
--- an entry that names nothing is told before one that stands twice, wherever it is
+-- an entry that names nothing is reported before one that stands twice, wherever it is
 unknown-first : fault_in circuit tree (asks (codes "a" ∷ codes "a" ∷ codes "c" ∷ []) []) ≡ Some (UnknownUnit (codes "c"))
 unknown-first = refl
 
@@ -125,11 +125,11 @@ twice-shared = refl
 no-memory : fault_in circuit tree (record both_units { memories = codes "a" ∷ [] }) ≡ Some (UnknownMemory (codes "a"))
 no-memory = refl
 
--- a port of an instance that is no unit is no channel
+-- a port of an instance that isn't a unit is no channel
 no-channel : fault_in circuit tree (record (asks (codes "a" ∷ []) []) { capacity = (codes "a.x", 3) ∷ (codes "b.m", 1) ∷ [] }) ≡ Some (UnknownChannel (codes "b.m"))
 no-channel = refl
 
--- an unknown channel is told before a capacity out of range
+-- an unknown channel is reported before a capacity out of range
 range-last : fault_in circuit tree (record both_units { capacity = (codes "a.x", 0) ∷ (codes "oo", 1) ∷ [] }) ≡ Some (UnknownChannel (codes "oo"))
 range-last = refl
 

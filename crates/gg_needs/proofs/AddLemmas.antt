@@ -95,7 +95,7 @@ Adds-then added P Q R a b c from_p from_q cases first second =
       kept = λ place is. second.kept place is ∙ first.kept place is;
     }
 
--- the same signals, named otherwise
+-- a property of signals can be replaced by another that the same signals have
 pub Adds-same : (added : ℕ) (P R : ℕ → Type 0) (a b : List ℕ) → ((s : ℕ) → P s → R s) → ((s : ℕ) → R s → P s) → Adds added P a b → Adds added R a b
 Adds-same added P R a b to from adds =
     record {
@@ -108,7 +108,7 @@ Adds-same added P R a b to from adds =
       kept = adds.kept;
     }
 
--- one more node
+-- a set is added to what one more node names
 pub Adds-node : (added : ℕ) (nodes : List Node) (i : ℕ) (n : Node) (a b c : List ℕ) → i < length nodes → n ≡ slice_index_or nodes i n → Adds added (Names (take i nodes)) a b → Adds added (λ s. n.op ≡ Ref s) b c → Adds added (Names (take (i + 1) nodes)) a c
 Adds-node added nodes i n a b c lt is first second =
     let more : take (i + 1) nodes ≡ take i nodes ++ n ∷ [] = take_more nodes i n lt ∙ ap (λ (m : Node). take i nodes ++ m ∷ []) (sym is) in

@@ -12,7 +12,7 @@ path-on : (circuit : FlatCircuit) (a : ℕ) (path : List ℕ) (b c : ℕ) → Is
 path-on circuit a [] b c is reads = (subst (λ (x : ℕ). Reads circuit x c) (sym is) reads, refl)
 path-on circuit a (next ∷ path) b c is reads = (is.0, path-on circuit next path b c is.1 reads)
 
--- one read more
+-- what is read by a signal that is reached is reached
 pub Reaches-on : (circuit : FlatCircuit) (a b c : ℕ) → Reaches circuit a b → Reads circuit b c → Reaches circuit a c
 Reaches-on circuit a b c to reads = record { path = to.path ++ c ∷ []; reads = path-on circuit a to.path b c to.reads reads }
 
@@ -20,7 +20,7 @@ along-path : (circuit : FlatCircuit) (P : ℕ → Type 0) → ((x y : ℕ) → P
 along-path circuit P closed a [] b at is = subst P is at
 along-path circuit P closed a (next ∷ path) b at is = along-path circuit P closed next path b (closed a next at is.0) is.1
 
--- what holds of a signal, and of what is read where it holds of the reader, holds of all that the signal reaches
+-- what holds of a signal, and of all that is read by a signal of which it holds, holds of all that the signal reaches
 pub along-reaches : (circuit : FlatCircuit) (P : ℕ → Type 0) → ((x y : ℕ) → P x → Reads circuit x y → P y) → (a b : ℕ) → P a → Reaches circuit a b → P b
 along-reaches circuit P closed a b at to = along-path circuit P closed a to.path b at to.reads
 

@@ -12,7 +12,7 @@ use Rattle.gg_order.specs.Marks.{is_marked, Marks}
 use Rattle.gg_needs.specs.Walk.{MarksReached, IsClosed, IsWalk, ReadsMarked}
 use Rattle.gg_needs.proofs.ReachLemmas.{Reaches-itself, Reaches-on, along-reaches}
 
--- the signal at place k is looked at
+-- one step of the walk: the signal at place k is looked at
 pub IsWalk-step : (circuit : FlatCircuit) (order : List ℕ) (out k n : ℕ) (before after : List Bool) → IsOrder circuit order → k < length order → n ≡ k + 1 → length after ≡ length circuit.signals → ReadsMarked circuit (value_at order k) before after → IsWalk circuit order out n before → IsWalk circuit order out k after
 IsWalk-step circuit order out k n before after o within next count step walk =
     record {
@@ -40,7 +40,7 @@ IsWalk-step circuit order out k n before after o within next count step walk =
     own : is_marked after (value_at order k) ≡ true → is_marked before (value_at order k) ≡ true
     own is = elim (step.only (value_at order k) is) [ inl h ↦ h | inr h ↦ h.0 ]
 
--- at the front just what the signal reaches is marked
+-- at the front of the order exactly what the signal reaches is marked
 pub MarksReached-walk : (circuit : FlatCircuit) (order : List ℕ) (out k : ℕ) (marks : List Bool) → IsOrder circuit order → k ≡ 0 → IsWalk circuit order out k marks → MarksReached circuit out marks
 MarksReached-walk circuit order out k marks o front walk s =
     (walk.only s, λ to. along-reaches circuit (λ (x : ℕ). is_marked marks x ≡ true) closed out s walk.itself to)
@@ -50,7 +50,7 @@ MarksReached-walk circuit order out k marks o front walk s =
         let at = place-of circuit order a o reads.signal in
         walk.closed at.place b (omega (arith, front)) at.within (subst (λ (x : ℕ). is_marked marks x ≡ true) (sym at.is) is) (subst (λ (x : ℕ). Reads circuit x b) (sym at.is) reads)
 
--- what a marked signal's driver names is marked
+-- marking what a marked signal's driver names marks what the signal reads
 pub ReadsMarked-driver : (circuit : FlatCircuit) (signal : ℕ) (before after : List Bool) → signal < length circuit.signals → is_marked before signal ≡ true → Marks (NamesSignal (driver_at circuit signal)) before after → ReadsMarked circuit signal before after
 ReadsMarked-driver circuit signal before after known is marks =
     record {
@@ -59,7 +59,7 @@ ReadsMarked-driver circuit signal before after known is marks =
       only = λ s h. elim (marks.only s h) [ inl was ↦ inl was | inr names ↦ inr (is, record { signal = known; names = names }) ];
     }
 
--- where the signal isn't marked nothing is
+-- nothing is marked for a signal that isn't marked itself
 pub ReadsMarked-none : (circuit : FlatCircuit) (signal : ℕ) (marks : List Bool) → is_marked marks signal ≡ false → ReadsMarked circuit signal marks marks
 ReadsMarked-none circuit signal marks not =
     record {

@@ -1,4 +1,4 @@
--- A unit by hand: the sets of marks after the pass, the needs that they give, and what are no needs of all.
+-- A unit worked by hand: the sets of marks after the pass, the needs that they give, and lists that aren't its needs.
 use Rattle.std.proofs.Common.{◌≡◌, ℕ, zero, suc, List, [], ◌∷◌, true, refl, subst, arith, lit<}
 use Rattle.std.specs.Prelude.{Contains, slice_index_or}
 use Rattle.gg_bits.specs.declared.ops.Op2.TheVariants.{Xor}
@@ -65,7 +65,7 @@ p-marks s = (p-reaches s, λ to. along-reaches unit (λ (x : ℕ). is_marked (ma
 q-marks : MarksReached unit 3 (marks_of 1 sets)
 q-marks s = (q-reaches s, λ to. along-reaches unit (λ (x : ℕ). is_marked (marks_of 1 sets) x ≡ true) q-closed 3 s refl to)
 
--- the sets after the pass for the group of both outputs
+-- these are the sets after the pass for the group of both outputs
 after-pass : AreReached unit (2 ∷ 3 ∷ []) sets
 after-pass = record { count = refl; each = λ place lt. both (λ (p : ℕ). MarksReached unit (value_at (2 ∷ 3 ∷ []) p) (marks_of p sets)) p-marks q-marks place lt }
 

@@ -1,4 +1,4 @@
--- Units by hand: what their out-signals reach and need, and what is no list of needs.
+-- Units worked by hand: what their out-signals reach and need, and lists that aren't needs.
 use Rattle.std.proofs.Common.{◌≡◌, ℕ, zero, suc, ◌<◌, List, [], ◌∷◌, refl, sym, subst, inl, inr, ◌⊎◌, arith, lit<}
 use Rattle.std.specs.Prelude.{slice_index_or, Contains}
 use Rattle.gg_bits.specs.declared.ops.Op2.TheVariants.{Xor}
@@ -44,7 +44,7 @@ In (suc zero) = ⊥
 In (suc (suc zero)) = Unit {0}
 In (suc (suc (suc s))) = ⊥
 
--- what a copy of signal a reads is a
+-- a line that copies signal a reads only a
 pub copies : (a s : ℕ) → Contains (Ref a ∷ []) (Ref s) → a ≡ s
 copies a s (zero, lt, is) = same a s is
 copies a s (suc k, lt, is) = absurd (omega arith)

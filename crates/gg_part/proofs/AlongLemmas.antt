@@ -1,4 +1,5 @@
--- Signals that are listed along an order of the whole stand in an order of evaluation, and then their numbers are an order.
+-- If the signals of a part are listed along an order of the whole, each stands after those that it reads; and then their numbers,
+-- ascending, are an order of the part.
 use Rattle.std.proofs.Common.{◌≡◌, ℕ, zero, suc, ◌+◌, ◌<◌, ◌≤◌, List, [], ◌∷◌, length, refl, sym, ◌∙◌, ap, subst, inl, inr, ◌⊎◌, arith}
 use Rattle.std.specs.List.{range_with_len}
 use Rattle.std.proofs.lemmas.List.{get_or-take, get_or_default, length-take}
@@ -15,7 +16,7 @@ use Rattle.gg_flat.proofs.OrderLemmas.{read-before, not-before, place-of}
 use Rattle.gg_part.specs.Part.{IsPart, IsFrom, renamed_op, renamed_line}
 use Rattle.gg_part.specs.InOrder.{Precedes, IsAlong, IsInOrder}
 
--- what a line names, it names in the whole under its number there
+-- what a line of the part names, the same line of the whole names by the whole's number
 pub Names-renamed : (globals : List ℕ) (line : List Node) (s : ℕ) → Names line s → Names (renamed_line globals line) (value_at globals s)
 Names-renamed globals [] s named = absurd (omega (arith, named.1))
 Names-renamed globals (node ∷ nodes) s (zero, lt, is) = (zero, omega arith, ap (renamed_op globals) is)
@@ -23,7 +24,7 @@ Names-renamed globals (node ∷ nodes) s (suc k, lt, is) =
     let rest = Names-renamed globals nodes s (k, omega (arith, lt), is) in
     (suc rest.0, omega (arith, rest.1), rest.2)
 
--- what a driver of the part names is one of its signals, and the whole's driver names it
+-- s is a signal of the part, and the driver names the whole's signal that it stands for
 pub record IsNamedIn (globals : List ℕ) (driver : Driver) (s : ℕ) : Type 0 where
   pub within : s < length globals
   pub named : NamesSignal driver (value_at globals s)
@@ -40,14 +41,14 @@ named-in ins globals held memories a b whole (Computed line) from named =
     record { within = from.0 b named; named = subst (λ d. NamesSignal d (value_at globals b)) (sym from.1) (Names-renamed globals line b named) }
 
 module _ (whole part : FlatCircuit) (globals held memories order : List ℕ) (is : IsPart whole part globals held memories) (ordered : IsOrder whole order) where
-  -- a signal of the part that another reads is read in the whole
+  -- if a signal of the part reads another, so do the signals of the whole for which they stand
   reads-in : (a b : ℕ) → Reads part a b → (b < length globals) × Reads whole (value_at globals a) (value_at globals b)
   reads-in a b reads =
       let known : a < length globals = omega (arith, reads.signal, is.count) in
       let at = named-in part.ins globals held memories a b (driver_at whole (value_at globals a)) (driver_at part a) (is.drivers a known) reads.names in
       (at.within, record { signal = is.within a known; names = at.named })
 
-  -- a signal stands at one place
+  -- no signal stands at two places of an order
   one-place : (i j : ℕ) → i < length order → j < length order → value_at order i ≡ value_at order j → i ≡ j
   one-place i j li lj same = by (cases_lt i j) (cases_lt j i)
     where
@@ -63,7 +64,7 @@ module _ (whole part : FlatCircuit) (globals held memories order : List ℕ) (is
       let same = one-place before.place precedes.second before.within precedes.within (before.is ∙ sym precedes.second_is) in
       omega (arith, same, before.before, precedes.before)
 
-  -- nor does it read itself
+  -- a signal doesn't read itself
   no-self : (a : ℕ) → Reads whole a a → ⊥
   no-self a reads =
       let at = place-of whole order a ordered reads.signal in

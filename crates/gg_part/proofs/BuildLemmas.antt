@@ -17,7 +17,7 @@ use Rattle.gg_part.proofs.FormedLemmas.{once-apart}
 
 -- ---- one more of a list
 
--- the items so far stand for the whole's of their numbers, and so does one more
+-- each item so far stands for the whole's item of its number, and so does one more
 pub each-more : {X : Type 0} (f : X → X) (whole old new : List X) (numbers : List ℕ) (k : ℕ) (own item : X) → length old ≡ k → new ≡ old ++ own ∷ [] → f own ≡ item → ((other : X) → get_or whole (value_at numbers k) other ≡ item) → ((r : ℕ) (any other : X) → r < k → get_or whole (value_at numbers r) other ≡ f (get_or old r any)) → (r : ℕ) (any other : X) → r < k + 1 → get_or whole (value_at numbers r) other ≡ f (get_or new r any)
 each-more {X} f whole old new numbers k own item counted is here read before r any other lt =
     below_more (λ r. (any other : X) → get_or whole (value_at numbers r) other ≡ f (get_or new r any)) k
@@ -25,7 +25,7 @@ each-more {X} f whole old new numbers k own item counted is here read before r a
     (λ any other. read other ∙ sym here ∙ ap f (sym (ap (λ (l : List X). get_or l k any) is ∙ get_or_push old own any k counted)))
     r lt any other
 
--- what holds of each item so far, and of one more
+-- what holds of each item so far and of one more holds of each item of the new list
 pub all-more : {X : Type 0} (P : X → Type 0) (old new : List X) (k : ℕ) (own : X) → length old ≡ k → new ≡ old ++ own ∷ [] → P own → ((r : ℕ) (any : X) → r < k → P (get_or old r any)) → (r : ℕ) (any : X) → r < k + 1 → P (get_or new r any)
 all-more {X} P old new k own counted is here before r any lt =
     below_more (λ r. (any : X) → P (get_or new r any)) k
@@ -33,7 +33,7 @@ all-more {X} P old new k own counted is here before r any lt =
     (λ any. subst P (sym (ap (λ (l : List X). get_or l k any) is ∙ get_or_push old own any k counted)) here)
     r lt any
 
--- an item that was read at a place stands there whatever the default
+-- what was read at a place stands there, whatever the default is
 pub read-any : {X : Type 0} (xs : List X) (i : ℕ) (item : X) → i < length xs → item ≡ get_or xs i item → (other : X) → get_or xs i other ≡ item
 read-any {X} xs i item lt read other = get_or_default xs i other item lt ∙ sym read
 
@@ -76,7 +76,7 @@ module _ (whole : FlatCircuit) (globals ins held memories : List ℕ) (k : ℕ) 
             (subst (IsDriven whole globals ins held memories (value_at globals k)) (sym (driver-last old new own k signals before.counted)) added.driven);
       }
 
-  -- its path isn't there yet
+  -- the path of the next signal isn't among the paths so far
   pub path-fresh : (paths : List (List ℕ)) → AllPairs (λ a b. a ≢ b) whole.paths → AllPairs (λ a b. a ≢ b) globals → All (λ s. s < length whole.paths) globals → paths ≡ map (path_at whole.paths) (take k globals) → Contains paths (path_at whole.paths (value_at globals k)) → ⊥
   path-fresh paths distinct once within are there =
       let path = path_at whole.paths (value_at globals k) in
@@ -90,7 +90,7 @@ module _ (whole : FlatCircuit) (globals ins held memories : List ℕ) (k : ℕ) 
       let one = once-apart whole.paths [] distinct (value_at globals at.0) (value_at globals k) (within at.0 0 (omega arith)) (within k 0 lt) same in
       once at.0 k 0 before lt one
 
--- the signals are those of each piece with the same paths and signals
+-- AreSignals depends only on the paths and the signals of a piece
 pub AreSignals-same : (whole : FlatCircuit) (globals ins held memories : List ℕ) (k : ℕ) (old new : FlatCircuit) → new.paths ≡ old.paths → new.signals ≡ old.signals → AreSignals whole globals ins held memories k old → AreSignals whole globals ins held memories k new
 AreSignals-same whole globals ins held memories k old new paths signals are =
     record {

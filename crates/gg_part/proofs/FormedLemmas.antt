@@ -27,7 +27,7 @@ use Rattle.gg_part.specs.Part.{IsPart, IsFrom, renamed_op, renamed_line, renamed
 use Rattle.gg_part.proofs.RenameLemmas.{shapes_of-renamed, length-renamed, line_shape-renamed}
 use Rattle.gg_part.proofs.RunLemmas.{shape-part, length-shapes}
 
--- two of different numbers differ, where a list has each once
+-- in a list of distinct items, equal items stand at the same place
 pub once-apart : {X : Type 0} (xs : List X) (d : X) → AllPairs (λ a b. a ≢ b) xs → (i j : ℕ) → i < length xs → j < length xs → get_or xs i d ≡ get_or xs j d → i ≡ j
 once-apart xs d once i j li lj same = by (cases_lt i j) (cases_lt j i)
   where

@@ -21,7 +21,7 @@ use Rattle.gg_flat.specs.WellFormed.{MayDrive, IsWellFormed}
 use Rattle.gg_part.specs.Choice.{IsChoice}
 use Rattle.gg_part.specs.Building.{Holds, IsHeldIn, AreHeld}
 
--- numbers below n, each once, are at most n
+-- there are at most n distinct numbers below n
 pub length-once : (xs : List ℕ) (n : ℕ) → AllPairs (λ a b. a ≢ b) xs → All (λ x. x < n) xs → length xs ≤ n
 length-once xs n once below =
     length-le_from_distinct_below xs n (IsDistinct-from_apart eqb xs (λ i j d before within. by i j d (once i j d before within) (cases_Bool (eqb (get_or xs i d) (get_or xs j d)))))
@@ -32,7 +32,7 @@ length-once xs n once below =
     by i j d ne (inr other) = other
 
 module _ (whole : FlatCircuit) (globals ins : List ℕ) (k : ℕ) (lt : k < length globals) where
-  -- what stands among one more of the signals
+  -- a signal among the first k + 1 is among the first k, or stands at place k
   among-more : (s : ℕ) → Contains (take (k + 1) globals) s → Contains (take k globals) s ⊎ (value_at globals k ≡ s)
   among-more s chosen = Contains-push_cases (take k globals) (value_at globals k) s (subst (λ (all : List ℕ). Contains all s) (take_more globals k 0 lt) chosen)
 
@@ -76,7 +76,7 @@ module _ (whole : FlatCircuit) (globals ins : List ℕ) (k : ℕ) (lt : k < leng
       every s r own (inl before) = are.every s r before own
       every s r own (inr same) = absurd (none r (subst (λ t. Holds whole ins t r) (sym same) own))
 
--- what signals hold are registers of the whole
+-- the registers that signals hold are registers of the whole
 pub held-within : (whole : FlatCircuit) (globals ins held : List ℕ) → IsWellFormed whole → All (λ s. s < length whole.signals) globals → AreHeld whole globals ins held → All (λ r. r < length whole.registers) held
 held-within whole globals ins held formed within are =
     λ k d lt.

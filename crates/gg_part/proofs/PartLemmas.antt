@@ -1,4 +1,4 @@
--- What was made is a part.
+-- The piece that is built is a part of the whole.
 use Rattle.std.proofs.Common.{◌≡◌, ℕ, ◌<◌, List, [], length, map, get_or, sym, ◌∙◌, ap, subst, arith}
 use Rattle.std.specs.Prelude.{All, Contains}
 use Rattle.std.proofs.lemmas.List.{get_or-map, length-map, take_all}
@@ -18,7 +18,7 @@ use Rattle.gg_part.specs.Building.{AreHeld, AreSignals, AreRegisters, AreMemorie
 use Rattle.gg_part.proofs.FormedLemmas.{once-apart}
 use Rattle.gg_part.proofs.FrameLemmas.{held-within}
 
--- a choice without what it gives to the outside, over the same lists
+-- a choice is one without its out-signals too, and with equal lists in place of its own
 pub IsChoice-frame : (whole : FlatCircuit) (globals ins outs memories own_globals own_ins own_memories : List ℕ) → own_globals ≡ globals → own_ins ≡ ins → own_memories ≡ memories → IsChoice whole globals ins outs memories → IsChoice whole own_globals own_ins [] own_memories
 IsChoice-frame whole globals ins outs memories own_globals own_ins own_memories g i m chosen =
     subst (λ l. IsChoice whole l own_ins [] own_memories) (sym g)
@@ -57,7 +57,7 @@ module _ (whole piece : FlatCircuit) (globals ins held memories : List ℕ) (for
   from-local s driver (ReadRegister m r) lt from = from
   from-local s driver (Computed line) lt from = from
 
-  -- what an in-signal's driver says
+  -- a signal that has an input as its driver is the in-signal of that place
   input-says : (s place : ℕ) → s < length globals → driver_at piece s ≡ Input place → (place < length ins) × (value_at ins place ≡ value_at globals s)
   input-says s place lt is = subst (IsFrom ins globals held memories (value_at globals s) (driver_at whole (value_at globals s))) is (signals.drivers s lt).from
 

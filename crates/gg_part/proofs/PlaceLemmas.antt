@@ -9,7 +9,7 @@ use Rattle.gg_part.specs.Numbers.{ArePlaces}
 pub ArePlaces-none : (items places : List ℕ) → ArePlaces items 0 places
 ArePlaces-none items places = record { known = λ k lt. absurd (omega arith); within = λ k lt. absurd (omega arith); found = λ k lt. absurd (omega arith) }
 
--- what is said of the place of one number, when the place of another was written
+-- the table has the place of number s: it is below `count`, and s stands there
 record IsPlaced (items : List ℕ) (count : ℕ) (places : List ℕ) (s : ℕ) : Type 0 where
   pub within : value_at places s < count
   pub found : value_at items (value_at places s) ≡ s

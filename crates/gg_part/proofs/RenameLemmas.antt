@@ -1,4 +1,4 @@
--- What the part's lines, registers and memories give in the part's row is what the whole's give in the whole's row.
+-- The part's lines, registers and memories give in the part's row what the whole's give in the whole's row.
 use Rattle.std.proofs.Common.{◌≡◌, ℕ, suc, ◌<◌, ◌-◌, List, [], ◌∷◌, ◌++◌, length, map, replicate, refl, sym, ◌∙◌, ap, ap₂, inl, inr, arith}
 use Rattle.std.specs.Prelude.{fold, Option, Some, None, All, Bool, ◌==◌, ◌&&◌, if◌then◌else◌}
 use Rattle.std.proofs.lemmas.List.{get_or-map, length-map}
@@ -21,7 +21,7 @@ use Rattle.gg_flat.specs.State.{connected_or, reset_or, next_register}
 use Rattle.gg_part.specs.Part.{renamed_op, renamed_node, renamed_line, renamed_next, renamed_reset, renamed_register, renamed_reader, renamed_writer, renamed_memory, NamesBelow, RegisterBelow, ReadsAmong, MemoryBelow}
 use Rattle.gg_part.specs.PartRun.{part_row}
 
--- the shapes of a line are the same under other names
+-- a line has the same shapes under other names
 pub shapes_of-renamed : (globals : List ℕ) (line : List Node) → shapes_of (renamed_line globals line) ≡ shapes_of line
 shapes_of-renamed globals [] = refl
 shapes_of-renamed globals (node ∷ nodes) = ap (λ shapes. shape node.ty ∷ shapes) (shapes_of-renamed globals nodes)
@@ -33,7 +33,7 @@ pub line_shape-renamed : (globals : List ℕ) (line : List Node) → line_shape 
 line_shape-renamed globals line = ap₂ (λ shapes n. shape_at shapes (n - 1)) (shapes_of-renamed globals line) (length-renamed globals line)
 
 module _ (globals row : List ℕ) where
-  -- a value of the part's row
+  -- the value of a signal in the part's row
   pub part_row-at : (s : ℕ) → s < length globals → value_at (part_row globals row) s ≡ value_at row (value_at globals s)
   part_row-at s lt = get_or-map (value_at row) globals s 0 0 lt
 
@@ -113,7 +113,7 @@ module _ (globals row : List ℕ) where
       ap (λ after. make after (next_reads row memory.latency (map (λ reader. renamed_reader globals reader) memory.readers) bank.words after)) words
       ∙ ap (make (next_words (part_row globals row) memory.writers bank.words)) (reads-renamed memory.latency memory.readers bank.words (next_words (part_row globals row) memory.writers bank.words) below.readers)
 
--- what a memory holds at the opening
+-- a memory of the part holds the same at the opening as the whole's
 read_count-renamed : (globals : List ℕ) (latency : Latency) (readers : List Reader) → read_count latency (map (λ reader. renamed_reader globals reader) readers) ≡ read_count latency readers
 read_count-renamed globals Zero readers = refl
 read_count-renamed globals (Late under) readers = length-map readers (λ reader. renamed_reader globals reader)

@@ -43,12 +43,12 @@ nothing = record { words = []; reads = [] }
 bank-at : (memories : List ℕ) (banks : List Bank) (m : ℕ) → m < length memories → bank_at (map (bank_at banks) memories) m ≡ bank_at banks (value_at memories m)
 bank-at memories banks m lt = get_or-map (bank_at banks) memories m 0 nothing lt
 
--- the values of the part's inputs are those of its in-signals in the row
+-- the values of the part's inputs are the values of its in-signals in the row
 pub record AreInputs (part : FlatCircuit) (globals inputs row : List ℕ) : Type 0 where
   pub each : (place : ℕ) → place < length part.ins → value_at inputs place ≡ value_at row (value_at globals (value_at part.ins place))
 
 module _ (whole part : FlatCircuit) (globals held memories : List ℕ) (is : IsPart whole part globals held memories) where
-  -- a driver of the part gives what the whole's gives
+  -- a driver of the part gives what the whole's driver gives
   driver-part : (state : State) (inputs own row : List ℕ) (sink : Shape) (s : ℕ) (outer inner : Driver) → IsFrom part.ins globals held memories s outer inner → AreInputs part globals own row → value_at row (value_at globals s) ≡ driver_value state inputs row sink outer → value_at row (value_at globals s) ≡ driver_value (part_state held memories state) own (part_row globals row) sink inner
   driver-part state inputs own row sink s outer (Input place) from given driven =
       sym (given.each place from.0 ∙ ap (λ t. value_at row (value_at globals t)) from.1)
@@ -63,7 +63,7 @@ module _ (whole part : FlatCircuit) (globals held memories : List ℕ) (is : IsP
   driver-part state inputs own row sink s outer (Computed line) from given driven =
       driven ∙ ap (driver_value state inputs row sink) from.1 ∙ connected-renamed globals row sink line from.0
 
-  -- the shape of a signal of the part
+  -- a signal of the part has the same shape as in the whole
   pub shape-part : (s : ℕ) → s < length globals → shape_at (signal_shapes part) s ≡ shape_at (signal_shapes whole) (value_at globals s)
   shape-part s lt = ap (λ shapes. shape_at shapes s) is.types ∙ get_or-map (shape_at (signal_shapes whole)) globals s 0 (uint 0) lt
 

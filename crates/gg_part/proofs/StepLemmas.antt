@@ -8,7 +8,7 @@ use Rattle.gg_flat.specs.declared.line.Op.{Op}
 use Rattle.gg_flat.specs.declared.line.Op.TheVariants.{Ref}
 use Rattle.gg_part.specs.Part.{NamesBelow}
 
--- one more item is made, and stands for the next
+-- a list that stands for the first i items, with one more that stands for the next
 pub map-grows : {X Y : Type 0} (f : X → Y) (xs more : List X) (x : X) (ys : List Y) (d : Y) (i : ℕ) → i < length ys → more ≡ xs ++ x ∷ [] → f x ≡ get_or ys i d → map f xs ≡ take i ys → map f more ≡ take (i + 1) ys
 map-grows f xs more x ys d i lt is here before =
     ap (map f) is ∙ map_push f xs x ∙ ap₂ (λ front last. front ++ last ∷ []) before here ∙ sym (take_more ys i d lt)

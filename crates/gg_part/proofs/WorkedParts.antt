@@ -1,4 +1,4 @@
--- A part of a small circuit, and choices and parts with one flaw each, which are none.
+-- A part of a small circuit; and lists and pieces with one flaw each, which aren't choices or parts.
 --
 -- The whole is a counter: signal 0 is the input `reset`, 1 the output `out`, 2 the register `c`, 3 the node `n`, which is
 -- `add(c, 1)`. The part has `c`, `n` and `reset`, in this order; `n` and `reset` come from outside.
@@ -61,7 +61,7 @@ has-3 = (1, lit< tt, refl)
 has-0 : Contains globals 0
 has-0 = (2, lit< tt, refl)
 
--- what holds of each of the signals
+-- what holds of signals 2, 3 and 0 holds of each chosen one
 chosen-at : (P : ℕ → Type 0) → P 2 → P 3 → P 0 → (s : ℕ) → Contains globals s → P s
 chosen-at P c n reset s (k, lt, is) = three (λ k. slice_index_or globals k s ≡ s → P s) (λ at. subst P at c) (λ at. subst P at n) (λ at. subst P at reset) k lt is
 
@@ -150,7 +150,7 @@ is-part =
       memory_from = λ m lt. absurd (omega arith);
     }
 
--- ---- what isn't chosen rightly
+-- ---- what is no choice
 
 -- `reset`, which the register names, is left out
 not-closed : ¬ IsChoice counter (2 ∷ 3 ∷ []) (3 ∷ []) (2 ∷ []) []

@@ -7,7 +7,7 @@ use Rattle.std.proofs.lemmas.Slice.Eq.{bytes_eq-Decides}
 use Rattle.gg_flat.specs.Tree.{path_at}
 use Rattle.gg_cut.proofs.PathLemmas.{HoldsPath, holds-path, one-place}
 
--- the signal of a path gets a capacity
+-- setting the capacity of a path's signal sets it for this path and no other
 pub capacity-set : (paths : List (List ℕ)) (path : List ℕ) (signal capacity : ℕ) (table : List ℕ) → AllPairs (λ a b. a ≢ b) paths → slice_get paths signal ≡ Some path → length table ≡ length paths → (s : ℕ) → s < length paths
     → get_or (set table signal capacity) s 0 ≡ (if bytes_eq path (path_at paths s) then capacity else get_or table s 0)
 capacity-set paths path signal capacity table once found count s lt = by (bytes_eq path (path_at paths s)) refl

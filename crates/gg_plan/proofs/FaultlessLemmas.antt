@@ -33,7 +33,7 @@ none-map : {A B : Type 0} (f : A → B) (a : Option A) → option_map f a ≡ No
 none-map f None e = refl
 none-map f (Some x) e = absurd (cc)
 
--- its capacities are in range
+-- the capacities of a request without a fault are in range
 pub range-free : (design : Ordered) (request : Request) → first_fault design request ≡ None → range_fault request.capacity ≡ None
 range-free design request none =
     let circuit = design.circuit in
@@ -104,7 +104,7 @@ capacity-sound capacities default name none own = capacity-in-range capacities d
 
 -- ---- channels and machines
 
--- the signals of channels are the circuit's
+-- the signals of channels are signals of the circuit
 pub wires-known : (design : Ordered) (request : Request) → first_fault design request ≡ None → IsWellFormed design.circuit → IsTree design.circuit design.tree → (c : ℕ) → c < length (wires_of design.circuit design.tree (listed_of design.tree request))
     → (wire_at (wires_of design.circuit design.tree (listed_of design.tree request)) c).signal < length design.circuit.signals
 wires-known design request none formed is c lt =

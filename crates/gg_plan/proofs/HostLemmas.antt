@@ -12,12 +12,12 @@ use Rattle.gg_cut.proofs.RangeLemmas.{filter-more}
 
 -- ---- the least machine of a list
 
--- a machine of the list is at least the least
+-- the least of the list's machines and n is at most n
 least-below : (units : List (List ℕ)) (group : List (List ℕ)) (n : ℕ) → least_machine units group n ≤ n
 least-below units [] n = omega arith
 least-below units (path ∷ group) n = let rest = least-below units group (min (machine_of units path) n) in omega (arith, rest)
 
--- the least of the machines and a number is the same for each number from a machine of the list on
+-- the least of the list's machines and n is the same for each n from one of these machines on
 least-member : (units : List (List ℕ)) (group : List (List ℕ)) (m n : ℕ) → list_any (λ path. machine_of units path == m) group ≡ true → m ≤ n → least_machine units group n ≡ least_machine units group m
 least-member units [] m n among le = absurd (true≢false (sym among))
 least-member units (path ∷ group) m n among le = by (machine_of units path) (machine_of units path == m) refl (λ k above rest. least-member units group m k rest above) among
@@ -32,7 +32,7 @@ least-member units (path ∷ group) m n among le = by (machine_of units path) (m
         (λ high. let joined : min a m ≡ m = omega (arith, high) in rest (min a n) (omega (arith, high, le)) some ∙ sym (ap (least_machine units group) joined))
         (cases_lt a m)
 
--- a machine of a list gets the least of the list's machines
+-- a machine of a list gets the least of the list's machines, whichever number the search began with
 pub led : (units group : List (List ℕ)) (m n least old new : ℕ) → m ≤ n → least ≡ least_machine units group n → new ≡ (if list_any (λ path. machine_of units path == m) group then least else old) → new ≡ (if list_any (λ path. machine_of units path == m) group then least_machine units group m else old)
 led units group m n least old new le is set = set ∙ by (list_any (λ path. machine_of units path == m) group) refl
   where
@@ -49,7 +49,7 @@ leader-cons units group share m = by (list_any (λ path. machine_of units path =
     by true = refl
     by false = refl
 
--- one list more, before those that were seen
+-- one list more, before those that were gone through
 pub leader-more : (units : List (List ℕ)) (share : List (List (List ℕ))) (step m : ℕ) (group : List (List ℕ)) (old new : ℕ) → step < length share → group ≡ get_or share (length share - 1 - step) group → old ≡ leader units (drop (length share - step) share) m → new ≡ (if list_any (λ path. machine_of units path == m) group then least_machine units group m else old) → new ≡ leader units (drop (length share - (step + 1)) share) m
 leader-more units share step m group old new lt read was set =
     let i = length share - (step + 1) in
@@ -80,20 +80,20 @@ count-more leaders n total is =
     by true = refl
     by false = refl
 
--- the counts before each number, and one more
+-- the counts of leaders before each number, and one more
 pub counts-more : (leaders before new : List ℕ) (n total : ℕ) → length before ≡ n → total ≡ length (filter (λ k. value_at leaders k == k) (range_with_len 0 n)) → ((m : ℕ) → m < n → value_at before m ≡ length (filter (λ k. value_at leaders k == k) (range_with_len 0 m))) → new ≡ before ++ total ∷ [] → (m : ℕ) → m < n + 1 → value_at new m ≡ length (filter (λ k. value_at leaders k == k) (range_with_len 0 m))
 counts-more leaders before new n total count is each made =
     below_more (λ m. value_at new m ≡ length (filter (λ k. value_at leaders k == k) (range_with_len 0 m))) n
     (λ m lt. ap (λ l. value_at l m) made ∙ get_or_append_left before (total ∷ []) 0 m (omega (arith, lt, count)) ∙ each m lt)
     (ap (λ l. value_at l n) made ∙ get_or_push before total 0 n count ∙ is)
 
--- tests that agree below a number pass the same numbers
+-- tests that agree on the numbers pass the same of them
 filter-agree : (f g : ℕ → Bool) (a n : ℕ) → ((k : ℕ) → k < a + n → f k ≡ g k) → filter f (range_with_len a n) ≡ filter g (range_with_len a n)
 filter-agree f g a zero same = refl
 filter-agree f g a (suc n) same =
     ap₂ (λ b l. cond b (a ∷ l) l) (same a (omega arith)) (filter-agree f g (a + 1) n (λ k lt. same k (omega arith)))
 
--- the leaders are below their number
+-- each leader is below the number of machines
 pub leaders-below : (units : List (List ℕ)) (share : List (List (List ℕ))) (leaders : List ℕ) → ((m : ℕ) → m < length leaders → value_at leaders m ≡ leader units share m) → (n k d : ℕ) → n ≡ length leaders → k < length leaders → get_or leaders k d < n
 leaders-below units share leaders are n k d is lt =
     let at : get_or leaders k d ≡ value_at leaders k = get_or_default leaders k d 0 lt in

@@ -1,4 +1,4 @@
--- The machines with their parts.
+-- The machines of a plan: their channels and their parts.
 use Rattle.std.proofs.Common.{◌≡◌, ℕ, ◌+◌, ◌<◌, List, [], ◌∷◌, ◌++◌, length, map, get_or, sym, ◌∙◌, ap, subst, below_more, arith}
 use Rattle.std.specs.Prelude.{Contains, ◌==◌, ◌⊎◌, ◌↔◌}
 use Rattle.std.proofs.lemmas.List.{get_or_push, get_or_append_left}
@@ -28,7 +28,7 @@ from-below wires m channels is k d lt = let below = filter-below (λ c. (wire_at
 
 -- ---- parts
 
--- the part that a machine's share makes is the machine's
+-- the part that a machine's share makes is the part that its plan asks for
 pub cut-part : (design : Ordered) (listed : Listed) (wires : List Wire) (m : ℕ) (share : Share) (whole : FlatCircuit) (part : Part) → IsShareOf design listed wires m share.ins share.outs share.globals share.memories → whole ≡ design.circuit → IsPart whole part.piece part.globals part.held part.memories → part.globals ≡ share.globals → part.memories ≡ share.memories
     → map (value_at part.globals) part.piece.ins ≡ signals_of wires share.ins → map (value_at part.globals) part.piece.outs ≡ signals_of wires share.outs → IsOrder design.circuit design.order
     → ((whole part : FlatCircuit) (globals held memories order : List ℕ) → IsPart whole part globals held memories → IsOrder whole order → IsAlong order globals → IsInOrder part)
@@ -44,7 +44,7 @@ cut-part design listed wires m share whole part own w is g ms i o ordered law =
       ordered = law design.circuit part.piece part.globals part.held part.memories design.order here ordered (subst (λ (l : List ℕ). IsAlong design.order l) (sym g) own.along);
     }
 
--- the share of a machine, where its wires are the cut's
+-- the share at place m is that of machine m, where the wires are the cut's
 pub share-at : (design : Ordered) (listed : Listed) (wires : List Wire) (shares : List Share) (m : ℕ) (share : Share) → AreShares design listed shares → wires ≡ wires_of design.circuit design.tree listed → m < length shares → share ≡ get_or shares m share
     → IsShareOf design listed wires m share.ins share.outs share.globals share.memories
 share-at design listed wires shares m share are same lt is =

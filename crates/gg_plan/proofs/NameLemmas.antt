@@ -8,13 +8,13 @@ use Rattle.gg_partfile.specs.declared.request.Request.{Request}
 use Rattle.gg_cut.specs.declared.listed.Listed.{Listed}
 use Rattle.gg_cut.specs.Plan.{machine_names}
 
--- the path at a place where there is none
+-- where there is no path at a place, the path read there is empty
 pub missing-path : (paths : List (List ℕ)) (k : ℕ) → slice_get paths k ≡ None → [] ≡ path_at paths k
 missing-path [] k e = refl
 missing-path (path ∷ paths) zero e = absurd (cc)
 missing-path (path ∷ paths) (suc k) e = missing-path paths k e
 
--- ---- one name, and four lists of names behind it
+-- ---- one name, and four lists of names after it
 
 module _ (first : List ℕ) (units memories sources trays : List (List ℕ)) where
   abbrev all : List (List ℕ)

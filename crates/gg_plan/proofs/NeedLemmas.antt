@@ -60,7 +60,7 @@ map-ascending values places up along within = λ i j d lt inside.
 
 -- ---- the needs of a part's out-signals
 
--- the places that out-signals need are the in-signals'
+-- the places that out-signals need are places of ins
 pub places-within : (wires : List Wire) (part : Part) (ins outs : List ℕ) (lists : List (List ℕ)) → IsServed wires part ins outs → AreNeedsOfOuts part.piece lists → (i : ℕ) → i < length outs → All (λ place. place < length ins) (get_or lists i [])
 places-within wires part ins outs lists served all i lt = λ k d inside.
     let count : length part.piece.ins ≡ length ins = sym (length-map part.piece.ins (value_at part.globals)) ∙ ap length served.ins ∙ length-map ins (λ c. (wire_at wires c).signal) in
@@ -112,7 +112,7 @@ part-told wires part ins outs m lists before table served taken given all put c 
             let has = (needs.exact is.place).1 (is.known, is.reached) in
             (has.0, omega (arith, has.1, length-map places (value_at ins)), get_or-map (value_at ins) places has.0 is.place need has.1 ∙ ap (value_at ins) has.2 ∙ is.is)
 
--- what no machine of this number gives is left
+-- the needs of a channel that machine m doesn't give stay as they were
 pub others-left : (wires : List Wire) (ins outs : List ℕ) (m : ℕ) (lists before table : List (List ℕ)) → outs ≡ channels_from wires m → ArePut ins outs lists before (length outs) table → (c : ℕ) → (wire_at wires c).producer ≢ m → get_or table c [] ≡ get_or before c []
 others-left wires ins outs m lists before table given put c other =
     put.others c (λ i lt same. other (ap (λ k. (wire_at wires k).producer) (sym same) ∙ given-by wires m outs given i lt))

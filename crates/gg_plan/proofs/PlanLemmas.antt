@@ -1,4 +1,4 @@
--- The plan of its machines and channels.
+-- A plan from its machines and channels.
 use Rattle.std.proofs.Common.{◌≡◌, ℕ, ◌<◌, None, List, [], ◌∷◌, length, get_or, sym, ◌∙◌, ap, subst, arith}
 use Rattle.std.specs.Prelude.{All, AllPairs}
 use Rattle.std.proofs.lemmas.List.{length-map}
@@ -45,7 +45,7 @@ module _ (design : Ordered) (listed : Listed) (wires : List Wire) (formed : IsWe
   served-body Source is = tt
   served-body Tray is = tt
 
--- the needs of each machine can be told
+-- the needs of each machine can be computed
 pub machine-fit : (design : Ordered) (request : Request) (listed : Listed) (wires : List Wire) (m : ℕ) (machine : Machine) → IsWellFormed design.circuit → FormsParts → IsMachine design request listed wires m machine → IsFit wires m machine
 machine-fit design request listed wires m machine formed law is =
     record {
@@ -88,13 +88,13 @@ channels-made design whole capacity wires machines table channels same given tol
 
 -- ---- what the channels of a request without a fault have
 
--- each is given by a machine
+-- each channel is given by a machine
 pub given-below : (design : Ordered) (request : Request) (listed : Listed) (wires : List Wire) (machines : List Machine) → first_fault design request ≡ None → IsTree design.circuit design.tree → listed ≡ listed_of design.tree request → wires ≡ wires_of design.circuit design.tree listed → AreMachines design request listed wires machines → (c : ℕ) → c < length wires → (wire_at wires c).producer < length machines
 given-below design request listed wires machines none fitting is same are c lt =
     let below = subst (λ (w : List Wire). c < length w → (wire_at w c).producer < machine_count design.circuit (listed_of design.tree request)) (sym (same ∙ ap (wires_of design.circuit design.tree) is)) (wires-given design request none fitting c) lt in
     omega (arith, below, are.total, ap (machine_count design.circuit) is)
 
--- each carries a signal of the circuit
+-- each channel carries a signal of the circuit
 pub known-below : (design : Ordered) (request : Request) (listed : Listed) (wires : List Wire) (whole : FlatCircuit) → first_fault design request ≡ None → IsWellFormed design.circuit → IsTree design.circuit design.tree → listed ≡ listed_of design.tree request → wires ≡ wires_of design.circuit design.tree listed → whole ≡ design.circuit
     → (c : ℕ) → c < length wires → (wire_at wires c).signal < length whole.signals
 known-below design request listed wires whole none formed fitting is same all c lt =

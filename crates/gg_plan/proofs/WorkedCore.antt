@@ -1,4 +1,4 @@
--- An instance within an instance as a unit, given whole; and requests for the circuit that are refused.
+-- An instance within an instance as a unit, with its plan in full; and requests for the circuit that are refused.
 --
 -- The top has the output `o` and an instance `tile` with the output `o`, which holds an instance `core` with the output `o`, a
 -- literal.
@@ -70,7 +70,7 @@ wires = wires_of circuit tree listed
 
 -- ---- the plan
 
--- with the output of `tile`, which is no unit
+-- the part of the hub: it has the output of `tile`, which is no unit
 abbrev pub hub : Part
 hub =
     record {
@@ -154,7 +154,7 @@ is-channel c any =
 pub is-plan : IsPlan design request 2 (record { machines = machines; channels = channels })
 is-plan = record { machine_total = refl; channel_total = refl; machine = is-machine; channel = is-channel }
 
--- another default is another plan
+-- the plan for another default is another
 other-default : ¬ IsPlan design request 3 (record { machines = machines; channels = channels })
 other-default is = let bound : 2 ≡ 3 = (is.channel 0 (record { signal = 0; name = []; ty = nibble; producer = 0; consumer = 0; capacity = 0; needs = [] }) (lit< tt)).bound in absurd (omega (arith, bound))
 
@@ -169,7 +169,7 @@ unknown = refl
 nested : first_fault design (asks (codes "tile" ∷ codes "tile.core" ∷ []) []) ≡ Some (Doubled (codes "tile.core"))
 nested = refl
 
--- entries that name nothing come before those that stand twice
+-- entries that name nothing are reported before those that stand twice
 unknown-first : first_fault design (asks (codes "tile" ∷ codes "tile.core" ∷ codes "tile.cor" ∷ []) []) ≡ Some (UnknownUnit (codes "tile.cor"))
 unknown-first = refl
 
@@ -182,7 +182,7 @@ no-channel = refl
 no-room : first_fault design (record { units = []; share = []; memories = []; capacity = (codes "o", 0) ∷ [] }) ≡ Some (OutOfRange (codes "o") 0)
 no-room = refl
 
--- how they are told
+-- the texts of these faults
 texts : fault_text (UnknownUnit (codes "tile.cor")) ∷ fault_text (Doubled (codes "tile.core")) ∷ fault_text (UnknownMemory (codes "tile.m")) ∷ fault_text (UnknownChannel (codes "oo")) ∷ []
     ≡ codes "P2 tile.cor" ∷ codes "P3 tile.core" ∷ codes "P5 tile.m" ∷ codes "P7 oo" ∷ []
 texts = refl

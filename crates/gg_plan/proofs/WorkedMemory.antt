@@ -1,4 +1,4 @@
--- A listed memory with two readers and two writers, given whole.
+-- A listed memory with two readers and two writers, with its plan in full.
 --
 -- The top has the inputs `a` and `v`, the outputs `o0` and `o1` and a memory `m` of latency 0 with the readers `r` and `s` and the
 -- writers `w` and `x`; its signals are those of gg_flat's WorkedMemories, with paths in full.
@@ -91,7 +91,7 @@ hub =
       memories = [];
     }
 
--- the fields of `m` alone
+-- the fields of `m`, and no other signal
 abbrev pub memory : Part
 memory =
     record {
@@ -147,7 +147,7 @@ memory-part =
     ((lit< tt, refl), ((lit< tt, refl), ((lit< tt, lit< tt, lit< tt, refl), ((lit< tt, refl), ((lit< tt, refl), ((lit< tt, lit< tt, lit< tt, refl), ((lit< tt, refl), ((lit< tt, refl), ((lit< tt, refl), ((lit< tt, refl), ((lit< tt, refl), ((lit< tt, refl), ((lit< tt, refl), ((lit< tt, refl), tt))))))))))))))
     ((lit< tt, refl), ((lit< tt, refl), ((lit< tt, refl), ((lit< tt, refl), ((lit< tt, refl), ((lit< tt, refl), ((lit< tt, refl), ((lit< tt, refl), ((lit< tt, refl), ((lit< tt, refl), ((lit< tt, refl), ((lit< tt, refl), tt)))))))))))) refl refl (λ r lt. absurd (omega arith)) refl refl memory-from
 
--- the hub has no memory, `m` its own
+-- the hub has no memory, and `m` has its own
 hub-memories : (k : ℕ) → Contains [] k ↔ HasMemory tree listed 0 k
 hub-memories k = (λ at. absurd (omega (arith, at.1)), λ h. absurd (none h.place h.known h.owner))
   where
@@ -289,7 +289,7 @@ is-channel c any =
 pub is-plan : IsPlan design request 2 plan
 is-plan = record { machine_total = refl; channel_total = refl; machine = is-machine; channel = is-channel }
 
--- ---- what is none
+-- ---- what is no plan of the cut
 
 abbrev any_machine : Machine
 any_machine = record { name = []; host = 0; body = Source; ins = []; outs = [] }
@@ -304,11 +304,11 @@ without-enable is = lacks-need memory memory_ins 2 (2 ∷ []) 3 refl refl refl (
 with-writer : ¬ IsPlan design request 2 (record { machines = machines; channels = set channels 4 (channel 6 (codes "m.r.data") eight 1 0 (2 ∷ 3 ∷ 8 ∷ [])) })
 with-writer is = extra-need memory memory_ins 2 (2 ∷ 3 ∷ 8 ∷ []) 8 refl refl refl ((is.channel 4 any_channel (lit< tt)).needs any_machine 2 (lit< tt) refl)
 
--- a listed memory is none of the hub's kind
+-- a listed memory's machine isn't a `Cut`, as the hub's is
 as-cut : ¬ IsPlan design request 2 (record { machines = set machines 1 (record { name = codes "m"; host = 1; body = Cut memory; ins = memory_ins; outs = 4 ∷ 7 ∷ [] }); channels = channels })
 as-cut is = let body = (is.machine 1 any_machine (lit< tt)).body in absurd (omega (arith, body.0))
 
--- nor has the hub the memory
+-- the hub doesn't have the memory
 abbrev keeping : Part
 keeping = record { piece = record hub.piece { memories = memory.piece.memories }; globals = hub.globals; held = []; memories = 0 ∷ [] }
 

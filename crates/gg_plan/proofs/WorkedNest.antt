@@ -1,4 +1,4 @@
--- A unit with an instance in it, given whole: a plan that lists the unit, and one that lists the instance in it.
+-- A unit with an instance in it, with the plans in full: one lists the unit, the other the instance in it.
 --
 -- The top has the input `x`, the output `q` and an instance `u`; `u` has the input `x`, the output `q` and an instance `in` with
 -- the input `a` and the output `b`. The top connects `u.x` to `x` and `q` to `u.q`, `u` connects `in.a` to `x` and `q` to `in.b`,
@@ -87,7 +87,7 @@ hub =
       memories = [];
     }
 
--- with the two signals of the instance in it
+-- the part of the unit: it has the two signals of the instance in it
 abbrev pub unit : Part
 unit =
     record {
@@ -159,7 +159,7 @@ is-channel c any =
 pub is-plan : IsPlan design outer 2 (record { machines = machines; channels = channels })
 is-plan = record { machine_total = refl; channel_total = refl; machine = is-machine; channel = is-channel }
 
--- ---- what is none
+-- ---- what is no plan of the cut
 
 abbrev any_machine : Machine
 any_machine = record { name = []; host = 0; body = Source; ins = []; outs = [] }
@@ -198,7 +198,7 @@ greedy-part =
     ((lit< tt, refl), ((names-below 5 (node eight (Ref 0) ∷ []) refl, refl), ((names-below 5 (node eight (Ref 1) ∷ []) refl, refl), ((lit< tt, refl), ((names-below 5 (node eight (Ref 3) ∷ []) refl, refl), tt)))))
     ((lit< tt, refl), ((lit< tt, refl), tt)) refl refl refl
 
--- it is a part, but none of this cut: `in.a` belongs to `u`
+-- it is a part, but no part of this cut: `in.a` belongs to `u`
 inner-owned : ¬ IsPlan design outer 2 (record { machines = set machines 0 (record { name = codes "hub:"; host = 0; body = Cut greedy; ins = 0 ∷ 2 ∷ []; outs = 1 ∷ 3 ∷ [] }); channels = channels })
 inner-owned is = foreign-signal circuit tree listed wires 0 greedy.globals 4 refl refl (is.machine 0 any_machine (lit< tt)).body.1.signals
 

@@ -1,4 +1,4 @@
--- The plan of two units that feed each other in one cycle, given whole.
+-- The plan of two units that feed each other in one cycle, in full.
 --
 -- The circuit, its tree and the request are those of WorkedPair: the hub is machine 0, `a` and `b` are 1 and 2, the source of `x` is
 -- 3 and the tray of `q` is 4.
@@ -106,7 +106,7 @@ abbrev pub channel : ℕ → List ℕ → ℕ → ℕ → ℕ → List ℕ → C
 channel s name producer consumer capacity needs =
     record { signal = s; name = name; ty = eight; producer = producer; consumer = consumer; capacity = capacity; needs = needs }
 
--- all of capacity 1, but for that of `a.x`
+-- all have capacity 1, except `a.x`
 abbrev pub channels : ℕ → List Channel
 channels n =
     channel 0 (codes "x") 3 0 1 []
@@ -121,7 +121,7 @@ channels n =
 abbrev pub plan : Plan
 plan = record { machines = machines; channels = channels 1 }
 
--- ---- it is one
+-- ---- it is a plan of the cut
 
 hub-part : IsPart circuit hub.piece hub.globals [] []
 hub-part =
@@ -154,11 +154,11 @@ a-cut = is-cut-part design listed wires 1 part_a a-part refl refl refl refl refl
 b-cut : IsCutPart design listed wires 2 part_b
 b-cut = is-cut-part design listed wires 2 part_b b-part refl refl refl refl refl refl (no-memories tree listed 2 refl) refl
 
--- a request for these units, which share hosts so, and have these capacities
+-- a request for `a` and `b`, with these lists of shared hosts and these capacities
 abbrev pub asked : List (List (List ℕ)) → List (List ℕ × ℕ) → Request
 asked share capacity = record { units = codes "a" ∷ codes "b" ∷ []; share = share; memories = []; capacity = capacity }
 
--- whatever the lists of `share` are by which `a` and `b` have hosts of their own
+-- for all lists of `share` by which `a` and `b` have hosts of their own
 module _ (share : List (List (List ℕ))) (hosts : Upto (λ m. host_of (codes "a" ∷ codes "b" ∷ []) share m ≡ m) 5) (capacity : List (List ℕ × ℕ)) where
   host : (m : ℕ) → m < 5 → m ≡ host_of (codes "a" ∷ codes "b" ∷ []) share m
   host m lt = sym (each-below (λ k. host_of (codes "a" ∷ codes "b" ∷ []) share k ≡ k) 5 hosts m lt)
@@ -207,7 +207,7 @@ is-channel capacity n b c any =
 pub is-plan : IsPlan design both_units 1 plan
 is-plan = record { machine_total = refl; channel_total = refl; machine = is-machine [] (refl, (refl, (refl, (refl, (refl, tt))))) []; channel = is-channel (capacity_of [] 1) 1 (refl, refl, refl, refl, refl, refl, refl, refl) }
 
--- a capacity of the file goes before the default
+-- a capacity of the file takes the place of the default
 of-the-file : IsPlan design (asked [] ((codes "a.x", 7) ∷ [])) 1 (record { machines = machines; channels = channels 7 })
 of-the-file =
     record {
@@ -224,7 +224,7 @@ b_first = (codes "b" ∷ []) ∷ (codes "a" ∷ []) ∷ []
 by-machines : IsPlan design (asked b_first []) 1 plan
 by-machines = record { machine_total = refl; channel_total = refl; machine = is-machine b_first (refl, (refl, (refl, (refl, (refl, tt))))) []; channel = is-channel (capacity_of [] 1) 1 (refl, refl, refl, refl, refl, refl, refl, refl) }
 
--- ---- what is none
+-- ---- what is no plan of the cut
 
 abbrev any_machine : Machine
 any_machine = record { name = []; host = 0; body = Source; ins = []; outs = [] }
@@ -232,11 +232,11 @@ any_machine = record { name = []; host = 0; body = Source; ins = []; outs = [] }
 abbrev any_channel : Channel
 any_channel = channel 0 [] 0 0 0 []
 
--- the default in place of a capacity of the file
+-- the default doesn't take the place of a capacity of the file
 overridden : ¬ IsPlan design (asked [] ((codes "a.x", 7) ∷ [])) 1 plan
 overridden is = let bound : 1 ≡ 7 = (is.channel 1 any_channel (lit< tt)).bound in absurd (omega (arith, bound))
 
--- hosts in the order of `share`
+-- hosts numbered in the order of `share`
 abbrev in_share_order : Plan
 in_share_order =
     record {
@@ -289,7 +289,7 @@ given_p =
       memories = [];
     }
 
--- it is a part, but none of this cut
+-- it is a part, but no part of this cut
 given-part : IsPart circuit given_p.piece given_p.globals [] []
 given-part =
     is-part circuit given_p.piece given_p.globals refl refl refl refl refl
@@ -303,7 +303,7 @@ out-taken is = let body = (is.machine 1 any_machine (lit< tt)).body in let count
 out-channel-taken : ¬ IsPlan design both_units 1 (record { machines = set machines 1 (record { name = codes "a"; host = 1; body = Cut given_p; ins = 1 ∷ 2 ∷ 3 ∷ []; outs = 3 ∷ 4 ∷ [] }); channels = channels 1 })
 out-channel-taken is = let count : 3 ≡ 2 = ap (λ (l : List ℕ). length l) (is.machine 1 any_machine (lit< tt)).ins in absurd (omega (arith, count))
 
--- ---- an entry that names nothing is told before one that stands twice
+-- ---- an entry that names nothing is reported before one that stands twice
 
 late-double : ¬ Tells {A = Plan} (first_fault design (asks (codes "a" ∷ codes "a" ∷ codes "c" ∷ []) [])) (Err (Doubled (codes "a")))
 late-double (inl is) = cc

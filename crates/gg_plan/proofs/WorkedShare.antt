@@ -1,4 +1,4 @@
--- Two units of one module that share a host, given whole: each keeps a register of its own.
+-- Two units of one module that share a host, with their plan in full: each keeps a register of its own.
 --
 -- The top has the input `x` and the outputs `p` and `q`; its instances `u` and `v` of module Acc have each the input `a`, the output
 -- `s` and the register `r`, which adds `a` up and is `s`. `u.a` is `x`, `v.a` its complement, `p` is `u.s` and `q` is `v.s`.
@@ -99,7 +99,7 @@ hub =
       memories = [];
     }
 
--- the register, the output, the input
+-- the part of `u`: the register, the output, the input
 abbrev pub part_u : Part
 part_u =
     record {
@@ -195,7 +195,7 @@ abbrev channel : ℕ → List ℕ → ℕ → ℕ → List ℕ → Channel
 channel s name producer consumer needs =
     record { signal = s; name = name; ty = eight; producer = producer; consumer = consumer; capacity = 2; needs = needs }
 
--- what a register holds needs nothing
+-- a channel whose value a register holds needs nothing
 abbrev pub channels : List Channel
 channels =
     channel 0 (codes "x") 3 0 []
@@ -250,7 +250,7 @@ is-channel c any =
 pub is-plan : IsPlan design request 2 (record { machines = machines; channels = channels })
 is-plan = record { machine_total = refl; channel_total = refl; machine = is-machine; channel = is-channel }
 
--- ---- what is none
+-- ---- what is no plan of the cut
 
 abbrev any_machine : Machine
 any_machine = record { name = []; host = 0; body = Source; ins = []; outs = [] }
@@ -262,11 +262,11 @@ any_channel = channel 0 [] 0 0 []
 through-register : ¬ IsPlan design request 2 (record { machines = machines; channels = set channels 2 (channel 4 (codes "u.s") 1 0 (1 ∷ [])) })
 through-register is = extra-need part_u (1 ∷ []) 1 (1 ∷ []) 1 refl refl refl ((is.channel 2 any_channel (lit< tt)).needs any_machine 1 (lit< tt) refl)
 
--- a host of its own for the second
+-- a host of its own for the second unit
 apart : ¬ IsPlan design request 2 (record { machines = set machines 2 (record { name = codes "v"; host = 2; body = Cut part_v; ins = 3 ∷ []; outs = 4 ∷ [] }); channels = channels })
 apart is = let host : 2 ≡ 1 = (is.machine 2 any_machine (lit< tt)).host in absurd (omega (arith, host))
 
--- and a host too many before those that follow
+-- a host number left out before the machines that follow
 skipped : ¬ IsPlan design request 2 (record { machines = set machines 3 (record { name = codes "in:x"; host = 3; body = Source; ins = []; outs = 0 ∷ [] }); channels = channels })
 skipped is = let host : 3 ≡ 2 = (is.machine 3 any_machine (lit< tt)).host in absurd (omega (arith, host))
 

@@ -1,4 +1,4 @@
--- Tests by which a plan that is given whole is seen to be one, or not to be one: each is computed, and a lemma says what it shows.
+-- Tests that show of a plan in full that it is a plan of a cut, or that it isn't: each is computed, and a lemma says what it shows.
 use Rattle.std.proofs.Common.{◌≡◌, ◌≢◌, ◌==◌, ◌&&◌, ◌||◌, ◌↔◌, ◌⊎◌, ℕ, zero, suc, ◌<◌, ◌≤◌, List, [], ◌∷◌, length, map, get_or, set, replicate, Bool, true, false, true≢false, not, nat_eq, nat_lt, refl, sym, ◌∙◌, ap, subst, inl, inr, arith}
 use Rattle.std.specs.Prelude.{if◌then◌else◌, Contains, AllPairs, bytes_eq}
 use Rattle.std.specs.List.{list_all}
@@ -28,7 +28,7 @@ use Rattle.gg_cut.specs.Plan.{channels_to, channels_from, signals_of, IsInner, M
 
 -- ---- numbers and lists
 
--- what holds at each number below n, number by number
+-- it holds of each number below n, one number after the other
 abbrev pub Upto : (ℕ → Type 0) → ℕ → Type 0
 Upto P zero = Unit {0}
 Upto P (suc n) = P 0 × Upto (λ k. P (suc k)) n
@@ -55,7 +55,7 @@ test-below test (suc n) is (suc k) lt = test-below (λ i. test (suc i)) n (both-
 pub below-test : (a b : ℕ) → nat_lt a b ≡ true → a < b
 below-test a b is = (Decides-ltb a b).0 is
 
--- a number is in a list
+-- the number is in the list
 abbrev pub has : List ℕ → ℕ → Bool
 has [] s = false
 has (x ∷ xs) s = (x == s) || has xs s
@@ -84,13 +84,13 @@ contains-has [] s (k, lt, is) = absurd (omega arith)
 contains-has (x ∷ xs) s (zero, lt, is) = or-left (x == s) (has xs s) ((Decides-eqb x s).1 is)
 contains-has (x ∷ xs) s (suc k, lt, is) = or-right (x == s) (has xs s) (contains-has xs s (k, omega arith, is))
 
--- what is tested of each number of a list
+-- a test that holds of a whole list holds of each number in it
 pub test-of : (test : ℕ → Bool) (xs : List ℕ) → list_all test xs ≡ true → (s : ℕ) → Contains xs s → test s ≡ true
 test-of test [] is s (k, lt, at) = absurd (omega arith)
 test-of test (x ∷ xs) is s (zero, lt, at) = subst (λ (y : ℕ). test y ≡ true) at (both-true (test x) (list_all test xs) is).0
 test-of test (x ∷ xs) is s (suc k, lt, at) = test-of test xs (both-true (test x) (list_all test xs) is).1 s (k, omega arith, at)
 
--- a test holds of each number and each later one
+-- the test holds of each number and each later one
 abbrev pub all_pairs : (ℕ → ℕ → Bool) → List ℕ → Bool
 all_pairs test [] = true
 all_pairs test (x ∷ xs) = list_all (test x) xs && all_pairs test xs
@@ -181,7 +181,7 @@ named-only (MemoryWord memory reader addr en) s (suc (suc k), lt, is) = absurd (
 named-only (ReadRegister memory reader) s (k, lt, is) = absurd (omega arith)
 named-only (Computed line) s at = names-refs line s at
 
--- a line names signals below n alone
+-- a line names only signals below n
 pub names-below : (n : ℕ) (line : List Node) → list_all (λ s. nat_lt s n) (refs line) ≡ true → NamesBelow n line
 names-below n line is s names = below-test s n (test-of (λ t. nat_lt t n) (refs line) is s (refs-names line s names))
 
@@ -246,7 +246,7 @@ cone-only circuit out s is =
       | inr was ↦ absurd (true≢false (sym was ∙ unmarked (length circuit.signals) t))
     ]) s is
 
--- what a signal reads is marked, where it is marked itself
+-- what a signal reads is marked, if the signal itself is
 abbrev hands_on : FlatCircuit → List Bool → ℕ → Bool
 hands_on circuit marks a = if is_marked marks a then list_all (is_marked marks) (named (driver_at circuit a)) else true
 
@@ -328,7 +328,7 @@ needs-needed part channels out closed c = (to, from)
     from : IsNeed part channels out c → Contains (needed part channels out) c
     from need = at-needed (cone part.piece out) part.piece.ins channels c need.place need.known need.is (cone-all part.piece out (value_at part.piece.ins need.place) closed need.reached)
 
--- the needs of the out-signal that is this channel's
+-- these are the needs of each out-signal of the part that stands for signal s
 abbrev pub has_needs : Part → List ℕ → ℕ → List ℕ → Bool
 has_needs part channels s needs = all_below (λ out. if value_at part.globals out == s then is_closed part.piece out && bytes_eq needs (needed part channels out) else true) (length part.globals)
 
@@ -338,12 +338,12 @@ has-needs part channels s needs test out lt is =
     let parts = both-true (is_closed part.piece out) (bytes_eq needs (needed part channels out)) (subst (λ (b : Bool). (if b then is_closed part.piece out && bytes_eq needs (needed part channels out) else true) ≡ true) ((Decides-eqb (value_at part.globals out) s).1 is) here) in
     subst (AreNeedsOf part channels out) (sym ((bytes_eq-Decides needs (needed part channels out)).0 parts.1)) (needs-needed part channels out parts.0)
 
--- a channel that is needed and isn't told
+-- a channel that is needed and isn't listed
 pub lacks-need : (part : Part) (channels : List ℕ) (out : ℕ) (needs : List ℕ) (c : ℕ) → is_closed part.piece out ≡ true → has (needed part channels out) c ≡ true → has needs c ≡ false → ¬ AreNeedsOf part channels out needs
 lacks-need part channels out needs c closed needed_is told wrong =
     true≢false (sym (contains-has needs c ((wrong c).1 ((needs-needed part channels out closed c).0 (has-contains (needed part channels out) c needed_is)))) ∙ told)
 
--- a channel that is told and isn't needed
+-- a channel that is listed and isn't needed
 pub extra-need : (part : Part) (channels : List ℕ) (out : ℕ) (needs : List ℕ) (c : ℕ) → is_closed part.piece out ≡ true → has (needed part channels out) c ≡ false → has needs c ≡ true → ¬ AreNeedsOf part channels out needs
 extra-need part channels out needs c closed not_needed told wrong =
     true≢false (sym (contains-has (needed part channels out) c ((needs-needed part channels out closed c).1 ((wrong c).0 (has-contains needs c told)))) ∙ not_needed)
@@ -441,7 +441,7 @@ has-signals circuit tree listed wires m globals test own given taken s = (to, fr
     from (inr takes) =
         there (known-at circuit (signals_of wires (channels_to wires m)) s taken takes) (or-right (makes circuit tree listed wires m s) (has (signals_of wires (channels_to wires m)) s) (contains-has (signals_of wires (channels_to wires m)) s takes))
 
--- a machine that has a signal which it neither makes nor takes
+-- a machine can't have a signal that it neither makes nor takes
 pub foreign-signal : (circuit : FlatCircuit) (tree : InstanceTree) (listed : Listed) (wires : List Wire) (m : ℕ) (globals : List ℕ) (s : ℕ) → has globals s ≡ true → makes_or_takes circuit tree listed wires m s ≡ false
     → ¬ ((t : ℕ) → Contains globals t ↔ (Makes circuit tree listed wires m t ⊎ Takes wires m t))
 foreign-signal circuit tree listed wires m globals s there foreign signals = elim ((signals s).0 (has-contains globals s there)) [
@@ -449,7 +449,7 @@ foreign-signal circuit tree listed wires m globals s there foreign signals = eli
   | inr got ↦ true≢false (sym (or-right (makes circuit tree listed wires m s) (has (signals_of wires (channels_to wires m)) s) (contains-has (signals_of wires (channels_to wires m)) s got)) ∙ foreign)
 ]
 
--- a machine that lacks a signal which it makes
+-- a machine can't lack a signal that it makes
 pub lost-signal : (circuit : FlatCircuit) (tree : InstanceTree) (listed : Listed) (wires : List Wire) (m : ℕ) (globals : List ℕ) (s : ℕ) → s < length circuit.signals → makes circuit tree listed wires m s ≡ true → has globals s ≡ false
     → ¬ ((t : ℕ) → Contains globals t ↔ (Makes circuit tree listed wires m t ⊎ Takes wires m t))
 lost-signal circuit tree listed wires m globals s known made lost signals =
@@ -457,7 +457,7 @@ lost-signal circuit tree listed wires m globals s known made lost signals =
 
 -- ---- parts
 
--- a part, of whose registers and memories the rest is given
+-- a part, if its registers and memories are those of the whole
 pub is-part-with : (whole part : FlatCircuit) (globals held memories : List ℕ) → length part.signals ≡ length globals → are_known whole globals ≡ true → all_pairs (λ a b. not (a == b)) globals ≡ true
     → part.paths ≡ map (path_at whole.paths) globals → signal_shapes part ≡ map (shape_at (signal_shapes whole)) globals
     → Upto (λ s. IsFrom part.ins globals held memories s (driver_at whole (value_at globals s)) (driver_at part s)) (length globals)

@@ -6,11 +6,11 @@ use Rattle.std.proofs.lemmas.List.{get_or-set_other, length-set, length_push, ge
 use Rattle.gg_split.specs.declared.share.Share.{Share}
 use Rattle.gg_split.specs.IsShare.{IsGathered, AreGathered}
 
--- what a vector holds after a slice of all of it was written
+-- after a slice is written to the whole of a vector, the vector holds the slice
 pub written : {A : Type 0} (n : ℕ) (new old : List A) → length new ≡ n → take n (new ++ drop (length new) old) ≡ new
 written n new old many = take-append-le n new (drop (length new) old) (omega arith) ∙ take_all n new (omega arith)
 
--- lists of which those of the machines before m are given away
+-- the lists of the machines from m on are as they were
 pub record LeftFrom (m : ℕ) (old lists : List (List ℕ)) : Type 0 where
   pub many : length lists ≡ length old
   pub left : (k : ℕ) → m ≤ k → slice_index_or lists k [] ≡ slice_index_or old k []

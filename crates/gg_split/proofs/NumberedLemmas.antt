@@ -23,14 +23,14 @@ numbered-more f n (x ∷ xs) (suc i) d lt =
     (numbered-more f (suc n) xs i d (omega (arith, lt)) ∙ ap (λ k. numbered f (suc n) (take i xs) ++ f k (get_or xs i d)) (let same : suc n + i ≡ n + suc i = omega arith in same))
     ∙ sym (append_assoc (f n x) (numbered f (suc n) (take i xs)) (f (n + suc i) (get_or xs i d)))
 
--- a list with what the next item makes behind it
+-- one more item, with what the function makes of it added at the end
 pub numbered-pushed : {A B : Type 0} (f : ℕ → A → List B) (n : ℕ) (xs : List A) (i : ℕ) (d : A) (old now new : List B) → i < length xs → new ≡ now ++ f (n + i) (get_or xs i d) → now ≡ old ++ numbered f n (take i xs) → new ≡ old ++ numbered f n (take (i + 1) xs)
 numbered-pushed f n xs i d old now new lt is before =
     is ∙ ap (λ l. l ++ f (n + i) (get_or xs i d)) before
     ∙ append_assoc old (numbered f n (take i xs)) (f (n + i) (get_or xs i d))
     ∙ ap (λ l. old ++ l) (sym (numbered-more f n xs i d lt) ∙ ap (λ k. numbered f n (take k xs)) (let same : suc i ≡ i + 1 = omega arith in same))
 
--- the place of an instance's parent is the tree's
+-- the place of an instance's parent is a place of the tree
 pub parent-known : (circuit : FlatCircuit) (tree : InstanceTree) → IsTree circuit tree → (k : ℕ) → k < length tree.instances → parent_place (instance_at tree k).parent < length tree.instances
 parent-known circuit tree fits k lt = by (instance_at tree k).parent refl
   where
@@ -45,7 +45,7 @@ pub parent-read : (tree : InstanceTree) (k p : ℕ) (instances : List Instance) 
 parent-read tree k p instances d lt same e =
     ap (λ (i : Instance). i.parent) (get_or_default tree.instances k (record { parent = None; «module» = 0; first = 0; end = 0; ports = []; memories = [] }) d lt ∙ ap (λ (l : List Instance). get_or l k d) (sym same)) ∙ e
 
--- what is read at a place is what stands there
+-- what is read at a place is the instance of that place
 pub instance-read : (tree : InstanceTree) (instances : List Instance) (k : ℕ) (x : Instance) → k < length tree.instances → instances ≡ tree.instances → x ≡ get_or instances k x → x ≡ instance_at tree k
 instance-read tree instances k x lt same e =
     e ∙ ap (λ (l : List Instance). get_or l k x) same ∙ get_or_default tree.instances k x (record { parent = None; «module» = 0; first = 0; end = 0; ports = []; memories = [] }) lt

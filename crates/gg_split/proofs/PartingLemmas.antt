@@ -26,7 +26,7 @@ use Rattle.gg_closed.proofs.EndLemmas.{machine-below, owner-few, ends}
 use Rattle.gg_split.proofs.ShareLemmas.{signals-are, memories-are, shared}
 
 module _ (circuit : FlatCircuit) (tree : InstanceTree) (listed : Listed) (fits : IsTree circuit tree) (apart : AreApart tree listed) where
-  -- the ends of the channels, of so many machines
+  -- the ends of each channel are two of this many machines
   pub ends-known : (wires : List Wire) (count : ℕ) → wires ≡ wires_of circuit tree listed → count ≡ machine_count circuit listed → All (AreEnds count) wires
   ends-known wires count is many =
       subst (λ n. All (AreEnds n) wires) (sym many) (subst (λ (l : List Wire). All (AreEnds (machine_count circuit listed)) l) (sym is) (ends circuit tree listed fits apart))

@@ -57,7 +57,7 @@ module _ (circuit : FlatCircuit) (tree : InstanceTree) (order : List ℕ) (liste
         ∙ sym (place-signal circuit tree listed fits apart at.place s at.is)
         ∙ sym (owns s)
 
-    -- what is spread to a machine, it makes or takes
+    -- a machine makes or takes each signal that is spread to it
     spread-gets : (s : ℕ) → s < length circuit.signals → (found : Option ℕ) → IsChannelBelow (wires_of circuit tree listed) (length (wires_of circuit tree listed)) s found → has_by (wires_of circuit tree listed) (value_at owners s) m found ≡ true → Gets circuit tree listed fits scoped apart m s
     spread-gets s lt None inner e = inl (inl (lt, owner-is s lt inner ∙ true-eqb (value_at owners s) m (sym e), inner))
     spread-gets s lt (Some c) at e = by (or_cases ((wire_at (wires_of circuit tree listed) c).producer == m) ((wire_at (wires_of circuit tree listed) c).consumer == m) e)
@@ -77,7 +77,7 @@ module _ (circuit : FlatCircuit) (tree : InstanceTree) (order : List ℕ) (liste
     same-wire : (s c : ℕ) (w : Wire) → c < length (wires_of circuit tree listed) → (wire_at (wires_of circuit tree listed) c).signal ≡ s → Contains (wires_of circuit tree listed) w → w.signal ≡ s → w ≡ wire_at (wires_of circuit tree listed) c
     same-wire s c w lt is among of = channel-one circuit tree listed fits scoped apart w (wire_at (wires_of circuit tree listed) c) among (wire-among (wires_of circuit tree listed) c lt) (of ∙ sym is)
 
-    -- and what it makes or takes is spread to it
+    -- each signal that a machine makes or takes is spread to it
     gets-spread : (s : ℕ) → s < length circuit.signals → (found : Option ℕ) → IsChannelBelow (wires_of circuit tree listed) (length (wires_of circuit tree listed)) s found → Gets circuit tree listed fits scoped apart m s → has_by (wires_of circuit tree listed) (value_at owners s) m found ≡ true
     gets-spread s lt None inner (inl (inl own)) = eq-eqb (value_at owners s) m (sym (owner-is s lt inner) ∙ own.1)
     gets-spread s lt None inner (inl (inr h)) =

@@ -1,4 +1,4 @@
--- Lists of all machines that are filled number by number.
+-- Lists, one for each machine, that are filled number by number.
 use Rattle.std.proofs.Common.{◌≡◌, ℕ, ◌+◌, ◌<◌, List, [], ◌∷◌, ◌++◌, length, map, get_or, set, Bool, true, false, refl, sym, ◌∙◌, ap, ap₂, subst, inl, inr, ◌⊎◌, eq-eqb, arith}
 use Rattle.std.specs.Prelude.{◌==◌, if◌then◌else◌, filter}
 use Rattle.std.specs.List.{range_with_len}
@@ -9,7 +9,7 @@ use Rattle.gg_flat.specs.Tree.{InstanceTree, memory_at}
 use Rattle.gg_cut.proofs.RangeLemmas.{filter-more}
 use Rattle.gg_split.specs.Spread.{AreLists, IsPut, memories_below}
 
--- what is put where a test passes
+-- the number if the test passes, else nothing
 abbrev pub put-if : Bool → ℕ → List ℕ
 put-if b number = if b then number ∷ [] else []
 
@@ -43,13 +43,13 @@ AreLists-more f g test number count lists new before put next =
       each = λ m inside. put.each m (omega (arith, inside, before.many)) ∙ ap (λ l. l ++ put-if (test m) number) (before.each m inside) ∙ sym (next m);
     }
 
--- the numbers below n with this machine
+-- one more number, put into its machine's list
 pub AreLists-channel : (machine : ℕ → ℕ) (i place count : ℕ) (lists new : List (List ℕ)) → place ≡ machine i → AreLists (λ m. filter (λ c. machine c == m) (range_with_len 0 i)) count lists → IsPut (λ m. place == m) i lists new → AreLists (λ m. filter (λ c. machine c == m) (range_with_len 0 (i + 1))) count new
 AreLists-channel machine i place count lists new at before put =
     AreLists-more (λ m. filter (λ c. machine c == m) (range_with_len 0 i)) (λ m. filter (λ c. machine c == m) (range_with_len 0 (i + 1))) (λ m. place == m) i count lists new before put
     (λ m. filter-more (λ c. machine c == m) i ∙ ap (λ p. filter (λ c. machine c == m) (range_with_len 0 i) ++ put-if (p == m) i) (sym at))
 
--- the memories of a machine
+-- one more memory, put into its machine's list
 pub AreLists-memory : (tree : InstanceTree) (owners : List ℕ) (i machine number count : ℕ) (lists new : List (List ℕ)) → machine ≡ value_at owners i → number ≡ (memory_at tree i).memory → AreLists (memories_below tree owners i) count lists → IsPut (λ m. machine == m) number lists new → AreLists (memories_below tree owners (i + 1)) count new
 AreLists-memory tree owners i machine number count lists new at is before put =
     AreLists-more (memories_below tree owners i) (memories_below tree owners (i + 1)) (λ m. machine == m) number count lists new before put

@@ -13,7 +13,7 @@ use Rattle.gg_closed.proofs.PlaceLemmas.{place-none}
 
 -- ---- owners of signals
 
--- the signals from `first` on, before signal i, are claimed
+-- the signals from `first` on, before signal i, belong to the machine; the others are as they were
 pub record ClaimedTo (first i machine : ℕ) (old owners : List ℕ) : Type 0 where
   pub count : length owners ≡ length old
   pub claims : (s : ℕ) → value_at owners s ≡ claimed (nat_le first s && nat_lt s i) machine (value_at old s)
@@ -21,7 +21,7 @@ pub record ClaimedTo (first i machine : ℕ) (old owners : List ℕ) : Type 0 wh
 pub ClaimedTo-end : (first i end machine : ℕ) (old owners : List ℕ) → ClaimedTo first i machine old owners → i ≡ end → (s : ℕ) → value_at owners s ≡ claimed (nat_le first s && nat_lt s end) machine (value_at old s)
 ClaimedTo-end first i end machine old owners before same s = before.claims s ∙ ap (λ n. claimed (nat_le first s && nat_lt s n) machine (value_at old s)) same
 
--- the signals of the units before place i are theirs
+-- each signal belongs to the first of the units before place i that has it, else to the hub
 pub record OwnedTo (tree : InstanceTree) (units : List ℕ) (i : ℕ) (old owners : List ℕ) : Type 0 where
   pub count : length owners ≡ length old
   pub owns : (s : ℕ) → value_at owners s ≡ unit_or_hub (first_place (has_signal tree s) (take i units))

@@ -1,4 +1,5 @@
--- What gives the signals of a module their values: what its statements say names names of the module alone.
+-- What gives the signals of a module their values: the names in it are names as the language allows them (IsName), and a reader's
+-- address and enable are signals of the module.
 use Rattle.std.proofs.Common.{◌≡◌, ◌≢◌, ℕ, zero, suc, ◌+◌, ◌<◌, Bool, true, false, ◌&&◌, List, [], ◌∷◌, ◌++◌, Option, Some, None, is_some, length, get_or, map, filter, refl, sym, ap, ◌∙◌, subst, arith, codes, length-append, true≢false, if◌then◌else◌}
 use Rattle.std.specs.Prelude.{flat_map, filter_map, option_map, option_to_list, Contains, All, IfSome}
 use Rattle.std.specs.List.{list_all}
@@ -77,13 +78,13 @@ connection-names name says.Skip h = tt
 connection-names name (says.Stop clock condition code label) h = tt
 connection-names name (says.Report word arguments label) h = tt
 
--- the names of what statements connect are names
+-- if all names in statements are IsName, so are those in what a sink is connected to
 pub connected-names : (ss : List Stmt) (name : List ℕ) → All AreNamesOfStatement ss → AreNamesOfConnection (connection_in ss name)
 connected-names [] name h = tt
 connected-names (s ∷ ss) name h =
     later-names (connection_by name s.kind) (connection_in ss name) (connection-names name s.kind (h 0 s (omega arith))) (connected-names ss name (λ i d lt. h (suc i) d (omega (arith, lt))))
 
--- the statements of the module at a place
+-- if all names in modules are IsName, so are those in the statements of the module at a place
 pub statements-named : (modules : List ModuleTree) (n : ℕ) → All AreNamesOfModule modules → All AreNamesOfStatement (get_or modules n (empty_module 0 [])).statements
 statements-named [] n h = λ i d lt. absurd (omega (arith, lt))
 statements-named (m ∷ ms) zero h = (h 0 m (omega arith)).of_statements
@@ -91,7 +92,7 @@ statements-named (m ∷ ms) (suc n) h = statements-named ms n (λ i d lt. h (suc
 
 -- ---- causes
 
--- What a statement says gives a signal its value names names; a reader's address and enable are signals of the module.
+-- All names in what gives a signal its value are IsName; a reader's address and enable are signals of the module.
 abbrev pub IsNamed : (List ℕ → Type 0) → Cause → Type 0
 IsNamed Has FromOutside = ⊥
 IsNamed Has Connected = Unit {0}
@@ -115,7 +116,7 @@ named-one Has name cause None h i d lt = absurd (omega (arith, lt))
 named-one Has name cause (Some s) h zero d lt = h
 named-one Has name cause (Some s) h (suc i) d lt = absurd (omega (arith, lt))
 
--- what the statement has are signals of the module
+-- each of these own signals has the name of a signal of the module
 abbrev AreHad : (List ℕ → Type 0) → List Own → Type 0
 AreHad Has all = (i : ℕ) (d : Own) → i < length all → Has (get_or all i d).name
 
@@ -175,7 +176,7 @@ ports-cause (p ∷ ps) = go (type_shape p.ty) refl (ports-cause ps)
     go None e rest = rw e rest
     go (Some s) e rest = rw e (ap (λ l. cause_of_port p.direction ∷ l) rest)
 
--- the port at a place among those that are signals gets its value as its direction says
+-- the port at a place, among the ports that are signals, gets its value as its direction says
 pub port-cause : (ports : List Port) (i : ℕ) (d : Own) (p : Port) → i < length (filter (λ (port : Port). is_some (type_shape port.ty)) ports) → (i < length (filter_map own_of_port ports)) × ((get_or (filter_map own_of_port ports) i d).cause ≡ cause_of_port (get_or (filter (λ (port : Port). is_some (type_shape port.ty)) ports) i p).direction)
 port-cause ports i d p lt =
     let same = ap (λ (l : List Cause). length l) (ports-cause ports) in

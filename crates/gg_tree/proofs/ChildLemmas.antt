@@ -1,4 +1,4 @@
--- What is known of a reference to a port of an instance, and to a field of a memory: which statement brings it.
+-- A reference to a port of an instance, or to a field of a memory: which statement it comes from.
 use Rattle.std.proofs.Common.{◌≡◌, ◌⊎◌, inl, inr, ℕ, zero, suc, ◌<◌, Bool, true, false, ◌&&◌, List, [], ◌∷◌, Option, Some, None, is_some, length, get_or, map, refl, sym, ap, ◌∙◌, subst, arith, true≢false, if◌then◌else◌}
 use Rattle.std.specs.Prelude.{flat_map, Contains, option_map}
 use Rattle.std.specs.Str.{bytes_eq}
@@ -32,7 +32,7 @@ use Rattle.gg_tree.proofs.DeclaredLemmas.{made-by, one-statement, held-named}
 
 -- ---- a name that is known has an entry
 
--- An entry of a scope that is written so.
+-- An entry of a scope whose reference is this one.
 pub record EntryOf (scope : List (Reference × Role)) (r : Reference) : Type 0 where
   pub entry : Reference × Role
   pub among : Contains scope entry
@@ -63,9 +63,9 @@ pub known-entry : (circuit : CircuitTree) (n : ℕ) (r : Reference) → is_some 
 unfolding types_of
 known-entry circuit n r h = shaped-entry (scope_of circuit.modules (module_at circuit.modules n)) (known_in circuit.modules (module_at circuit.modules n)) r h
 
--- ---- the statement that brings it
+-- ---- the statement that an entry comes from
 
--- The statement among whose entries it is.
+-- The statement among whose entries this one is.
 pub record BroughtBy (modules : List ModuleTree) (ss : List Stmt) (e : Reference × Role) : Type 0 where
   pub place : ℕ
   pub statement : Stmt
@@ -81,7 +81,7 @@ brought-by modules (s ∷ ss) e c = go (Contains-append_cases (entries_by module
     go (inl here) next = record { place = 0; statement = s; inside = omega arith; at = refl; among = here }
     go (inr there) next = let b = next there in record { place = suc b.place; statement = b.statement; inside = omega (arith, b.inside); at = b.at; among = b.among }
 
--- no port of the module is written with a dot
+-- the reference in a port's entry is a local name
 not-port : (ports : List Port) (e : Reference × Role) → Contains (map entry_by_port ports) e → (name : List ℕ) × (e.0 ≡ Local name)
 not-port [] e c = absurd (omega (arith, c.1))
 not-port (p ∷ ps) e (zero, lt, is) = (p.name, ap (λ (x : Reference × Role). x.0) (sym is))
@@ -89,7 +89,7 @@ not-port (p ∷ ps) e (suc k, lt, is) = not-port ps e (k, omega (arith, lt), is)
 
 -- ---- ports of instances
 
--- The statement makes an instance of this name, whose module has a port of that name.
+-- The statement declares the instance `a`, whose module has the port `b`.
 pub record MakesChild (modules : List ModuleTree) (kind : StmtKind) (a b : List ℕ) : Type 0 where
   pub of_module : List ℕ
   pub is : kind ≡ says.Instance a of_module
@@ -155,7 +155,7 @@ makes-child modules says.Skip a b e c same = absurd (omega (arith, c.1))
 makes-child modules (says.Stop clock condition code label) a b e c same = absurd (omega (arith, c.1))
 makes-child modules (says.Report word arguments label) a b e c same = absurd (omega (arith, c.1))
 
--- the module of an instance is that of its place
+-- the number of an instance's module is the place of the module's name
 held-module : (modules : List ModuleTree) (a of_module : List ℕ) (h : Held) → held_by_kind modules (says.Instance a of_module) ≡ Some h → place_of of_module (names_of modules) ≡ Some h.number
 held-module modules a of_module h e = go (place_of of_module (names_of modules)) e
   where
@@ -166,7 +166,7 @@ held-module modules a of_module h e = go (place_of of_module (names_of modules))
 some-module : (m n : ModuleTree) → Some m ≡ Some n → m ≡ n
 some-module m n e = cc
 
--- i.p is a port of the module of the instance i
+-- where `i` is an instance, a reference `i.p` that has a type is to a port `p` of its module
 pub child-known : (circuit : CircuitTree) (n : ℕ) (h : Held) (a b : List ℕ) → Differ (flat_map name_by (module_at circuit.modules n).statements) → is_some (types_of circuit n (PortOf a b)) ≡ true → Contains (held_by circuit.modules (module_at circuit.modules n).statements) h → h.name ≡ a → (p : Port) × Contains (module_at circuit.modules h.number).ports p × (p.name ≡ b)
 child-known circuit n h a b differ typed c named = go (Contains-append_cases (map entry_by_port m.ports) (flat_map (entries_by circuit.modules) m.statements) entry.entry entry.among)
   where
@@ -215,7 +215,7 @@ of-memory memory (p ∷ ps) a b c e at same = go (Contains-append_cases (port_en
     go (inl at) next = one-field memory p.0 p.1 (port_fields p.1) a b c e at same
     go (inr at) next = next at same
 
--- only a memory of that name brings it
+-- a statement with an entry for the field `a.b.c` declares the memory `a`
 makes-memory : (modules : List ModuleTree) (kind : StmtKind) (a b c : List ℕ) (e : Reference × Role) → Contains (entries_by_kind modules kind) e → same_reference (FieldOf a b c) e.0 ≡ true → (fields : List Field) × (kind ≡ says.Memory a fields)
 makes-memory modules (says.Wire name ty) a b c e at same = absurd (alone-field a b c name roles.Wire e at same)
 makes-memory modules (says.Node name value) a b c e at same = absurd (alone-field a b c name roles.Node e at same)
@@ -234,7 +234,7 @@ makes-memory modules says.Skip a b c e at same = absurd (omega (arith, at.1))
 makes-memory modules (says.Stop clock condition code label) a b c e at same = absurd (omega (arith, at.1))
 makes-memory modules (says.Report word arguments label) a b c e at same = absurd (omega (arith, at.1))
 
--- m.r.f is no field of an instance
+-- where `a` is an instance, no reference `a.b.c` has a type
 pub field-known : (circuit : CircuitTree) (n : ℕ) (h : Held) (a b c : List ℕ) → Differ (flat_map name_by (module_at circuit.modules n).statements) → is_some (types_of circuit n (FieldOf a b c)) ≡ true → Contains (held_by circuit.modules (module_at circuit.modules n).statements) h → h.name ≡ a → ⊥
 field-known circuit n h a b c differ typed has named = go (Contains-append_cases (map entry_by_port (module_at circuit.modules n).ports) (flat_map (entries_by circuit.modules) (module_at circuit.modules n).statements) entry.entry entry.among)
   where

@@ -46,7 +46,7 @@ any-true n (x ∷ xs) c = go (bytes_eq n x) refl (bytes_eq-Decides n x) c (any-t
     go false e d (zero, lt, is) next = absurd (true≢false (sym (d.1 (sym is)) ∙ e))
     go false e d (suc k, lt, is) next = next (k, omega (arith, lt), is)
 
--- a name that isn't repeated is new
+-- a name that isn't repeated isn't among those before it
 pub fresh : (names : List (List ℕ)) (line : ℕ) (n : List ℕ) → repeated_in names line n ≡ [] → ¬ Contains names n
 fresh names line n h c =
     let never : repetition_if true line n ≡ [] = ap (λ b. repetition_if b line n) (sym (any-true n names c)) ∙ h in
@@ -73,7 +73,7 @@ pub Differ-behind : (xs ys : List (List ℕ)) → Differ (xs ++ ys) → Differ y
 Differ-behind [] ys d = d
 Differ-behind (x ∷ xs) ys d = Differ-behind xs ys (Differ-tail x (xs ++ ys) d)
 
--- what is in the first part isn't in the second
+-- where all names of two lists together are distinct, a name of the first isn't in the second
 pub Differ-parts : (xs ys : List (List ℕ)) (n : List ℕ) → Differ (xs ++ ys) → Contains xs n → ¬ Contains ys n
 Differ-parts [] ys n d c k = absurd (omega (arith, c.1))
 Differ-parts (x ∷ xs) ys n d (zero, lt, is) k = Differ-head x (xs ++ ys) d (subst (Contains (xs ++ ys)) (sym is) (Contains-append_right xs ys n k))
@@ -118,7 +118,7 @@ names-differ m h =
     let ports = ports-differ [] m.ports (λ i j e lt within. absurd (omega (arith, lt, within))) parts.0 in
     statements-differ m.ports [] m.statements (subst Differ (sym (append-nil (port_names m.ports))) ports) parts.1
 
--- so it is in each module of a circuit in which no name comes twice
+-- where no name of a circuit comes twice, no declaration of any of its modules is repeated
 pub module-declared : (before modules : List ModuleTree) (k : ℕ) → along_from repeated_module before modules ≡ [] → repeated_declarations (get_or modules k (empty_module 0 [])) ≡ []
 module-declared before [] k h = refl
 module-declared before (m ∷ ms) zero h =
@@ -129,13 +129,13 @@ module-declared before (m ∷ ms) (suc k) h =
 
 -- ---- statements by their names
 
--- a name that a statement declares is among those of all
+-- the name that a statement declares is among the names that all statements declare
 pub name-among : (ss : List Stmt) (i : ℕ) (s : Stmt) (n : List ℕ) → i < length ss → get_or ss i s ≡ s → name_by s ≡ n ∷ [] → Contains (flat_map name_by ss) n
 name-among [] i s n lt at is = absurd (omega (arith, lt))
 name-among (x ∷ xs) zero s n lt at is = Contains-append_left (name_by x) (flat_map name_by xs) n (subst (λ l. Contains l n) (sym (ap name_by at ∙ is)) (0, omega arith, refl))
 name-among (x ∷ xs) (suc i) s n lt at is = Contains-append_right (name_by x) (flat_map name_by xs) n (name-among xs i s n (omega (arith, lt)) at is)
 
--- one statement alone declares a name
+-- only one statement declares a name
 pub one-statement : (ss : List Stmt) (i j : ℕ) (s t : Stmt) (n : List ℕ) → Differ (flat_map name_by ss) → i < length ss → j < length ss → get_or ss i s ≡ s → get_or ss j t ≡ t → name_by s ≡ n ∷ [] → name_by t ≡ n ∷ [] → s ≡ t
 one-statement [] i j s t n d lt within at there is other = absurd (omega (arith, lt))
 one-statement (x ∷ xs) zero zero s t n d lt within at there is other = sym at ∙ there
@@ -146,7 +146,7 @@ one-statement (x ∷ xs) (suc i) zero s t n d lt within at there is other =
 one-statement (x ∷ xs) (suc i) (suc j) s t n d lt within at there is other =
     one-statement xs i j s t n (Differ-behind (name_by x) (flat_map name_by xs) d) (omega (arith, lt)) (omega (arith, within)) at there is other
 
--- The statement that makes what is in a list.
+-- A statement of the list of which f makes y.
 pub record MadeBy {B : Type 0} (f : StmtKind → Option B) (ss : List Stmt) (y : B) : Type 0 where
   pub place : ℕ
   pub statement : Stmt
@@ -168,7 +168,7 @@ made-by f (s ∷ ss) y c = go (f s.kind) refl c (made-by f ss y)
 
 -- ---- kinds
 
--- a statement that makes an instance names it
+-- a statement that declares an instance declares the instance's name
 pub held-named : (modules : List ModuleTree) (kind : StmtKind) (h : Held) → held_by_kind modules kind ≡ Some h → name_by_kind kind ≡ h.name ∷ []
 held-named modules (says.Wire name ty) h e = absurd (cc)
 held-named modules (says.Node name value) h e = absurd (cc)
@@ -201,7 +201,7 @@ bank-named says.Skip b e = absurd (cc)
 bank-named (says.Stop clock condition code label) b e = absurd (cc)
 bank-named (says.Report word arguments label) b e = absurd (cc)
 
--- no statement makes an instance and a memory
+-- no statement declares both an instance and a memory
 pub not-both : (modules : List ModuleTree) (kind : StmtKind) (h : Held) (b : OwnBank) → held_by_kind modules kind ≡ Some h → bank_of_kind kind ≡ Some b → ⊥
 not-both modules (says.Wire name ty) h b e f = absurd (cc)
 not-both modules (says.Node name value) h b e f = absurd (cc)

@@ -52,7 +52,7 @@ use Rattle.gg_tree.proofs.NamedLemmas.{named-of, apart-of}
 use Rattle.gg_tree.proofs.VisibleLemmas.{HasKnownNames, IsPlain, IsPlainReference, visible}
 use Rattle.gg_tree.proofs.CauseLemmas.{name-some, name-dotless, AreNamesOfConnection, connected-names, statements-named, IsNamed, AreNamed, statements-cause, port-cause, port-count}
 
--- the names of a reference are plain
+-- a name isn't empty and has no dot; the same of each name of a reference
 plain-name : (a : List ℕ) → IsName a → IsPlain a
 plain-name a h = record { some = name-some a h; dotless = name-dotless a h }
 
@@ -61,7 +61,7 @@ plain-reference (reference.Local a) h = plain-name a h
 plain-reference (reference.PortOf a b) h = (plain-name a h.0, plain-name b h.1)
 plain-reference (reference.FieldOf a b c) h = (plain-name a h.0, plain-name b h.1, plain-name c h.2)
 
--- a name that stands for a signal is known, and its path is one
+-- a name that stands for signal t is known, and t is the place of its path
 named-known : (known : Bool) (paths : List (List ℕ)) (path : List ℕ) (t : ℕ) → named_if known paths path ≡ Some t → (known ≡ true) × (place_of path paths ≡ Some t)
 named-known true paths path t h = (refl, h)
 named-known false paths path t h = absurd (cc)
@@ -103,7 +103,7 @@ module _ (circuit : CircuitTree) (flat : FlatCircuit) (tree : InstanceTree) (top
 
   -- ---- drives
 
-  -- a name is that of a signal of the site
+  -- the site has an own signal of this name
   abbrev HasOwn : Site → List ℕ → Type 0
   HasOwn x name = (o : ℕ) × (o < length (own_in circuit x)) × ((get_or (own_in circuit x) o no_own).name ≡ name)
 
@@ -119,7 +119,7 @@ module _ (circuit : CircuitTree) (flat : FlatCircuit) (tree : InstanceTree) (top
   answer-visible k x p Zero memory reader addr en has_addr has_en t (inr is) = own-visible k x p en has_en t is
   answer-visible k x p (One under) memory reader addr en has_addr has_en t n = absurd n
 
-  -- a driver that does what a statement of the site says
+  -- the driver of signal s does what `drive` asks for
   abbrev Driven : ℕ → Drive → Driver → Type 0
   Driven s drive driver = IsDrivenBy (types_of circuit) all_signals (memory_paths (memories_of circuit)) flat.registers (count_before is_outside (flat_signals (types_of circuit) circuit.modules (sites_of circuit)) s) (count_before is_register (flat_signals (types_of circuit) circuit.modules (sites_of circuit)) s) (shape_at all_signals.shapes s) drive driver
 
@@ -190,7 +190,7 @@ module _ (circuit : CircuitTree) (flat : FlatCircuit) (tree : InstanceTree) (top
     pub named : IsNamed (λ name. (o : ℕ) × (o < length (own_in circuit site)) × ((get_or (own_in circuit site) o no_own).name ≡ name)) cause
     pub driven : IsDrivenBy (types_of circuit) (signals_of (flat_signals (types_of circuit) circuit.modules (sites_of circuit))) (memory_paths (memories_of circuit)) flat.registers (count_before is_outside (flat_signals (types_of circuit) circuit.modules (sites_of circuit)) s) (count_before is_register (flat_signals (types_of circuit) circuit.modules (sites_of circuit)) s) (shape_at (signals_of (flat_signals (types_of circuit) circuit.modules (sites_of circuit))).shapes s) (drive_of circuit.modules site name cause) (driver_at flat s)
 
-  -- the drive of an own signal
+  -- the driver of an own signal does what the signal's cause asks for
   own-driven : (k : ℕ) (x : Site) → Stands k x → (o : ℕ) → o < length (own_in circuit x) → Driven (from_site k + o) (drive_of circuit.modules x (get_or (own_in circuit x) o no_own).name (get_or (own_in circuit x) o no_own).cause) (driver_at flat (from_site k + o))
   own-driven k x p o lt =
       let inside = own-inside circuit k x p o lt in
@@ -199,13 +199,13 @@ module _ (circuit : CircuitTree) (flat : FlatCircuit) (tree : InstanceTree) (top
       ∙ ap (λ (y : FlatSignal). y.drive) (own-signal circuit k x p o (flat_signal circuit.modules x no_own) no_own lt) in
       subst (λ d. Driven (from_site k + o) d (driver_at flat (from_site k + o))) drive (is_flat.drivers (from_site k + o) inside)
 
-  -- the cause of the own signal that is a port
+  -- the cause of a port's own signal follows from the port's direction
   port-own-cause : (x : Site) (i : ℕ) (d : Own) (q : Port) → i < length (signal_ports (module_at circuit.modules x.number)) → (get_or (own_in circuit x) i d).cause ≡ cause_of_port (get_or (signal_ports (module_at circuit.modules x.number)) i q).direction
   port-own-cause x i d q lt =
       let r = port-cause (module_at circuit.modules x.number).ports i d q lt in
       ap (λ (o : Own). o.cause) (front (filter_map own_of_port (module_at circuit.modules x.number).ports) (flat_map (λ (s : Stmt). own_of_kind (types_of circuit) x.number s.kind) (module_at circuit.modules x.number).statements) i d r.0) ∙ r.1
 
-  -- an own signal is a port, or what a statement declares
+  -- an own signal is a port's, or its cause names what IsNamed allows
   own-cases : (x : Site) (o : ℕ) → o < length (own_in circuit x) → (o < length (signal_ports (module_at circuit.modules x.number))) ⊎ IsNamed (HasOwn x) (get_or (own_in circuit x) o no_own).cause
   own-cases x o lt = go (cases_lt o (length (filter_map own_of_port (module_at circuit.modules x.number).ports)))
     where
@@ -236,7 +236,7 @@ module _ (circuit : CircuitTree) (flat : FlatCircuit) (tree : InstanceTree) (top
   tells : Ranges (length circuit.modules) circuit.modules (signals_in circuit) (sites_of circuit) tree
   tells = ranges circuit tree top known_top is_tree distinct.of_sites
 
-  -- an input port of a site is one of its instance
+  -- the own signal of an input port of a site is an input of the site's instance
   port-is-input : (k : ℕ) (x : Site) → Stands k x → (o : ℕ) (q : Port) (s : ℕ) → s ≡ from_site k + o → o < length (signal_ports (module_at circuit.modules x.number)) → (get_or (signal_ports (module_at circuit.modules x.number)) o q).direction ≡ direction.Input → IsInputOf tree k s
   port-is-input k x p o q s counted lt way =
       let h = (instance-for circuit tree top known_top is_tree distinct.of_sites k x p).ports in
@@ -336,7 +336,7 @@ module _ (circuit : CircuitTree) (flat : FlatCircuit) (tree : InstanceTree) (top
   written-as k s (inl sink) = own-written k s sink
   written-as k s (inr input) = input-written k s input
 
-  -- the flat circuit of a circuit keeps to the scopes of its tree
+  -- the flat circuit of a circuit keeps to the scopes of the circuit's tree
   pub scoped-of : IsScoped flat tree
   scoped-of = record {
     ins = ins-of circuit flat tree top known_top is_flat is_tree distinct plain names;

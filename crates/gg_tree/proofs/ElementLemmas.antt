@@ -9,7 +9,7 @@ pub some-of : {A : Type 0} (o : Option A) → o ≢ None → (x : A) × (o ≡ S
 some-of None h = absurd (h refl)
 some-of (Some x) h = (x, refl)
 
--- what an option holds, else this
+-- what an option holds, or this if it holds nothing
 abbrev pub value_or : {A : Type 0} → A → Option A → A
 value_or x None = x
 value_or x (Some y) = y
@@ -20,13 +20,13 @@ element-at [] j lt = absurd (omega (arith, lt))
 element-at (y ∷ ys) zero lt = y
 element-at (y ∷ ys) (suc j) lt = element-at ys j (omega (arith, lt))
 
--- .. which the list contains
+-- an element that stands at a place is one that the list contains
 pub element : {A : Type 0} (l : List A) (j : ℕ) → j < length l → (y : A) × Contains l y × ((d : A) → get_or l j d ≡ y)
 element [] j lt = absurd (omega (arith, lt))
 element (y ∷ ys) zero lt = (y, (0, omega arith, refl), λ d. refl)
 element (y ∷ ys) (suc j) lt = let r = element ys j (omega (arith, lt)) in (r.0, (suc r.1.0, omega (arith, r.1.1), r.1.2), r.2)
 
--- what passes a test is one of the list
+-- what a filter keeps is in the list
 pub filter-in : {A : Type 0} (test : A → Bool) (xs : List A) (a : A) → Contains (filter test xs) a → Contains xs a
 filter-in test [] a c = c
 filter-in test (x ∷ xs) a c = go (test x) refl c (filter-in test xs a)
@@ -36,7 +36,7 @@ filter-in test (x ∷ xs) a c = go (test x) refl c (filter-in test xs a)
     go true e (suc i, lt, is) next = let r = next (i, omega (arith, lt), is) in (suc r.0, omega (arith, r.1), r.2)
     go false e c next = let r = next c in (suc r.0, omega (arith, r.1), r.2)
 
--- what is one of the list and passes a test is kept
+-- what is in the list and passes the test is kept
 pub filter-keeps : {A : Type 0} (test : A → Bool) (xs : List A) (a : A) → Contains xs a → test a ≡ true → Contains (filter test xs) a
 filter-keeps test [] a c h = absurd (omega (arith, c.1))
 filter-keeps test (x ∷ xs) a (zero, lt, is) h = let same : test x ≡ true = ap test is ∙ h in rw same (0, omega arith, is)

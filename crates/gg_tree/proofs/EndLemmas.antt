@@ -1,4 +1,4 @@
--- Where the sites below one end: at the next site that lies no deeper.
+-- Where the sites below a site end: at the next site that lies no deeper.
 use Rattle.std.proofs.Common.{◌≡◌, ◌⊎◌, inl, inr, ℕ, zero, suc, ◌+◌, ◌-◌, ◌<◌, ◌≤◌, Some, length, get_or, refl, ap, subst, arith}
 use Rattle.std.proofs.lemmas.Bool.{cases_lt}
 use Rattle.gg_ast.specs.Places.{place_of}
@@ -23,7 +23,7 @@ module _ (circuit : CircuitTree) (top : ℕ) (known_top : place_of circuit.name 
   same-site : (k : ℕ) (x y : Site) → Stands k x → Stands k y → x ≡ y
   same-site k x y p q = placed-same (length circuit.modules) circuit.modules (sites_of circuit) k x y p q
 
-  -- What lies below a site: it is deeper, and ends with it at the latest.
+  -- A site below another lies deeper, and all that is below it ends no later than all that is below the other.
   record Below (k : ℕ) (x : Site) (i : ℕ) (y : Site) : Type 0 where
     deeper : x.depth < y.depth
     ends : i + length (within (length circuit.modules) circuit.modules y) ≤ k + length (within (length circuit.modules) circuit.modules x)
@@ -47,7 +47,7 @@ module _ (circuit : CircuitTree) (top : ℕ) (known_top : place_of circuit.name 
           let size : whole u.outer ≡ whole x = ap whole outer in
           subst (λ (z : Site). Below k x i z) (same-site i (site_below u.outer u.held) y u.at_place q) (record { deeper = omega (arith, depth); ends = omega (arith, u.inside, here, size) })
 
-  -- behind them stands a site that lies no deeper
+  -- the site that follows all sites below x lies no deeper than x
   no-deeper : (k : ℕ) (x z : Site) → Stands k x → (e : ℕ) → e ≡ k + whole x → Stands e z → z.depth ≤ x.depth
   no-deeper k x z p zero is q = absurd (omega (arith, is, whole-some x))
   no-deeper k x z p (suc e) is q = go (cases_lt h.above k) (cases_lt k h.above)
@@ -80,7 +80,7 @@ module _ (circuit : CircuitTree) (top : ℕ) (known_top : place_of circuit.name 
           let size : whole u.outer ≡ whole x = ap whole outer in
           absurd (omega (arith, inside, is, here, size))
 
-  -- the next site that lies no deeper is where they end
+  -- the next site that lies no deeper is where the sites below x end
   pub ends-at : (k : ℕ) (x : Site) (d : Site) → Stands k x → (j : ℕ) → k < j → j ≤ length (sites_of circuit) → ((i : ℕ) → k < i → i < j → x.depth < (get_or (sites_of circuit) i d).depth) → (j < length (sites_of circuit) → (get_or (sites_of circuit) j d).depth ≤ x.depth) → j ≡ k + whole x
   ends-at k x d p j after inside deeper stop = go (cases_lt j (k + whole x)) (cases_lt (k + whole x) j)
     where

@@ -17,7 +17,7 @@ use Rattle.gg_tree.proofs.ElementLemmas.{value_or}
 use Rattle.gg_tree.proofs.JoinLemmas.{joined-behind}
 use Rattle.gg_tree.proofs.OwnLemmas.{front}
 
--- what a memory's statement declares are its memory's fields
+-- the own signals of a memory's statement are the memory's fields
 memory-kind : (types : Types) (k : ℕ) (kind : StmtKind) (b : OwnBank) → bank_of_kind kind ≡ Some b → own_of_kind types k kind ≡ memory_signals b.name (Some b.bank)
 memory-kind types k (says.Wire name ty) b e = absurd (cc)
 memory-kind types k (says.Node name value) b e = absurd (cc)
@@ -40,7 +40,7 @@ pub record StandTogether (all part : List Own) : Type 0 where
   pub after : List Own
   pub is : all ≡ before ++ (part ++ after)
 
--- so they do among the signals of its module's statements
+-- the fields of a memory stand together among the own signals of the module's statements
 pub bank-together : (types : Types) (k : ℕ) (ss : List Stmt) (q : ℕ) (b : OwnBank) → q < length (own_banks ss) → get_or (own_banks ss) q b ≡ b → StandTogether (flat_map (λ (s : Stmt). own_of_kind types k s.kind) ss) (memory_signals b.name (Some b.bank))
 bank-together types k [] q b lt is = absurd (omega (arith, lt))
 bank-together types k (s ∷ ss) q b lt is = go (bank_of_kind s.kind) refl q lt is (bank-together types k ss)
@@ -66,7 +66,7 @@ bank-together types k (s ∷ ss) q b lt is = go (bank_of_kind s.kind) refl q lt 
 field-there : (paths : List (List ℕ)) (outer memory port field : List ℕ) → number_of paths (field_name (joined outer memory) port field) ≡ number_of paths (joined outer (field_name memory port field))
 field-there paths outer memory port field = ap (number_of paths) (sym (joined-behind outer memory (port ++ 46 ∷ field)))
 
--- the number of a signal by its name behind a path
+-- the number of an own signal, found by its path: the site's path joined with the signal's name
 abbrev pub number_behind : List (List ℕ) → List ℕ → Own → ℕ
 number_behind paths outer o = number_of paths (joined outer o.name)
 
@@ -95,7 +95,7 @@ pub record FieldPlace (ss : List Stmt) (o : Own) : Type 0 where
   pub is : (d : OwnBank) → get_or (own_banks ss) place d ≡ bank
   pub among : Contains (memory_signals bank.name (Some bank.bank)) o
 
--- A name of a field of a memory: the memory's name, the name of one of its ports and a word.
+-- The name of a field of a memory: the memory's name, the name of one of its ports and a name without a dot.
 pub record FieldName (memory : List ℕ) (bank : Bank) (name : List ℕ) : Type 0 where
   pub port : List ℕ
   pub field : List ℕ
@@ -103,7 +103,7 @@ pub record FieldName (memory : List ℕ) (bank : Bank) (name : List ℕ) : Type 
   pub of_port : Contains bank.readers port ⊎ Contains bank.writers port
   pub of_word : list_all (λ b. not (nat_eq b 46)) field ≡ true
 
--- each field of a memory is named so
+-- each field of a memory has such a name
 reader-field : (memory : List ℕ) (bank : Bank) (place : ℕ) (ports : List (List ℕ)) (i : ℕ) (d : Own) → ((p : List ℕ) → Contains ports p → Contains bank.readers p) → i < length (readers_signals memory bank place ports) → FieldName memory bank (get_or (readers_signals memory bank place ports) i d).name
 reader-field memory bank place [] i d of lt = absurd (omega (arith, lt))
 reader-field memory bank place (p ∷ ps) zero d of lt = record { port = p; field = codes "addr"; is = refl; of_port = inl (of p (0, omega arith, refl)); of_word = refl }

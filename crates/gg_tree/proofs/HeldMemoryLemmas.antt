@@ -29,7 +29,7 @@ said_of : (site : Site) (all : List FlatMemory) → map (λ h. h.said) (map (hel
 said_of site [] = refl
 said_of site (m ∷ ms) = ap (λ l. m ∷ l) (said_of site ms)
 
--- with their sites they are the same memories
+-- what is listed with each memory's site is the circuit's memories
 pub held-said : (modules : List ModuleTree) (all : List Site) → map (λ (h : HeldMemory). h.said) (flat_map (held_memories modules) all) ≡ flat_memories modules all
 held-said modules [] = refl
 held-said modules (x ∷ xs) =
@@ -130,7 +130,7 @@ module _ (circuit : CircuitTree) (tree : InstanceTree) (top : ℕ) (known_top : 
       at d = Pairwise-at (λ (h : HeldMemory) (memory : MemoryInstance). IsMemoryFor circuit h.site h.said memory) (flat_map (held_memories circuit.modules) (sites_of circuit)) tree.memories j d (record { instance = 0; memory = 0; ports = [] }) is.memories inside
 
   module _ (sites_differ : Differ (site_paths circuit)) (memories_differ : Differ (memory_paths (memories_of circuit))) where
-    -- the path of the memory at a place stands there alone
+    -- the first place of the path of a memory is the memory's own place
     pub memory_path-place : (j : ℕ) (d : FlatMemory) → j < length (memories_of circuit) → place_of (get_or (memories_of circuit) j d).path (memory_paths (memories_of circuit)) ≡ Some j
     memory_path-place j d lt =
         place_of-at (memory_paths (memories_of circuit)) (get_or (memories_of circuit) j d).path j
@@ -138,7 +138,7 @@ module _ (circuit : CircuitTree) (tree : InstanceTree) (top : ℕ) (known_top : 
         ∙ ap Some (get_or-map (λ (m : FlatMemory). m.path) (memories_of circuit) j d [] lt))
         memories_differ
 
-    -- it is held by its site's instance, and is the memory of that place
+    -- a memory is held by the instance of its site, and its number is its place
     pub memory-holder : (j : ℕ) → (p : MemoryPlace circuit tree j) → (memory_at tree j).instance ≡ p.holder
     memory-holder j p = some-same (memory_at tree j).instance p.holder (sym p.is_for.holder.is ∙ path-place circuit tree top known_top is sites_differ p.holder p.site p.placed)
 

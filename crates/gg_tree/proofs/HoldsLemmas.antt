@@ -1,4 +1,4 @@
--- The tree of a circuit fits its flat circuit, and this keeps to its scopes.
+-- The tree of a circuit fits its flat circuit, and the flat circuit keeps to the tree's scopes.
 use Rattle.std.proofs.Common.{◌≡◌, ℕ, [], Some, subst}
 use Rattle.gg_ast.specs.Names.{AreNamesOfCircuit}
 use Rattle.gg_ast.specs.Places.{place_of}

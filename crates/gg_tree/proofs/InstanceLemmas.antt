@@ -25,7 +25,7 @@ AreInstances-length circuit first [] (y ∷ ys) h = absurd h
 AreInstances-length circuit first (x ∷ xs) [] h = absurd h
 AreInstances-length circuit first (x ∷ xs) (y ∷ ys) h = ap suc (AreInstances-length circuit (first + length (signals_in circuit x)) xs ys h.1)
 
--- the instance at a place is that of the site there
+-- the instance at a place is the instance of the site there
 pub AreInstances-at : (circuit : CircuitTree) (first k : ℕ) (all : List Site) (instances : List Instance) (d : Site) (e : Instance) → AreInstances circuit first all instances → k < length all → IsInstanceFor circuit (first + count_to (signals_in circuit) all k) (get_or all k d) (get_or instances k e)
 AreInstances-at circuit first k [] [] d e h lt = absurd (omega (arith, lt))
 AreInstances-at circuit first k [] (y ∷ ys) d e h lt = absurd h
@@ -38,7 +38,7 @@ AreInstances-at circuit first (suc k) (x ∷ xs) (y ∷ ys) d e h lt =
     let same : (first + length (signals_in circuit x)) + count_to (signals_in circuit) xs k ≡ first + count_to (signals_in circuit) (x ∷ xs) (suc k) = omega (arith, sum) in
     subst (λ n. IsInstanceFor circuit n (get_or xs k d) (get_or ys k e)) same (AreInstances-at circuit (first + length (signals_in circuit x)) k xs ys d e h.1 (omega (arith, lt)))
 
--- what holds a site is at the place of its path
+-- the parent of an instance is the place of the path of the site that holds it
 parent-is : (circuit : CircuitTree) (outer : Outer) (p : ℕ) (parent : Option ℕ) → place_of outer.path (site_paths circuit) ≡ Some p → IsParent circuit (Some outer) parent → parent ≡ Some p
 parent-is circuit outer p None at h = absurd h
 parent-is circuit outer p (Some q) at h = sym h.is ∙ at
@@ -64,7 +64,7 @@ module _ (circuit : CircuitTree) (tree : InstanceTree) (top : ℕ) (known_top : 
   pub sites-some : 0 < length (sites_of circuit)
   sites-some = omega (arith, top_whole, within-some (length circuit.modules - 0) circuit.modules (top_site top))
 
-  -- each other site is held by one before it
+  -- each site but the top is held by one before it
   pub held_at-place : (k : ℕ) → suc k < length (sites_of circuit) → HeldFrom (length circuit.modules) circuit.modules (sites_of circuit) 0 (suc k)
   held_at-place k lt = held_from (length circuit.modules) circuit.modules (sites_of circuit) (length circuit.modules) 0 (top_site top) all_levels top_placed (suc k) (omega arith) (omega (arith, lt, top_whole))
 

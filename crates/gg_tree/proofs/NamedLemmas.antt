@@ -32,7 +32,7 @@ module _ (circuit : CircuitTree) (tree : InstanceTree) (top : ℕ) (known_top : 
   abbrev memories_to : ℕ → ℕ
   memories_to k = count_to (held_memories circuit.modules) (sites_of circuit) k
 
-  -- The place in the tree of a memory of a site.
+  -- The place of a site's memory in the tree.
   pub record MemoryOf (k : ℕ) (x : Site) (b : OwnBank) : Type 0 where
     pub place : ℕ
     pub known : place < length tree.memories
@@ -90,7 +90,7 @@ module _ (circuit : CircuitTree) (flat : FlatCircuit) (tree : InstanceTree) (top
   number-at : (paths : List (List ℕ)) (path : List ℕ) (s : ℕ) → place_of path paths ≡ Some s → number_of paths path ≡ s
   number-at paths path s e = ap (λ o. unwrap_or o 0) e
 
-  -- a field of one of a site's memories, by its place among the site's signals
+  -- an own signal that is a field of one of the site's memories is a field of a memory in the tree
   field-here : (k : ℕ) (x : Site) → Placed (length circuit.modules) circuit.modules (sites_of circuit) k x → (o : ℕ) → o < length (own_in circuit x) → FieldPlace (module_at circuit.modules x.number).statements (get_or (own_in circuit x) o no_own) → IsMemoryField flat tree k (count_to (signals_in circuit) (sites_of circuit) k + o)
   field-here k x p o lt f = record {
     place = m.place;

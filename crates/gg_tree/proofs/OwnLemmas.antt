@@ -27,7 +27,7 @@ use Rattle.gg_tree.proofs.InstanceLemmas.{signals_in}
 abbrev pub own_in : CircuitTree → Site → List Own
 own_in circuit x = own_signals (types_of circuit) x.number (module_at circuit.modules x.number)
 
--- one site more
+-- the count before the next site is greater by what this site has
 pub count-next : {X : Type 0} (f : Site → List X) (all : List Site) (k : ℕ) (d : Site) → k < length all → count_to f all (suc k) ≡ count_to f all k + length (f (get_or all k d))
 count-next f [] k d lt = absurd (omega (arith, lt))
 count-next f (x ∷ xs) zero d lt = let sum = length-append (f x) [] in omega (arith, sum)
@@ -54,7 +54,7 @@ port-names (p ∷ ps) = go (type_shape p.ty) refl (port-names ps)
 pub front : {A : Type 0} (xs ys : List A) (i : ℕ) (d : A) → i < length xs → get_or (xs ++ ys) i d ≡ get_or xs i d
 front xs ys i d lt = get_or_append_left xs ys d i lt
 
--- the port at a place among those that are signals has the own signal at that place
+-- the port at a place, among the ports that are signals, has the name of the own signal at that place
 pub port-own : (circuit : CircuitTree) (x : Site) (i : ℕ) (p : Port) → i < length (signal_ports (module_at circuit.modules x.number)) → (i < length (own_in circuit x)) × ((d : Own) → (get_or (own_in circuit x) i d).name ≡ (get_or (signal_ports (module_at circuit.modules x.number)) i p).name)
 port-own circuit x i p lt =
     let same = ap (λ (l : List (List ℕ)). length l) (port-names (module_at circuit.modules x.number).ports) in
@@ -76,14 +76,14 @@ module _ (circuit : CircuitTree) (k : ℕ) (x : Site) (placed : Placed (length c
       let some = within-some (length circuit.modules - x.depth) circuit.modules x in
       omega (arith, inside, some)
 
-  -- a site has its own signals from the place of its first on
+  -- the count before the next site is greater by the number of the site's own signals
   pub own-count : count_to (signals_in circuit) (sites_of circuit) (suc k) ≡ count_to (signals_in circuit) (sites_of circuit) k + length (own_in circuit x)
   own-count =
       count-next (signals_in circuit) (sites_of circuit) k x placed-known
       ∙ ap (λ (y : Site). count_to (signals_in circuit) (sites_of circuit) k + length (signals_in circuit y)) (placed-at (length circuit.modules) circuit.modules (sites_of circuit) k x x placed)
       ∙ ap (λ n. count_to (signals_in circuit) (sites_of circuit) k + n) (length-map (own_in circuit x) (flat_signal circuit.modules x))
 
-  -- the signal that stands so far behind its first
+  -- the signal at offset o from the site's first is the site's own signal o
   pub own-signal : (o : ℕ) (d : FlatSignal) (e : Own) → o < length (own_in circuit x) → get_or (flat_signals (types_of circuit) circuit.modules (sites_of circuit)) (count_to (signals_in circuit) (sites_of circuit) k + o) d ≡ flat_signal circuit.modules x (get_or (own_in circuit x) o e)
   own-signal o d e lt =
       let here = placed-at (length circuit.modules) circuit.modules (sites_of circuit) k x x placed in
@@ -98,13 +98,13 @@ module _ (circuit : CircuitTree) (k : ℕ) (x : Site) (placed : Placed (length c
       let bound = length-flat_map-take (signals_in circuit) (sites_of circuit) k x placed-known in
       omega (arith, lt, size, bound)
 
-  -- its path
+  -- its path is the site's path joined with its name
   pub own-path : (o : ℕ) (d : List ℕ) (e : Own) → o < length (own_in circuit x) → get_or (signal_paths circuit) (count_to (signals_in circuit) (sites_of circuit) k + o) d ≡ joined x.path (get_or (own_in circuit x) o e).name
   own-path o d e lt =
       get_or-map (λ (s : FlatSignal). s.path) (flat_signals (types_of circuit) circuit.modules (sites_of circuit)) (count_to (signals_in circuit) (sites_of circuit) k + o) (flat_signal circuit.modules x e) d (own-inside o lt)
       ∙ ap (λ (s : FlatSignal). s.path) (own-signal o (flat_signal circuit.modules x e) e lt)
 
-  -- where no two signals have the same path, its path stands there alone
+  -- where no two signals have the same path, the first place of its path is its own place
   pub own-place : Differ (signal_paths circuit) → (o : ℕ) (e : Own) → o < length (own_in circuit x) → place_of (joined x.path (get_or (own_in circuit x) o e).name) (signal_paths circuit) ≡ Some (count_to (signals_in circuit) (sites_of circuit) k + o)
   own-place differ o e lt =
       place_of-at (signal_paths circuit) (joined x.path (get_or (own_in circuit x) o e).name) (count_to (signals_in circuit) (sites_of circuit) k + o)

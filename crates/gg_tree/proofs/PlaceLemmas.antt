@@ -1,4 +1,4 @@
--- Sites by their places: each stands with all that is below it, and behind the one that holds it.
+-- Sites by their places: each is followed by all sites below it, and stands after the one that holds it.
 use Rattle.std.proofs.Common.{◌≡◌, ℕ, zero, suc, ◌+◌, ◌-◌, ◌<◌, ◌≤◌, ◌⊎◌, inl, inr, List, [], ◌∷◌, ◌++◌, length, drop, refl, sym, ap, ◌∙◌, subst, arith, append_assoc, drop-drop, length-append}
 use Rattle.std.specs.Prelude.{flat_map, Contains}
 use Rattle.std.proofs.lemmas.Bool.{cases_lt}
@@ -6,17 +6,17 @@ use Rattle.std.proofs.Math.Seq.{drop-append_seam}
 use Rattle.gg_ast.specs.Tree.{ModuleTree}
 use Rattle.gg_count.specs.Sites.{Held, Site, site_below, sites, held_at}
 
--- a site with all below it, where the deepest can lie so deep
+-- a site with all sites below it, down to the depth `deepest`
 abbrev pub within : ℕ → List ModuleTree → Site → List Site
 within deepest modules site = sites (deepest - site.depth) modules site
 
--- The site stands at this place of a list, with all below it behind it.
+-- The site stands at this place of a list, followed by all sites below it.
 pub record Placed (deepest : ℕ) (modules : List ModuleTree) (all : List Site) (place : ℕ) (site : Site) : Type 0 where
   pub rest : List Site
   pub is : drop place all ≡ within deepest modules site ++ rest
   pub deep : site.depth ≤ deepest
 
--- The site at a place is held by the one at another, among whose it stands.
+-- The site at a place is held by the site at `above`, and stands among the sites below that one.
 pub record Under (deepest : ℕ) (modules : List ModuleTree) (all : List Site) (above place : ℕ) : Type 0 where
   pub outer : Site
   pub held : Held
@@ -26,18 +26,18 @@ pub record Under (deepest : ℕ) (modules : List ModuleTree) (all : List Site) (
   pub before : above < place
   pub inside : place + length (within deepest modules (site_below outer held)) ≤ above + length (within deepest modules outer)
 
--- where one of these stands, not before a place
+-- The site at a place is held by a site that stands at `from` or after it.
 pub record HeldFrom (deepest : ℕ) (modules : List ModuleTree) (all : List Site) (from place : ℕ) : Type 0 where
   pub above : ℕ
   pub from_on : from ≤ above
   pub under : Under deepest modules all above place
 
--- a site has at least itself
+-- a site and those below it are at least one
 pub within-some : (levels : ℕ) (modules : List ModuleTree) (site : Site) → 0 < length (sites levels modules site)
 within-some zero modules site = omega arith
 within-some (suc levels) modules site = omega arith
 
--- behind the first part of what stands at a place stands the second
+-- if two lists stand one after the other from place k on, the second follows the first
 part : {A : Type 0} (all xs ys : List A) (k : ℕ) → drop k all ≡ xs ++ ys → drop (k + length xs) all ≡ ys
 part all xs ys k h = sym (drop-drop (length xs) k all) ∙ ap (drop (length xs)) h ∙ drop-append_seam xs ys
 
@@ -45,14 +45,14 @@ later : {A : Type 0} (x : A) (xs : List A) (y : A) → Contains xs y → Contain
 later x xs y c = (suc c.0, omega (arith, c.1), c.2)
 
 module _ (deepest : ℕ) (modules : List ModuleTree) (all : List Site) where
-  -- what is known for fewer levels
+  -- what held_from shows, of sites with n levels below them
   abbrev Known : ℕ → Type 0
   Known n = (k : ℕ) (here : Site) → n ≡ deepest - here.depth → Placed deepest modules all k here → (i : ℕ) → k < i → i < k + length (within deepest modules here) → HeldFrom deepest modules all k i
 
   further : (a b k i : ℕ) → a ≤ b → HeldFrom deepest modules all b i → HeldFrom deepest modules all a i
   further a b k i le h = record { above = h.above; from_on = omega (arith, le, h.from_on); under = h.under }
 
-  -- along the instances of a site
+  -- the same of the sites below some of the site's instances
   along : (n k : ℕ) (here : Site) → Known n → n ≡ deepest - suc here.depth → suc here.depth ≤ deepest → Placed deepest modules all k here → (hs : List Held) (j : ℕ) (rest : List Site) → drop j all ≡ flat_map (λ h. sites n modules (site_below here h)) hs ++ rest → ((h : Held) → Contains hs h → Contains (held_at modules here.number) h) → j + length (flat_map (λ h. sites n modules (site_below here h)) hs) ≤ k + length (within deepest modules here) → k < j → (i : ℕ) → j ≤ i → i < j + length (flat_map (λ h. sites n modules (site_below here h)) hs) → HeldFrom deepest modules all k i
   along n k here known level room placed [] j rest is each end after i from to = absurd (omega (arith, from, to))
   along n k here known level room placed (h ∷ hs) j rest is each end after i from to =
@@ -94,7 +94,7 @@ module _ (deepest : ℕ) (modules : List ModuleTree) (all : List Site) where
       go (inr ge) which next =
           next (j + length (sites n modules (site_below here h))) rest (part all (sites n modules (site_below here h)) (flat_map (λ x. sites n modules (site_below here x)) hs ++ rest) j behind) (λ x c. each x (later h hs x c)) (omega (arith, end, total)) (omega (arith, after)) i ge (omega (arith, to, total))
 
-  -- what stands among those of a site is held there, or among them
+  -- each site below another is held by that one, or by a site below it
   pub held_from : (n : ℕ) → Known n
   held_from zero k here level placed i after to =
       let one : length (within deepest modules here) ≡ 1 = ap (λ m. length (sites m modules here)) (sym level) in

@@ -1,4 +1,4 @@
--- What sites have of their own stands in turn: the ranges of a tree's instances, and what is an instance's own.
+-- What the sites have of their own is listed site by site: the ranges of a tree's instances, and which of it is an instance's own.
 use Rattle.std.proofs.Common.{◌≡◌, ℕ, zero, suc, ◌+◌, ◌-◌, ◌<◌, ◌≤◌, ◌⊎◌, inl, inr, List, [], ◌∷◌, ◌++◌, Some, length, take, drop, get_or, refl, sym, ap, ◌∙◌, arith, length-append, length-drop, get_or-drop, take-add, take_all}
 use Rattle.std.specs.Prelude.{flat_map}
 use Rattle.std.proofs.lemmas.Bool.{cases_lt}
@@ -9,7 +9,7 @@ use Rattle.gg_flat.specs.Tree.{InstanceTree, instance_at, Holds, IsInnermost}
 use Rattle.gg_count.specs.Sites.{Site, site_below, sites}
 use Rattle.gg_tree.proofs.PlaceLemmas.{within, within-some, Placed, Under, HeldFrom, held_from}
 
--- how much the sites before a place have
+-- how many elements the sites before a place have
 abbrev pub count_to : {X : Type 0} → (Site → List X) → List Site → ℕ → ℕ
 count_to f all k = length (flat_map f (take k all))
 
@@ -26,7 +26,7 @@ count-le f all a b le =
     let split : count_to f all b ≡ count_to f all (a + (b - a)) = ap (count_to f all) (omega (arith, le)) in
     omega (arith, split, count-add f all a (b - a))
 
--- the site that has the s-th, with its place
+-- The site that has the element at place s, with the site's own place.
 pub record Owner {X : Type 0} (f : Site → List X) (all : List Site) (s : ℕ) : Type 0 where
   pub place : ℕ
   pub known : place < length all
@@ -58,7 +58,7 @@ head zero modules site d rest = refl
 head (suc n) modules site d rest = refl
 
 module _ (deepest : ℕ) (modules : List ModuleTree) (all : List Site) where
-  -- a list has at a place the site that stands there
+  -- the element of a list at a place is the site that stands there
   pub placed-at : (k : ℕ) (site d : Site) → Placed deepest modules all k site → get_or all k d ≡ site
   placed-at k site d p =
       ap (λ i. get_or all i d) (omega arith)
@@ -69,7 +69,7 @@ module _ (deepest : ℕ) (modules : List ModuleTree) (all : List Site) where
   pub placed-same : (k : ℕ) (one other : Site) → Placed deepest modules all k one → Placed deepest modules all k other → one ≡ other
   placed-same k one other p q = sym (placed-at k one one p) ∙ placed-at k other one q
 
-  -- it ends within the list
+  -- a site and all those below it end within the list
   pub placed-inside : (k : ℕ) (site : Site) → Placed deepest modules all k site → k + length (within deepest modules site) ≤ length all
   placed-inside k site p =
       let some = within-some (deepest - site.depth) modules site in
@@ -95,7 +95,7 @@ pub record Ranges {X : Type 0} (deepest : ℕ) (modules : List ModuleTree) (f : 
   pub under : (k above : ℕ) → k < length all → (instance_at tree k).parent ≡ Some above → Under deepest modules all above k
 
 module _ {X : Type 0} (deepest : ℕ) (modules : List ModuleTree) (f : Site → List X) (all : List Site) (tree : InstanceTree) (ranges : Ranges deepest modules f all tree) where
-  -- what a site has of its own, no instance below it holds
+  -- what a site has of its own is innermost in its instance: no instance below holds it
   pub own-innermost : (k s : ℕ) → k < length all → count_to f all k ≤ s → s < count_to f all (suc k) → IsInnermost tree k s
   own-innermost k s lt from to =
       let site = ranges.site k lt in
@@ -110,7 +110,7 @@ module _ {X : Type 0} (deepest : ℕ) (modules : List ModuleTree) (f : Site → 
             omega (arith, to, holds.0, ranges.begins i inside, count-le f all (suc k) i (omega (arith, u.before)));
       }
 
-  -- up from an instance among those of another, to the one that this one is the parent of
+  -- what an instance below instance k holds, one with the parent k holds too
   abbrev Climbs : ℕ → Type 0
   Climbs fuel = (j k s : ℕ) (site there : Site) → j < fuel → Placed deepest modules all k site → k < j → j < k + length (within deepest modules site) → Placed deepest modules all j there → count_to f all j ≤ s → s < count_to f all (j + length (within deepest modules there)) → ((i : ℕ) → i < length tree.instances → (instance_at tree i).parent ≡ Some k → Holds (instance_at tree i) s → ⊥) → ⊥
 
@@ -136,7 +136,7 @@ module _ {X : Type 0} (deepest : ℕ) (modules : List ModuleTree) (f : Site → 
           let parent : (instance_at tree j).parent ≡ Some k = ranges.parent j h.above h.under ∙ ap Some here in
           none j (omega (arith, known, ranges.same)) parent (omega (arith, from, ranges.begins j known), omega (arith, to, ranges.ends j there at))
 
-  -- what an instance holds innermost is its own
+  -- what is innermost in an instance is among what its site has of its own
   pub innermost-own : (k s : ℕ) → IsInnermost tree k s → (count_to f all k ≤ s) × (s < count_to f all (suc k))
   innermost-own k s inner = (omega (arith, inner.holds.0, ranges.begins k known), go (cases_lt s (count_to f all (suc k))))
     where

@@ -32,8 +32,8 @@ use Rattle.gg_tree.proofs.TreeLemmas.{HasDistinctPaths, HasPlainNames, no_own, P
 use Rattle.gg_tree.proofs.JoinLemmas.{joined-behind, within-dot}
 use Rattle.gg_tree.proofs.FieldLemmas.{StandTogether, bank-together, number_behind, field-numbers, FieldName, memory-field, FieldPlace}
 
--- What is said of the names of a module: those of its ports have no dots; each of its signals has a name without a dot or is a
--- field of one of its memories; and a memory has a name, which isn't that of an instance.
+-- The names of each module are apart: a port's name has no dot; each own signal has a name without a dot or is a field of one of
+-- the module's memories; and a memory has a name, which isn't the name of an instance.
 pub record HasApartNames (circuit : CircuitTree) : Type 0 where
   pub of_ports : (x : Site) (p : Port) → Contains (module_at circuit.modules x.number).ports p → ¬ Contains p.name 46
   pub of_own : (x : Site) (o : ℕ) → o < length (own_in circuit x) → ((d : Own) → ¬ Contains (get_or (own_in circuit x) o d).name 46) ⊎ ((d : Own) → FieldPlace (module_at circuit.modules x.number).statements (get_or (own_in circuit x) o d))
@@ -129,7 +129,7 @@ module _ (circuit : CircuitTree) (flat : FlatCircuit) (tree : InstanceTree) (top
   pub path-there : (k : ℕ) (x : Site) → Stands k x → (o : ℕ) (e : Own) → o < length (own_in circuit x) → path_at flat.paths (from_site k + o) ≡ joined x.path (get_or (own_in circuit x) o e).name
   path-there k x p o e lt = signal-path circuit flat tree top known_top is_flat is_tree distinct plain k x p o e lt
 
-  -- a name without a dot stands just below
+  -- an own signal whose name has no dot stands just below its instance
   pub just-below : (k : ℕ) (x : Site) → Stands k x → (o : ℕ) (e : Own) → o < length (own_in circuit x) → (¬ Contains (get_or (own_in circuit x) o e).name 46) → IsJustBelow (path_at tree.paths k) (path_at flat.paths (from_site k + o))
   just-below k x p o e lt dotless = record {
     name = (get_or (own_in circuit x) o e).name;
@@ -182,7 +182,7 @@ module _ (circuit : CircuitTree) (flat : FlatCircuit) (tree : InstanceTree) (top
 
   -- ---- fields of memories
 
-  -- where the fields of a memory begin among its site's signals
+  -- the fields of a memory stand together among its site's own signals
   pub fields-together : (x : Site) (q : ℕ) (b : OwnBank) → q < length (banks_in circuit x) → get_or (banks_in circuit x) q b ≡ b → StandTogether (own_in circuit x) (memory_signals b.name (Some b.bank))
   fields-together x q b lt is =
       let t = bank-together (types_of circuit) x.number (module_at circuit.modules x.number).statements q b lt is in
@@ -197,7 +197,7 @@ module _ (circuit : CircuitTree) (flat : FlatCircuit) (tree : InstanceTree) (top
       let size : length all ≡ length t.before + (length part + length t.after) = ap (λ (l : List Own). length l) t.is ∙ length-append t.before (part ++ t.after) ∙ ap (λ n. length t.before + n) (length-append part t.after) in
       (omega (arith, lt, size), ap (λ (l : List Own). get_or l (length t.before + i) e) t.is ∙ get_or-append-add t.before (part ++ t.after) i e ∙ front part t.after i e lt)
 
-  -- the fields of the memory at a place are these numbers
+  -- the fields of the memory at a place are the numbers of its own signals, found by their paths
   pub fields-are : (j : ℕ) → j < length tree.memories → (p : MemoryPlace circuit tree j) → memory_fields flat (memory_at tree j).memory ≡ map (number_behind (signal_paths circuit) p.site.path) (memory_signals p.own.name (Some p.own.bank))
   fields-are j lt p =
       ap (memory_fields flat) (number-is circuit flat tree top known_top is_flat is_tree distinct plain j lt p)
@@ -216,7 +216,7 @@ module _ (circuit : CircuitTree) (flat : FlatCircuit) (tree : InstanceTree) (top
       writers : writers_at flat j ≡ map (writer_of (signal_paths circuit) (joined p.site.path p.own.name)) p.own.bank.writers
       writers = get_or-map (λ (m : Memory). m.writers) flat.memories j memory [] there ∙ (memory-is circuit flat tree top known_top is_flat is_tree distinct plain j lt p memory).writers
 
-  -- they stand in a row among the site's signals
+  -- The fields of a memory stand one after another among the site's own signals.
   pub record FieldsInRow (j : ℕ) : Type 0 where
     pub place : MemoryPlace circuit tree j
     pub start : ℕ

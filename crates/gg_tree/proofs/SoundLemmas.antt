@@ -1,4 +1,5 @@
--- Where no name of a circuit comes twice and all are words, its modules' names are as the tree's laws want them.
+-- Where no name of a circuit comes twice and all are names as the language allows them, the names of its modules are as the lemmas
+-- on trees require.
 use Rattle.std.proofs.Common.{◌≡◌, ◌⊎◌, inl, inr, ℕ, zero, suc, ◌-◌, ◌<◌, ◌≤◌, List, [], ◌∷◌, ◌++◌, is_some, length, get_or, sym, ap, ◌∙◌, subst, arith, length-append}
 use Rattle.std.specs.Prelude.{flat_map, filter_map, Contains, All}
 use Rattle.std.proofs.lemmas.Bool.{cases_lt}

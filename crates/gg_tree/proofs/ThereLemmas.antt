@@ -1,4 +1,4 @@
--- The paths that an instance names are there: of what holds it, of its ports' signals and of its memories.
+-- The paths that an instance is made from are among the circuit's: what holds it, the signals of its ports, and its memories.
 use Rattle.std.proofs.Common.{◌≡◌, ◌⊎◌, inl, inr, ℕ, zero, suc, true, false, List, Option, Some, None, is_some, is_none, length, map, refl, sym, ap, ◌∙◌, subst, arith}
 use Rattle.std.specs.Prelude.{Contains, All, IfSome, flat_map, option_map}
 use Rattle.gg_bits.specs.Shape.{Shape, shape}
@@ -43,7 +43,7 @@ memory-there circuit x b c k =
     in-map (λ (y : FlatMemory). y.path) (memories_of circuit) (flat_memory x b)
     (in-flat_map (memories_at circuit.modules) (sites_of circuit) x (flat_memory x b) c (in-map (flat_memory x) (banks_in circuit x) b k))
 
--- the memories of a site, as they are kept
+-- the paths of a site's memories, as its digest keeps them, are among the circuit's
 pub memories-there : (circuit : CircuitTree) (place : Place) (digest : Digest) → IsDigest (types_of circuit) circuit.modules place.number digest → Contains (sites_of circuit) (site_of place) → (items : List OwnMemory) → items ≡ digest.memories.items → All (λ (own : OwnMemory). Contains (memory_paths (memories_of circuit)) (joined place.path own.name.now)) items
 memories-there circuit place digest d c items same i any lt =
     let e = element items i lt in
@@ -53,7 +53,7 @@ memories-there circuit place digest d c items same i any lt =
 
 -- ---- what holds an instance
 
--- A site is this one, or its holder's path is one of these.
+-- The site has a holder, and the holder's path is among the paths of these sites.
 pub record HolderAmong (all : List Site) (y : Site) : Type 0 where
   pub outer : Outer
   pub is : y.outer ≡ Some outer

@@ -1,9 +1,9 @@
--- What the tree is built of is the circuit's: its top is known, and its sites are those of the top's module.
+-- The sites from which the tree is built are the circuit's.
 use Rattle.std.proofs.Common.{◌≡◌, ◌≢◌, ℕ, List, Option, Some, None, sym, ap, ◌∙◌}
 use Rattle.gg_ast.specs.Tree.{ModuleTree}
 use Rattle.gg_count.specs.Sites.{Site, all_sites, sites_from}
 
--- the sites of the top's module are the circuit's
+-- all sites of a known top module are the sites of the circuit
 pub sites-of : (modules : List ModuleTree) (o : Option ℕ) (top : ℕ) (sites : List Site) → o ≡ Some top → sites ≡ all_sites modules top → sites ≡ sites_from modules o
 sites-of modules o top sites is same = same ∙ ap (λ (x : Option ℕ). sites_from modules x) (sym is)
 

@@ -41,14 +41,14 @@ pub record HasPlainNames (circuit : CircuitTree) : Type 0 where
   pub of_instances : (k : ℕ) (h : Held) → Contains (held_at circuit.modules k) h → ¬ Contains h.name 46
   pub of_memories : (x : Site) (b : OwnBank) → Contains (banks_in circuit x) b → ¬ Contains b.name 46
 
--- no signal of a module
+-- an own signal for where there is none
 abbrev pub no_own : Own
 no_own = own [] FromOutside (uint 1)
 
 abbrev pub no_port : InstancePort
 no_port = record { signal = 0; is_input = false }
 
--- one of a list that goes together with another
+-- each element of the second list has one of the first that is related to it
 pub Pairwise-other : {A B : Type 0} (R : A → B → Type 0) (xs : List A) (ys : List B) (i : ℕ) (b : B) → Pairwise R xs ys → i < length ys → (a : A) × R a (get_or ys i b)
 Pairwise-other R [] [] i b h lt = absurd (omega (arith, lt))
 Pairwise-other R [] (y ∷ ys) i b h lt = absurd h
@@ -78,7 +78,7 @@ module _ (circuit : CircuitTree) (flat : FlatCircuit) (tree : InstanceTree) (top
   pub instance-count : length tree.instances ≡ length (sites_of circuit)
   instance-count = tells.same
 
-  -- the signals are those of the circuit
+  -- the flat circuit has as many signals as the circuit's sites
   pub signal-count : length flat.signals ≡ length (flat_signals (types_of circuit) circuit.modules (sites_of circuit))
   signal-count =
       sym (length-map flat.signals (λ (s : Signal). shape s.ty))
@@ -88,7 +88,7 @@ module _ (circuit : CircuitTree) (flat : FlatCircuit) (tree : InstanceTree) (top
   all-counted : from_site (length (sites_of circuit)) ≡ length flat.signals
   all-counted = ap (λ (l : List Site). length (flat_map (signals_in circuit) l)) (take_all (length (sites_of circuit)) (sites_of circuit) (omega arith)) ∙ sym signal-count
 
-  -- the path at a place is its site's
+  -- the path at a site's place is the site's path
   pub path-is : (k : ℕ) (x : Site) → Stands k x → path_at tree.paths k ≡ x.path
   path-is k x p =
       ap (λ (l : List (List ℕ)). get_or l k []) is_tree.paths
@@ -107,7 +107,7 @@ module _ (circuit : CircuitTree) (flat : FlatCircuit) (tree : InstanceTree) (top
         ∙ all-counted;
   }
 
-  -- an instance that is among those of another has a parent that is that one or behind it
+  -- an instance below another is held by that one, or by one after it
   pub inner-parent : (k i : ℕ) (x : Site) → Stands k x → k < i → i < k + whole x → (above : ℕ) × (k ≤ above) × Under (length circuit.modules) circuit.modules (sites_of circuit) above i
   inner-parent k i x p after inside =
       let h = held_from (length circuit.modules) circuit.modules (sites_of circuit) (length circuit.modules - x.depth) k x refl p i after inside in
@@ -160,13 +160,13 @@ module _ (circuit : CircuitTree) (flat : FlatCircuit) (tree : InstanceTree) (top
             absurd (omega (arith, same, r.1, u.before))
         go (inr behind) = inl (omega (arith, tells.ends i (site_at i known_i) (stands_at i known_i), tells.begins j known_j, count-le (signals_in circuit) (sites_of circuit) (i + whole (site_at i known_i)) j behind))
 
-    -- a signal of the instance's own lies among its signals
+    -- what a site has of its own, its instance holds
     own-holds : (k : ℕ) (x : Site) → Stands k x → (s : ℕ) → from_site k ≤ s → s < from_site (suc k) → Holds (instance_at tree k) s
     own-holds k x p s from to =
         let some = within-some (length circuit.modules - x.depth) circuit.modules x in
         (omega (arith, from, tells.begins k (placed-known circuit k x p)), omega (arith, to, tells.ends k x p, count-le (signals_in circuit) (sites_of circuit) (suc k) (k + whole x) (omega (arith, some))))
 
-    -- the port at a place has the own signal at that place
+    -- the port at a place of an instance has the site's own signal at that place
     pub port-at : (k : ℕ) (x : Site) → Stands k x → (i : ℕ) (d : InstancePort) → i < length (instance_at tree k).ports → ((get_or (instance_at tree k).ports i d).signal ≡ from_site k + i) × (i < length (own_in circuit x))
     port-at k x p i d lt =
         let h = instance-for circuit tree top known_top is_tree distinct.of_sites k x p in
@@ -206,7 +206,7 @@ module _ (circuit : CircuitTree) (flat : FlatCircuit) (tree : InstanceTree) (top
         ends : (instance_at tree k).end ≡ from_site (k + whole x)
         ends = tells.ends k x p
 
-    -- a signal that an instance holds innermost is one of its site's own
+    -- A signal that is innermost in an instance is one of its site's own.
     pub record OwnPlace (k s : ℕ) : Type 0 where
       pub site : Site
       pub placed : Placed (length circuit.modules) circuit.modules (sites_of circuit) k site
@@ -226,7 +226,7 @@ module _ (circuit : CircuitTree) (flat : FlatCircuit) (tree : InstanceTree) (top
           counted = omega (arith, r.0);
         }
 
-    -- the path of a signal of a site's own
+    -- the path of an own signal is the site's path joined with its name
     pub signal-path : (k : ℕ) (x : Site) → Stands k x → (o : ℕ) (e : Own) → o < length (own_in circuit x) → path_at flat.paths (from_site k + o) ≡ joined x.path (get_or (own_in circuit x) o e).name
     signal-path k x p o e lt = ap (λ (l : List (List ℕ)). get_or l (from_site k + o) []) is_flat.paths ∙ own-path circuit k x p o [] e lt
 
@@ -246,7 +246,7 @@ module _ (circuit : CircuitTree) (flat : FlatCircuit) (tree : InstanceTree) (top
     some-memory : (j : ℕ) → j < length tree.memories → MemoryPlace circuit tree j
     some-memory j lt = memory-place circuit tree top known_top is_tree j lt
 
-    -- the path of the memory at a place
+    -- the path of a memory is its site's path joined with its name
     pub memory-path : (j : ℕ) → j < length tree.memories → (p : MemoryPlace circuit tree j) → path_at tree.memory_paths j ≡ joined p.site.path p.own.name
     memory-path j lt p =
         ap (λ (l : List (List ℕ)). get_or l j []) is_tree.memory_names
@@ -259,7 +259,7 @@ module _ (circuit : CircuitTree) (flat : FlatCircuit) (tree : InstanceTree) (top
     pub number-is : (j : ℕ) → j < length tree.memories → (p : MemoryPlace circuit tree j) → (memory_at tree j).memory ≡ j
     number-is j lt p = memory-number circuit tree top known_top is_tree distinct.of_sites distinct.of_memories j lt p
 
-    -- what the flat circuit has at a memory's place
+    -- the memory of the flat circuit at a memory's place is what the site's module declares
     pub memory-is : (j : ℕ) → j < length tree.memories → (p : MemoryPlace circuit tree j) → (any : Memory) → IsMemoryOf (signals_of (flat_signals (types_of circuit) circuit.modules (sites_of circuit))).paths (flat_memory p.site p.own) (get_or flat.memories j any)
     memory-is j lt p any =
         subst (λ said. IsMemoryOf (signals_of (flat_signals (types_of circuit) circuit.modules (sites_of circuit))).paths said (get_or flat.memories j any))
@@ -335,7 +335,7 @@ module _ (circuit : CircuitTree) (flat : FlatCircuit) (tree : InstanceTree) (top
             let here : port_count flat (memory_at tree j).memory ≡ port_count flat j = ap (port_count flat) number in
             omega (arith, names, sum, readers, writers, each, every, counted, here)
 
-    -- the memory at a place, whatever stands past the end
+    -- the memory at a place doesn't depend on the default
     memory-any : (j : ℕ) (d : MemoryInstance) → j < length tree.memories → slice_index_or tree.memories j d ≡ memory_at tree j
     memory-any j d lt = any tree.memories j d (record { instance = 0; memory = 0; ports = [] }) lt
       where
@@ -373,7 +373,7 @@ module _ (circuit : CircuitTree) (flat : FlatCircuit) (tree : InstanceTree) (top
         go (inl sooner) = absurd (omega (arith, q.below, p.counted, before, count-le (held_memories circuit.modules) (sites_of circuit) (suc q.holder) p.holder (omega (arith, sooner))))
         go (inr le) = omega (arith, one, other, le)
 
-    -- the tree of a circuit is one of its flat circuit
+    -- the tree of a circuit is a tree of the circuit's flat circuit
     pub tree-of : IsTree flat tree
     tree-of = record {
       top = top_of;

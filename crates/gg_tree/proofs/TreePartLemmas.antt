@@ -28,25 +28,25 @@ use Rattle.gg_tree.proofs.EndLemmas.{ends-at}
 use Rattle.gg_tree.proofs.OwnLemmas.{front}
 use Rattle.gg_tree.proofs.PairwiseLemmas.{Pairwise-push, Pairwise-append}
 
--- one element more
+-- the relation holds with the next element on each side
 pub Pairwise-next : {A B : Type 0} (R : A → B → Type 0) (all : List A) (i : ℕ) (a : A) (ys : List B) (y : B) → i < length all → a ≡ get_or all i a → Pairwise R (take i all) ys → R a y → Pairwise R (take (i + 1) all) (ys ++ y ∷ [])
 Pairwise-next R all i a ys y lt is h k =
     subst (λ l. Pairwise R l (ys ++ y ∷ [])) (ap (λ x. take i all ++ x ∷ []) is ∙ sym (take_more all i a lt)) (Pairwise-push R (take i all) a ys y h k)
 
--- one element more, if it passes
+-- the same with a filter on one side: the next element counts only if it passes
 pub Pairwise-filter : {A B : Type 0} (R : A → B → Type 0) (test : A → Bool) (all : List A) (i : ℕ) (a : A) (ys more : List B) → i < length all → a ≡ get_or all i a → Pairwise R (filter test (take i all)) ys → Pairwise R (filter test (a ∷ [])) more → Pairwise R (filter test (take (i + 1) all)) (ys ++ more)
 Pairwise-filter R test all i a ys more lt is h k =
     subst (λ l. Pairwise R l (ys ++ more)) (sym (filter-append test (take i all) (a ∷ [])) ∙ ap (filter test) (ap (λ x. take i all ++ x ∷ []) is ∙ sym (take_more all i a lt)))
     (Pairwise-append R (filter test (take i all)) (filter test (a ∷ [])) ys more h k)
 
--- the signals of one site more
+-- the signals of the sites up to the next one
 pub signals_to-more : (circuit : CircuitTree) (places : List Place) (i : ℕ) (p : Place) (digest : Digest) → i < length places → p ≡ get_or places i p → IsDigest (types_of circuit) circuit.modules p.number digest → signals_to circuit places (i + 1) ≡ signals_to circuit places i + length digest.signals.items
 signals_to-more circuit places i p digest lt is d =
     ap (λ l. length l) (signals-more (types_of circuit) circuit.modules places i p digest lt is d)
     ∙ length-append (flat_signals (types_of circuit) circuit.modules (map site_of (take i places))) (map (λ o. flat_signal circuit.modules (site_of p) (own_of o)) digest.signals.items)
     ∙ ap (λ n. signals_to circuit places i + n) (length-map digest.signals.items (λ o. flat_signal circuit.modules (site_of p) (own_of o)))
 
--- The first signals of the first sites are told.
+-- The list has the number of the first signal of each of the first i sites.
 pub record TellsFirsts (circuit : CircuitTree) (places : List Place) (i : ℕ) (firsts : List ℕ) : Type 0 where
   pub size : length firsts ≡ i
   pub each : (k : ℕ) → k < i → slice_index firsts k ≡ signals_to circuit places k
@@ -123,7 +123,7 @@ module _ (circuit : CircuitTree) (top : ℕ) (known_top : place_of circuit.name 
       ap (λ (l : List ℕ). get_or l i 0) (sym (map-twice (λ (s : Site). s.depth) site_of places) ∙ ap (map (λ (s : Site). s.depth)) sites)
       ∙ get_or-map (λ (s : Site). s.depth) (sites_of circuit) i d 0 lt
 
-  -- what is made is the instance of the site
+  -- the instance that is made is the instance of the site
   pub instance-is : (paths signals memories : List (List ℕ)) (digest : Digest) (place : Place) (i end first last : ℕ) (depths : List ℕ) (made : Instance) → i < length places → place ≡ get_or places i place → paths ≡ map (λ (p : Place). p.path) places → signals ≡ signal_paths circuit → memories ≡ memory_paths (memories_of circuit) → IsDigest (types_of circuit) circuit.modules place.number digest → first ≡ signals_to circuit places i → last ≡ signals_to circuit places end → depths ≡ map (λ (p : Place). p.depth) places → i < end → end ≤ length depths → ((j : ℕ) → i < j → j < end → slice_index depths i < slice_index depths j) → (end < length depths → slice_index depths end ≤ slice_index depths i) → IsInstanceAt paths signals memories digest (module_at circuit.modules place.number).ports place first last made → IsInstanceFor circuit (signals_to circuit places i) (site_of place) made
   instance-is paths signals memories digest place i end first last depths made lt is paths_are signals_are memories_are digest_is first_is last_is depths_are after inside deeper stop m = record {
     parent = holder-parent circuit paths place.outer made.parent (paths_are ∙ paths-same) m.holder;
@@ -161,7 +161,7 @@ memory-is-for circuit paths memories place own made p q h = record {
   ports = h.ports_are;
 }
 
--- the memories of one site more
+-- the memories of the sites up to the next one
 pub held-more : (circuit : CircuitTree) (places : List Place) (i : ℕ) (p : Place) (digest : Digest) → i < length places → p ≡ get_or places i p → IsDigest (types_of circuit) circuit.modules p.number digest → flat_map (held_memories circuit.modules) (map site_of (take i places)) ++ map (held_at_place p) digest.memories.items ≡ flat_map (held_memories circuit.modules) (map site_of (take (i + 1) places))
 held-more circuit places i p digest lt is d =
     ap (λ l. flat_map (held_memories circuit.modules) (map site_of (take i places)) ++ l) (sym (map-twice (held_memory (site_of p)) (λ m. flat_memory (site_of p) (own_bank_of m)) digest.memories.items) ∙ ap (map (held_memory (site_of p))) (sym (memories-kept (types_of circuit) circuit.modules p digest d)))
@@ -173,7 +173,7 @@ held-paths places i circuit p digest lt is d =
     ∙ sym (map-append (λ (m : FlatMemory). m.path) (flat_memories circuit.modules (map site_of (take i places))) (map (λ m. flat_memory (site_of p) (own_bank_of m)) digest.memories.items))
     ∙ ap memory_paths (sym (memories-more (types_of circuit) circuit.modules places i p digest lt is d))
 
--- the instances with one more site
+-- the instances of the sites up to the next one
 pub instances-next : (circuit : CircuitTree) (places : List Place) (i : ℕ) (p : Place) (ys new : List Instance) (made : Instance) → i < length places → p ≡ get_or places i p → AreInstances circuit 0 (map site_of (take i places)) ys → IsInstanceFor circuit (signals_to circuit places i) (site_of p) made → new ≡ ys ++ made ∷ [] → AreInstances circuit 0 (map site_of (take (i + 1) places)) new
 instances-next circuit places i p ys new made lt is h k e =
     let start : signals_to circuit places i ≡ 0 + signals_to circuit places i = omega arith in

@@ -32,26 +32,26 @@ use Rattle.gg_tree.proofs.TreeLemmas.{HasDistinctPaths, HasPlainNames, no_own, n
 use Rattle.gg_tree.proofs.FieldLemmas.{FieldPlace, FieldName, memory-field}
 use Rattle.gg_tree.proofs.ScopeOfTreeLemmas.{HasApartNames}
 
--- A name: it isn't empty, and has no dot.
+-- A name that isn't empty and has no dot.
 pub record IsPlain (name : List ℕ) : Type 0 where
   pub some : name ≢ []
   pub dotless : ¬ Contains name 46
 
--- the names of a reference are so
+-- all names of a reference are plain
 abbrev pub IsPlainReference : Reference → Type 0
 IsPlainReference (Local a) = IsPlain a
 IsPlainReference (PortOf a b) = IsPlain a × IsPlain b
 IsPlainReference (FieldOf a b c) = IsPlain a × IsPlain b × IsPlain c
 
--- What is said of the names that can be written in a module: `i.p` is a port of an instance, `m.r.f` no field of one; a signal with
--- the name of a port is that of a port; the ports of memories have names.
+-- What can be named in a module: where `i` is an instance, `i.p` is a port of it and `i.p.f` nothing; a signal with the name of a
+-- port is that port's; and the ports of memories have plain names.
 pub record HasKnownNames (circuit : CircuitTree) : Type 0 where
   pub of_bank_ports : (x : Site) (b : OwnBank) (p : List ℕ) → Contains (banks_in circuit x) b → Contains b.bank.readers p ⊎ Contains b.bank.writers p → IsPlain p
   pub of_child : (x : Site) (h : Held) (a b : List ℕ) → is_some (types_of circuit x.number (PortOf a b)) ≡ true → Contains (held_at circuit.modules x.number) h → h.name ≡ a → (p : Port) × Contains (module_at circuit.modules h.number).ports p × (p.name ≡ b)
   pub of_port : (x : Site) (p : Port) (o : ℕ) → Contains (module_at circuit.modules x.number).ports p → o < length (own_in circuit x) → ((d : Own) → (get_or (own_in circuit x) o d).name ≡ p.name) → o < length (signal_ports (module_at circuit.modules x.number))
   pub of_field : (x : Site) (h : Held) (a b c : List ℕ) → is_some (types_of circuit x.number (FieldOf a b c)) ≡ true → Contains (held_at circuit.modules x.number) h → h.name ≡ a → ⊥
 
--- a text whose bytes are no dots has none
+-- a list whose bytes aren't dots contains no dot
 pub without-dot : (w : List ℕ) → list_all (λ b. not (nat_eq b 46)) w ≡ true → ¬ Contains w 46
 without-dot [] h c = absurd (omega (arith, c.1))
 without-dot (b ∷ bs) h c = go (nat_eq b 46) refl h c (without-dot bs)
@@ -65,7 +65,7 @@ module _ (circuit : CircuitTree) (flat : FlatCircuit) (tree : InstanceTree) (top
   abbrev Stands : ℕ → Site → Type 0
   Stands k x = Placed (length circuit.modules) circuit.modules (sites_of circuit) k x
 
-  -- two sites of one path are the same
+  -- Two sites with the same path are the same.
   pub record Same (k : ℕ) (x : Site) (i : ℕ) (y : Site) : Type 0 where
     pub place : k ≡ i
     pub site : x ≡ y
@@ -75,7 +75,7 @@ module _ (circuit : CircuitTree) (flat : FlatCircuit) (tree : InstanceTree) (top
       let place : k ≡ i = some-same k i (sym (path-place circuit tree top known_top is_tree distinct.of_sites k x p) ∙ ap (λ path. place_of path (site_paths circuit)) e ∙ path-place circuit tree top known_top is_tree distinct.of_sites i y q) in
       record { place = place; site = placed-same (length circuit.modules) circuit.modules (sites_of circuit) i x y (subst (λ n. Stands n x) place p) q }
 
-  -- a site whose path has a name at its end is held by the site of the path before it
+  -- A site whose path ends in a name is held by the site of the path before the name.
   pub record HeldBy (k : ℕ) (path name : List ℕ) : Type 0 where
     pub above : ℕ
     pub under : Under (length circuit.modules) circuit.modules (sites_of circuit) above k
@@ -93,7 +93,7 @@ module _ (circuit : CircuitTree) (flat : FlatCircuit) (tree : InstanceTree) (top
       let once = joined-once u.outer.path path u.held.name name (plain.of_instances u.outer.number u.held u.among) named.dotless (ap (λ (y : Site). y.path) here ∙ e) in
       record { above = h.above; under = u; path_is = once.0; name_is = once.1 }
 
-  -- A signal by the site that has it.
+  -- A signal, and the site that has it as its own.
   pub record Owned (t : ℕ) : Type 0 where
     pub place : ℕ
     pub site : Site
@@ -117,13 +117,13 @@ module _ (circuit : CircuitTree) (flat : FlatCircuit) (tree : InstanceTree) (top
         inner = own-innermost (length circuit.modules) circuit.modules (signals_in circuit) (sites_of circuit) tree (ranges circuit tree top known_top is_tree distinct.of_sites) o.place t o.known o.from o.to;
       }
 
-  -- what is innermost in the instance of a site of this path is visible there
+  -- an own signal of the site with this path is visible there
   at-path : (k : ℕ) (x : Site) → Stands k x → (t : ℕ) → (o : Owned t) → o.site.path ≡ x.path → IsVisible tree k t
   at-path k x p t o e =
       let same = same-path o.place o.site k x o.stands p e in
       inl (subst (λ i. IsInnermost tree i t) same.place o.inner)
 
-  -- no instance stands where a memory does
+  -- no instance has the path of a memory
   not-memory : (k : ℕ) (x : Site) → Stands k x → (i : ℕ) (y : Site) → Stands i y → (b : OwnBank) → Contains (banks_in circuit y) b → x.path ≡ joined y.path b.name → ⊥
   not-memory k x p i y q b listed e =
       let named : IsPlain b.name = record { some = names.some_name y b listed; dotless = plain.of_memories y b listed } in
@@ -131,7 +131,7 @@ module _ (circuit : CircuitTree) (flat : FlatCircuit) (tree : InstanceTree) (top
       let same = same-path h.above h.under.outer i y h.under.at_outer q h.path_is in
       names.apart y h.under.held b (subst (λ (z : Site). Contains (held_at circuit.modules z.number) h.under.held) same.site h.under.among) listed h.name_is
 
-  -- a port of an instance that the site holds
+  -- a port of an instance that the site holds is visible there
   childs-port : (k : ℕ) (x : Site) → Stands k x → (a b : List ℕ) → IsPlain a → is_some (types_of circuit x.number (PortOf a b)) ≡ true → (t : ℕ) → (o : Owned t) → o.site.path ≡ joined x.path a → ((d : Own) → (get_or (own_in circuit o.site) o.offset d).name ≡ b) → IsVisible tree k t
   childs-port k x p a b named typed t o e is = inr (record {
     child = o.place;
@@ -177,7 +177,7 @@ module _ (circuit : CircuitTree) (flat : FlatCircuit) (tree : InstanceTree) (top
       port : ((get_or (instance_at tree o.place).ports o.offset no_port).signal ≡ count_to (signals_in circuit) (sites_of circuit) o.place + o.offset) × (o.offset < length (own_in circuit o.site))
       port = port-at circuit flat tree top known_top is_flat is_tree distinct plain o.place o.site o.stands o.offset no_port listed
 
-  -- a signal whose name has no dot
+  -- a reference to an own signal whose name has no dot: the signal is visible
   plain-visible : (k : ℕ) (x : Site) → Stands k x → (r : Reference) → IsPlainReference r → is_some (types_of circuit x.number r) ≡ true → (t : ℕ) → (o : Owned t) → ((d : Own) → ¬ Contains (get_or (own_in circuit o.site) o.offset d).name 46) → joined o.site.path (get_or (own_in circuit o.site) o.offset no_own).name ≡ joined x.path (written r) → IsVisible tree k t
   plain-visible k x p (Local a) named typed t o dotless e =
       at-path k x p t o (joined-once o.site.path x.path (get_or (own_in circuit o.site) o.offset no_own).name a (dotless no_own) named.dotless e).0
@@ -197,7 +197,7 @@ module _ (circuit : CircuitTree) (flat : FlatCircuit) (tree : InstanceTree) (top
       let same = same-path g.above g.under.outer k x g.under.at_outer p g.path_is in
       absurd (known.of_field x g.under.held a b c typed (subst (λ (z : Site). Contains (held_at circuit.modules z.number) g.under.held) same.site g.under.among) g.name_is)
 
-  -- a field of a memory
+  -- a reference to a field of a memory: the field is visible
   field-visible : (k : ℕ) (x : Site) → Stands k x → (r : Reference) → IsPlainReference r → (t : ℕ) → (o : Owned t) → (b : OwnBank) → Contains (banks_in circuit o.site) b → (f : FieldName b.name b.bank (get_or (own_in circuit o.site) o.offset no_own).name) → joined o.site.path (get_or (own_in circuit o.site) o.offset no_own).name ≡ joined x.path (written r) → IsVisible tree k t
   field-visible k x p r named t o b listed f e = go r named e
     where
@@ -229,7 +229,7 @@ module _ (circuit : CircuitTree) (flat : FlatCircuit) (tree : InstanceTree) (top
           let thrice = joined-once x.path o.site.path a b.name named.0.dotless (plain.of_memories o.site b listed) twice.0 in
           at-path k x p t o (sym thrice.0)
 
-  -- what a reference names where it is written
+  -- what a reference names is visible where the reference is written
   pub visible : (k : ℕ) (x : Site) → Stands k x → (r : Reference) → IsPlainReference r → is_some (types_of circuit x.number r) ≡ true → (t : ℕ) → place_of (joined x.path (written r)) (signal_paths circuit) ≡ Some t → IsVisible tree k t
   visible k x p r named typed t at = go (names.of_own o.site o.offset o.inside)
     where

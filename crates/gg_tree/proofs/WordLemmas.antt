@@ -1,5 +1,5 @@
--- The names of a circuit are words without dots: of its ports and instances, of its memories and their ports, and of its signals but
--- the fields of memories.
+-- The names of ports and instances, of memories and their ports, and of all own signals but the fields of memories, are names as
+-- the language allows them (IsName), without dots.
 use Rattle.std.proofs.Common.{◌≡◌, ◌⊎◌, inl, inr, ℕ, zero, suc, ◌-◌, ◌<◌, ◌≤◌, Bool, true, false, List, [], ◌∷◌, ◌++◌, Option, Some, None, length, get_or, refl, sym, ap, subst, arith, length-append, if◌then◌else◌, nat_lt}
 use Rattle.std.specs.Prelude.{flat_map, Contains, All, option_map, option_to_list, option_and_then, unwrap_or}
 use Rattle.std.specs.List.{cons_option}
@@ -30,7 +30,7 @@ use Rattle.gg_tree.proofs.DeclaredLemmas.{made-by}
 use Rattle.gg_tree.proofs.FieldLemmas.{FieldPlace}
 use Rattle.gg_tree.proofs.OwnLemmas.{front}
 
--- the ports of the module at a place
+-- the ports of the module at a place have such names
 pub ports-named : (modules : List ModuleTree) (n : ℕ) → All AreNamesOfModule modules → All IsPortNamed (get_or modules n (empty_module 0 [])).ports
 ports-named [] n h = λ i d lt. absurd (omega (arith, lt))
 ports-named (m ∷ ms) zero h = (h 0 m (omega arith)).of_ports
@@ -52,7 +52,7 @@ held-name modules says.Skip h e n = absurd (cc)
 held-name modules (says.Stop clock condition code label) h e n = absurd (cc)
 held-name modules (says.Report word arguments label) h e n = absurd (cc)
 
--- the name of an instance
+-- an instance has such a name
 pub held-word : (modules : List ModuleTree) (ss : List Stmt) (h : Held) → All AreNamesOfStatement ss → Contains (held_by modules ss) h → IsName h.name
 held-word modules ss h n c =
     let m = made-by (held_by_kind modules) ss h c in
@@ -98,7 +98,7 @@ abbrev none_bank : Option Bank → Bank → Bank
 none_bank None b = b
 none_bank (Some x) b = x
 
--- a memory has the ports that its fields say
+-- a memory has the readers and writers that its fields say
 pub bank-ports : (word : Option Shape) (depth : ℕ) (latency : Option Latency) (readers writers : List (List ℕ)) (bank : Bank) → bank_with word depth latency readers writers ≡ Some bank → (bank.readers ≡ readers) × (bank.writers ≡ writers)
 bank-ports None depth latency readers writers bank e = absurd (cc)
 bank-ports (Some word) depth None readers writers bank e = absurd (cc)
@@ -108,7 +108,7 @@ bank-ports (Some word) depth (Some latency) readers writers bank e = go (nat_lt 
     go true e = (ap (λ (x : Bank). x.readers) (sym (ap (λ o. none_bank o bank) e)), ap (λ (x : Bank). x.writers) (sym (ap (λ o. none_bank o bank) e)))
     go false e = absurd (cc)
 
--- the name of a memory, and the names of its ports
+-- A memory and its ports have such names.
 pub record BankWords (b : OwnBank) : Type 0 where
   pub name : IsName b.name
   pub readers : (p : List ℕ) → Contains b.bank.readers p → IsName p
@@ -143,12 +143,12 @@ bank-word ss b n c =
 
 -- ---- the signals of statements
 
--- A signal has the name of a statement, which has no dot.
+-- The signal has the name that the statement declares, without a dot.
 pub record IsDeclared (kind : StmtKind) (o : Own) : Type 0 where
   pub by : name_by_kind kind ≡ o.name ∷ []
   pub dotless : ¬ Contains o.name 46
 
--- A signal is a field of a statement's memory.
+-- The signal is a field of the memory that the statement declares.
 pub record IsFieldBy (kind : StmtKind) (o : Own) : Type 0 where
   pub bank : OwnBank
   pub by : bank_of_kind kind ≡ Some bank
@@ -175,7 +175,7 @@ kind-own types k says.Skip i d lt n = absurd (omega (arith, lt))
 kind-own types k (says.Stop clock condition code label) i d lt n = absurd (omega (arith, lt))
 kind-own types k (says.Report word arguments label) i d lt n = absurd (omega (arith, lt))
 
--- A signal of statements has the name of one of them, without a dot.
+-- The signal has a name that one of the statements declares, without a dot.
 pub record DeclaredIn (ss : List Stmt) (o : Own) : Type 0 where
   pub among : Contains (flat_map name_by ss) o.name
   pub dotless : ¬ Contains o.name 46
@@ -187,7 +187,7 @@ later-bank : (o : Option OwnBank) (ss : List Stmt) (q : ℕ) (b : OwnBank) → q
 later-bank None ss q b lt is = (q, lt, is)
 later-bank (Some x) ss q b lt is = (suc q, omega (arith, lt), is)
 
--- each signal of statements has the name of one, or is a field of a memory of one
+-- each own signal of statements has the name of one of them, or is a field of the memory of one
 pub statement-own : (types : Types) (k : ℕ) (ss : List Stmt) (i : ℕ) (d : Own) → All AreNamesOfStatement ss → i < length (flat_map (λ (s : Stmt). own_of_kind types k s.kind) ss) → DeclaredIn ss (get_or (flat_map (λ (s : Stmt). own_of_kind types k s.kind) ss) i d) ⊎ FieldPlace ss (get_or (flat_map (λ (s : Stmt). own_of_kind types k s.kind) ss) i d)
 statement-own types k [] i d n lt = absurd (omega (arith, lt))
 statement-own types k (s ∷ ss) i d n lt = go (cases_lt i (length (own_of_kind types k s.kind))) (statement-own types k ss (i - length (own_of_kind types k s.kind)) d (λ j e inside. n (suc j) e (omega (arith, inside))))

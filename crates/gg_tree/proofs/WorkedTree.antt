@@ -1,4 +1,4 @@
--- The tree of the circuit in WorkedText, and what is none.
+-- The tree of the circuit in WorkedText, and two that aren't its tree.
 use Rattle.std.proofs.Common.{◌≡◌, ℕ, List, [], ◌∷◌, Some, None, false, true, codes, refl, arith}
 use Rattle.gg_flat.specs.declared.tree.Instance.{Instance}
 use Rattle.gg_flat.specs.Tree.{InstanceTree}
@@ -10,7 +10,7 @@ abbrev top : Instance
 top =
     record { parent = None; «module» = 1; first = 0; end = 24; ports = record { signal = 0; is_input = false } ∷ []; memories = 0 ∷ [] }
 
--- an instance of the child from signal `first` on, with this memory
+-- an instance of the child: its first two signals, where its signals end, its parent and its memory
 abbrev child_at : ℕ → ℕ → ℕ → ℕ → ℕ → Instance
 child_at first second end parent memory =
     record {
@@ -40,7 +40,7 @@ tree = with_instances (top ∷ child_at 4 5 14 0 1 ∷ child_at 14 15 24 0 2 ∷
 
 -- ---- rows
 
--- it is the tree of the circuit
+-- this is the tree of the circuit
 right : IsTreeOf circuit tree
 unfolding types_of
 right = record {
@@ -86,12 +86,12 @@ right = record {
   );
 }
 
--- where an instance lies in its sister, it is none
+-- it isn't, where the second child lies in the first
 in_sister : IsTreeOf circuit (with_instances (top ∷ child_at 4 5 14 0 1 ∷ child_at 14 15 24 1 2 ∷ [])) → ⊥
 unfolding types_of
 in_sister h = let parent = h.instances.1.1.0.parent.is in cc
 
--- nor where the top has only its own signals
+-- nor where the range of the top has only the top's own signals
 only_own : IsTreeOf circuit (with_instances ((record top { end = 4 }) ∷ child_at 4 5 14 0 1 ∷ child_at 14 15 24 0 2 ∷ [])) → ⊥
 unfolding types_of
 only_own h = let end : 4 ≡ 24 = h.instances.0.ends in omega (arith, end)

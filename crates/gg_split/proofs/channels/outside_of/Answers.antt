@@ -2,7 +2,7 @@ use Rattle.std.proofs.Common.{length}
 use Rattle.gg_split.proofs.NumberedLemmas.{some-parent-known, parent-read}
 use Rattle.gg_split.proofs.channels.outside_of.Goals as goal
 
--- src/channels.rt:110:25
+-- the place of the instance's parent is within the table of owners
 pub bounds-owners-parent : goal.bounds-owners-parent
 bounds-owners-parent c =
     some-parent-known c.args.piece.now c.args.tree.now c.args.place c.in-Some.parent (length c.args.owners.now) c.requires.fitting c.requires.known c.requires.count
