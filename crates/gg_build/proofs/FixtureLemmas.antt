@@ -1,4 +1,4 @@
--- The tests' circuit has the top alone, and can run for no cycles.
+-- The circuit of the tests has only the top, and can run for 0 cycles.
 use Rattle.std.proofs.Common.{◌≡◌, ◌≢◌, ℕ, zero, suc, ◌<◌, List, [], ◌∷◌, length, get_or, None, refl, sym, ap, subst, ◌∙◌, arith, lit≤}
 use Rattle.std.specs.Prelude.{Contains, AllPairs, true, false, slice_index_or}
 use Rattle.std.proofs.lemmas.List.{get_or_default}
@@ -58,7 +58,7 @@ IsLone-fixture circuit f formed = record {
       s (omega (arith, f.count, lt));
 }
 
--- one column of no values is what one in-signal can get for no cycles
+-- one column without values is right for one in-signal and 0 cycles
 one-column : (circuit : FlatCircuit) (columns : List (List ℕ)) → length circuit.ins ≡ 1 → IsOneColumn columns 0 → IsColumns circuit 0 columns
 one-column circuit columns ins one =
     record {

@@ -81,7 +81,7 @@ module _ (plan : Plan) (columns : List (List ℕ)) (n : ℕ) (hosts : List Node)
         each = λ m lt. subst (IsBuilt columns n (machine_in plan m) (machine_in plan m).body) (sym (machine-is m no_station lt)) (seat-at m no_station lt).host.is;
       }
 
-  -- ---- of a design, a request and a run
+  -- ---- for a design, a request and a run
 
   module _ (design : Ordered) (request : Request) (default : ℕ) (rows : List (List ℕ)) (given : IsGiven design request default plan columns n rows) where
     is-listed : (m : ℕ) (s : Station) → m < length plan.machines → IsListed (wires_of_plan plan) m (kind_at (map kind_of (machines_by lists_of stations)) m) (get_or stations m s)

@@ -58,7 +58,7 @@ noted-all channels old new was =
 
 -- ---- one list after another
 
--- What the lists of the first m machines have has its place.
+-- Each channel in the lists of the first m machines has its place.
 pub record ArePlacedTo (lists : List (List ℕ)) (count m : ℕ) (places : List ℕ) : Type 0 where
   pub total : length places ≡ count
   pub each : (k c : ℕ) → k < m → k < length lists → Contains (channels_at lists k) c → IsPlace lists c (value_at places c)
@@ -82,6 +82,6 @@ pub placed-all : (lists : List (List ℕ)) (count : ℕ) (places : List ℕ) →
 placed-all lists count places are was =
     record { total = was.total; each = λ c lt. let at = are.listed c lt in was.each at.0 c at.1 at.1 at.2 }
 
--- a list of these, by its number
+-- the list of an item, by the item's number
 pub listed-at : {A : Type 0} (f : A → List ℕ) (items : List A) (m : ℕ) (item : A) (list : List ℕ) → m < length items → item ≡ get_or items m item → list ≡ f item → channels_at (map f items) m ≡ list
 listed-at f items m item list lt is same = get_or-map f items m item [] lt ∙ ap f (sym is) ∙ sym same

@@ -35,7 +35,7 @@ module _ (design : Ordered) (request : Request) (default : ℕ) (plan : Plan) (c
   all-can-build : AllCanBuild plan columns
   all-can-build m lt = can-build m lt (machine_in plan m).body refl
 
--- ---- of a plan that is to run
+-- ---- the machines of a plan that is to run
 
 module _ (plan : Plan) (columns : List (List ℕ)) (n : ℕ) (values : List (List ℕ)) (runs : List (List (List ℕ))) (is : IsToRun plan columns n values runs) where
   pub all-ready : AllCanBuild plan columns

@@ -116,7 +116,7 @@ module _ (plan : Plan) (links : List Link) (are : AreLinks plan links) where
       ext_get_or (record { producer = 0; out = 0; consumer = 0; place = 0; capacity = 0 }) wires (wires_of_plan plan) (at.total ∙ sym (length-from plan 0 plan.channels))
       (λ c lt. wire-is outs ins wires placed_outs placed_ins at c (omega (arith, lt, at.total)))
 
--- ---- of a request without a fault
+-- ---- the links of a request without a fault
 
 pub links-in : (plan : Plan) (is : IsFaultless plan) → AreLinks plan (wires_of is.design.circuit is.design.tree (listed_of is.design.tree is.request))
 links-in plan is = links-of is.design is.request is.default plan is.design_is is.faultless is.planned

@@ -1,4 +1,4 @@
--- The tokens of a unit, and what it becomes in a cycle.
+-- The tokens of a unit, and its state and slots in a cycle.
 use Rattle.std.proofs.Common.{◌≡◌, ◌↔◌, ◌⊎◌, ℕ, zero, suc, ◌<◌, List, [], ◌∷◌, Option, None, Some, Bool, true, false, true≢false, nat_eq, length, replicate, refl, sym, ap, subst, ◌∙◌, inl, inr, arith}
 use Rattle.std.specs.Prelude.{All, Contains, IsSome, slice_index_or, slice_set}
 use Rattle.std.proofs.lemmas.Bool.Decides.{Decides-eqb}
@@ -28,13 +28,13 @@ there : (latch : Option ℕ) (i : ℕ) (rest : Option ℕ) → empty_or latch i 
 there None i rest is = absurd (none-is-no-some i is)
 there (Some v) i rest is = (refl, is)
 
--- where none of these ins is empty, each has its token
+-- if none of these ins is empty, each has its token
 pub has-token : (latches : List (Option ℕ)) (ins : List ℕ) → first_empty latches ins ≡ None → (k d : ℕ) → k < length ins → latch_at latches (slice_index_or ins k d) ≡ Some (latched_value (latch_at latches (slice_index_or ins k d)))
 has-token latches [] none k d below = absurd (omega arith)
 has-token latches (i ∷ ins) none zero d below = (there (latch_at latches i) i (first_empty latches ins) none).0
 has-token latches (i ∷ ins) none (suc k) d below = has-token latches ins (there (latch_at latches i) i (first_empty latches ins) none).1 k d (omega arith)
 
--- a new token
+-- if a token is put into a latch, and the same value into the input, the latches still have the inputs' tokens
 pub tokens-latched : (latches : List (Option ℕ)) (inputs : List ℕ) (place token : ℕ) → length latches ≡ length inputs → place < length latches → HaveTokens latches inputs → HaveTokens (slice_set latches place (Some token)) (slice_set inputs place token)
 tokens-latched [] inputs place token same below have = absurd (omega arith)
 tokens-latched (latch ∷ latches) [] place token same below have = absurd (omega arith)
@@ -49,7 +49,7 @@ tokens-latched (latch ∷ latches) (input ∷ inputs) (suc place) token same bel
     at rest zero value is = have zero value is
     at rest (suc i) value is = rest i value is
 
--- where all latches have their tokens these are the inputs
+-- if all latches have tokens, their values are the inputs
 pub all-inputs : (latches : List (Option ℕ)) (inputs : List ℕ) → length latches ≡ length inputs → All (λ latch. IsSome latch) latches → HaveTokens latches inputs → latched_values latches ≡ inputs
 all-inputs [] [] same all have = refl
 all-inputs [] (input ∷ inputs) same all have = absurd (omega arith)
@@ -62,13 +62,13 @@ all-inputs (latch ∷ latches) (input ∷ inputs) same all have = by latch (all 
 
 -- ---- tokens
 
--- an in-signal has its input
+-- the value of an in-signal is its input
 in-value : (piece : FlatCircuit) (state : State) (inputs signals : List ℕ) (place : ℕ) → IsWellFormed piece → Settled piece state inputs signals → place < length piece.ins → value_at signals (value_at piece.ins place) ≡ value_at inputs place
 in-value piece state inputs signals place formed settled below =
     let s = value_at piece.ins place in
     settled.driven s (formed.ins place below).0 ∙ ap (driver_value state inputs signals (shape_at (signal_shapes piece) s)) (formed.ins place below).1
 
--- the value of the out-signal's cone is its token
+-- the value that is worked out for an out-signal is its out's token
 pub token-is : (program : Programmed) (cycle : ℕ) (state : State) (latches : List (Option ℕ)) (flags : List Bool) (held : List ℕ) (out value : ℕ) → IsWellFormed program.circuit → AreNeedsOfOuts program.circuit program.needs → out < length program.circuit.outs → HaveTokens latches held
     → first_empty latches (needs_at program.needs out) ≡ None → IsConeValue program.circuit state held (value_at program.circuit.outs out) value → IsTokenOf (RunsPiece program.circuit) (unit_machine program cycle state latches flags) out value
 token-is program cycle state latches flags held out value formed needs below have none cone inputs signals settled agrees =
@@ -88,11 +88,11 @@ next-is program cycle state next latches flags held row once same all have is si
 
 -- ---- what a unit holds
 
--- an empty latch holds nothing
+-- an empty latch holds no token
 none-some : (latch : Option ℕ) → latch ≡ None → ¬ IsSome latch
 none-some latch is some = true≢false (sym (subst (λ (l : Option ℕ). IsSome l) is some))
 
--- a new token in one latch
+-- the latches that hold a token after one was put into one of them
 latched-at : (latches : List (Option ℕ)) (place token i : ℕ) → place < length latches → IsSome (latch_at (slice_set latches place (Some token)) i) ↔ (IsSome (latch_at latches i) ⊎ (place ≡ i))
 latched-at latches place token i below = (to, from)
   where
@@ -114,7 +114,7 @@ latched-at latches place token i below = (to, from)
         by true e = itself i (sym ((Decides-eqb i place).0 e))
         by false e = subst (λ (l : Option ℕ). IsSome l) (sym (get_or-set_other latches place i (Some token) None (λ same. true≢false (sym ((Decides-eqb i place).1 same) ∙ e)))) some
 
--- after a token was put into the latch of an in
+-- what a unit holds after a token was put into the latch of an in
 pub kept-latched : (piece : FlatCircuit) (state : State) (slots after : Slotted) (latches : List (Option ℕ)) (flags : List Bool) (place token : ℕ) → IsWellFormed piece → IsOfPiece piece state slots latches flags → place < length latches
     → after ≡ with_input piece slots place token → InCycle piece state after → inputs_in piece after.values ≡ slice_set (inputs_in piece slots.values) place token → IsOfPiece piece state after (slice_set latches place (Some token)) flags
 kept-latched piece state slots after latches flags place token formed kept below put cycle inputs =
@@ -147,7 +147,7 @@ kept-latched piece state slots after latches flags place token formed kept below
       | inr same ↦ subst (λ (x : ℕ). HasInput piece (with_input piece slots place token) x) same (get_or-set_same slots.done (value_at piece.ins place) true false marked)
     ])
 
--- the needed inputs were put
+-- if none of the ins that an out needs is empty, the needed inputs were put
 pub needed-put : (program : Programmed) (state : State) (slots : Slotted) (latches : List (Option ℕ)) (flags : List Bool) (out : ℕ) → AreNeedsOfOuts program.circuit program.needs → out < length program.circuit.outs → IsOfPiece program.circuit state slots latches flags
     → first_empty latches (needs_at program.needs out) ≡ None → HasNeeded program.circuit slots (value_at program.circuit.outs out)
 needed-put program state slots latches flags out needs below kept none place within reaches =
@@ -155,7 +155,7 @@ needed-put program state slots latches flags out needs below kept none place wit
     let token : latch_at latches place ≡ Some (latched_value (latch_at latches place)) = subst (λ i. latch_at latches i ≡ Some (latched_value (latch_at latches i))) has.2 (has-token latches (needs_at program.needs out) none has.0 place has.1) in
     (kept.put place within).1 (subst (λ (l : Option ℕ). IsSome l) (sym token) refl)
 
--- after what an out-signal reaches was worked out
+-- what a unit holds after the signals that an out-signal reaches were worked out
 pub kept-read : (piece : FlatCircuit) (state : State) (slots after : Slotted) (latches : List (Option ℕ)) (flags : List Bool) (out : ℕ) → IsOfPiece piece state slots latches flags → HasNeeded piece slots out → DoneWith piece out slots after → InCycle piece state after → inputs_in piece after.values ≡ inputs_in piece slots.values → IsOfPiece piece state after latches flags
 kept-read piece state slots after latches flags out kept needed done cycle same =
     record {
@@ -170,7 +170,7 @@ kept-read piece state slots after latches flags out kept needed done cycle same 
       tokens = subst (HaveTokens latches) (sym same) kept.tokens;
     }
 
--- where nothing is done and all latches are empty
+-- what a unit holds when nothing is done and all latches are empty
 pub kept-empty : (piece : FlatCircuit) (state : State) (slots : Slotted) (n : ℕ) (flags : List Bool) → IsState piece state → InCycle piece state slots → NoneDone slots → n ≡ length piece.ins → length flags ≡ length piece.outs → IsOfPiece piece state slots (replicate n None) flags
 kept-empty piece state slots n flags typed cycle none count outs =
     record {

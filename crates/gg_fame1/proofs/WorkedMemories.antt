@@ -1,4 +1,4 @@
--- Units with a memory inside, of each read latency and each read under a write, driven by hand over five cycles.
+-- Units with a memory inside, for each read latency and each read-under-write behaviour, driven by hand over five cycles.
 use Rattle.std.proofs.Common.{◌≡◌, ℕ, zero, suc, List, [], ◌∷◌, Some, None, false, length, map, refl}
 use Rattle.gg_flat.specs.declared.memory.UnderWrite.{UnderWrite}
 use Rattle.gg_flat.specs.declared.memory.UnderWrite.TheVariants.{Old, New, Undefined}
@@ -70,7 +70,7 @@ late-undefined = refl
 late-end : after (late_program New) late_order late_inputs 5 ≡ unit_machine (late_program New) 5 (holds (0 ∷ 68 ∷ 0 ∷ []) (0 ∷ [])) (None ∷ None ∷ None ∷ []) (false ∷ [])
 late-end = refl
 
--- ---- readers of latency 0: an out needs what the address and the enable of its reader do
+-- ---- readers of latency 0: an out needs the ins that the address and the enable of its reader need
 
 abbrev ports_program : Programmed
 ports_program = record { circuit = ports; needs = (0 ∷ []) ∷ (0 ∷ 1 ∷ []) ∷ [] }

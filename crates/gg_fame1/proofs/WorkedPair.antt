@@ -24,7 +24,7 @@ a latches flags = unit_machine program 0 no_state latches flags
 opens : opening_unit program ≡ a (None ∷ None ∷ []) (false ∷ false ∷ [])
 opens = refl
 
--- ---- nothing may be fired before `x` is there, and then `p` alone
+-- ---- nothing may be given before `x` is there, and then only `p`
 
 p-wants-x : missing (a (None ∷ None ∷ []) (false ∷ false ∷ [])) 0 ≡ Some 0
 p-wants-x = refl
@@ -50,11 +50,11 @@ q-not-with-k may = let is : ◌≡◌ {A = Option ℕ} (Some 0) None = may.neede
 q-with-both : MayFire (a (Some 5 ∷ Some 3 ∷ []) (true ∷ false ∷ [])) 1
 q-with-both = record { there = lit< tt; clear = refl; needed = refl; known = tt }
 
--- no out is fired twice in a cycle
+-- no out gives two tokens in a cycle
 p-not-twice : MayFire (a (Some 5 ∷ None ∷ []) (true ∷ false ∷ [])) 0 → ⊥
 p-not-twice may = let is : true ≡ false = may.clear in cc
 
--- ---- the tokens: that of `p` is 5 whatever `k` will be, that of `q` is `xor(5, 3)`
+-- ---- the tokens: the token of `p` is 5 whatever `k` will be, the token of `q` is `xor(5, 3)`
 
 in-has : (needs : List ℕ) (latches : List (Option ℕ)) (inputs signals : List ℕ) (i value : ℕ) → i < 2 → Contains needs i → Settled unit no_state inputs signals → AgreesOn needs latches inputs → latch_at latches i ≡ Some value → value_at signals i ≡ value
 in-has needs latches inputs signals i value below has is agrees holds =
@@ -69,7 +69,7 @@ token-q inputs signals is agrees =
     ∙ ap (λ x. driver_value no_state inputs (x ∷ value_at signals 1 ∷ []) (uint 8) (driver_at unit 3)) (in-has (0 ∷ 1 ∷ []) (Some 5 ∷ Some 3 ∷ []) inputs signals 0 5 (lit< tt) (0, lit< tt, refl) is agrees refl)
     ∙ ap (λ k. driver_value no_state inputs (5 ∷ k ∷ []) (uint 8) (driver_at unit 3)) (in-has (0 ∷ 1 ∷ []) (Some 5 ∷ Some 3 ∷ []) inputs signals 1 3 (lit< tt) (1, lit< tt, refl) is agrees refl)
 
--- a row of this cycle, to tell that no other value is the token of `p`
+-- a row of this cycle, to show that no other value is the token of `p`
 row : Settled unit no_state (5 ∷ 0 ∷ []) (5 ∷ 0 ∷ 5 ∷ 5 ∷ [])
 row =
     record {

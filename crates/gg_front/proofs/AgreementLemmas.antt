@@ -1,4 +1,4 @@
--- Two faults of one text are alike.
+-- Any two faults that one text may be refused with agree.
 use Rattle.std.proofs.Common.{◌≡◌, ◌≢◌, ℕ, List, Option, None, Some, refl, sym, ◌∙◌, subst, inl, inr}
 use Rattle.std.specs.Str.{IsUtf8}
 use Rattle.gg_ast.specs.Tree.{CircuitTree}
@@ -20,13 +20,13 @@ use Rattle.gg_front.specs.declared.fault.FrontFault.{FrontFault}
 use Rattle.gg_front.specs.declared.fault.FrontFault.TheVariants as front
 use Rattle.gg_front.proofs.FaultLemmas.{OneCircuit, none-first, shaped-told, within-over, read-told}
 
--- a text has one fault line at most
+-- a text has at most one fault line
 abbrev pub OneFaultLine : Type 0
 OneFaultLine = (text : List ℕ) (n m : ℕ) (line other : LineTokens) → IsFaultLine text n line → IsFaultLine text m other → (n ≡ m) × (line ≡ other)
 
 -- ---- faults of reading
 
--- what is told of a line at fault, by its tokens
+-- the fault of a fault line, by the line's tokens
 data TellsLine (n : ℕ) (line : LineTokens) (fault : ReadFault) : Type 0 where
   Deep : (deep : IsTooDeep line.tokens) (is : fault ≡ unread.TooDeep n) → TellsLine n line fault
   Left : (word : List ℕ) (shallow : IsTooDeep line.tokens → ⊥) (found : first_outside line.tokens ≡ Some word) (is : fault ≡ unread.Outside n word) → TellsLine n line fault

@@ -1,4 +1,4 @@
--- What stands against what: a text that is accepted has no fault, and one with a fault of reading has none of a circuit.
+-- Faults exclude each other: an accepted text has no fault, and a text with a fault of reading has no fault of a circuit.
 use Rattle.std.proofs.Common.{◌≡◌, ◌≢◌, ℕ, List, [], Option, None, Some, refl, sym, ◌∙◌, subst, inl, inr}
 use Rattle.gg_ast.specs.Tree.{CircuitTree}
 use Rattle.gg_read.specs.Text.{Spells, HasNoFaultLine, HasReadFault}
@@ -17,11 +17,11 @@ use Rattle.gg_front.specs.Fault.{HasFrontFault, IsFaulty, IsFirstFault, OfShape,
 use Rattle.gg_front.specs.declared.fault.FrontFault.{FrontFault}
 use Rattle.gg_front.specs.declared.fault.FrontFault.TheVariants as front
 
--- a text spells one circuit at most
+-- a text spells at most one circuit
 abbrev pub OneCircuit : Type 0
 OneCircuit = (text : List ℕ) (c d : CircuitTree) → Spells text c → Spells text d → c ≡ d
 
--- a text that is read has no fault of reading
+-- a text that spells a circuit and has no fault line has no fault of reading
 spelt-read : (bytes : List ℕ) (circuit : CircuitTree) (fault : ReadFault) → fault ≢ unread.NoMemory → Spells bytes circuit → HasNoFaultLine bytes → HasReadFault bytes fault → ⊥
 spelt-read bytes circuit unread.NotText some spelt faultless has = has spelt.utf8
 spelt-read bytes circuit (unread.Syntax n) some spelt faultless has = faultless n has.1.0 has.1.1
@@ -29,7 +29,7 @@ spelt-read bytes circuit (unread.Outside n word) some spelt faultless has = faul
 spelt-read bytes circuit (unread.TooDeep n) some spelt faultless has = faultless n has.1.0 has.1.1
 spelt-read bytes circuit unread.NoMemory some spelt faultless has = some refl
 
--- where there is no fault there is no first
+-- an empty list of faults has no first fault
 pub none-first : (faults : List Fault) (fault : Fault) → faults ≡ [] → first faults ≡ Some fault → ⊥
 none-first faults fault none told = let e : first [] ≡ Some fault = subst (λ (xs : List Fault). first xs ≡ Some fault) none told in absurd (cc)
 

@@ -1,4 +1,4 @@
--- What a design is of.
+-- The design that the bytes of a text mean.
 use Rattle.std.proofs.Common.{ℕ, List, Result, Ok, Err}
 use Rattle.std.specs.Prelude.{IfOk}
 use Rattle.gg_ast.specs.Tree.{CircuitTree}
@@ -10,7 +10,7 @@ use Rattle.gg_read.specs.Text.{Spells, HasNoFaultLine}
 use Rattle.gg_front.specs.Accepted.{IsAccepted}
 use Rattle.gg_front.specs.Meaning.{MeansDesign}
 
--- a well-formed flat circuit of an accepted circuit that the bytes spell is one that they mean, and with its tree a design
+-- if the bytes spell an accepted circuit, a well-formed flat circuit of it with its tree is a design that the bytes mean
 pub means-ok : {E : Type 0} (bytes : List ℕ) (circuit : CircuitTree) (r : Result Ordered E) → Spells bytes circuit → HasNoFaultLine bytes
     → IfOk r (λ design. IsAccepted circuit) → IfOk r (λ design. IsFlat circuit design.circuit) → IfOk r (λ design. IsWellFormed design.circuit)
     → IfOk r (λ design. IsTreeOf circuit design.tree) → IfOk r (λ design. MeansDesign bytes design)

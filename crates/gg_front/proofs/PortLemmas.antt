@@ -70,6 +70,6 @@ ports-same : (one other : FlatCircuit) → AreAlike one other → (xs ys : List 
 ports-same one other a xs ys e =
     filter-same (port_at one) (port_at other) (port-at-same one other a) xs ∙ ap (λ (zs : List ℕ). ports_at other zs) e
 
--- the same signals are the same ports in each flat circuit of a circuit
+-- the same signals have the same ports in all flat circuits of a circuit
 pub ports-alike : (circuit : CircuitTree) (one other : FlatCircuit) (xs ys : List ℕ) → IsFlat circuit one → IsFlat circuit other → xs ≡ ys → ports_at one xs ≡ ports_at other ys
 ports-alike circuit one other xs ys a b e = ports-same one other (alike circuit one other a b) xs ys e

@@ -1,4 +1,4 @@
--- A circuit has one tree, and its flat circuits have the same memories.
+-- A circuit has only one tree, and all its flat circuits have the same memories.
 use Rattle.std.proofs.Common.{◌≡◌, ℕ, suc, ◌+◌, ◌<◌, List, [], ◌∷◌, Option, None, Some, Bool, length, refl, sym, ap, ◌∙◌, arith}
 use Rattle.std.specs.Prelude.{flat_map, slice_index_or}
 use Rattle.gg_ast.specs.declared.module.Port.{Port}
@@ -25,7 +25,7 @@ use Rattle.gg_digest.specs.Known.{types_of}
 at-same : (paths : List (List ℕ)) (path : List ℕ) (a b : ℕ) → IsAt paths path a → IsAt paths path b → a ≡ b
 at-same paths path a b p q = let e : Some a ≡ Some b = sym p.is ∙ q.is in cc
 
--- where each element fixes its partner, a list fixes the other
+-- if each element has only one partner, a list has only one list of partners
 Pairwise-same : {A B : Type 0} (R : A → B → Type 0) → ((a : A) (b c : B) → R a b → R a c → b ≡ c) → (xs : List A) (ys zs : List B)
     → Pairwise R xs ys → Pairwise R xs zs → ys ≡ zs
 Pairwise-same R once [] [] [] p q = refl
@@ -119,7 +119,7 @@ tree-same circuit a b p q =
     ∙ ap (λ (x : List (List ℕ)). tree_made b.paths b.instances x a.memories) names
     ∙ ap (λ (x : List MemoryInstance). tree_made b.paths b.instances b.memory_paths x) memories
 
--- ---- memories
+-- ---- memories of flat circuits
 
 -- lists that agree at each place are the same
 places-same : {A : Type 0} (xs ys : List A) → length xs ≡ length ys → ((m : ℕ) (any : A) → m < length xs → slice_index_or xs m any ≡ slice_index_or ys m any) → xs ≡ ys
@@ -142,7 +142,7 @@ bank-same paths said a b p q =
     ∙ ap (λ (x : List Reader). bank_made b.word b.depth b.latency x a.writers) (p.readers ∙ sym q.readers)
     ∙ ap (λ (x : List Writer). bank_made b.word b.depth b.latency b.readers x) (p.writers ∙ sym q.writers)
 
--- something that is known for each place and each default is known at each place
+-- a default for lists with a place m: their first element
 some-default : {A : Type 0} (xs : List A) (m : ℕ) → m < length xs → A
 some-default [] m lt = absurd (omega (arith, lt))
 some-default (x ∷ xs) m lt = x

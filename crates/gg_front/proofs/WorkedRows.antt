@@ -1,4 +1,4 @@
--- First faults, and which faults agree, by hand.
+-- First faults, and which faults agree, worked by hand.
 --
 --      1  circuit A :
 --      2  module B :
@@ -31,20 +31,20 @@ a = record { line = 1; name = codes "A"; modules = b ∷ [] }
 no-top : IsFirstFault a (MissingTop (codes "A"))
 no-top = OfShape (inl refl)
 
--- of a fault that is no ring and no loop the other one is the same
+-- a fault that is neither a ring nor a loop is alike only to itself
 same : (other : Fault) → AreAlike (MissingTop (codes "A")) other → MissingTop (codes "A") ≡ other
 same other (inl is) = is
 same other (inr (inl r)) = let e : MissingTop (codes "A") ≡ ModuleRing r.modules = r.one_is in absurd (cc)
 same other (inr (inr l)) = let e : MissingTop (codes "A") ≡ Loop l.paths = l.one_is in absurd (cc)
 
--- no other fault of the circuit comes first, though it has them
+-- the other faults of the circuit don't come first
 not-unconnected : IsFirstFault a (Unconnected 3 (codes "o")) → ⊥
 not-unconnected h = let e : MissingTop (codes "A") ≡ Unconnected 3 (codes "o") = same (Unconnected 3 (codes "o")) (first-alike a (MissingTop (codes "A")) (Unconnected 3 (codes "o")) no-top h) in absurd (cc)
 
 not-width : IsFirstFault a (WrongWidth 3 0) → ⊥
 not-width h = let e : MissingTop (codes "A") ≡ WrongWidth 3 0 = same (WrongWidth 3 0) (first-alike a (MissingTop (codes "A")) (WrongWidth 3 0) no-top h) in absurd (cc)
 
--- any loop may be told, but a loop is no count
+-- any two loops agree; a loop and an exceeded limit don't
 loops : Agree (front.Fault (Loop (codes "x" ∷ []))) (front.Fault (Loop (codes "y" ∷ [])))
 loops = inr (inr (record { paths = codes "x" ∷ []; others = codes "y" ∷ []; one_is = refl; other_is = refl }))
 

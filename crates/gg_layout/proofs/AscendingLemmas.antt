@@ -1,4 +1,4 @@
--- Ascending lists: the places of their numbers, and what a function that grows makes of them.
+-- Ascending lists: the places of their numbers, and the lists that an increasing function makes of them.
 use Rattle.std.proofs.Common.{◌≡◌, ℕ, ◌<◌, List, length, map, get_or, Bool, sym, ◌∙◌, ap, subst, inl, inr, ◌⊎◌, arith}
 use Rattle.std.specs.Prelude.{filter, Contains, AllPairs}
 use Rattle.std.specs.List.{range_with_len}
@@ -13,14 +13,14 @@ use Rattle.gg_check.proofs.SameCutLemmas.{ascending-same}
 use Rattle.gg_sound.specs.Built.{place_in}
 use Rattle.gg_sound.proofs.NumberLemmas.{placed}
 
--- the numbers below n that pass a test
+-- the numbers below n that pass a test are ascending
 pub numbers-up : (test : ℕ → Bool) (n : ℕ) → AllPairs (λ a b. a < b) (filter test (range_with_len 0 n))
 numbers-up test n = AllPairs-filter (λ a b. a < b) test (range_with_len 0 n)
     (λ i j d lt inside.
     let high : j < n = omega (arith, inside, length-range_with_len 0 n) in
     omega (arith, lt, get_or-range_with_len 0 n i d (omega (arith, lt, high)), get_or-range_with_len 0 n j d high))
 
--- of two numbers the less stands first
+-- of two numbers in an ascending list, the smaller one comes first
 pub place-up : (numbers : List ℕ) (c d : ℕ) → AllPairs (λ a b. a < b) numbers → Contains numbers c → Contains numbers d → c < d → place_in numbers c < place_in numbers d
 place-up numbers c d up a b lt = by (cases_order (place_in numbers c) (place_in numbers d))
   where
@@ -35,7 +35,7 @@ place-up numbers c d up a b lt = by (cases_order (place_in numbers c) (place_in 
         let down = up (place_in numbers d) (place_in numbers c) 0 more at.within in
         absurd (omega (arith, down, at.is, other.is, lt))
 
--- what a function makes of an ascending list on which it grows
+-- a function that is increasing on an ascending list makes an ascending list of it
 pub map-up : (f : ℕ → ℕ) (xs : List ℕ) → AllPairs (λ a b. a < b) xs → ((c d : ℕ) → Contains xs c → Contains xs d → c < d → f c < f d) → AllPairs (λ a b. a < b) (map f xs)
 map-up f xs up grows = λ i j any lt within.
     let inside : j < length xs = omega (arith, within, length-map xs f) in
@@ -43,12 +43,12 @@ map-up f xs up grows = λ i j any lt within.
     let less = grows (get_or xs i 0) (get_or xs j 0) (Contains-get_or xs i 0 low) (Contains-get_or xs j 0 inside) (up i j 0 lt inside) in
     omega (arith, less, get_or-map f xs i 0 any low, get_or-map f xs j 0 any inside)
 
--- what a function makes of one list is the other, but for the order
+-- the function makes just the numbers of the other list, in whatever order
 pub record AreMadeOf (f : ℕ → ℕ) (xs ys : List ℕ) : Type 0 where
   pub into : (x : ℕ) → Contains xs x → Contains ys (f x)
   pub back : (y : ℕ) → Contains ys y → (x : ℕ) × (Contains xs x × (f x ≡ y))
 
--- where both are ascending, the order is one too
+-- if both lists are ascending and the function is increasing, the order is the same too
 pub made-same : (f : ℕ → ℕ) (xs ys : List ℕ) → AllPairs (λ a b. a < b) xs → AllPairs (λ a b. a < b) ys → ((c d : ℕ) → Contains xs c → Contains xs d → c < d → f c < f d) → AreMadeOf f xs ys → map f xs ≡ ys
 made-same f xs ys up down grows made =
     ascending-same (map f xs) ys (map-up f xs up grows) down

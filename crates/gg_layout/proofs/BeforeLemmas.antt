@@ -1,9 +1,9 @@
--- Items of a list one of which stands before the other.
+-- Two items of a list, one before the other.
 use Rattle.std.proofs.Common.{◌≡◌, ℕ, zero, suc, ◌+◌, ◌<◌, List, [], ◌∷◌, ◌++◌, length, get_or, ◌∙◌, subst, arith}
 use Rattle.std.proofs.lemmas.List.{length-append, get_or_append_left}
 use Rattle.gg_cut.specs.Channels.{flattened, numbered}
 
--- u stands before v
+-- u comes before v
 pub record IsBefore {A : Type 0} (u v : A) (xs : List A) : Type 0 where
   pub first : ℕ
   pub second : ℕ

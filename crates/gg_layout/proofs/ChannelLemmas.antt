@@ -9,7 +9,7 @@ use Rattle.gg_cut.proofs.PathLemmas.{first_place-Some, first_place-None, any-at}
 use Rattle.gg_sound.proofs.SideLemmas.{link-one}
 use Rattle.gg_layout.specs.CutLayout.{channel_of}
 
--- where no two channels carry one signal, the channel of a channel's signal is that channel
+-- if no two channels carry the same signal, the channel of a channel's signal is that channel
 pub channel-back : (wires : List Wire) (c : ℕ) → AllPairs (λ (v w : Wire). v.signal ≢ w.signal) wires → c < length wires → channel_of wires (wire_at wires c).signal ≡ c
 channel-back wires c once lt = by (first_place (λ (w : Wire). w.signal == (wire_at wires c).signal) wires) refl
   where

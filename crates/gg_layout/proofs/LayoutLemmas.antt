@@ -103,7 +103,7 @@ module _ (design : Ordered) (request : Request) (default : ℕ) (plan : Plan) (c
       get_or-map turns_of (range_with_len 0 count) m 0 [] (omega (arith, lt, length-range_with_len 0 count))
       ∙ ap turns_of (get_or-range_with_len 0 count m 0 lt ∙ (let same : 0 + m ≡ m = omega arith in same))
 
-  -- ---- it is that of the cut
+  -- ---- it is the layout of the cut
 
   link-needs : (c : ℕ) → c < length wires → AreChannelNeeds design.circuit listed wires c (link_at layout c).needs
   link-needs c lt =
@@ -127,7 +127,7 @@ module _ (design : Ordered) (request : Request) (default : ℕ) (plan : Plan) (c
   pub of-cut : IsLayoutBy design request default n listed wires layout
   of-cut = record { channels = length-map plan.channels link_of ∙ given.planned.channel_total; link = cut-link; ports = refl; turns = refl; end = refl }
 
-  -- ---- and that of the network
+  -- ---- it is the layout of the network
 
   module _ (c : ℕ) (lt : c < length wires) where
     abbrev p : ℕ
@@ -150,7 +150,7 @@ module _ (design : Ordered) (request : Request) (default : ℕ) (plan : Plan) (c
         subst (λ (link : Link). HasOutNeeds wires p c link.needs (kind_of (machine_at machines p))) (sym (link-is c any known))
         (out-needs design listed given.design_is apart few p c (record { known = lt; producer = refl }) columns n (machine_in plan p) (machine_in plan p).body (machine_at machines p) (machine_in plan p).ins (get_or plan.channels c any).needs machine.body (built.each p below) machine.ins ((given.planned.channel c any known).needs nameless))
 
-    -- a needed channel stands at its place among those that the machine takes
+    -- the place of a needed channel is its place among the channels that the machine takes
     place-is : (d : ℕ) → Contains needs d → place d ≡ place_in (channels_to wires p) d
     place-is d has = let need = ((link-needs c lt).each d).0 has in place-at plan wires are p d need.known need.taken
 

@@ -74,7 +74,7 @@ module _ (design : Ordered) (listed : Listed) (m : ℕ) (part : Part) (is : IsDe
   channel-count : length part.piece.ins ≡ length (channels_to wires m)
   channel-count = ins-count design listed wires m part cut
 
-  -- a field is the in-signal of that number
+  -- field x of the memory is in-signal x of the part
   in-at : (x : ℕ) → x < length piece.ins → value_at stands.alone.globals x ≡ value_at part.piece.ins x
   in-at x lt =
       ap (value_at stands.alone.globals) (sym (stands.is_memory.first x lt))
@@ -89,7 +89,7 @@ module _ (design : Ordered) (listed : Listed) (m : ℕ) (part : Part) (is : IsDe
       ∙ ap (λ (l : List ℕ). value_at l x) cut.ins
       ∙ get_or-map (λ c. (wire_at wires c).signal) (channels_to wires m) x 0 0 (omega (arith, inside, channel-count))
 
-  -- the channel of a field stands at the in of the field's number
+  -- the channel of a field is at the in with the field's number
   field-at : (plan : Plan) → AreLinks plan wires → (x : ℕ) → x < length piece.ins → IsAtIn (wires_of_plan plan) m x (channel_of wires (number x))
   field-at plan are x lt =
       let inside : x < length (channels_to wires m) = omega (arith, lt, in-count, channel-count) in
@@ -156,7 +156,7 @@ module _ (design : Ordered) (listed : Listed) (m : ℕ) (part : Part) (is : IsDe
         (turns-alone part.globals stands.alone.globals frame wires m (length piece.ins) at (count_of (inner ∷ [])) inner.latency inner.readers inner.writers
         (subst (λ (l : List Memory). All (IsFitPort (length piece.ins) (count_of l)) (ports_of l)) only fit)))
 
-    -- the memory that stands alone has as many ports as the one in the whole
+    -- the memory that stands alone has as many ports as the memory in the whole circuit
     pub memory-ports : port_count circuit k ≡ count_of piece.memories
     memory-ports =
         get_or-map (λ (x : Memory). length x.readers + length x.writers) circuit.memories k outer 0 there
@@ -190,7 +190,7 @@ module _ (design : Ordered) (listed : Listed) (m : ℕ) (part : Part) (is : IsDe
       looks : LooksAmong (length piece.ins) reader
       looks = of-sole (λ (memory : Memory). All (LooksAmong (length piece.ins)) memory.readers) piece.memories inner only stands.is_memory.readers o nobody some
 
-      -- the channel of the address stands before that of the enable
+      -- the channel of the address comes before that of the enable
       abbrev address : Wire
       address = wire (number reader.addr) outside self
 

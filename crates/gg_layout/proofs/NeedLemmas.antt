@@ -1,4 +1,4 @@
--- What an out of a machine needs are the ins of the channels that its channel needs.
+-- The ins that an out of a machine needs are the ins of the channels that the out's channel needs.
 use Rattle.std.proofs.Common.{◌≡◌, ℕ, zero, suc, ◌<◌, ◌≤◌, List, [], ◌∷◌, length, refl, sym, ◌∙◌, ap, subst, arith}
 use Rattle.std.specs.Prelude.{Contains, AllPairs, ◌==◌}
 use Rattle.std.proofs.lemmas.List.{get_or-map}

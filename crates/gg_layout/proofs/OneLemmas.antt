@@ -1,4 +1,4 @@
--- The layout of a cut is one, for all designs that are alike.
+-- A cut has only one layout, and designs that are alike have the same one.
 use Rattle.std.proofs.Common.{◌≡◌, ℕ, ◌+◌, ◌<◌, List, [], length, map, sym, ◌∙◌, ap, subst, arith}
 use Rattle.std.specs.Prelude.{slice_index_or, if◌then◌else◌}
 use Rattle.std.specs.List.{range_with_len}
@@ -19,7 +19,7 @@ use Rattle.gg_memunit.specs.MemoryUnit.{ports_by}
 use Rattle.gg_marking.specs.Marking.{Link, Layout, link_at}
 use Rattle.gg_layout.specs.CutLayout.{IsChannelLink, IsLayoutBy, IsLayoutOf, is_memory, machine_ports, machine_turns, memory_of, turn_of}
 
--- ---- a cut has one layout
+-- ---- a cut has only one layout
 
 link-same : (a b : Link) → a.producer ≡ b.producer → a.consumer ≡ b.consumer → a.capacity ≡ b.capacity → a.needs ≡ b.needs → a ≡ b
 link-same a b producer consumer capacity needs =
@@ -53,7 +53,7 @@ layout-once design request default n listed wires layout other a b =
     ∙ sym (get_or_default other.links c d no_link high)) in
     layout-same layout other links (a.ports ∙ sym b.ports) (a.turns ∙ sym b.turns) (a.end ∙ sym b.end)
 
--- ---- and all designs that are alike have it
+-- ---- designs that are alike have the same layout
 
 module _ (one other : Ordered) (s : AreAlike one other) (request : Request) (default n : ℕ) (listed : Listed) (wires : List Wire) where
   link-carried : (c : ℕ) (link : Link) → IsChannelLink one request default listed wires c link → IsChannelLink other request default listed wires c link
@@ -96,7 +96,7 @@ module _ (one other : Ordered) (s : AreAlike one other) (request : Request) (def
   layout-carried : (layout : Layout) → IsLayoutBy one request default n listed wires layout → IsLayoutBy other request default n listed wires layout
   layout-carried layout a = record { channels = a.channels; link = λ c lt. link-carried c (link_at layout c) (a.link c lt); ports = a.ports ∙ ports-carried; turns = a.turns ∙ turns-carried; end = a.end }
 
--- the layout of a request's cut of one design is that of the other's
+-- the layout of a request's cut of one design is the layout of its cut of a design that is alike
 layout-of-cut-carried : (one other : Ordered) → AreAlike one other → (request : Request) (default n : ℕ) (layout : Layout) → IsLayoutOf one request default n layout → IsLayoutOf other request default n layout
 layout-of-cut-carried one other s request default n layout a =
     let listed = listed_of other.tree request in

@@ -1,4 +1,4 @@
--- What the data of a memory's reader needs: its address and its enable, where it gives the word in the same cycle, else nothing.
+-- What the data of a memory's reader needs: its address and its enable if it gives the word in the same cycle, else nothing.
 use Rattle.std.proofs.Common.{◌≡◌, ◌≢◌, ℕ, ◌<◌, List, [], ◌∷◌, length, refl, sym, ◌∙◌, ap, subst, inl, inr, ◌⊎◌, arith}
 use Rattle.std.specs.Prelude.{◌↔◌, AllPairs, Contains}
 use Rattle.std.proofs.lemmas.List.Elements.{All-nil, All-cons}
@@ -57,7 +57,7 @@ module _ (circuit : FlatCircuit) (inputs : (place : ℕ) → place < length circ
     to place (inl is) = subst IsNeeded is (low, step (value_at circuit.ins addr) (names (value_at circuit.ins addr) (inl refl)))
     to place (inr rest) = to-en place (Contains-cases en place [] rest)
 
-    -- what is named, and reaches the in-signal at a place, is that in-signal
+    -- a field that reaches the in-signal at a place is that in-signal
     named : (place next : ℕ) (path : List ℕ) → place < length circuit.ins → IsPath circuit next path (value_at circuit.ins place) → (value_at circuit.ins addr ≡ next) ⊎ (value_at circuit.ins en ≡ next) → Contains (addr ∷ en ∷ []) place
     named place next path lt is (inl same) =
         let end = in-alone addr (value_at circuit.ins place) path low (subst (λ s. IsPath circuit s path (value_at circuit.ins place)) (sym same) is) in

@@ -20,10 +20,10 @@ use Rattle.gg_marking.specs.Fits.{AreTaken, IsTurnOf, AreTurnsOf, places_of}
 use Rattle.gg_sound.proofs.PortLemmas.{IsFitPort}
 use Rattle.gg_layout.specs.CutLayout.{channel_of, turn_of}
 
--- ---- ports in the numbers of the whole
+-- ---- ports with the signal numbers of the whole circuit
 
 module _ (outer inner : List ℕ) where
-  -- the number in the whole of a signal of a part of a part
+  -- the number that a signal of a part of a part has in the whole circuit
   abbrev pub number_of : ℕ → ℕ
   number_of s = value_at outer (value_at inner s)
 
@@ -106,7 +106,7 @@ module _ (outer inner : List ℕ) where
               subst (IsTurnOf frame m (get_or ports i port)) (sym is) (is-turn count (get_or ports i port) (fit i port lt));
         }
 
-    -- the turns of the memory in the whole are those of the one that stands alone
+    -- the turns of the memory in the whole circuit are the turns of the memory that stands alone
     pub turns-alone : (count : ℕ) (latency : Latency) (readers : List Reader) (writers : List Writer) → All (IsFitPort n count) (ports_by latency readers writers) → AreTurnsOf frame m (ports_by latency readers writers) (map (turn_of wires) (ports_by latency (map reader_of readers) (map writer_of writers)))
     turns-alone count latency readers writers fit =
         subst (λ (l : List Port). AreTurnsOf frame m (ports_by latency readers writers) (map (turn_of wires) l)) (sym (ports-renamed latency readers writers)) (are-turns count (ports_by latency readers writers) fit)

@@ -14,7 +14,7 @@ use Rattle.gg_layout.proofs.AscendingLemmas.{numbers-up, place-up}
 -- ---- at a machine
 
 module _ (wires : List Wire) where
-  -- the channels that a machine takes stand at its ins in their order
+  -- the channels that a machine takes are at its ins in their order
   pub places-up : (m c d : ℕ) → c < d → d < length wires → (wire_at wires c).consumer ≡ m → (wire_at wires d).consumer ≡ m → place_in (channels_to wires m) c < place_in (channels_to wires m) d
   places-up m c d lt known one other =
       place-up (channels_to wires m) c d (numbers-up (λ k. (wire_at wires k).consumer == m) (length wires))
@@ -33,7 +33,7 @@ module _ (plan : Plan) (wires : List Wire) (are : AreLinks plan wires) where
   pub joint-capacity : (c : ℕ) (any : Channel) → c < length plan.channels → (joint_at (wires_of_plan plan) c).capacity ≡ (get_or plan.channels c any).capacity
   joint-capacity c any lt = ap (λ w. w.capacity) (wire-from plan 0 plan.channels c any lt)
 
-  -- a channel of a machine stands at its place there
+  -- the in at which a channel is connected is its place among the channels that its machine takes
   pub place-at : (m c : ℕ) → c < length wires → (wire_at wires c).consumer ≡ m → (joint_at (wires_of_plan plan) c).place ≡ place_in (channels_to wires m) c
   place-at m c known is = (linked plan wires are c known).place ∙ ap (λ k. place_in (channels_to wires k) c) is
 

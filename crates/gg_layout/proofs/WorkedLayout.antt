@@ -1,9 +1,9 @@
--- The layout of a cut, worked by hand: a listed memory with one late reader, given whole; the turns of two readers and two writers; and
--- what is no layout.
+-- The layout of a cut, worked by hand: a listed memory with one late reader, given whole; the turns of two readers and two writers;
+-- and what is no layout.
 --
--- The top has the input `a`, the output `o` and a memory `m` whose only reader `r` has the address `a` and is always enabled; `o` is its
--- data. Signals 0 and 1 are `a` and `o`; 2, 3 and 4 are the reader's address, enable and data. The hub is machine 0, `m` is 1, the source
--- of `a` is 2 and the tray of `o` is 3; the channels are, from 0 on: `a`, `m.r.addr`, `m.r.en`, `m.r.data`, `o`.
+-- The top has the input `a`, the output `o` and a memory `m` whose only reader `r` has the address `a` and is always enabled; `o`
+-- is its data. Signals 0 and 1 are `a` and `o`; 2, 3 and 4 are the reader's address, enable and data. The hub is machine 0, `m` is
+-- 1, the source of `a` is 2 and the tray of `o` is 3; the channels are, from 0 on: `a`, `m.r.addr`, `m.r.en`, `m.r.data`, `o`.
 use Rattle.std.proofs.Common.{◌≡◌, ℕ, zero, suc, ◌<◌, List, [], ◌∷◌, None, set, refl, ap, subst, inl, inr, ◌⊎◌, arith, lit<}
 use Rattle.std.specs.Prelude.{codes, length, map, slice_index_or, Contains, AllPairs}
 use Rattle.std.proofs.lemmas.List.Kept.{AllPairs-cons}
@@ -74,7 +74,8 @@ link producer consumer capacity needs = record { producer = producer; consumer =
 abbrev turn : ℕ → List ℕ → Turn
 turn number fields = record { number = number; fields = fields }
 
--- the address needs `a`, and `o` the data; the data needs nothing, since the reader is late; `m` has one port, its reader, and serves it
+-- the address needs `a`, and `o` needs the data; the data needs nothing, since the reader is late; `m` has one port, its
+-- reader, and serves it
 abbrev layout : Layout
 layout =
     record {
@@ -91,12 +92,12 @@ stops : (taken : List ℕ) (s t : ℕ) (path : List ℕ) → Contains taken s �
 stops taken s t [] has is = is
 stops taken s t (next ∷ path) has is = absurd (is.0 has)
 
--- nor from one that reads nothing
+-- nor does it go on from a signal that reads nothing
 reads-none : (taken : List ℕ) (s t : ℕ) (path : List ℕ) → ((next : ℕ) → NamesSignal (driver_at circuit s) next → ⊥) → IsPathInside circuit taken s path t → s ≡ t
 reads-none taken s t [] none is = is
 reads-none taken s t (next ∷ path) none is = absurd (none next is.1.names)
 
--- a signal that reads one taken signal alone reaches itself and that one
+-- a signal that reads only one signal, which is taken, reaches itself and that one
 reads-one : (taken : List ℕ) (s r t : ℕ) (path : List ℕ) → ((next : ℕ) → NamesSignal (driver_at circuit s) next → r ≡ next) → Contains taken r → IsPathInside circuit taken s path t → (s ≡ t) ⊎ (r ≡ t)
 reads-one taken s r t [] one has is = inl is
 reads-one taken s r t (next ∷ path) one has is =
@@ -235,7 +236,7 @@ is-layout =
 with-default : ¬ IsLayoutOf design request 2 3 (record layout { links = set layout.links 1 (link 0 1 2 (0 ∷ [])) })
 with-default is = let capacity = (is.link 1 (lit< tt)).capacity in absurd (omega (arith, capacity))
 
--- each need is told
+-- no need may be left out
 without-need : ¬ IsLayoutOf design request 2 3 (record layout { links = set layout.links 1 (link 0 1 5 []) })
 without-need is = none 0 (((is.link 1 (lit< tt)).needs.each 0).1 address-needs-a)
 
@@ -269,8 +270,8 @@ no-turn = refl
 
 -- ---- turns of two readers and two writers
 
--- gg_flat's circuit of two readers and two writers, with this latency: signals 4 to 17 are their fields. Behind the channels of the inputs
--- come those of the fields, in their order.
+-- gg_flat's circuit of two readers and two writers, with this latency: signals 4 to 17 are their fields. After the channels of the
+-- inputs come those of the fields, in their order.
 abbrev with_latency : Latency → FlatCircuit
 with_latency latency =
     record ports {
@@ -300,7 +301,7 @@ first_writer = turn 2 (8 ∷ 9 ∷ 10 ∷ 11 ∷ [])
 abbrev second_writer : Turn
 second_writer = turn 3 (12 ∷ 13 ∷ 14 ∷ 15 ∷ [])
 
--- each of the four is a port, whatever the latency
+-- each of the four readers and writers is a port, whatever the latency
 ports-zero : machine_ports (with_latency Zero) tree listed 1 ≡ 4
 ports-zero = refl
 

@@ -1,4 +1,4 @@
--- A network in which one machine was changed: what its marking is.
+-- The marking of a network in which one machine was changed.
 use Rattle.std.proofs.Common.{◌≡◌, ◌≢◌, ℕ, suc, ◌<◌, List, Option, Bool, false, length, refl, sym, ap, ◌∙◌, ⊎_elim, arith, get_or-set_same, get_or-set_other}
 use Rattle.std.specs.Prelude.{is_some, slice_set}
 use Rattle.std.proofs.lemmas.Bool.{cases_eq}
@@ -12,7 +12,7 @@ use Rattle.gg_marking.specs.Marking.{Marking, is_set, one_more}
 use Rattle.gg_marking.specs.Fits.{marking_of}
 use Rattle.gg_marking.proofs.CountLemmas.{cycle-at, served-at, taken-at, given-at}
 
--- markings of the same parts are the same
+-- markings with the same parts are the same
 pub same-parts : (a b : Marking) → a.cycles ≡ b.cycles → a.served ≡ b.served → a.taken ≡ b.taken → a.given ≡ b.given → a ≡ b
 same-parts a b cycles served taken given =
     ap (λ (x : List ℕ). record { cycles = x; served = a.served; taken = a.taken; given = a.given }) cycles
@@ -56,7 +56,7 @@ module _ (net : Network) (m : ℕ) (y : Machine) (queues : List (List ℕ)) wher
   none-served is = map-set (λ (z : Machine). z.served) net.machines m y ∙ ap (slice_set (marking_of net).served m) is
 
   module _ (there : m < length net.machines) where
-    -- the marks of latches: those of the machine, and the others
+    -- which channels are taken afterwards: the marks agree with the machine's latches, and elsewhere with the marks before
     pub taken-by : (marks : List Bool) → length marks ≡ length net.wires
         → ((d : ℕ) → d < length net.wires → (wire_at net.wires d).consumer ≡ m → is_some (latch_at y.latches (wire_at net.wires d).place) ≡ is_set marks d)
         → ((d : ℕ) → d < length net.wires → (wire_at net.wires d).consumer ≢ m → is_set (marking_of net).taken d ≡ is_set marks d)
@@ -70,7 +70,7 @@ module _ (net : Network) (m : ℕ) (y : Machine) (queues : List (List ℕ)) wher
         (λ other. ap has (get_or-set_other net.machines m (wire_at net.wires d).consumer y no_machine other) ∙ sym (taken-at net d known) ∙ others d known other)
         (cases_eq (wire_at net.wires d).consumer m))
 
-    -- the marks of flags
+    -- which channels were given afterwards: the marks agree with the machine's flags, and elsewhere with the marks before
     pub given-by : (marks : List Bool) → length marks ≡ length net.wires
         → ((d : ℕ) → d < length net.wires → (wire_at net.wires d).producer ≡ m → flag_at y.flags (wire_at net.wires d).out ≡ is_set marks d)
         → ((d : ℕ) → d < length net.wires → (wire_at net.wires d).producer ≢ m → is_set (marking_of net).given d ≡ is_set marks d)
@@ -84,7 +84,7 @@ module _ (net : Network) (m : ℕ) (y : Machine) (queues : List (List ℕ)) wher
         (λ other. ap has (get_or-set_other net.machines m (wire_at net.wires d).producer y no_machine other) ∙ sym (given-at net d known) ∙ others d known other)
         (cases_eq (wire_at net.wires d).producer m))
 
-    -- the machine's latches, or flags, are as they were
+    -- if the machine's latches or flags are as before, so are the marks
     pub same-taken : y.latches ≡ x.latches → (marking_of changed).taken ≡ (marking_of net).taken
     same-taken is =
         taken-by (marking_of net).taken (taken-count net)

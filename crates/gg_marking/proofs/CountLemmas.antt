@@ -1,4 +1,4 @@
--- The marking of a network: its counts and its marks are the network's.
+-- The marking of a network has the counts and the marks of the network.
 use Rattle.std.proofs.Common.{◌≡◌, ℕ, ◌-◌, ◌<◌, ◌≤◌, List, Option, None, Some, Bool, true, false, length, refl, sym, ap, ◌∙◌, ⊎_elim, arith}
 use Rattle.std.specs.Prelude.{is_some}
 use Rattle.std.proofs.lemmas.Bool.{cases_lt, lt-ltb, le-ltb}
@@ -63,7 +63,7 @@ module _ (net : Network) where
     pub held-is : (lists : List (List ℕ)) (runs : List (List (List ℕ))) → Kept lists runs net → (c : ℕ) → c < length net.wires → held layout marking c ≡ length (queue_at net.queues c)
     held-is lists runs kept c known = omega (arith, (kept.channels c known).held, puts-are c known, takes-are c known)
 
-    -- ---- what is there, and has cycles left
+    -- ---- which channels and machines exist, and which machines have cycles left
 
     pub is-channel : (c : ℕ) → c < length net.wires → is_channel layout c ≡ true
     is-channel c known = lt-ltb c (length layout.links) (omega (arith, known, has.channels))
@@ -90,7 +90,7 @@ module _ (net : Network) where
         (λ (le : net.end ≤ (machine_at net.machines m).cycle). le-ltb (value_at marking.cycles m) layout.end (omega (arith, le, cycle-at m, has.end)))
         (cases_lt (machine_at net.machines m).cycle net.end)
 
--- The newest token of a queue is that of its channel's list.
+-- The newest token of a queue is the last one that was put of its channel's list.
 pub newest-is : (lists : List (List ℕ)) (runs : List (List (List ℕ))) (net : Network) (c : ℕ) → Kept lists runs net → c < length net.wires → 0 < length (queue_at net.queues c)
     → value_at (queue_at net.queues c) (length (queue_at net.queues c) - 1) ≡ value_at (list_at lists c) (network.puts net c - 1)
 newest-is lists runs net c kept known some =

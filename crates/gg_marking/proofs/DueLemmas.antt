@@ -1,4 +1,4 @@
--- The ports of a machine, and the one that is due.
+-- The ports of a machine, and the port that is due.
 use Rattle.std.proofs.Common.{◌≡◌, ℕ, ◌<◌, ◌≤◌, List, [], Option, Some, None, true, false, length, map, sym, ap, subst, ◌∙◌, ⊎_elim, arith}
 use Rattle.std.specs.Prelude.{slice_index_or, slice_get}
 use Rattle.std.proofs.lemmas.Bool.{cases_lt, lt-ltb, le-ltb}
@@ -16,7 +16,7 @@ use Rattle.gg_marking.specs.Marking.{Turn, Layout, turns_at, port_count, has_por
 use Rattle.gg_marking.specs.Fits.{HasLayout, AreTaken, AreTurnsOf, IsTurnOf, places_of, marking_of}
 use Rattle.gg_marking.proofs.CountLemmas.{served-at}
 
--- some turn, to stand where none is
+-- a turn for places where there is none
 abbrev any_turn : Turn
 any_turn = record { number = 0; fields = [] }
 
@@ -42,7 +42,7 @@ module _ (net : Network) (layout : Layout) (has : HasLayout (frame_of net) layou
     turns-are : AreTurnsOf (frame_of net) m x.ports turns
     turns-are = subst (λ (k : Kind). AreTurnsOf (frame_of net) m k.ports turns) (exact.get_or-map kind_of net.machines m no_machine) (has.turns m known)
 
-    -- a port is due
+    -- if a port is due in the network, its turn is due in the marking
     pub is-due : (p : ℕ) → due x ≡ Some p → IsDue net layout m p
     is-due p is =
         let q : Port = (due-port (slice_get x.ports x.served) p is).0 in
@@ -62,15 +62,15 @@ module _ (net : Network) (layout : Layout) (has : HasLayout (frame_of net) layou
         number-due : (q : Port) (p : ℕ) → slice_get x.ports x.served ≡ Some q → due x ≡ Some p → q.number ≡ p
         number-due q p port is = let both : ◌≡◌ {A = Option ℕ} (Some q.number) (Some p) = sym (ap port_number port) ∙ is in same_Some q.number p both
 
-    -- none is due
+    -- if no port is due in the network, no turn is due in the marking
     pub none-due : x.served ≤ length x.ports → due x ≡ None → due_turn layout (marking_of net) m ≡ None
     none-due within none =
         let whole : x.served ≡ length x.ports = all-served x.ports x.served any_port within none in
         slice_get_past turns (value_at (marking_of net).served m) (omega (arith, whole, served-at net m, turns-are.count))
 
-  -- ---- how many ports a machine has, and whether it has one
+  -- ---- how many ports a machine has, and which
 
-  -- 0 past the machines
+  -- a layout has the machine's count of ports, which is 0 for a number past the machines
   pub port-count-is : (m : ℕ) → port_count layout m ≡ (machine_at net.machines m).port_count
   port-count-is m =
       ap (λ (counts : List ℕ). value_at counts m) has.ports

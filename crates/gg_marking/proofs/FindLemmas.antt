@@ -8,7 +8,7 @@ use Rattle.gg_marking.specs.Marking.{or_next, unless, naming}
 
 -- ---- the first of the numbers in a range that are chosen
 
--- one that isn't chosen, or doesn't pass, is no answer
+-- a number that isn't chosen, or doesn't pass, is skipped
 skips : (chosen : Bool) (p : ℕ → Bool) (a : ℕ) (rest : List ℕ) (answer : Option ℕ) → (chosen ≡ true → p a ≡ false) → find p rest ≡ answer → find p (cond chosen (a ∷ rest) rest) ≡ answer
 skips false p a rest answer fails is = is
 skips true p a rest answer fails is = ap (λ b. cond b (Some a) (find p rest)) (fails refl) ∙ is
@@ -38,18 +38,18 @@ find-some p q a (suc n) d le lt chosen passes fails =
 pub passed : (holds : Bool) (refusal : Refusal) (later : Option Refusal) → holds ≡ true → or_next (unless holds refusal) later ≡ later
 passed holds refusal later is = ap (λ b. or_next (unless b refusal) later) is
 
--- one that fails is told
+-- a condition that fails gives its refusal
 pub failed : (holds : Bool) (refusal : Refusal) (later : Option Refusal) → holds ≡ false → or_next (unless holds refusal) later ≡ Some refusal
 failed holds refusal later is = ap (λ b. or_next (unless b refusal) later) is
 
--- the last condition holds, or fails
+-- the last condition: it holds, or fails
 pub holds-last : (holds : Bool) (refusal : Refusal) → holds ≡ true → unless holds refusal ≡ None
 holds-last holds refusal is = ap (λ b. unless b refusal) is
 
 pub fails-last : (holds : Bool) (refusal : Refusal) → holds ≡ false → unless holds refusal ≡ Some refusal
 fails-last holds refusal is = ap (λ b. unless b refusal) is
 
--- no channel is named, or one is
+-- if the search finds no channel, the later conditions decide; if it finds one, the refusal names it
 pub names-none : (refusal : ℕ → Refusal) (first : Option ℕ) (later : Option Refusal) → first ≡ None → or_next (naming refusal first) later ≡ later
 names-none refusal first later is = ap (λ o. or_next (naming refusal o) later) is
 

@@ -1,4 +1,4 @@
--- `Finish` goes by the marking.
+-- `Finish` may be done in a network's marking if it may in the network, and is refused for the same cause if it is refused there.
 use Rattle.std.proofs.Common.{◌≡◌, ℕ, ◌<◌, List, Option, None, Some, length, ap, ◌∙◌}
 use Rattle.gg_node.specs.Machine.{Machine, machine_at, due}
 use Rattle.gg_node.specs.Step.{AllFired}

@@ -1,4 +1,4 @@
--- `Fire` goes by the marking.
+-- `Fire` may be done in a network's marking if it may in the network, and is refused for the same cause if it is refused there.
 use Rattle.std.proofs.Common.{◌≡◌, ℕ, ◌<◌, List, Option, None, Some, false, length, refl, sym, ap, ◌∙◌, arith}
 use Rattle.std.specs.Prelude.{not, nat_lt}
 use Rattle.std.proofs.lemmas.Bool.{lt-ltb, le-ltb}

@@ -1,4 +1,4 @@
--- The first channel of a machine that hasn't given, or isn't taken.
+-- The first channel of a machine whose token of this cycle wasn't given, or wasn't taken.
 use Rattle.std.proofs.Common.{◌≡◌, ℕ, ◌+◌, ◌<◌, List, None, Some, true, false, length, map, sym, ap, ◌∙◌, arith}
 use Rattle.std.specs.Prelude.{is_some, IsSome, not, ◌==◌}
 use Rattle.std.proofs.lemmas.Bool.{eq-eqb, eqb-true}
@@ -30,7 +30,7 @@ module _ (lists : List (List ℕ)) (runs : List (List (List ℕ))) (net : Networ
   listed : (c : ℕ) → c < 0 + length layout.links → c < length net.wires
   listed c lt = omega (arith, lt, has.channels)
 
-  -- ---- those that it gives
+  -- ---- the channels that the machine gives
 
   from : (c : ℕ) → c < length net.wires → ((link_at layout c).producer == m) ≡ true → (wire_at net.wires c).producer ≡ m
   from c known is = sym (has.link c known).producer ∙ eqb-true (link_at layout c).producer m is
@@ -57,7 +57,7 @@ module _ (lists : List (List ℕ)) (runs : List (List (List ℕ))) (net : Networ
       let out_before : (wire_at net.wires c).out < (wire_at net.wires d).out = has.outs c d lt known (is ∙ sym unfired.at.machine) in
       ap not (given-is c c_known is ∙ unfired.first.before (wire_at net.wires c).out (omega (arith, out_before, unfired.at.out))))
 
-  -- ---- those that it takes
+  -- ---- the channels that the machine takes
 
   to : (c : ℕ) → c < length net.wires → ((link_at layout c).consumer == m) ≡ true → (wire_at net.wires c).consumer ≡ m
   to c known is = sym (has.link c known).consumer ∙ eqb-true (link_at layout c).consumer m is

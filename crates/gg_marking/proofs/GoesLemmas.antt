@@ -1,4 +1,4 @@
--- A network goes by its marking, whatever the event.
+-- Each event may be done in a network, or is refused, just as in its marking, and changes the marking as `after` says.
 use Rattle.std.proofs.Common.{◌≡◌, ℕ, List, Option, Some, None, ap, sym, subst, ◌∙◌, ⊎_elim}
 use Rattle.std.proofs.lemmas.Option.{same_Some}
 use Rattle.gg_net.specs.declared.event.Event.{Event}
@@ -44,7 +44,7 @@ step-frame old (Fire c) new step = ap frame_of step.after.after ∙ fire-frame o
 step-frame old (Serve m p) new step = ap frame_of step.after ∙ serve-frame old m
 step-frame old (Finish m) new step = ap frame_of step.after.after ∙ finish-frame old m step.after.state
 
--- ---- and back
+-- ---- the other way round
 
 module _ (lists : List (List ℕ)) (runs : List (List (List ℕ))) (net : Network) (kept : Kept lists runs net) (layout : Layout) (has : HasLayout (frame_of net) layout) (event : Event) where
   pub free-ready : refusal layout (marking_of net) event ≡ None → Ready net event

@@ -1,4 +1,4 @@
--- What `Latch` makes of the marking.
+-- The marking after `Latch`.
 use Rattle.std.proofs.Common.{◌≡◌, ◌≢◌, ℕ, ◌<◌, List, Option, Some, None, true, false, length, refl, sym, ap, ◌∙◌, ⊎_elim, arith, get_or-set_same, get_or-set_other}
 use Rattle.std.specs.Prelude.{is_some, slice_set, drop}
 use Rattle.std.proofs.lemmas.Bool.{cases_eq}

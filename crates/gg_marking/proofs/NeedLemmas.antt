@@ -24,7 +24,7 @@ module _ (net : Network) (m : ℕ) where
   abbrev latches : List (Option ℕ)
   latches = (machine_at net.machines m).latches
 
-  -- a channel's mark is that of its latch
+  -- a channel is marked as taken if its latch holds a token
   mark-is : (d : ℕ) → d < length net.wires → (wire_at net.wires d).consumer ≡ m → is_set (marking_of net).taken d ≡ is_some (latch_at latches (wire_at net.wires d).place)
   mark-is d known to = taken-at net d known ∙ ap (λ k. is_some (latch_at (machine_at net.machines k).latches (wire_at net.wires d).place)) to
 

@@ -13,7 +13,7 @@ use Rattle.gg_marking.specs.Fits.{HasLayout, marking_of}
 use Rattle.gg_marking.proofs.CountLemmas.{taken-at, given-at}
 use Rattle.gg_marking.proofs.ChangeLemmas.{same-parts, taken-count, given-count}
 
--- each is 0, so all are
+-- if each count is 0, the list of the counts is all zeros
 all-zero : {X : Type 0} (count : X → ℕ) (xs : List X) (any : X) (n : ℕ) → length xs ≡ n → All (λ x. count x ≡ 0) xs → map count xs ≡ replicate n 0
 all-zero count xs any n size zero =
     ext_get_or 0 (map count xs) (replicate n 0) (length-map xs count ∙ size ∙ sym (length-replicate n 0)) (λ i lt.

@@ -1,4 +1,4 @@
--- A token is put into a channel where it is fired, and at no other step.
+-- `Fire` of a channel puts one token into it, and no other event does.
 use Rattle.std.proofs.Common.{◌≡◌, ℕ, suc, ◌-◌, ◌<◌, ◌≤◌, ◌++◌, List, [], ◌∷◌, Bool, true, false, length, refl, sym, ap, ◌∙◌, ⊎_elim, arith, get_or-set_same, get_or-set_other}
 use Rattle.std.specs.Prelude.{slice_set, take}
 use Rattle.std.proofs.lemmas.Bool.{cases_eq}
@@ -22,7 +22,7 @@ use Rattle.gg_marking.proofs.GoesLemmas.{step-frame}
 
 -- ---- over plain variables
 
--- what is told of each machine is as it was, where the same is told of the new one as of the old
+-- if a number is the same for the changed machine as before, it is the same for each machine
 told-same : (told : Machine → ℕ) (machines : List Machine) (m : ℕ) (y : Machine) → m < length machines → (k : ℕ) → (k ≡ m → told y ≡ told (machine_at machines m)) → told (machine_at (slice_set machines m y) k) ≡ told (machine_at machines k)
 told-same told machines m y there k same =
     ⊎_elim
@@ -30,7 +30,7 @@ told-same told machines m y there k same =
     (λ other. ap told (get_or-set_other machines m k y no_machine other))
     (cases_eq k m)
 
--- an out has given at most one token more than cycles were done
+-- an out has given no more tokens than there are cycles to do
 given-within : (cycle end : ℕ) (flag : Bool) → cycle ≤ end → (flag ≡ true → cycle < end) → given_by cycle flag ≤ end
 given-within cycle end false within lt = within
 given-within cycle end true within lt = omega (arith, lt refl)
@@ -44,7 +44,7 @@ module _ (lists : List (List ℕ)) (runs : List (List (List ℕ))) (net : Networ
       given-within x.cycle net.end (flag_at x.flags (wire_at net.wires c).out) at.within (λ set. (at.fired (wire_at net.wires c).out set).0)
 
   module _ (d : ℕ) where
-    -- how many tokens the channel's out gave, of any machine
+    -- how many tokens a machine has given at the channel's out
     abbrev gave : Machine → ℕ
     gave z = given_by z.cycle (flag_at z.flags (wire_at net.wires d).out)
 
@@ -72,7 +72,7 @@ module _ (lists : List (List ℕ)) (runs : List (List (List ℕ))) (net : Networ
         told-same gave net.machines w.producer (with_flag x w.out) (producer-there lists runs net kept c can.can.0) (wire_at net.wires d).producer (λ same.
         ap (given_by x.cycle) (get_or-set_other x.flags w.out (wire_at net.wires d).out true false (λ out. other (kept.sound.wired.one_out d c known can.can.0 same out))))
 
-  -- the channel that is fired
+  -- `Fire` of a channel puts one more token into it
   pub fire-puts : (c token : ℕ) → CanFire net c → puts (after_fire net c token) c ≡ suc (puts net c)
   fire-puts c token can =
       let w : Wire = wire_at net.wires c in
@@ -98,14 +98,14 @@ module _ (lists : List (List ℕ)) (runs : List (List (List ℕ))) (net : Networ
 -- ---- the token that was given
 
 module _ (lists : List (List ℕ)) (runs : List (List (List ℕ))) (old new : Network) (kept : Kept lists runs old) (c : ℕ) (step : Step old (Fire c) new) where
-  -- it is in the queue
+  -- the channel's queue isn't empty
   pub one-held : 0 < length (queue_at new.queues c)
   one-held =
       let queue : List ℕ = queue_at old.queues c ++ step.after.token ∷ [] in
       let is : queue_at new.queues c ≡ queue = ap (λ (n : Network). queue_at n.queues c) step.after.after ∙ get_or-set_same old.queues c queue [] (omega (arith, step.ready.can.0, kept.queues)) in
       omega (arith, ap length is, length-append (queue_at old.queues c) (step.after.token ∷ []))
 
-  -- and the tokens that were put are the front of the channel's list, one longer
+  -- the tokens that were put are the front of the channel's list, with one more: the newest of the queue
   pub front-grows : take (puts new c) (list_at lists c) ≡ take (puts old c) (list_at lists c) ++ value_at (queue_at new.queues c) (length (queue_at new.queues c) - 1) ∷ []
   front-grows =
       let list : List ℕ = list_at lists c in

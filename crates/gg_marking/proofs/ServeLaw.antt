@@ -1,4 +1,4 @@
--- `Serve` goes by the marking.
+-- `Serve` may be done in a network's marking if it may in the network, and is refused for the same cause if it is refused there.
 use Rattle.std.proofs.Common.{◌≡◌, ℕ, ◌<◌, List, Option, None, Some, length, refl, sym, ap, ◌∙◌}
 use Rattle.std.specs.Prelude.{◌==◌}
 use Rattle.std.proofs.lemmas.Bool.{eq-eqb, ne_eqb}
@@ -49,13 +49,13 @@ module _ (lists : List (List ℕ)) (runs : List (List (List ℕ))) (net : Networ
   turn-is : (turn : Turn) → due_turn layout marking m ≡ Some turn → at_turn ≡ turn_refusal layout marking m p (Some turn)
   turn-is turn found = ap (turn_refusal layout marking m p) found
 
-  -- it is this one
+  -- the port that is due is this one
   right-turn : (there : m < length net.machines) (is : due x ≡ Some p) → at_turn ≡ naming NeedsInput (first_unmarked marking.taken (is-due net layout has m there p is).turn.fields)
   right-turn there is =
       let this : IsDue net layout m p = is-due net layout has m there p is in
       turn-is this.turn this.found ∙ passed (this.turn.number == p) (Order this.turn.number) (naming NeedsInput (first_unmarked marking.taken this.turn.fields)) (eq-eqb this.turn.number p this.number)
 
-  -- it is another, or none
+  -- the port that is due is another, or none is due
   wrong-turn : (o : Option ℕ) → m < length net.machines → due x ≡ o → (o ≡ Some p → ⊥) → at_turn ≡ Some (Order (due_or_count x.port_count o))
   wrong-turn None there is other =
       ap (turn_refusal layout marking m p) (none-due net layout has m there (kept.machines m there).served is)
@@ -66,13 +66,13 @@ module _ (lists : List (List ℕ)) (runs : List (List (List ℕ))) (net : Networ
       ∙ failed (this.turn.number == p) (Order this.turn.number) (naming NeedsInput (first_unmarked marking.taken this.turn.fields)) (ne_eqb this.turn.number p (λ same. other (ap Some (sym this.number ∙ same))))
       ∙ ap (λ n. Some (Order n)) this.number
 
-  -- its fields are there
+  -- the port that is due is this one, and its fields were taken
   fields-there : (there : m < length net.machines) → due x ≡ Some p → missing_field net m ≡ None → at_turn ≡ None
   fields-there there is none =
       let this : IsDue net layout m p = is-due net layout has m there p is in
       right-turn there is ∙ ap (naming NeedsInput) (unmarked-none net m this.turn.fields this.taken (ap (first_empty x.latches) this.fields ∙ none))
 
-  -- or one isn't
+  -- the port that is due is this one, and one of its fields wasn't taken
   field-wanted : (first : Option ℕ) (d : ℕ) → missing_field net m ≡ first → m < length net.machines → due x ≡ Some p → IsWanted net m first d → at_turn ≡ Some (NeedsInput d)
   field-wanted None d first_is there is wanted = absurd wanted
   field-wanted (Some i) d first_is there is wanted =

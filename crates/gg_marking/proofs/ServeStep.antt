@@ -1,4 +1,4 @@
--- What `Serve` makes of the marking.
+-- The marking after `Serve`.
 use Rattle.std.proofs.Common.{◌≡◌, ℕ, ◌<◌, length, refl}
 use Rattle.gg_node.specs.Machine.{Machine, machine_at}
 use Rattle.gg_node.specs.Step.{with_served}

@@ -31,7 +31,7 @@ pub steps-frame : (old : Network) (events : List (Option Event)) (new : Network)
 steps-frame old [] new steps = ap frame_of steps
 steps-frame old (event ∷ events) new steps = steps-frame steps.0 events new steps.2 ∙ one-frame old event steps.0 steps.1
 
--- one step more
+-- some steps, and one more
 pub steps-more : (old : Network) (events : List (Option Event)) (next : Network) (event : Option Event) (new : Network) → Steps old events next → IsStep next event new → Steps old (events ++ event ∷ []) new
 steps-more old [] next event new steps step = (new, subst (λ net. IsStep net event new) steps step, refl)
 steps-more old (first ∷ events) next event new steps step = (steps.0, steps.1, steps-more steps.0 events next event new steps.2 step)
@@ -51,21 +51,21 @@ module _ (lists : List (List ℕ)) (runs : List (List (List ℕ))) (layout : Lay
   one-refused net None cause kept has is = ap Some (sym is)
   one-refused net (Some event) cause kept has is = refused-so lists runs net kept layout has event cause is
 
-  -- a step is done, and the others follow
+  -- if a step is done, the replay goes on with the steps that follow
   pub goes-on : (k : ℕ) (old : Network) (event : Option Event) (new : Network) (events : List (Option Event)) → Kept lists runs old → HasLayout (frame_of old) layout → IsStep old event new
       → replayed_from layout k (marking_of old) (event ∷ events) ≡ replayed_from layout (suc k) (marking_of new) events
   goes-on k old event new events kept has step =
       ap (λ o. go_on k o (replayed_from layout (suc k) (after_step layout (marking_of old) event) events)) (one-free old event new kept has step)
       ∙ ap (λ marking. replayed_from layout (suc k) marking events) (one-marks old event new kept has step)
 
-  -- all are done
+  -- if all steps are done, the replay ends at the marking of the last network
   pub all-done : (k : ℕ) (old : Network) (events : List (Option Event)) (new : Network) → Kept lists runs old → HasLayout (frame_of old) layout → Steps old events new → replayed_from layout k (marking_of old) events ≡ Ok (marking_of new)
   all-done k old [] new kept has steps = ap (λ net. Ok (marking_of net)) (sym steps)
   all-done k old (event ∷ events) new kept has steps =
       goes-on k old event steps.0 events kept has steps.1
       ∙ all-done (suc k) steps.0 events new (one-kept lists runs old event steps.0 kept steps.1) (subst (λ frame. HasLayout frame layout) (sym (one-frame old event steps.0 steps.1)) has) steps.2
 
-  -- one is refused, after n that are done
+  -- if a step is refused after n were done, the replay stops there for the same cause
   stops : (n k : ℕ) (old : Network) (events : List (Option Event)) (new : Network) (event : Option Event) (stopped : Stopped) → Kept lists runs old → HasLayout (frame_of old) layout → Steps old (take n events) new → slice_get events n ≡ Some event
       → stopped.step ≡ k + n → StepRefused new event stopped.cause → replayed_from layout k (marking_of old) events ≡ Err stopped
   stops zero k old [] new event stopped kept has steps next number refused = let is : ◌≡◌ {A = Option (Option Event)} None (Some event) = next in cc

@@ -1,4 +1,4 @@
--- Layouts of networks by hand: which layout a network has, how far it is, and which layouts it hasn't.
+-- Layouts of networks worked by hand: which layout a network has, what its marking is, and which layouts it doesn't have.
 use Rattle.std.proofs.Common.{◌≡◌, ℕ, zero, suc, ◌+◌, ◌<◌, List, [], ◌∷◌, Option, Some, None, Bool, true, false, refl, sym, subst, arith, lit<}
 use Rattle.std.specs.Prelude.{slice_index_or, slice_get}
 use Rattle.std.proofs.lemmas.Option.{same_Some}
@@ -105,7 +105,7 @@ stops-twice = record { done = 1; steps = (given, gives, refl); event = Some (Fir
 stops-at-none : StopsAt 1 opens (None ∷ []) opens (record { step = 1; cause = Stranger })
 stops-at-none = record { done = 0; steps = refl; event = None; next = refl; number = refl; refused = refl }
 
--- a step isn't refused for what it isn't refused for, and the number is that of the refused one
+-- a step isn't refused for a cause that it doesn't have, and the number of the stop is that of the refused step
 not-so : StopsAt 1 opens (Some (Fire 0) ∷ []) opens (record { step = 1; cause = Fired }) → ⊥
 not-so stops = by stops.done stops.number stops.event stops.next stops.refused
   where
@@ -123,11 +123,11 @@ not-another-number stops = by stops.done stops.number stops.event stops.next
     by zero number event next = omega (arith, number)
     by (suc done) number event next = let is : ◌≡◌ {A = Option (Option Event)} None (Some event) = next in cc
 
--- with a greater capacity it is another layout
+-- a greater capacity makes another layout
 not-longer : HasLayout (frame_of opens) (record counter { links = (record { producer = 1; consumer = 0; capacity = 2; needs = [] }) ∷ (record { producer = 0; consumer = 2; capacity = 1; needs = [] }) ∷ [] }) → ⊥
 not-longer has = let is : ◌≡◌ {A = ℕ} 2 1 = (has.link 0 (lit< tt)).capacity in omega (arith, is)
 
--- ---- needs and fields: machine 0 needs its ins 1 and 0, in this order, for its out, and one of its five ports looks at them, address first
+-- ---- needs and fields: machine 0 needs its ins 1 and 0, in this order, for its out, and one of its five ports has them as fields
 
 abbrev reader : Port
 reader = record { number = 4; access = ByReader 0 (record { addr = 1; en = 0; word = 2 }) }
@@ -145,7 +145,7 @@ needy =
       end = 2;
     }
 
--- by the needs and the fields
+-- the layout with these needs and these fields
 abbrev with_these : List ℕ → List ℕ → Layout
 with_these needs fields =
     record {
@@ -196,7 +196,7 @@ needy-fits = record { machines = refl; channels = refl; end = refl; ports = refl
     outs (suc (suc c)) (suc (suc zero)) before lt same = absurd (omega (arith, before))
     outs c (suc (suc (suc d))) before lt same = absurd (omega (arith, lt))
 
--- the same needs in another order, one too few, and fields in another order
+-- not a layout: the same needs in another order, one need too few, and the fields in another order
 not-other-needs : HasLayout needy (with_these (0 ∷ 1 ∷ []) (1 ∷ 0 ∷ [])) → ⊥
 not-other-needs has = let is : ◌≡◌ {A = List ℕ} (0 ∷ 1 ∷ []) (1 ∷ 0 ∷ []) = (has.link 2 (lit< tt)).needs in cc
 
@@ -207,7 +207,7 @@ not-other-fields : HasLayout needy (with_these (1 ∷ 0 ∷ []) (0 ∷ 1 ∷ [])
 not-other-fields has =
     let is : ◌≡◌ {A = List ℕ} (0 ∷ 1 ∷ []) (1 ∷ 0 ∷ []) = ((has.turns 0 (lit< tt)).each 0 reader (record { number = 0; fields = [] }) (lit< tt)).fields in cc
 
--- as many ports as are served alone, and no ports
+-- not a layout: a count of the served ports alone, and no counts at all
 not-those-served-alone : HasLayout needy (record (with_these (1 ∷ 0 ∷ []) (1 ∷ 0 ∷ [])) { port_counts = 1 ∷ 0 ∷ [] }) → ⊥
 not-those-served-alone has = let is : ◌≡◌ {A = List ℕ} (1 ∷ 0 ∷ []) (5 ∷ 0 ∷ []) = has.ports in cc
 

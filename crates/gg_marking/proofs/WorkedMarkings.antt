@@ -41,7 +41,7 @@ counter-puts-1 = refl
 counter-takes-1 : takes counter reached 1 ≡ 1
 counter-takes-1 = refl
 
--- each refusal of `latch` and `fire`, in the counter
+-- each cause for which the counter's `latch` and `fire` can be refused
 
 abbrev start : Marking
 start = opening_marking counter
@@ -69,7 +69,7 @@ full-queue = refl
 no-event : replayed_from counter 1 start (Some (Fire 1) ∷ None ∷ []) ≡ Err (record { step = 2; cause = Stranger })
 no-event = refl
 
--- two cycles are all
+-- after two cycles a machine has ended
 after-the-end : replayed_from counter 1 start
     (Some (Fire 0) ∷ Some (Finish 1) ∷ Some (Latch 0) ∷ Some (Fire 0) ∷ Some (Finish 1) ∷ Some (Fire 0) ∷ [])
     ≡ Err (record { step = 6; cause = Ended })
@@ -143,7 +143,7 @@ serve-needs = refl
 finish-unserved : replayed_from served 1 (opening_marking served) (Some (Fire 6) ∷ Some (Finish 0) ∷ []) ≡ Err (record { step = 2; cause = Unserved 0 })
 finish-unserved = refl
 
--- both are served: then no port is due, and the number of the ports is told
+-- both are served: then no port is due, and the refusal has the number of the ports
 serve-both : replayed_from served 1 (opening_marking served)
     (Some (Fire 6) ∷ Some (Fire 0) ∷ Some (Latch 0) ∷ Some (Fire 1) ∷ Some (Latch 1) ∷ Some (Serve 0 0) ∷ Some (Fire 2) ∷ Some (Latch 2) ∷ Some (Fire 3)
     ∷ Some (Latch 3) ∷ Some (Fire 4) ∷ Some (Latch 4) ∷ Some (Fire 5) ∷ Some (Latch 5) ∷ Some (Serve 0 1) ∷ Some (Serve 0 1) ∷ [])
@@ -162,7 +162,7 @@ serve-finish : replayed_from served 1 (opening_marking served)
     })
 serve-finish = refl
 
--- ---- the same memory, whose reader gives its word in the same cycle: it is port 0 still, which isn't served, and the writer is port 1
+-- ---- the same memory with a reader that gives its word in the same cycle: it is still port 0, but isn't served; the writer is 1
 
 abbrev at_once : Layout
 at_once =
@@ -183,7 +183,7 @@ at-once-stranger = refl
 at-once-order : replayed_from at_once 1 (opening_marking at_once) (Some (Fire 0) ∷ Some (Latch 0) ∷ Some (Fire 1) ∷ Some (Latch 1) ∷ Some (Fire 6) ∷ Some (Serve 0 0) ∷ []) ≡ Err (record { step = 6; cause = Order 1 })
 at-once-order = refl
 
--- the writer is served: none is due, and the number of the ports is told
+-- the writer is served: none is due, and the refusal has the number of the ports
 at-once-none-due : replayed_from at_once 1 (opening_marking at_once)
     (Some (Fire 0) ∷ Some (Latch 0) ∷ Some (Fire 1) ∷ Some (Latch 1) ∷ Some (Fire 6) ∷ Some (Fire 2) ∷ Some (Latch 2) ∷ Some (Fire 3) ∷ Some (Latch 3)
     ∷ Some (Fire 4) ∷ Some (Latch 4) ∷ Some (Fire 5) ∷ Some (Latch 5) ∷ Some (Serve 0 1) ∷ Some (Serve 0 0) ∷ [])
@@ -199,7 +199,7 @@ read-only-order = refl
 
 -- ---- what must not hold
 
--- a reader that isn't served is no stranger, neither before its word is given nor when none is due
+-- `serve` of a reader that isn't served isn't refused as `Stranger`, neither before its word is given nor when no port is due
 not-a-stranger : refusal at_once (opening_marking at_once) (Serve 0 0) ≡ Some Stranger → ⊥
 not-a-stranger said = let is : ◌≡◌ {A = Option Refusal} (Some (Unfired 6)) (Some Stranger) = said in cc
 
@@ -214,6 +214,6 @@ not-before-its-needs said = let is : ◌≡◌ {A = Option Refusal} (Some (Needs
 not-the-writer-first : refusal served (after served (opening_marking served) (Fire 6)) (Serve 0 1) ≡ None → ⊥
 not-the-writer-first said = let is : ◌≡◌ {A = Option Refusal} (Some (Order 0)) None = said in cc
 
--- a queue isn't one longer than its capacity
+-- a queue doesn't get longer than its capacity
 not-past-its-capacity : (marking : Marking) → replayed_from counter 1 start (Some (Fire 1) ∷ Some (Fire 0) ∷ Some (Latch 0) ∷ Some (Finish 0) ∷ Some (Fire 1) ∷ []) ≡ Ok marking → ⊥
 not-past-its-capacity marking said = let is : ◌≡◌ {A = Result Marking Stopped} (Err (record { step = 5; cause = Full 1 1 })) (Ok marking) = said in cc

@@ -1,4 +1,4 @@
--- Which port stands at a place of the order in which ports are served.
+-- Which port is at a place of the order in which ports are served.
 use Rattle.std.proofs.Common.{◌≡◌, ℕ, zero, suc, ◌+◌, ◌-◌, ◌<◌, ◌≤◌, List, [], ◌∷◌, ◌++◌, Option, Some, None, Bool, true, false, length, map, refl, sym, ap, ◌∙◌, subst, inl, inr, ◌⊎◌, arith}
 use Rattle.std.specs.Prelude.{slice_get, nat_lt, if◌then◌else◌, MatchOption, ⊤}
 use Rattle.std.specs.Option.{option_map}
@@ -18,7 +18,7 @@ use Rattle.gg_memunit.specs.MemoryUnit.{port_of, ports_by, count_by, number_by, 
 
 -- ---- lists
 
--- ports from a list of accesses, read at a place
+-- items of two joined lists, and items past the end
 left : (xs ys : List Access) (j : ℕ) → j < length xs → slice_get (xs ++ ys) j ≡ slice_get xs j
 left [] ys j below = absurd (omega arith)
 left (x ∷ xs) ys zero below = refl
@@ -66,14 +66,14 @@ writer-here writers j below = writer-from 0 writers j below ∙ ap (λ k. Some (
 
 -- ---- ports
 
--- the port of a reader, and that of a writer
+-- the port of a reader, and the port of a writer
 abbrev pub reader-port : ℕ → Reader → Port
 reader-port r reader = record { number = r; access = ByReader r reader }
 
 abbrev pub writer-port : ℕ → ℕ → Writer → Port
 writer-port readers w writer = record { number = readers + w; access = ByWriter w writer }
 
--- the port of an access at a place
+-- the port at a place is the port of the access at this place
 port-at : (n : ℕ) (accesses : List Access) (j : ℕ) (access : Access) → slice_get accesses j ≡ Some access → slice_get (map (port_of n) accesses) j ≡ Some (port_of n access)
 port-at n accesses j access is = slice_get-map (port_of n) accesses j ∙ ap (option_map (port_of n)) is
 
@@ -155,7 +155,7 @@ number_at latency readers writers j = by latency
 
 -- ---- the port of a number
 
--- a port is that of a late reader, or that of a writer
+-- a port is that of a late reader, or of a writer
 abbrev pub IsOfReader : Latency → List Reader → Option Port → Type 0
 IsOfReader latency readers port = (k : ℕ) × (k < length readers) × (read_count latency readers ≡ length readers) × (port ≡ Some (reader-port k (reader_at readers k)))
 

@@ -1,4 +1,4 @@
--- A memory that was served through is in its next state.
+-- A memory whose ports were all served is in its next state.
 use Rattle.std.proofs.Common.{◌≡◌, ℕ, suc, ◌<◌, List, [], ◌∷◌, ◌++◌, Option, length, map, refl, sym, ap, subst, ◌∙◌, arith}
 use Rattle.std.specs.Prelude.{All, fold, slice_index_or, slice_set, ◌==◌, ◌&&◌, if◌then◌else◌}
 use Rattle.std.proofs.lemmas.List.Sums.{fold-append}
@@ -22,7 +22,7 @@ use Rattle.gg_node.specs.Machine.{latched_values}
 use Rattle.gg_memunit.specs.MemoryUnit.{IsMemoryPiece, port_of, ports_of, accessed_by}
 use Rattle.gg_memunit.proofs.UnitLemmas.{sole, of-sole, in-value}
 
--- a state of these registers and of one bank
+-- a state with these registers and one bank
 abbrev one-bank : List ℕ → Bank → State
 one-bank registers bank = record { registers = registers; banks = bank ∷ [] }
 
@@ -87,7 +87,7 @@ module _ (n : ℕ) (v w : List ℕ) (same : (i : ℕ) → i < n → value_at v i
     all-agree (One Undefined) = readers-first
     all-agree (One New) = writers-first
 
--- ---- served through
+-- ---- all ports served
 
 no-numbers : (xs : List ℕ) → length xs ≡ 0 → xs ≡ []
 no-numbers [] none = refl

@@ -31,7 +31,7 @@ there : (latch : Option ℕ) (i : ℕ) (rest : Option ℕ) → empty_or latch i 
 there None i rest is = absurd (none-is-no-some i is)
 there (Some v) i rest is = (refl, is)
 
--- the token at a place
+-- the value of a latch is at its place among the latched values
 token-at : (latches : List (Option ℕ)) (i : ℕ) → latched_value (latch_at latches i) ≡ value_at (latched_values latches) i
 token-at [] i = refl
 token-at (l ∷ latches) zero = refl
@@ -44,7 +44,7 @@ sole [] one = absurd (omega arith)
 sole (memory ∷ []) one = (memory, refl)
 sole (memory ∷ other ∷ memories) one = absurd (omega arith)
 
--- what holds of each memory, of the only one
+-- what holds of each memory holds of the only one
 pub of-sole : (P : Memory → Type 0) (memories : List Memory) (memory : Memory) → memories ≡ memory ∷ [] → All P memories → P memory
 of-sole P memories memory only all = subst (All P) only all 0 memory (omega arith)
 
@@ -66,14 +66,14 @@ module _ (piece : FlatCircuit) (memory : Memory) (is : IsMemoryPiece piece) (onl
   pub out-count : length piece.outs ≡ length memory.readers
   out-count = ap length (is.outs ∙ ap outs_of only) ∙ length-map memory.readers (λ (reader : Reader). reader.word)
 
-  -- the data of a reader has its driver
+  -- the data of a reader has the reader's driver
   out-driven : (o : ℕ) → o < length memory.readers → driver_at piece (reader_at memory.readers o).word ≡ reader_driver memory.latency 0 o (reader_at memory.readers o)
   out-driven o below =
       let all : AreDriven (driver_at piece) 0 (latency_at piece 0) (readers_at piece 0) = is.formed.reads 0 (omega (arith, is.one)) in
       subst (λ latency. AreDriven (driver_at piece) 0 latency memory.readers) (ap (λ (memories : List Memory). slice_index_or (map (λ (memory : Memory). memory.latency) memories) 0 Zero) only)
       (subst (λ readers. AreDriven (driver_at piece) 0 (latency_at piece 0) readers) (ap (λ (memories : List Memory). slice_index_or (map (λ (memory : Memory). memory.readers) memories) 0 []) only) all) o below
 
-  -- the value of an out-signal
+  -- the value of an out-signal is its driver's
   out-value : (state : State) (inputs signals : List ℕ) → Settled piece state inputs signals → (o : ℕ) → o < length memory.readers → value_at signals (value_at piece.outs o) ≡ driver_value state inputs signals (shape_at (signal_shapes piece) (reader_at memory.readers o).word) (reader_driver memory.latency 0 o (reader_at memory.readers o))
   out-value state inputs signals settled o below =
       let s = (reader_at memory.readers o).word in
@@ -112,7 +112,7 @@ module _ (piece : FlatCircuit) (memory : Memory) (is : IsMemoryPiece piece) (onl
         ∙ ap (λ a. read_word bank.words a (value_at signals reader.en)) addr
         ∙ ap (read_word bank.words (value_at (latched_values latches) reader.addr)) en
 
--- ---- a memory whose ports are none that are served
+-- ---- a memory of which no port is served
 
 nothing-written : (signals : List ℕ) (a : ℕ) (words : List ℕ) → next_words_from signals [] a words ≡ words
 nothing-written signals a [] = refl
@@ -164,7 +164,7 @@ module _ (piece : FlatCircuit) (memory : Memory) (is : IsMemoryPiece piece) (onl
   pub among-ports : p < length memory.readers + length memory.writers
   among-ports = port-below memory.latency memory.readers memory.writers served p due-here
 
-  -- the access of the port that is due
+  -- what serving the due port makes of the machine
   pub serve-step : (limit cycle : ℕ) (bank : Bank) (latches : List (Option ℕ)) (flags : List Bool)
       → memory_machine piece limit cycle (state_of (after_access (latched_values latches) bank (access_of memory.readers memory.writers p))) (served + 1) latches flags ≡ with_served (memory_machine piece limit cycle (state_of bank) served latches flags)
   serve-step limit cycle bank latches flags =
@@ -181,7 +181,7 @@ of-only P memories memory only is = subst (All P) (sym only) one
     one zero d below = is
     one (suc k) d below = absurd (omega arith)
 
--- empty latches have no tokens
+-- the values of empty latches are zeros
 pub tokens-none : (count : ℕ) → replicate count 0 ≡ latched_values (replicate count None)
 tokens-none zero = refl
 tokens-none (suc count) = ap (λ tokens. 0 ∷ tokens) (tokens-none count)
@@ -193,6 +193,6 @@ tokens-cleared inputs zeros latches empty same are none =
 pub tokens-set : (inputs : List ℕ) (latches : List (Option ℕ)) (place token : ℕ) → inputs ≡ latched_values latches → slice_set inputs place token ≡ latched_values (slice_set latches place (Some token))
 tokens-set inputs latches place token same = ap (λ inputs. slice_set inputs place token) same ∙ sym (map-set latched_value latches place (Some token))
 
--- the fields of a memory's readers have tokens
+-- the fields of a memory's readers are numbers of in-signals
 pub looks-among : (piece : FlatCircuit) (memory : Memory) → IsMemoryPiece piece → piece.memories ≡ memory ∷ [] → (n : ℕ) → n ≡ length piece.ins → All (LooksAmong n) memory.readers
 looks-among piece memory is only n same = subst (λ n. All (LooksAmong n) memory.readers) (sym same) (of-sole (λ memory. All (LooksAmong (length piece.ins)) memory.readers) piece.memories memory only is.readers)

@@ -50,7 +50,7 @@ late_states under = states (One under) (r ∷ []) (w ∷ []) (empty (0 ∷ [])) 
 abbrev late_data : UnderWrite → List ℕ
 late_data under = map (λ (state : State). value_at (bank_at state.banks 0).reads 0) (late_states under)
 
--- those of the five cycles, as inside the circuit, and that of the next
+-- the data of the five cycles is the data inside the circuit; the data of the next cycle follows
 data-new : late_data New ≡ column (rows_along (late New) late_order late_inputs 5) 6 ++ 0 ∷ []
 data-new = refl
 
@@ -60,7 +60,7 @@ data-old = refl
 data-undefined : late_data Undefined ≡ column (rows_along (late Undefined) late_order late_inputs 5) 6 ++ 0 ∷ []
 data-undefined = refl
 
--- the two differ
+-- `New` and `Old` give different data
 reads-new : late_data New ≡ 0 ∷ 17 ∷ 0 ∷ 0 ∷ 68 ∷ 0 ∷ []
 reads-new = refl
 

@@ -35,7 +35,7 @@ piece =
       outs = 2 ∷ [];
     }
 
--- what holds of each element of a list of one
+-- a list of one element: what holds of the element holds of each
 one-of : {X : Type 0} (P : X → Type 0) (x : X) → P x → All P (x ∷ [])
 one-of P x is k d below = only (λ k. P (slice_index_or (x ∷ []) k d)) is k below
 

@@ -32,14 +32,14 @@ numbers-old = refl
 numbers-new : map (λ port. port.number) (ports (One New)) ≡ (1 ∷ 2 ∷ 0 ∷ [])
 numbers-new = refl
 
--- the data of a reader needs its address and its enable where it comes in the same cycle, and nothing where it is late
+-- the data of a reader needs its address and its enable if it comes in the same cycle, and nothing if the reader is late
 needs-same : needs_by Zero r ≡ (0 ∷ 1 ∷ [])
 needs-same = refl
 
 needs-late : needs_by (One New) r ≡ []
 needs-late = refl
 
--- a state of these words and read registers
+-- a state with these words and read registers
 abbrev holds : List ℕ → List ℕ → State
 holds words reads = state_of (record { words = words; reads = reads })
 

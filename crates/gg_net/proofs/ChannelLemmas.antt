@@ -1,11 +1,11 @@
--- One channel: its queue stays the list from the tokens taken to the tokens put.
+-- One channel: its queue stays the part of the list from the tokens taken to the tokens put.
 use Rattle.std.proofs.Common.{◌≡◌, ℕ, suc, ◌<◌, ◌≤◌, ◌++◌, List, [], ◌∷◌, length, drop, sym, ap, subst, ◌∙◌, ⊎_elim, arith}
 use Rattle.std.proofs.lemmas.Bool.{cases_lt}
 use Rattle.std.proofs.lemmas.List.{length-append, get_or_append_left, get_or_at}
 use Rattle.gg_flat.specs.Line.{value_at}
 use Rattle.gg_net.specs.Kept.{BetweenAt}
 
--- with the same counts and the same queue
+-- this stays so for equal counts and an equal queue
 pub between-same : (list : List ℕ) (capacity taken taken' put put' : ℕ) (queue queue' : List ℕ) → taken' ≡ taken → put' ≡ put → queue' ≡ queue → BetweenAt list capacity taken put queue → BetweenAt list capacity taken' put' queue'
 between-same list capacity taken taken' put put' queue queue' takes puts same between =
     subst (λ t. BetweenAt list capacity t put' queue') (sym takes) (subst (λ p. BetweenAt list capacity taken p queue') (sym puts) (subst (BetweenAt list capacity taken put) (sym same) between))
@@ -14,7 +14,7 @@ between-same list capacity taken taken' put put' queue queue' takes puts same be
 pub front-is : (list : List ℕ) (capacity taken put : ℕ) (queue : List ℕ) → BetweenAt list capacity taken put queue → 0 < length queue → value_at queue 0 ≡ value_at list taken
 front-is list capacity taken put queue between held = between.tokens 0 held ∙ ap (value_at list) (omega arith)
 
--- a token was taken
+-- this stays so after a token was taken
 pub taken-one : (list : List ℕ) (capacity taken put : ℕ) (queue : List ℕ) → BetweenAt list capacity taken put queue → 0 < length queue → BetweenAt list capacity (suc taken) put (drop 1 queue)
 taken-one list capacity taken put [] between held = absurd (omega (arith, held))
 taken-one list capacity taken put (token ∷ queue) between held =
@@ -24,7 +24,7 @@ taken-one list capacity taken put (token ∷ queue) between held =
       tokens = λ j below. between.tokens (suc j) (omega (arith, below)) ∙ ap (value_at list) (omega arith);
     }
 
--- a token was put
+-- this stays so after a token was put
 pub put-one : (list : List ℕ) (capacity taken put : ℕ) (queue : List ℕ) (token : ℕ) → BetweenAt list capacity taken put queue → length queue < capacity → token ≡ value_at list put → BetweenAt list capacity taken (suc put) (queue ++ token ∷ [])
 put-one list capacity taken put queue token between room is =
     record {

@@ -1,4 +1,4 @@
--- A network's parts after a step: they are a network again, and it is the step's.
+-- The parts of a network after a step make a network again, the one to which the step leads.
 use Rattle.std.proofs.Common.{◌≡◌, ◌≢◌, ℕ, ◌<◌, ◌≤◌, ◌++◌, List, [], ◌∷◌, None, Some, true, false, length, map, drop, refl, sym, ap, subst, ◌∙◌, ⊎_elim, arith, get_or-set_same, get_or-set_other}
 use Rattle.std.specs.Prelude.{slice_set, slice_index_or, replicate}
 use Rattle.std.proofs.lemmas.Bool.{cases_eq}
@@ -46,7 +46,7 @@ no_tokens = record { tokens = []; room = 0 }
 pub tokens-at : (queues : List Held) (c : ℕ) (queue : Held) → c < length queues → queue ≡ slice_index_or queues c queue → queue.tokens ≡ queue_at (map (λ (q : Held). q.tokens) queues) c
 tokens-at queues c queue below is = ap tokens is ∙ sym (get_or-map tokens queues c queue [] below)
 
--- a queue was changed, and its room is the same
+-- queues have room if one was changed and kept its room
 pub room-set : (wires : List Wire) (queues : List Held) (c : ℕ) (queue new : Held) → c < length queues → queue ≡ slice_index_or queues c queue → new.room ≡ queue.room → HasRoom wires queues → HasRoom wires (slice_set queues c new)
 room-set wires queues c queue new below is same room d known =
     ⊎_elim
@@ -75,7 +75,7 @@ module _ {lists : List (List ℕ)} {runs : List (List (List ℕ))} {hosts : List
       step-at : IsReseated hosts after (slice_index_or stations m station) y
       step-at = subst (λ s. IsReseated hosts after s y) is step
 
-      -- the network of the parts
+      -- the network that the parts make
       pub parts-are : net_of after stations wires queues' end ≡ record old { machines = slice_set (machines_by hosts stations) m y; queues = map (λ (q : Held). q.tokens) queues' }
       parts-are = ap (λ (machines : List Machine). record { machines = machines; wires = wires; queues = map (λ (q : Held). q.tokens) queues'; end = end }) (machines-set hosts after stations m station y net.seated below step-at)
 
@@ -84,7 +84,7 @@ module _ {lists : List (List ℕ)} {runs : List (List (List ℕ))} {hosts : List
           ap (λ (machines : List Machine). record { kinds = map kind_of machines; wires = wires; end = end }) (machines-set hosts after stations m station y net.seated below step-at)
           ∙ ap (λ (kinds : List Kind). record { kinds = kinds; wires = wires; end = end }) (map-set_same kind_of (machines_by hosts stations) m y no_machine (kind ∙ ap kind_of (sym machine-is)))
 
-      -- The parts are a network again.
+      -- The parts make a network again.
       pub closes : kind_of y ≡ kind_of (seated hosts station) → HasRoom wires queues' → Kept lists runs (net_of after stations wires queues' end) → IsNet lists runs after stations wires queues' end
       closes kind room kept =
           record {

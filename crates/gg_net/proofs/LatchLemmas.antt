@@ -23,13 +23,13 @@ pub has-value : (latch : Option ℕ) → IsSome latch → latch ≡ Some (latche
 has-value None some = absurd (true-is-no-false (sym some))
 has-value (Some value) some = refl
 
--- a latch that holds a token is there
+-- a latch that holds a token exists
 pub latch-within : (latches : List (Option ℕ)) (i value : ℕ) → latch_at latches i ≡ Some value → i < length latches
 latch-within [] i value is = absurd (none-is-no-some value is)
 latch-within (latch ∷ latches) zero value is = omega arith
 latch-within (latch ∷ latches) (suc i) value is = let within : i < length latches = latch-within latches i value is in omega arith
 
--- a latch that holds a token still does after another token came
+-- a latch that holds a token still does after another token was put
 pub latch-grows : (latches : List (Option ℕ)) (i value j : ℕ) → i < length latches → IsSome (latch_at latches j) → IsSome (latch_at (slice_set latches i (Some value)) j)
 latch-grows latches i value j below some =
     ⊎_elim
@@ -37,7 +37,7 @@ latch-grows latches i value j below some =
     (λ other. subst IsSome (sym (get_or-set_other latches i j (Some value) None other)) some)
     (cases_eq j i)
 
--- the value in a latch is that of its place among the values
+-- the value in a latch is at its place among the latched values
 pub value-latched : (latches : List (Option ℕ)) (i value : ℕ) → latch_at latches i ≡ Some value → value_at (latched_values latches) i ≡ value
 value-latched latches i value is = get_or-map latched_value latches i None ∙ ap latched_value is
 
@@ -47,13 +47,13 @@ some-there : (latch : Option ℕ) (i : ℕ) (rest : Option ℕ) → empty_or lat
 some-there None i rest is = absurd (some-is-no-none i is)
 some-there (Some value) i rest is = (refl, is)
 
--- where none is empty each has its token
+-- if none of the ins is empty, each has its token
 pub all-filled : (latches : List (Option ℕ)) (ins : List ℕ) → first_empty latches ins ≡ None → All (λ i. IsSome (latch_at latches i)) ins
 all-filled latches [] none k d below = absurd (omega arith)
 all-filled latches (i ∷ ins) none zero d below = (some-there (latch_at latches i) i (first_empty latches ins) none).0
 all-filled latches (i ∷ ins) none (suc k) d below = all-filled latches ins (some-there (latch_at latches i) i (first_empty latches ins) none).1 k d (omega arith)
 
--- and back
+-- if each of the ins has its token, none is empty
 pub none-empty : (latches : List (Option ℕ)) (ins : List ℕ) → All (λ i. IsSome (latch_at latches i)) ins → first_empty latches ins ≡ None
 none-empty latches [] all = refl
 none-empty latches (i ∷ ins) all = by (latch_at latches i) (all zero 0 (omega arith)) (none-empty latches ins (λ k d below. all (suc k) d (omega arith)))
@@ -62,7 +62,7 @@ none-empty latches (i ∷ ins) all = by (latch_at latches i) (all zero 0 (omega 
     by None some none = absurd (true-is-no-false (sym some))
     by (Some value) some none = none
 
--- the first that is empty is one of the ins
+-- the first in that is empty is one of the ins
 pub first-among : (latches : List (Option ℕ)) (ins : List ℕ) (i : ℕ) → first_empty latches ins ≡ Some i → Contains ins i
 first-among latches [] i is = absurd (none-is-no-some i is)
 first-among latches (j ∷ ins) i is = by (latch_at latches j) (λ rest. first-among latches ins i rest) is
@@ -71,14 +71,14 @@ first-among latches (j ∷ ins) i is = by (latch_at latches j) (λ rest. first-a
     by None among is = (0, omega arith, same_Some j i is)
     by (Some value) among is = let has : Contains ins i = among is in (suc has.0, omega (arith, has.1), has.2)
 
--- a token more, and still none is empty
+-- if none of the ins is empty, none is empty after one more token
 pub missing-grows : (latches : List (Option ℕ)) (i value : ℕ) (ins : List ℕ) → i < length latches → first_empty latches ins ≡ None → first_empty (slice_set latches i (Some value)) ins ≡ None
 missing-grows latches i value ins below none =
     none-empty (slice_set latches i (Some value)) ins (λ k d within. latch-grows latches i value (slice_index_or ins k d) below (all-filled latches ins none k d within))
 
 -- ---- flags
 
--- a flag that is set is there
+-- a flag that is set exists
 pub flag-within : (flags : List Bool) (o : ℕ) → flag_at flags o ≡ true → o < length flags
 flag-within [] o is = absurd (true-is-no-false (sym is))
 flag-within (flag ∷ flags) zero is = omega arith

@@ -30,12 +30,12 @@ one P x p (suc k) d below = absurd (omega arith)
 none-of-none : {X : Type 0} (P : X → Type 0) (xs : List X) → All P (take 0 xs)
 none-of-none P xs k d below = absurd (omega arith)
 
--- the port that is due
+-- if a number is due, its port exists
 pub due-port : (port : Option Port) (p : ℕ) → port_number port ≡ Some p → (q : Port) × (port ≡ Some q)
 due-port None p is = absurd (none-is-no-some p is)
 due-port (Some q) p is = (q, refl)
 
--- a tray's values with one more
+-- a tray's values, with one more
 kept-more : (list kept : List ℕ) (cycle value : ℕ) → HasKept list cycle kept → value ≡ value_at list cycle → HasKept list (suc cycle) (kept ++ value ∷ [])
 kept-more list kept cycle value has is =
     record {
@@ -53,15 +53,15 @@ module _ (lists : List (List ℕ)) (runs : List (List (List ℕ))) (frame : Fram
   abbrev rows : List (List ℕ)
   rows = rows_at runs m
 
-  -- a channel's value is what its in takes
+  -- the channel's value is the one that the machine's rows ask for at its in
   pub asks : (c t : ℕ) → c < length frame.wires → (wire_at frame.wires c).consumer ≡ m → t < frame.end → Asks kind.behaviour rows (wire_at frame.wires c).place t (value_at (list_at lists c) t)
   asks c t known is lt = subst (λ q. Asks (kind_at frame.kinds q).behaviour (rows_at runs q) (wire_at frame.wires c).place t (value_at (list_at lists c) t)) is (sound.solves.taken c known t lt)
 
-  -- a channel's value is what its out gives
+  -- the channel's value is the one that the machine's rows give at its out
   pub answers : (c t : ℕ) → c < length frame.wires → (wire_at frame.wires c).producer ≡ m → t < frame.end → Answers kind.behaviour rows (wire_at frame.wires c).out t (value_at (list_at lists c) t)
   answers c t known is lt = subst (λ p. Answers (kind_at frame.kinds p).behaviour (rows_at runs p) (wire_at frame.wires c).out t (value_at (list_at lists c) t)) is (sound.solves.given c known t lt)
 
-  -- what a machine of a piece does
+  -- a machine that runs a piece has rows that are a run of the piece
   pub does : (piece : FlatCircuit) → kind.behaviour ≡ RunsPiece piece → RunsRows piece kind rows frame.end
   does piece is = subst (λ b. Runs b kind rows frame.end) is (sound.solves.does m below)
 
@@ -114,7 +114,7 @@ module _ (lists : List (List ℕ)) (runs : List (List (List ℕ))) (frame : Fram
         sym token ∙ subst (λ b. Answers b rows (wire_at frame.wires c).out x.cycle (value_at (list_at lists c) x.cycle)) is (answers c x.cycle known from lt)
     token-by KeepsValues c value is known from lt none stands token = absurd token
 
-    -- no port was served before the last out gives its token
+    -- while an out hasn't given its token, no port was served
     unserved : (o : ℕ) → o < length x.flags → flag_at x.flags o ≡ false → x.served ≡ 0
     unserved o within clear =
         ⊎_elim (λ (lt : 0 < x.served). absurd (true-is-no-false (sym (at.serving lt o false within) ∙ clear))) (λ (le : x.served ≤ 0). omega (arith, le)) (cases_lt 0 x.served)
@@ -129,7 +129,7 @@ module _ (lists : List (List ℕ)) (runs : List (List (List ℕ))) (frame : Fram
         let within : (wire_at frame.wires c).place < kind.ins = subst (λ q. (wire_at frame.wires c).place < (kind_at frame.kinds q).ins) is (sound.wired.place c known) in
         omega (arith, within, ins-is)
 
-    -- The token of an out is its channel's value.
+    -- The token of an out is the channel's value.
     pub token_is : (c value : ℕ) → c < length frame.wires → (wire_at frame.wires c).producer ≡ m → x.cycle < frame.end → flag_at x.flags (wire_at frame.wires c).out ≡ false → IsToken x (wire_at frame.wires c).out value → value ≡ value_at (list_at lists c) x.cycle
     token_is c value known from lt clear token =
         token-by x.behaviour c value behaviour-is known from lt (unserved (wire_at frame.wires c).out (out-within c known from) clear) at.stands token
@@ -156,13 +156,13 @@ module _ (lists : List (List ℕ)) (runs : List (List (List ℕ))) (frame : Fram
     next-by (GivesColumn column) ps next is ports lt all whole stands goes = tt
     next-by KeepsValues ps next is ports lt all whole stands goes = tt
 
-    -- The next state is that of the rows.
+    -- The next state is the one to which the rows lead.
     pub next_is : (next : State) → x.cycle < frame.end → AllLatched x → x.served ≡ length x.ports → IsNextState x next → IsStateOf x.behaviour x.ports rows (suc x.cycle) 0 next
     next_is next lt all whole goes = next-by x.behaviour x.ports next behaviour-is refl lt all whole at.stands goes
 
     -- ---- steps
 
-    -- A token was latched.
+    -- After a token was latched, the machine may stand at its place.
     pub own_latch : (c value : ℕ) → c < length frame.wires → (wire_at frame.wires c).consumer ≡ m → x.cycle < frame.end → latch_at x.latches (wire_at frame.wires c).place ≡ None → value ≡ value_at (list_at lists c) x.cycle
         → MachineAt lists runs frame m (with_latch x (wire_at frame.wires c).place value)
     own_latch c value known is lt empty token =
@@ -186,7 +186,7 @@ module _ (lists : List (List ℕ)) (runs : List (List (List ℕ))) (frame : Fram
           kept = at.kept;
         }
 
-    -- A token was given.
+    -- After a token was given, the machine may stand at its place.
     pub own_fire : (c : ℕ) → c < length frame.wires → (wire_at frame.wires c).producer ≡ m → x.cycle < frame.end → flag_at x.flags (wire_at frame.wires c).out ≡ false → missing x (wire_at frame.wires c).out ≡ None
         → MachineAt lists runs frame m (with_flag x (wire_at frame.wires c).out)
     own_fire c known is lt clear needed =
@@ -222,7 +222,7 @@ module _ (lists : List (List ℕ)) (runs : List (List (List ℕ))) (frame : Fram
     stands-served (GivesColumn column) q is port none stands = tt
     stands-served KeepsValues q is port none stands = tt
 
-    -- A port was served.
+    -- After a port was served, the machine may stand at its place.
     pub own_serve : (p : ℕ) → x.cycle < frame.end → AllFired x → due x ≡ Some p → first_empty x.latches (due_fields x) ≡ None → MachineAt lists runs frame m (with_served x)
     own_serve p lt fired due none =
         let q : Port = (due-port (slice_get x.ports x.served) p due).0 in
@@ -254,7 +254,7 @@ module _ (lists : List (List ℕ)) (runs : List (List (List ℕ))) (frame : Fram
         kept-more (list_at lists c) x.kept x.cycle (latched_value (latch_at x.latches 0)) keeps
         (at.latched c (latched_value (latch_at x.latches 0)) known to (ap (latch_at x.latches) first ∙ has)).1
 
-    -- The cycle was finished.
+    -- After the cycle was finished, the machine may stand at its place.
     pub own_finish : (next : State) → x.cycle < frame.end → AllLatched x → x.served ≡ length x.ports → IsNextState x next → MachineAt lists runs frame m (finished x next)
     own_finish next lt all whole goes =
         record {

@@ -1,4 +1,4 @@
--- What a host is owed at a step: an event that may be done meets it.
+-- What a host requires of a step is met if the event may be done.
 use Rattle.std.proofs.Common.{◌≡◌, ℕ, ◌<◌, ◌≤◌, List, Option, None, Some, length, map, refl, sym, ap, subst, ◌∙◌, arith}
 use Rattle.std.specs.Prelude.{IfSome, slice_get}
 use Rattle.std.proofs.lemmas.List.{length-map, get_or-map}

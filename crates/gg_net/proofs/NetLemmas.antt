@@ -1,4 +1,4 @@
--- A network's parts: what its machines need is there, and its queues are within their capacities.
+-- The parts of a network: the ins that its machines need exist, and its queues are within their capacities.
 use Rattle.std.proofs.Common.{◌≡◌, ℕ, ◌<◌, ◌≤◌, List, Option, Some, length, map, sym, subst, arith}
 use Rattle.std.specs.Prelude.{All, Contains, slice_get}
 use Rattle.std.proofs.lemmas.List.{length-map}
@@ -24,14 +24,14 @@ module _ (lists : List (List ℕ)) (runs : List (List (List ℕ))) (net : Networ
     known : m < length (map kind_of net.machines)
     known = omega (arith, there, length-map net.machines kind_of)
 
-    -- an in that an out needs is there
+    -- an in that an out needs exists
     pub missing-within : (o i : ℕ) → missing (machine_at net.machines m) o ≡ Some i → i < length (machine_at net.machines m).latches
     missing-within o i is =
         let x : Machine = machine_at net.machines m in
         let has : Contains (needs_at x.needs o) i = first-among x.latches (needs_at x.needs o) i is in
         subst (λ (k : Kind). i < k.ins) kind-is (kept.sound.wired.needs m o i known (subst (λ (k : Kind). Contains (needs_at k.needs o) i) (sym kind-is) has))
 
-    -- a field of the port that is due is there
+    -- a field of the port that is due exists
     pub field-within : (p i : ℕ) → due (machine_at net.machines m) ≡ Some p → first_empty (machine_at net.machines m).latches (due_fields (machine_at net.machines m)) ≡ Some i → i < length (machine_at net.machines m).latches
     field-within p i is first =
         let x : Machine = machine_at net.machines m in

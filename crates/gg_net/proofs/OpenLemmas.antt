@@ -20,7 +20,7 @@ use Rattle.gg_net.proofs.StepLemmas.{clear-after, empty-after}
 abbrev no_tokens : Held
 no_tokens = record { tokens = []; room = 0 }
 
--- open queues hold nothing
+-- queues that were just opened hold nothing
 pub all-empty : (wires : List Wire) (queues : List Held) → AreOpen wires (length wires) queues → map (λ (q : Held). q.tokens) queues ≡ replicate (length wires) []
 all-empty wires queues are =
     ext_get_or [] (map (λ (q : Held). q.tokens) queues) (replicate (length wires) []) (length-map queues (λ (q : Held). q.tokens) ∙ are.count ∙ sym (length-replicate (length wires) [])) (λ c lt.

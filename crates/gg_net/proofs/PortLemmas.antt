@@ -1,4 +1,4 @@
--- A port, to stand where none is.
+-- A port for places where there is none.
 use Rattle.gg_flat.specs.Served.{ByReader}
 use Rattle.gg_node.specs.Machine.{Port}
 

@@ -14,13 +14,13 @@ module _ {X : Type 0} (machines : X → List Machine) (hosts : List X) (station 
   hosted-is : hosted (map machines hosts) station.host ≡ machines host
   hosted-is = get_or-map machines hosts station.host host [] (omega (arith, seat.host, length-map hosts machines)) ∙ ap machines (sym is)
 
-  -- a call changed the machine at its thread of a host
+  -- after a call that changed one machine of a host, the machine of the host's station is changed
   pub reseated : (change : Machine → Machine) → machines new ≡ slice_set (machines host) station.thread (change (machine_at (machines host) station.thread)) → IsReseated (map machines hosts) (map machines (slice_set hosts station.host new)) station (change (seated (map machines hosts) station))
   reseated change step =
       map-set machines hosts station.host new
       ∙ ap (slice_set (map machines hosts) station.host) (step ∙ ap (λ (all : List Machine). slice_set all station.thread (change (machine_at all station.thread))) (sym hosted-is))
 
-  -- a call finished the cycle of the machine at its thread of a host
+  -- after a call that finished the cycle of one machine of a host, the machine of the host's station has gone on
   pub gone-on : IsNextState (machine_at (machines host) station.thread) (machine_at (machines new) station.thread).state
       → machines new ≡ slice_set (machines host) station.thread (finished (machine_at (machines host) station.thread) (machine_at (machines new) station.thread).state) → HasGoneOn (map machines hosts) (map machines (slice_set hosts station.host new)) station
   gone-on next step =
@@ -43,7 +43,7 @@ module _ (old new : List (List Machine)) (stations : List Station) (m : ℕ) (s 
   here : IsSeated old at
   here = are.each m s there
 
-  -- the machines of a host
+  -- the machines of the changed host, and of the others
   same-host : (h : ℕ) → h ≡ at.host → hosted new h ≡ threads
   same-host h is = ap (λ k. hosted new k) is ∙ ap (λ hosts. hosted hosts at.host) step ∙ get_or-set_same old at.host threads [] here.host
 
@@ -69,7 +69,7 @@ module _ (old new : List (List Machine)) (stations : List Station) (m : ℕ) (s 
       (λ other. ap (λ all. machine_at all t.thread) (other-host t.host other))
       (cases_eq t.host at.host)
 
-  -- The machine of this number is another, and no other.
+  -- Just the machine of this number has changed.
   pub machines-set : machines_by new stations ≡ slice_set (machines_by old stations) m machine
   machines-set =
       ext_get_or no_machine (machines_by new stations) (slice_set (machines_by old stations) m machine)

@@ -30,7 +30,7 @@ inputs-are rows t (s ∷ ins) =
 
 -- ---- accesses
 
--- an access looks at its fields alone
+-- an access depends only on the values of its fields
 pub access-same : (a b : List ℕ) (bank : Bank) (access : Access) → All (λ i. value_at a i ≡ value_at b i) (fields_of access) → after_access a bank access ≡ after_access b bank access
 access-same a b bank (ByReader r reader) same =
     ap (λ addr. record { words = bank.words; reads = slice_set bank.reads r (read_word bank.words addr (value_at a reader.en)) }) (same 0 0 (omega arith))
@@ -41,12 +41,12 @@ access-same a b bank (ByWriter w writer) same =
     ∙ ap (λ word. record { words = if (value_at b writer.en == 1) && (value_at a writer.mask == 1) then slice_set bank.words (value_at b writer.addr) word else bank.words; reads = bank.reads }) (same 2 0 (omega arith))
     ∙ ap (λ mask. record { words = if (value_at b writer.en == 1) && (mask == 1) then slice_set bank.words (value_at b writer.addr) (value_at b writer.word) else bank.words; reads = bank.reads }) (same 3 0 (omega arith))
 
--- the access of a machine is that of the row, where its fields are
+-- if the latches have the row's values at the port's fields, the machine's access is the access of the row
 pub accessed-is : (latches : List (Option ℕ)) (inputs : List ℕ) (state : State) (port : Port) → All (λ i. value_at (latched_values latches) i ≡ value_at inputs i) (fields_of port.access) → accessed latches state (Some port) ≡ served_one inputs state port
 accessed-is latches inputs state port same =
     ap (λ (bank : Bank). record { registers = state.registers; banks = bank ∷ [] }) (access-same (latched_values latches) inputs (bank_at state.banks 0) port.access same)
 
--- the accesses of one port more
+-- the accesses of some ports, and of one more
 pub served-next : (inputs : List ℕ) (state : State) (ports : List Port) (n : ℕ) (port : Port) → slice_get ports n ≡ Some port → served_by inputs state (take (suc n) ports) ≡ served_one inputs (served_by inputs state (take n ports)) port
 served-next inputs state ports n port is =
     ap (served_by inputs state) (take-suc ports n port (slice_get_within ports n port is) ∙ ap (λ p. take n ports ++ p ∷ []) (get_or_from_slice_get ports n port port is))

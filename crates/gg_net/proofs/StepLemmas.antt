@@ -38,7 +38,7 @@ pub no-port : (port : Option Port) → port_number port ≡ None → port ≡ No
 no-port None is = refl
 no-port (Some q) is = absurd (some-is-no-none q.number is)
 
--- where no port is due all are served
+-- if no port is due, all are served
 pub all-served : (ports : List Port) (n : ℕ) (any : Port) → n ≤ length ports → port_number (slice_get ports n) ≡ None → n ≡ length ports
 all-served ports n any within none =
     ⊎_elim

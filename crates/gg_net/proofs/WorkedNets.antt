@@ -1,5 +1,5 @@
--- Networks by hand: two units that feed each other, and a memory that is served; what each event makes of them, why
--- it is refused, and what must not hold.
+-- Networks worked by hand: two units that feed each other, and a memory that is served; what each event makes of them, why
+-- an event is refused, and what must not hold.
 use Rattle.std.proofs.Common.{◌≡◌, ℕ, zero, suc, ◌<◌, List, [], ◌∷◌, Option, Some, None, Bool, true, false, refl, arith, lit<}
 use Rattle.std.specs.Prelude.{◌+◌, ◌≤◌, slice_index_or, All, Contains, length}
 use Rattle.gg_flat.specs.declared.line.Op.TheVariants.{Ref}
@@ -79,7 +79,7 @@ takes-back = refl
 finishes : after_finish (pair (a 0 3 (Some 3) true) (b (Some 3) true) [] []) 0 (holds 3) ≡ pair (a 1 3 None false) (b (Some 3) true) [] []
 finishes = refl
 
--- the counts are those of both sides
+-- the counts of tokens put and taken, each by the machine of its end
 one-put : puts (after_fire opens 0 3) 0 ≡ 1
 one-put = refl
 
@@ -93,7 +93,7 @@ still-put = refl
 none-served : serves (pair (a 1 3 None false) (b (Some 3) true) [] []) 0 ≡ 0
 none-served = refl
 
--- ---- when: an out needs its ins alone
+-- ---- when an event may be done: an out waits only for the ins that it needs
 
 all-true : (k : ℕ) (d : Bool) → k < 1 → slice_index_or (true ∷ []) k d ≡ true
 all-true zero d below = refl
@@ -120,7 +120,7 @@ not-whole = (lit< tt, lit< tt, record { out = 0; first = record { known = lit< t
 without-in : FinishRefused (after_fire opens 0 3) 0 (NeedsInput 1)
 without-in = (lit< tt, lit< tt, all-true, refl, record { place = 0; first = record { known = lit< tt; empty = refl; before = λ k below. absurd (omega arith) }; at = record { known = lit< tt; machine = refl; place = refl } })
 
--- the first condition that fails is told: a flag before a queue without room
+-- the first condition that fails gives the refusal: a flag comes before a queue without room
 twice : FireRefused (after_fire opens 0 3) 0 Fired
 twice = ((lit< tt, lit< tt), refl)
 
@@ -213,7 +213,7 @@ field-wanted = ((lit< tt, lit< tt), lit< tt, all-true, refl, record { known = li
 no-such-port : ServeRefused (alone (memory 0 with_reader true)) 0 2 Stranger
 no-such-port has = omega (arith, has.1)
 
--- both were served: none is due, and the number of the ports is told
+-- both were served: none is due, and the refusal has the number of the ports
 none-due : ServeRefused (alone (memory 2 with_reader true)) 0 1 (Order 2)
 none-due = ((lit< tt, lit< tt), lit< tt, all-true, (λ is. let same : ◌≡◌ {A = Option ℕ} None (Some 1) = is in cc), refl)
 
@@ -240,7 +240,7 @@ one-more = refl
 abbrev at_once : ℕ → Bool → Machine
 at_once served flag = record (memory served with_reader flag) { needs = (0 ∷ 1 ∷ []) ∷ []; ports = record { number = 1; access = ByWriter 0 (record { addr = 2; en = 3; word = 4; mask = 5 }) } ∷ [] }
 
--- the reader is a port, whose turn never comes
+-- the reader is a port that is never due
 writer-due : ServeRefused (alone (at_once 0 true)) 0 0 (Order 1)
 writer-due = ((lit< tt, lit< tt), lit< tt, all-true, (λ is. let same : ◌≡◌ {A = Option ℕ} (Some 1) (Some 0) = is in cc), refl)
 
@@ -253,7 +253,7 @@ word-first = ((lit< tt, lit< tt), lit< tt, record { out = 0; first = record { kn
 two-ports : ServeRefused (alone (at_once 0 true)) 0 2 Stranger
 two-ports has = omega (arith, has.1)
 
--- it is no stranger, and isn't told that none is due while one is
+-- it isn't refused as `Stranger`, and not with the number of the ports while a port is due
 reader-there : ServeRefused (alone (at_once 0 true)) 0 0 Stranger → ⊥
 reader-there refused = refused (lit< tt, lit< tt)
 
@@ -271,7 +271,7 @@ never-due = ((lit< tt, lit< tt), lit< tt, all-true, (λ is. let same : ◌≡◌
 never-served : (p : ℕ) → CanServe (alone read_only) 0 p → ⊥
 never-served p can = let is : ◌≡◌ {A = Option ℕ} None (Some p) = can.due in cc
 
--- ---- a source that feeds a tray: the lists that its channel and its rows are to have do solve it
+-- ---- a source that feeds a tray: the values that its channel should carry, and rows without values, solve the network
 
 abbrev pub fed : Network
 fed = opening_net (source_machine (4 ∷ 6 ∷ []) 0 false ∷ tray_machine 2 0 [] None ∷ []) fed_wires 2
@@ -335,7 +335,7 @@ fed-solved =
     taken zero known t = tt
     taken (suc c) known t = absurd (omega (arith, known))
 
--- it is within the limits, and would not be with one cycle more than may be done
+-- it is within the limits, and isn't with one cycle above the limit
 pub within-limits : IsWithinLimits (frame_of fed)
 within-limits = record { cycles = omega arith; machines = omega arith; channels = omega arith }
 

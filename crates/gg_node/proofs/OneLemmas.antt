@@ -1,4 +1,4 @@
--- A host of one thread: its only machine stands at each place that it has.
+-- A host of one thread: its only machine is the machine of each of its threads.
 use Rattle.std.proofs.Common.{◌≡◌, ℕ, zero, suc, ◌<◌, [], ◌∷◌, refl, arith}
 use Rattle.std.specs.Prelude.{slice_set}
 use Rattle.gg_node.specs.Machine.{Machine, machine_at}

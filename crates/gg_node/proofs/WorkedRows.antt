@@ -1,4 +1,4 @@
--- Machines by hand: what they are after some steps, and which values are their tokens.
+-- Machines worked by hand: what they are after some steps, and which values are their tokens.
 use Rattle.std.proofs.Common.{◌≡◌, ℕ, zero, suc, ◌<◌, [], ◌∷◌, Option, Some, None, Bool, true, false, refl, sym, ap, subst, ◌∙◌, arith}
 use Rattle.std.specs.Prelude.{Contains, MatchOption, ⊤}
 use Rattle.gg_flat.specs.declared.line.Op.TheVariants.{Ref}
@@ -72,7 +72,7 @@ holds v = record { registers = v ∷ []; banks = [] }
 abbrev unit : Machine
 unit = record { behaviour = RunsPiece pair; limit = 10; needs = (0 ∷ []) ∷ []; port_count = 0; ports = []; cycle = 0; state = holds 3; served = 0; latches = None ∷ None ∷ []; flags = false ∷ []; kept = [] }
 
--- the out needs `a`, and `a` alone
+-- the out needs only `a`
 needs-a : missing unit 0 ≡ Some 0
 needs-a = refl
 
@@ -85,7 +85,7 @@ has-a = (0, omega arith, refl)
 token-is-a : IsToken (with_latch unit 0 5) 0 5
 token-is-a inputs signals is agrees = is.driven 2 (omega arith) ∙ ap (extended (uint 8) 8) (is.driven 0 (omega arith) ∙ agrees 0 5 has-a refl)
 
--- a row of this cycle, to tell that no other value is the token
+-- a row of this cycle, to show that no other value is the token
 row-fits : (i : ℕ) → i < 3 → Fits (shape_at (signal_shapes pair) i) (value_at (5 ∷ 0 ∷ 5 ∷ []) i)
 row-fits zero below = omega arith
 row-fits (suc zero) below = omega arith

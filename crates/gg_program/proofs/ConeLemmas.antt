@@ -1,4 +1,4 @@
--- The value of a signal that is done is the one of every row that is settled with the inputs that it needs.
+-- A signal that is done has the value that it has in each row that is settled with the inputs that it needs.
 use Rattle.std.proofs.Common.{◌≡◌, ℕ, zero, suc, ◌+◌, ◌<◌, List, length, refl, sym, ◌∙◌, ap, subst, arith}
 use Rattle.std.specs.List.{range_with_len}
 use Rattle.gg_bits.specs.Shape.{Shape}
@@ -21,7 +21,7 @@ use Rattle.gg_program.specs.Slots.{inputs_in}
 use Rattle.gg_program.specs.Right.{AreRight}
 use Rattle.gg_program.proofs.RightLemmas.{value_at-inputs, IsInputs-values}
 
--- a driver gives the same with other inputs, where it isn't the outside or the signal itself is the same
+-- a driver gives the same value with other inputs, if it is no input, or if the signal has the same value with both
 other-inputs : (state : State) (inputs others row : List ℕ) (sink : Shape) (driver : Driver) (x y : ℕ) → x ≡ driver_value state inputs row sink driver → y ≡ driver_value state others row sink driver → ((place : ℕ) → driver ≡ Input place → x ≡ y) → x ≡ y
 other-inputs state inputs others row sink (Input place) x y first second outside = outside place refl
 other-inputs state inputs others row sink (Held register) x y first second outside = first ∙ sym second
@@ -29,7 +29,7 @@ other-inputs state inputs others row sink (MemoryWord memory reader addr en) x y
 other-inputs state inputs others row sink (ReadRegister memory reader) x y first second outside = first ∙ sym second
 other-inputs state inputs others row sink (Computed line) x y first second outside = first ∙ sym second
 
--- an in-signal that is reached is in the row as among the values
+-- an in-signal that is reached has the same value in the row as among the values
 same-in : (circuit : FlatCircuit) (values row : List ℕ) (out s place : ℕ) (driver : Driver) → HasNeeds circuit (inputs_in circuit values) out row → Reaches circuit out s → MayDrive circuit s driver → driver ≡ Input place → value_at row s ≡ value_at values s
 same-in circuit values row out s place driver needs to may is =
     let at : MayDrive circuit s (Input place) = subst (MayDrive circuit s) is may in
@@ -49,7 +49,7 @@ below-agree circuit state values others row out Done formed ordered known right 
     (right.driven s there done)
     (λ place is. same-in circuit values row out s place (driver_at circuit s) needs to (formed.drivers s there) is)
 
--- the row that is settled with the inputs in place
+-- in a row that is settled with these inputs, an in-signal has its input
 row-in : (circuit : FlatCircuit) (state : State) (inputs row : List ℕ) (place : ℕ) → IsWellFormed circuit → Settled circuit state inputs row → place < length circuit.ins → value_at row (value_at circuit.ins place) ≡ value_at inputs place
 row-in circuit state inputs row place formed settled within =
     let s = value_at circuit.ins place in

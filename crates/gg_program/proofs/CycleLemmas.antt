@@ -1,4 +1,4 @@
--- A cycle under way: what a signal reaches is worked out, and then all.
+-- Slots during a cycle: the signals that a signal reaches are worked out, and in the end all signals.
 use Rattle.std.proofs.Common.{◌≡◌, ℕ, zero, suc, ◌<◌, List, length, take, replicate, Bool, true, false, true≢false, refl, sym, ◌∙◌, ap, subst, inl, inr, ◌⊎◌, arith}
 use Rattle.std.specs.Prelude.{All, Contains}
 use Rattle.std.specs.List.Sorted.{IsNonDecreasingBy}
@@ -26,7 +26,7 @@ use Rattle.gg_program.proofs.RightLemmas.{AreRight-same, AreRight-none, AreRight
 
 -- ---- what was found
 
--- found signals in ascending order stand behind what they read
+-- found signals in ascending order come after the signals that they read
 pub StandBehind-sorted : (circuit : FlatCircuit) (out : ℕ) (first : List Bool) (search : Searched) → IsInOrder circuit → IsNonDecreasingBy (λ s. s) search.found → IsGathered circuit out first search → StandBehind circuit first search.found
 StandBehind-sorted circuit out first search ordered sorted g i s within reads = by (is_marked first s) refl
   where
@@ -45,7 +45,7 @@ StandBehind-sorted circuit out first search ordered sorted g i s within reads = 
           | inr ge ↦ let rises = sorted i has.0 0 ge has.1 in absurd (omega (arith, rises, at, low))
         ])
 
--- they are no in-signals, where the inputs that are needed were put
+-- if the needed inputs were put, no found signal is an in-signal
 pub found-inner : (circuit : FlatCircuit) (out : ℕ) (slots : Slotted) (search : Searched) → IsWellFormed circuit → out < length circuit.signals → HasNeeded circuit slots out → IsGathered circuit out slots.done search → All (IsInner circuit) search.found
 found-inner circuit out slots search formed known needed g i d within =
     let s = value_at search.found i in
@@ -60,7 +60,7 @@ found-inner circuit out slots search formed known needed g i d within =
           true≢false (sym (subst (IsDone slots) may.1 put) ∙ of.1);
     })
 
--- what is marked is done
+-- values that are right for the signals marked at first and for the found ones are right for all that are marked in the end
 pub right-reached : (circuit : FlatCircuit) (state : State) (out : ℕ) (first : List Bool) (search : Searched) (values : List ℕ) → IsGathered circuit out first search → AreRight circuit state values (λ s. (is_marked first s ≡ true) ⊎ Contains search.found s) → AreRight circuit state values (λ s. is_marked search.marks s ≡ true)
 right-reached circuit state out first search values g right =
     AreRight-same circuit state values (λ s. (is_marked first s ≡ true) ⊎ Contains search.found s) (λ s. is_marked search.marks s ≡ true) to from right
@@ -76,7 +76,7 @@ right-reached circuit state out first search values g right =
         by true e reaches = inl e
         by false e reaches = inr ((g.found s).1 (reaches, e))
 
--- slots in which what a signal reaches was worked out
+-- slots in which the signals that a signal reaches were worked out
 pub InCycle-reached : (circuit : FlatCircuit) (state : State) (out : ℕ) (before : Slotted) (search : Searched) (values : List ℕ) (room : ℕ) → AreSlots circuit before → room ≡ before.room → AreTyped (signal_shapes circuit) values → IsGathered circuit out before.done search → AreRight circuit state values (λ s. (is_marked before.done s ≡ true) ⊎ Contains search.found s) → InCycle circuit state (record { values = values; done = search.marks; room = room })
 InCycle-reached circuit state out before search values room held same typed g right =
     record {

@@ -59,9 +59,9 @@ pub IsWorking-end : (circuit : FlatCircuit) (state : State) (signals first : Lis
 IsWorking-end circuit state signals first i values marks all behind right h =
     subst (λ (l : List ℕ). AreRight circuit state values (λ s. (is_marked marks s ≡ true) ⊎ Contains l s)) (take_all i signals all) (h.right marks behind right)
 
--- ---- all that isn't marked
+-- ---- all signals that aren't marked
 
--- a signal that isn't marked is no in-signal, where these are marked
+-- if all in-signals are marked, a signal that isn't marked is no in-signal
 pub IsInner-unmarked : (circuit : FlatCircuit) (marks : List Bool) (s : ℕ) → IsWellFormed circuit → ((place : ℕ) → place < length circuit.ins → is_marked marks (value_at circuit.ins place) ≡ true) → s < length circuit.signals → is_marked marks s ≡ false → IsInner circuit s
 IsInner-unmarked circuit marks s formed inputs known not =
     record {

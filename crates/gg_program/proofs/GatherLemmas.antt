@@ -1,4 +1,4 @@
--- A queue of the signals whose reads are looked at comes to just what a signal reaches.
+-- A search with a queue finds just the signals that a signal reaches and that weren't marked before.
 use Rattle.std.proofs.Common.{◌≡◌, ℕ, ◌+◌, ◌<◌, ◌≤◌, List, [], ◌++◌, length, Bool, true, false, true≢false, refl, sym, ◌∙◌, ap, subst, inl, inr, ◌⊎◌, ◌↔◌, arith, below_more}
 use Rattle.std.specs.Prelude.{Contains}
 use Rattle.std.proofs.lemmas.List.{get_or_append_left, get_or_default, length-append}
@@ -12,7 +12,7 @@ use Rattle.gg_needs.proofs.ReachLemmas.{Reaches-itself, Reaches-on, along-reache
 use Rattle.gg_program.specs.Search.{Searched, Finds, IsGathered}
 use Rattle.gg_program.proofs.SearchLemmas.{unmarked-before}
 
--- The list's first places were looked at: what the signals there read is marked.
+-- The list's first places were looked at: the signals that are read there are marked.
 pub record IsSearch (circuit : FlatCircuit) (out : ℕ) (first : List Bool) (place : ℕ) (now : Searched) : Type 0 where
   pub count : length now.marks ≡ length circuit.signals
   pub marked : (s : ℕ) → (is_marked now.marks s ≡ true) ↔ ((is_marked first s ≡ true) ⊎ Contains now.found s)
@@ -75,7 +75,7 @@ IsSearch-step circuit out first place before after lt known finds h =
       | inr new ↦ (finds.marked s).1 (inr new)
     ]
 
--- all places were looked at
+-- when all places were looked at, just the reached signals that weren't marked before are found
 pub IsGathered-end : (circuit : FlatCircuit) (out : ℕ) (first : List Bool) (place : ℕ) (now : Searched) → IsClosed circuit first → length now.found ≤ place → IsSearch circuit out first place now → IsGathered circuit out first now
 IsGathered-end circuit out first place now closed all h =
     record {

@@ -1,4 +1,4 @@
--- A state and inputs give a signal one value, by the inputs that it needs.
+-- The state and the inputs that a signal needs give it just one value.
 use Rattle.std.proofs.Common.{◌≡◌, ℕ, List, sym, ◌∙◌}
 use Rattle.gg_flat.specs.Circuit.{FlatCircuit}
 use Rattle.gg_flat.specs.State.{State}

@@ -1,4 +1,4 @@
--- Values that are right where they are done, signal by signal.
+-- Values that are right for the signals that are done, signal by signal.
 use Rattle.std.proofs.Common.{◌≡◌, ◌≢◌, ℕ, ◌<◌, List, [], length, set, Bool, true, false, true≢false, nat_eq, refl, sym, ◌∙◌, ap, subst, inl, inr, ◌⊎◌, arith}
 use Rattle.std.proofs.lemmas.Bool.Decides.{Decides-eqb}
 use Rattle.std.proofs.lemmas.List.{get_or-map, get_or-set_same, get_or-set_other, length-set, length-map}
@@ -19,9 +19,9 @@ use Rattle.gg_part.specs.InOrder.{IsInOrder}
 use Rattle.gg_program.specs.Slots.{inputs_in}
 use Rattle.gg_program.specs.Right.{AreRight, IsInner}
 
--- ---- drivers that aren't the outside
+-- ---- drivers that aren't inputs
 
--- such a driver gives the same with other inputs
+-- such a driver gives the same value with other inputs
 pub inner-value : (state : State) (inputs others values : List ℕ) (sink : Shape) (driver : Driver) → ((place : ℕ) → driver ≢ Input place) → driver_value state inputs values sink driver ≡ driver_value state others values sink driver
 inner-value state inputs others values sink (Input place) not = absurd (not place refl)
 inner-value state inputs others values sink (Held register) not = refl
@@ -50,20 +50,20 @@ inputs-kept circuit before after keeps =
     let within : place < length circuit.ins = omega (arith, lt, length-map circuit.ins (value_at after)) in
     value_at-inputs circuit after place within ∙ keeps place within ∙ sym (value_at-inputs circuit before place within))
 
--- a signal that isn't an in-signal has another place
+-- a value that is put for a signal that isn't an in-signal leaves the inputs as they are
 pub inputs-inner : (circuit : FlatCircuit) (values : List ℕ) (s value : ℕ) → IsWellFormed circuit → IsInner circuit s → inputs_in circuit (set values s value) ≡ inputs_in circuit values
 inputs-inner circuit values s value formed inner =
     inputs-kept circuit values (set values s value) (λ place within.
     get_or-set_other values s (value_at circuit.ins place) value 0 (λ same. inner.inner place (ap (driver_at circuit) (sym same) ∙ (formed.ins place within).1)))
 
--- an in-signal has one place
+-- an in-signal has only one place among the in-signals
 place-once : (a b : ℕ) → Input a ≡ Input b → a ≡ b
 place-once a b is = cc
 
 pub ins-once : (circuit : FlatCircuit) (i j : ℕ) → IsWellFormed circuit → i < length circuit.ins → j < length circuit.ins → value_at circuit.ins i ≡ value_at circuit.ins j → i ≡ j
 ins-once circuit i j formed first second same = place-once i j (sym (formed.ins i first).1 ∙ ap (driver_at circuit) same ∙ (formed.ins j second).1)
 
--- an input that is put into its place
+-- a value that is put for an in-signal changes just its input
 pub inputs-put : (circuit : FlatCircuit) (values : List ℕ) (place value : ℕ) → IsWellFormed circuit → place < length circuit.ins → length values ≡ length circuit.signals → inputs_in circuit (set values (value_at circuit.ins place) value) ≡ set (inputs_in circuit values) place value
 inputs-put circuit values place value formed within total =
     same_number_lists (inputs_in circuit after) (set (inputs_in circuit values) place value)
@@ -102,7 +102,7 @@ IsInputs-values circuit values formed typed =
           (typed.fits (value_at circuit.ins place) (omega (arith, (formed.ins place within).0, length-map circuit.signals (λ (signal : Signal). shape signal.ty)))));
     }
 
--- ---- one signal more
+-- ---- one more signal
 
 -- an in-signal has its input, and any other signal its driver's value, whatever the inputs are
 driven-anyhow : (circuit : FlatCircuit) (state : State) (others values : List ℕ) (s : ℕ) (sink : Shape) (driver : Driver) → MayDrive circuit s driver → (((place : ℕ) → driver ≢ Input place) → value_at values s ≡ driver_value state others values sink driver) → value_at values s ≡ driver_value state (inputs_in circuit values) values sink driver
@@ -131,11 +131,11 @@ AreRight-same circuit state values P Q to from h =
       driven = λ s known q. h.driven s known (from s q);
     }
 
--- where nothing is done
+-- if no signal is done, the values are right
 pub AreRight-none : (circuit : FlatCircuit) (state : State) (values : List ℕ) (P : ℕ → Type 0) → ((s : ℕ) → ¬ P s) → AreRight circuit state values P
 AreRight-none circuit state values P none = record { closed = λ a b p reads. absurd (none a p); driven = λ s known p. absurd (none s p) }
 
--- an input is put
+-- values stay right if an input is put
 pub AreRight-put : (circuit : FlatCircuit) (state : State) (values : List ℕ) (place value : ℕ) (Done More : ℕ → Type 0) → IsWellFormed circuit → place < length circuit.ins → ¬ Done (value_at circuit.ins place) → ((t : ℕ) → More t → Done t ⊎ (value_at circuit.ins place ≡ t)) → ((t : ℕ) → Done t → More t) → AreRight circuit state values Done → AreRight circuit state (set values (value_at circuit.ins place) value) More
 AreRight-put circuit state values place value Done More formed within free cases kept h =
     record {
@@ -164,7 +164,7 @@ AreRight-put circuit state values place value Done More formed within free cases
         agree t done ∙ h.driven t known done
         ∙ driver_value-agree state (inputs_in circuit values) values after (shape_at (signal_shapes circuit) t) (driver_at circuit t) (λ u named. sym (agree u (h.closed t u done (record { signal = known; names = named }))))
 
--- a signal is worked out that reads only what is done
+-- values stay right if a signal is worked out that reads only signals that are done
 pub AreRight-more : (circuit : FlatCircuit) (state : State) (values : List ℕ) (s value : ℕ) (Done More : ℕ → Type 0) → IsWellFormed circuit → IsInOrder circuit → IsInner circuit s → length values ≡ length circuit.signals → ((t : ℕ) → Reads circuit s t → Done t) → value ≡ driver_value state [] values (shape_at (signal_shapes circuit) s) (driver_at circuit s) → ((t : ℕ) → More t → Done t ⊎ (s ≡ t)) → ((t : ℕ) → Done t → More t) → AreRight circuit state values Done → AreRight circuit state (set values s value) More
 AreRight-more circuit state values s value Done More formed ordered inner count reads is cases kept h =
     record {

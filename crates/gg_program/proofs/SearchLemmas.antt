@@ -20,7 +20,7 @@ use Rattle.gg_program.specs.Search.{Searched, IsListed, Finds}
 
 -- ---- marks
 
--- a mark and one more
+-- a marked signal stays marked when another one is marked
 pub mark-more : (marks : List Bool) (signal s : ℕ) → signal < length marks → is_marked marks s ≡ true → is_marked (set marks signal true) s ≡ true
 mark-more marks signal s known is = by (nat_eq s signal) refl
   where
@@ -28,7 +28,7 @@ mark-more marks signal s known is = by (nat_eq s signal) refl
     by true e = ap (is_marked (set marks signal true)) ((Decides-eqb s signal).0 e) ∙ get_or-set_same marks signal true false known
     by false e = get_or-set_other marks signal s true false (λ same. true≢false (sym ((Decides-eqb s signal).1 same) ∙ e)) ∙ is
 
--- what is marked then was marked, or is the one
+-- a signal that is marked after one was marked is that one, or was marked before
 pub mark-cases : (marks : List Bool) (signal s : ℕ) → is_marked (set marks signal true) s ≡ true → (is_marked marks s ≡ true) ⊎ (signal ≡ s)
 mark-cases marks signal s is = by (nat_eq s signal) refl
   where
@@ -36,14 +36,14 @@ mark-cases marks signal s is = by (nat_eq s signal) refl
     by true e = inr (sym ((Decides-eqb s signal).0 e))
     by false e = inl (sym (get_or-set_other marks signal s true false (λ same. true≢false (sym ((Decides-eqb s signal).1 same) ∙ e))) ∙ is)
 
--- only signals that have a mark are marked
+-- a marked signal is below the number of marks
 pub marked-within : (marks : List Bool) (s : ℕ) → is_marked marks s ≡ true → s < length marks
 marked-within marks s is = elim (cases_lt s (length marks)) [
   | inl lt ↦ lt
   | inr le ↦ absurd (true≢false (sym is ∙ get_or_past marks s false le))
 ]
 
--- what isn't marked then wasn't marked before
+-- a signal that isn't marked in the end wasn't marked before
 pub unmarked-before : (a b : List Bool) (s : ℕ) → (is_marked a s ≡ true → is_marked b s ≡ true) → is_marked b s ≡ false → is_marked a s ≡ false
 unmarked-before a b s kept not = by (is_marked a s) refl
   where
@@ -70,7 +70,7 @@ IsListed-most marks found h =
     length-le_from_distinct_below found (length marks) (IsDistinct-from_AllPairs Decides-eqb found h.once)
     (λ q any. marked-within marks q (h.marked q (Contains-from_any (λ x y e. (Decides-eqb x y).0 e) q found any)))
 
--- a signal that isn't marked has room
+-- if a signal isn't marked, fewer signals are listed than there are marks
 pub IsListed-room : (marks : List Bool) (found : List ℕ) (signal : ℕ) → signal < length marks → is_marked marks signal ≡ false → IsListed marks found → length found < length marks
 IsListed-room marks found signal known not h =
     let most = IsListed-most (set marks signal true) (found ++ signal ∷ []) (IsListed-push marks found signal known not h) in
@@ -135,7 +135,7 @@ Finds-then P Q R a b c from_p from_q cases first second =
       | inr new ↦ (second.marked s).1 (inr new)
     ]
 
--- the same, said of what is named in other words
+-- `Finds` holds for a condition if it holds for an equivalent one
 pub Finds-same : (P Q : ℕ → Type 0) (a b : Searched) → ((s : ℕ) → P s → Q s) → ((s : ℕ) → Q s → P s) → Finds P a b → Finds Q a b
 Finds-same P Q a b to from finds =
     record {
@@ -150,7 +150,7 @@ Finds-same P Q a b to from finds =
 same-signal : (a b : ℕ) → Ref a ≡ Ref b → a ≡ b
 same-signal a b is = cc
 
--- what one more node names
+-- the signals that one more node names
 pub Finds-node : (nodes : List Node) (i : ℕ) (n : Node) (a b c : Searched) → i < length nodes → n ≡ slice_index_or nodes i n → Finds (Names (take i nodes)) a b → Finds (λ s. n.op ≡ Ref s) b c → Finds (Names (take (i + 1) nodes)) a c
 Finds-node nodes i n a b c lt is first second =
     let more : take (i + 1) nodes ≡ take i nodes ++ n ∷ [] = take_more nodes i n lt ∙ ap (λ (m : Node). take i nodes ++ m ∷ []) (sym is) in
@@ -166,7 +166,7 @@ Finds-op op signal a b is finds = Finds-same (λ s. signal ≡ s) (λ s. op ≡ 
 pub Finds-both : (addr en : ℕ) (a b c : Searched) → Finds (λ s. addr ≡ s) a b → Finds (λ s. en ≡ s) b c → Finds (λ s. (addr ≡ s) ⊎ (en ≡ s)) a c
 Finds-both addr en a b c first second = Finds-then (λ s. addr ≡ s) (λ s. en ≡ s) (λ s. (addr ≡ s) ⊎ (en ≡ s)) a b c (λ s e. inl e) (λ s e. inr e) (λ s h. h) first second
 
--- what is listed has a mark
+-- a listed signal is below the number of marks
 pub IsListed-within : (marks : List Bool) (found : List ℕ) (place : ℕ) → place < length found → IsListed marks found → value_at found place < length marks
 IsListed-within marks found place lt h = marked-within marks (value_at found place) (h.marked (value_at found place) (place, lt, get_or_default found place (value_at found place) 0 lt))
 

@@ -1,5 +1,5 @@
--- Slots by hand, of the unit whose output `p` is its input `x` and whose output `q` is `xor(x, k)`: what is done after each step, and what
--- is no cycle.
+-- Slots worked by hand, of the unit whose output `p` is its input `x` and whose output `q` is `xor(x, k)`: what is done after each
+-- step, and which slots aren't those of a cycle.
 use Rattle.std.proofs.Common.{◌≡◌, ℕ, zero, suc, List, [], ◌∷◌, Bool, true, false, true≢false, refl, sym, subst, inl, inr, arith, lit<}
 use Rattle.gg_flat.specs.Line.{shape_at, value_at}
 use Rattle.gg_flat.specs.Circuit.{signal_shapes, driver_at}
@@ -34,7 +34,7 @@ puts-x = refl
 inputs : inputs_in unit with-x.values ≡ 5 ∷ 0 ∷ []
 inputs = refl
 
--- `p` may be worked out then, and `q` not
+-- then `p` may be worked out, and `q` not
 p-may : HasNeeded unit with-x 2
 p-may zero lt to = refl
 p-may (suc zero) lt to = absurd (p-k to)
@@ -63,14 +63,14 @@ p-right =
           (λ is. refl) (λ is. absurd (true≢false (sym is))) (λ is. refl) (λ is. absurd (true≢false (sym is)));
     }
 
--- another value, or one without what it reads, is no cycle
+-- slots with another value of `p`, or with a signal done without what it reads, aren't those of a cycle
 not-another : ¬ InCycle unit start (slots (5 ∷ 0 ∷ 6 ∷ 0 ∷ []) (true ∷ false ∷ true ∷ false ∷ []))
 not-another cycle = absurd (omega (arith, cycle.right.driven 2 (lit< tt) refl))
 
 not-alone : ¬ InCycle unit start (slots (5 ∷ 0 ∷ 5 ∷ 0 ∷ []) (false ∷ false ∷ true ∷ false ∷ []))
 not-alone cycle = true≢false (sym (cycle.right.closed 2 0 refl (record { signal = lit< tt; names = (0, lit< tt, refl) })))
 
--- `p` doesn't reach `q`, so that `q` is done doesn't come of it
+-- `p` doesn't reach `q`, so `q` isn't done because `p` was worked out
 p-q : ¬ Reaches unit 2 3
 p-q to = along-reaches unit In in-closed 2 3 tt to
 
@@ -80,6 +80,6 @@ not-q done = elim ((done 3).0 refl) [
   | inr to ↦ p-q to
 ]
 
--- `p` must be done
+-- after `p` was worked out it must be done
 not-less : ¬ DoneWith unit 2 with-x with-x
 not-less done = true≢false (sym ((done 2).1 (inr (Reaches-itself unit 2))))

@@ -15,16 +15,16 @@ use Rattle.gg_marking.proofs.PutsLemmas.{front-grows, step-others}
 use Rattle.gg_marking.proofs.StepsLemmas.{steps-more}
 use Rattle.gg_replay.specs.Log.{tokens_at, AreFronts, IsBehind}
 
--- the number of a channel whose token is given
+-- equal `Fire` events give the token of the same channel
 fired-same : (c d : ℕ) → Fire c ≡ Fire d → c ≡ d
 fired-same c d same = cc
 
 module _ (lists : List (List ℕ)) (runs : List (List (List ℕ))) (old : Network) (kept : Kept lists runs old) (log : List (List ℕ)) (fronts : AreFronts lists old log) (new : Network) where
-  -- a step leaves as many channels
+  -- a step doesn't change the number of channels
   same-channels : (event : Event) → Step old event new → length new.wires ≡ length old.wires
   same-channels event step = ap (λ (frame : Frame). length frame.wires) (step-frame old event new step)
 
-  -- no token is put
+  -- an event that isn't `Fire` puts no token, so the log is still right
   none-put : (event : Event) → ((c : ℕ) → event ≢ Fire c) → Step old event new → AreFronts lists new log
   none-put event other step =
       record {
@@ -35,7 +35,7 @@ module _ (lists : List (List ℕ)) (runs : List (List (List ℕ))) (old : Networ
             fronts.each c known ∙ ap (λ n. take n (list_at lists c)) (sym (step-others lists runs old kept event new c step known (other c)));
       }
 
-  -- a token is put, and added
+  -- `Fire` puts a token, and the log with this token is right
   one-put : (c token : ℕ) → Step old (Fire c) new → token ≡ value_at (queue_at new.queues c) (length (queue_at new.queues c) - 1) → AreFronts lists new (slice_set log c (tokens_at log c ++ token ∷ []))
   one-put c token step is =
       let known : c < length old.wires = step.ready.can.0 in
@@ -55,14 +55,14 @@ module _ (lists : List (List ℕ)) (runs : List (List (List ℕ))) (old : Networ
       }
 
 module _ (lists : List (List ℕ)) (runs : List (List (List ℕ))) (new : Network) (log : List (List ℕ)) where
-  -- the newest token of the channel whose token was given is added
+  -- after `Fire`, the log is right once the newest token of the channel's queue is added to it
   pub newest-added : (c token : ℕ) → IsBehind lists runs (Some (Fire c)) new log → token ≡ value_at (queue_at new.queues c) (length (queue_at new.queues c) - 1) → AreFronts lists new (slice_set log c (tokens_at log c ++ token ∷ []))
   newest-added c token behind is = one-put lists runs behind.before behind.kept log behind.fronts new c token behind.done is
 
-  -- another event adds none
+  -- after any other event, the log is right as it is
   pub none-added : (event : Event) → IsBehind lists runs (Some event) new log → ((c : ℕ) → event ≢ Fire c) → AreFronts lists new log
   none-added event behind other = none-put lists runs behind.before behind.kept log behind.fronts new event other behind.done
 
--- one step more is done
+-- some steps, and one more
 pub one-more-step : (old now new : Network) (steps : List (Option Event)) (i : ℕ) → i < length steps → Steps old (take i steps) now → IsStep now (slice_index_or steps i None) new → Steps old (take (i + 1) steps) new
 one-more-step old now new steps i within done step = subst (λ some. Steps old some new) (sym (take_more steps i None within)) (steps-more old (take i steps) now (slice_index_or steps i None) new done step)

@@ -3,7 +3,7 @@ use Rattle.std.proofs.Common.{◌≡◌, ℕ, ◌*◌, ◌/◌, ◌%◌, ◌^◌
 use Rattle.std.proofs.Math.Nat.{div-eq_of_lt}
 use Rattle.std.proofs.Math.Pow.{pow_mono}
 
--- past the 128 bits each digit is 0
+-- the digits past the first 128 bits are 0
 pub digit-past : (value place : ℕ) → value < 2 ^ 128 → 32 ≤ place → 0 ≡ value / 2 ^ (4 * place) % 16
 digit-past value place fits past =
     let wide : 128 ≤ 4 * place = omega (arith, past) in

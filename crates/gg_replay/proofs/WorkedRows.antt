@@ -23,7 +23,7 @@ eight-bits : channel_line (codes "out") 8 2 1 (0 ∷ 0 ∷ []) ≡ codes "out 2/
 unfolding digits
 eight-bits = refl
 
--- nine bits have three digits; letters are small; the first token stands first
+-- nine bits have three digits; letters are in lower case; the first token comes first
 nine-bits : channel_line (codes "mem.r") 9 12 10 (1 ∷ 427 ∷ 16 ∷ []) ≡ codes "mem.r 12/10 001 1ab 010\n"
 unfolding digits
 nine-bits = refl
@@ -54,7 +54,7 @@ fronts = record { count = refl; each = each }
     each (suc zero) lt = refl
     each (suc (suc c)) lt = absurd (omega (arith, lt))
 
--- the token of the cycle that the machine is in is wanted where its flag is set, and the tokens are the first of their list
+-- the log must have the token of the machine's cycle just if the flag is set, and its tokens are the first of the channel's list
 not-short : AreFronts lists net ((5 ∷ 6 ∷ []) ∷ (1 ∷ 2 ∷ []) ∷ []) → ⊥
 not-short fronts = omega (arith, ap length (fronts.each 0 (lit< tt)))
 
@@ -69,11 +69,11 @@ not-reversed fronts = omega (arith, ap (λ tokens. value_at tokens 0) (fronts.ea
 first-stranger : IsStop net (None ∷ []) net (Refused 1 Stranger)
 first-stranger = record { done = 0; steps = refl; event = None; next = refl; number = refl; refused = refl }
 
--- steps don't count from 0
+-- steps are counted from 1, not from 0
 not-from-zero : IsStop net (None ∷ []) net (Refused 0 Stranger) → ⊥
 not-from-zero stop = omega (arith, stop.number)
 
--- the second is refused, behind one that is done
+-- the second step is refused, after one that is done
 abbrev gone : Machine
 gone = record giver { flags = true ∷ true ∷ [] }
 

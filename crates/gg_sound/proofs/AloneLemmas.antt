@@ -79,7 +79,7 @@ module _ (part alone : Part) (memory : Memory) (formed : IsWellFormed part.piece
       one-place alone.globals (value_at alone.piece.ins i) i is.is_part.once (is.is_part.ins i lt).0 (high i low)
       (sym (get_or-map (value_at alone.globals) alone.piece.ins i 0 0 lt) ∙ ap (λ (l : List ℕ). value_at l i) is.ins ∙ sym (in-place i low))
 
-  -- what stands for an in-signal is one of the first
+  -- a signal that stands for an in-signal of the part is one of the first
   field-low : (s : ℕ) → s < length alone.globals → Contains part.piece.ins (value_at alone.globals s) → s < length alone.piece.ins
   field-low s lt h =
       let same : s ≡ h.0 = one-place alone.globals s h.0 is.is_part.once lt (high h.0 h.1) (sym (in-place h.0 h.1 ∙ get_or_default part.piece.ins h.0 0 (value_at alone.globals s) h.1 ∙ h.2)) in

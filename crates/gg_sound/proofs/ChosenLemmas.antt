@@ -24,7 +24,7 @@ use Rattle.gg_sound.proofs.MemoryPartLemmas.{IsMemoryPart}
 
 -- ---- the only memory
 
--- what holds of 0 holds of each of the numbers 0 alone
+-- what holds of 0 holds of each number of the list of 0 alone
 only-zero : (P : ℕ → Type 0) → P 0 → All P (0 ∷ [])
 only-zero P p zero d lt = p
 only-zero P p (suc k) d lt = absurd (omega (arith, lt))
@@ -33,7 +33,7 @@ is-zero : (k : ℕ) → Contains (0 ∷ []) k → k ≡ 0
 is-zero k (zero, lt, e) = sym e
 is-zero k (suc p, lt, e) = absurd (omega (arith, lt))
 
--- a driver of the part names a memory of it
+-- a memory that is named by a driver of the part is one of the part's
 bank-low : (ins globals held memories : List ℕ) (s k : ℕ) (whole part : Driver) → IsFrom ins globals held memories s whole part → NamesMemory part k → k < length memories
 bank-low ins globals held memories s k whole (Input place) from named = absurd named
 bank-low ins globals held memories s k whole (Held register) from named = absurd named
@@ -49,7 +49,7 @@ reader-low n s reader among (suc zero, lt, e) = subst (λ k. k < n) e among.1
 reader-low n s reader among (suc (suc zero), lt, e) = subst (λ k. k < n) e among.2
 reader-low n s reader among (suc (suc (suc p)), lt, e) = absurd (omega (arith, lt))
 
--- the fields of a memory that is below n
+-- the fields of a memory whose signals are below n are below n
 fields-low : (n s : ℕ) (memory : Memory) → MemoryBelow n memory → Contains (flat_map (λ reader. reader_fields reader) memory.readers ++ flat_map (λ writer. writer_fields writer) memory.writers) s → s < n
 fields-low n s memory below h = by (Contains-append_cases (flat_map (λ reader. reader_fields reader) memory.readers) (flat_map (λ writer. writer_fields writer) memory.writers) s h)
   where

@@ -18,8 +18,8 @@ use Rattle.gg_sound.specs.Built.{IsUnitOf, IsMemoryOf}
 use Rattle.gg_sound.proofs.ShownLemmas.{AreShown, part-shown, rows-twice, own-run}
 use Rattle.gg_sound.proofs.ServeLemmas.{memory-serves}
 
--- A machine of this kind, with these rows of its own, does n cycles: its outs give, and its ins are given, what these signals have in
--- the circuit's rows.
+-- A machine of this kind, with these rows of its own, does n cycles: its outs give, and its ins are given, what these signals have
+-- in the circuit's rows.
 pub record DoesCycles (rows : List (List ℕ)) (n : ℕ) (ins outs : List ℕ) (kind : Kind) (own : List (List ℕ)) : Type 0 where
   pub able : n ≤ kind.limit
   pub does : Runs kind.behaviour kind own n
@@ -28,7 +28,7 @@ pub record DoesCycles (rows : List (List ℕ)) (n : ℕ) (ins outs : List ℕ) (
 
 -- ---- pieces
 
--- A piece has these in-signals and out-signals, in the numbers that `globals` has.
+-- A piece has these in-signals and out-signals, in the numbers that `globals` gives its signals.
 pub record IsNamedAs (globals : List ℕ) (piece : FlatCircuit) (ins outs : List ℕ) : Type 0 where
   pub in_count : length piece.ins ≡ length ins
   pub out_count : length piece.outs ≡ length outs
@@ -50,7 +50,7 @@ part-named whole part globals held memories ins outs is has_ins has_outs =
       out_at = λ o lt. sym (get_or-map (value_at globals) part.outs o 0 0 (omega (arith, lt, out_count))) ∙ ap (λ (l : List ℕ). value_at l o) has_outs;
     }
 
--- the names of a part of a part, in the whole
+-- the in-signals and out-signals of a part of a part, in the numbers of the whole circuit
 named-twice : (globals own : List ℕ) (part piece : FlatCircuit) (ins outs : List ℕ) → IsNamedAs globals part ins outs → IsNamedAs own piece part.ins part.outs → IsNamedAs (map (value_at globals) own) piece ins outs
 named-twice globals own part piece ins outs outer inner =
     let count = length-map own (value_at globals) in

@@ -32,7 +32,7 @@ sources-few a [] rest = omega arith
 sources-few a (s ∷ ins) rest = let less = sources-few (suc a) ins rest in omega (arith, less)
 
 module _ (circuit : FlatCircuit) (tree : InstanceTree) (listed : Listed) (m : ℕ) (low : first_source listed ≤ m) (high : m < first_tray circuit listed) where
-  -- the only channel that a source gives has the number of its input
+  -- the only channel that a source gives has the number of the source's input
   pub source-channel : value_at (channels_from (wires_of circuit tree listed) m) 0 ≡ m - first_source listed
   source-channel =
       let links = wires_of circuit tree listed in

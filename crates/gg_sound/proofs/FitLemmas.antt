@@ -1,4 +1,4 @@
--- The machines of the network have the ins and outs that the plan lists, and need and serve what is there.
+-- The machines of the network have the ins and outs that the plan lists, and what they need and serve exists.
 use Rattle.std.proofs.Common.{◌≡◌, ◌≢◌, ℕ, zero, suc, ◌<◌, List, [], ◌∷◌, None, false, length, map, sym, ◌∙◌, ap, subst, arith}
 use Rattle.std.specs.Prelude.{Option, All, AllPairs, Contains, replicate}
 use Rattle.std.proofs.lemmas.List.{length-map, length-replicate, get_or-map}

@@ -1,4 +1,4 @@
--- The channels that a plan lists at its machines stand there in the network.
+-- The channels that a plan lists at its machines are connected there in the network.
 use Rattle.std.proofs.Common.{◌≡◌, ℕ, ◌<◌, List, length, sym, ◌∙◌, ap, eq-eqb, true-eqb, arith}
 use Rattle.std.specs.Prelude.{◌==◌, Contains}
 use Rattle.std.proofs.lemmas.List.Elements.{Contains-get_or}

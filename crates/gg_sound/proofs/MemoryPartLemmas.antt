@@ -35,15 +35,15 @@ use Rattle.gg_sound.proofs.SideLemmas.{link-one}
 use Rattle.gg_sound.proofs.WordLemmas.{memory-gives, memory-few}
 use Rattle.gg_sound.proofs.BackLemmas.{distinct-back, contains-back, words-back}
 
--- The fields of a reader that go to the memory, and those of a writer, are among these.
+-- The fields of a reader that go to the memory are among these signals, and those of a writer too.
 abbrev pub ReaderAmong : List ℕ → Reader → Type 0
 ReaderAmong ins reader = Contains ins reader.addr × Contains ins reader.en
 
 abbrev pub WriterAmong : List ℕ → Writer → Type 0
 WriterAmong ins writer = Contains ins writer.addr × Contains ins writer.en × Contains ins writer.word × Contains ins writer.mask
 
--- A part with this memory alone: what goes to the memory is just the in-signals, and what it gives, in order, the out-signals. There
--- are no other signals, and each is there once.
+-- A part with this memory alone: what goes to the memory is just the in-signals, and what it gives, in order, the out-signals.
+-- There are no other signals, and each is there once.
 pub record IsMemoryPart (part : Part) (memory : Memory) : Type 0 where
   pub count : length part.memories ≡ 1
   pub only : part.piece.memories ≡ memory ∷ []
@@ -133,7 +133,7 @@ module _ (design : Ordered) (listed : Listed) (m : ℕ) (part : Part) (is : IsDe
       by (inl (inr gives)) = Contains-append_right part.piece.ins part.piece.outs s (contains-back part.globals cut.is.once part.piece.outs (signals_of links (channels_from links m)) s cut.is.outs cut.outs lt gives)
       by (inr taken) = Contains-append_left part.piece.ins part.piece.outs s (in-part s lt taken)
 
-  -- each stands once
+  -- no two channels carry the same signal
   links-once : AllPairs (λ (v w : Link). v.signal ≢ w.signal) links
   links-once = pairs-once circuit tree listed is.formed is.fitting is.scoped apart
 

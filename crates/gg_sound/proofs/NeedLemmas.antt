@@ -1,4 +1,4 @@
--- What an out of a machine needs, the signal of its channel reaches in the circuit.
+-- If an out of a machine needs an in, the signal of the out's channel reaches the signal of the in's channel in the circuit.
 use Rattle.std.proofs.Common.{◌≡◌, ℕ, zero, suc, ◌<◌, List, [], ◌∷◌, length, sym, ◌∙◌, ap, subst, arith}
 use Rattle.std.specs.Prelude.{Contains}
 use Rattle.std.proofs.lemmas.List.{length-map, get_or-map}
@@ -21,7 +21,7 @@ use Rattle.gg_sound.specs.Built.{IsUnitOf, IsMemoryOf, IsBuilt}
 use Rattle.gg_sound.proofs.PortLemmas.{needs-there, needs-count, piece-needs}
 use Rattle.gg_sound.proofs.RankLemmas.{reach-in}
 
--- an out of a machine of this kind reaches an in: the signal of the one's channel reaches that of the other's
+-- in the circuit, the signal of the channel at out o of machine m reaches the signal of the channel at in i
 abbrev pub ReachesIn : FlatCircuit → List Link → ℕ → ℕ → ℕ → Type 0
 ReachesIn circuit links m o i = Reaches circuit (value_at (signals_of links (channels_from links m)) o) (value_at (signals_of links (channels_to links m)) i)
 
@@ -72,7 +72,7 @@ module _ (design : Ordered) (listed : Listed) (links : List Link) (m : ℕ) (par
             (subst (λ (s : ℕ). Reaches part.piece (value_at alone.globals (value_at piece.outs o)) s) into outer));
       })
 
--- each machine of the network
+-- this holds for each machine of the network
 pub has-needs : (design : Ordered) (listed : Listed) (links : List Link) (columns : List (List ℕ)) (n m : ℕ) (own : planned.Machine) (body : Body) (machine : Machine) → IsBody design listed links m body → IsBuilt columns n own body machine → HasNeeds design.circuit links m (kind_of machine)
 has-needs design listed links columns n m own (Cut part) machine body built = unit-needs design listed links m part body.1 machine built
 has-needs design listed links columns n m own (Memory part) machine body built = memory-needs design listed links m part body.2 machine built

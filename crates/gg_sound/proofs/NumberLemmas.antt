@@ -31,7 +31,7 @@ placed numbers c has = by (first_place (λ d. d == c) numbers) refl
         let place : place_in numbers c ≡ i = ap (λ (found : Option ℕ). unwrap_or found 0) e in
         record { within = omega (arith, place, at.within); is = ap (value_at numbers) place ∙ true-eqb (value_at numbers i) c (sym (at.passes 0)) }
 
--- where each stands once, the place of the number at place i is i
+-- if no number is twice in the list, the place of the number at place i is i
 pub place-back : (numbers : List ℕ) (i : ℕ) → AllPairs (λ a b. a ≢ b) numbers → i < length numbers → place_in numbers (value_at numbers i) ≡ i
 place-back numbers i once lt =
     let at = placed numbers (value_at numbers i) (Contains-get_or numbers i 0 lt) in
@@ -51,7 +51,7 @@ module _ (test : ℕ → Bool) (n : ℕ) where
       let among : Contains (range_with_len 0 n) c = (c, omega (arith, lt, length-range_with_len 0 n), get_or-range_with_len 0 n c c lt ∙ (let same : 0 + c ≡ c = omega arith in same)) in
       Contains-filter test (range_with_len 0 n) c among passes
 
-  -- one of them is below n, and passes
+  -- a number of this list is below n, and passes
   pub record IsPassing (c : ℕ) : Type 0 where
     pub below : c < n
     pub passes : test c ≡ true
@@ -76,7 +76,7 @@ one-in (a ∷ []) c once has same = refl
 one-in (a ∷ b ∷ numbers) c once has same =
     absurd (once 0 1 0 (omega arith) (omega arith) (same a (0, omega arith, refl) ∙ sym (same b (1, omega arith, refl))))
 
--- where there is one, it is at place 0
+-- the only number of a list is at place 0
 pub one-is : (numbers : List ℕ) (c : ℕ) → length numbers ≡ 1 → Contains numbers c → value_at numbers 0 ≡ c
 one-is numbers c one has =
     let first : has.0 ≡ 0 = omega (arith, one, has.1) in

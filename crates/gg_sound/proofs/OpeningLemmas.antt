@@ -11,7 +11,7 @@ use Rattle.gg_node.specs.Machine.{Machine, machine_at, no_machine}
 use Rattle.gg_net.specs.Net.{IsOpening}
 use Rattle.gg_sound.specs.Built.{machine_in, IsUnitOf, IsMemoryOf, IsBuilt, AreBuilt}
 
--- as many empty latches, and clear flags, as there are
+-- lists of empty latches and of clear flags, by their own length
 latches-of : (n : ℕ) → ◌≡◌ {A = List (Option ℕ)} (replicate n None) (replicate (length (replicate {A = Option ℕ} n None)) None)
 latches-of n = let none : Option ℕ = None in ap (λ (k : ℕ). replicate k none) (sym (length-replicate n none))
 

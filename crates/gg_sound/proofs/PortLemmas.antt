@@ -24,7 +24,7 @@ use Rattle.gg_closed.proofs.ListLemmas.{Contains-cases}
 
 -- ---- needs
 
--- what is needed is needed by an out that is there
+-- an out that needs something exists
 pub needs-there : (needs : List (List ℕ)) (o i : ℕ) → Contains (needs_at needs o) i → o < length needs
 needs-there needs o i has = by (cases_lt o (length needs))
   where
@@ -107,7 +107,7 @@ module _ (P : Access → Type 0) where
   All-due (One Undefined) readers writers reads writes = All-append P (by_readers 0 readers) (by_writers 0 writers) (All-readers 0 readers reads) (All-writers 0 writers writes)
   All-due (One New) readers writers reads writes = All-append P (by_writers 0 writers) (by_readers 0 readers) (All-writers 0 writers writes) (All-readers 0 readers reads)
 
--- a port looks at ins that are there, and is one of so many ports
+-- a port looks at ins that exist, and its number is below the count of ports
 pub record IsFitPort (n count : ℕ) (port : Port) : Type 0 where
   pub fields : All (λ i. i < n) (fields_of port.access)
   pub number : port.number < count

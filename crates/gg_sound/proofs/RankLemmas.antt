@@ -1,4 +1,4 @@
--- What a signal reaches stands before it in an order of evaluation, and what it reaches in a part it reaches in the whole.
+-- What a signal reaches comes before it in an order of evaluation, and what it reaches in a part it reaches in the whole circuit.
 use Rattle.std.proofs.Common.{◌≡◌, ℕ, ◌<◌, List, length, refl, sym, ◌∙◌, subst, inl, inr, ◌⊎◌, arith}
 use Rattle.std.proofs.lemmas.List.{get_or_default}
 use Rattle.gg_flat.specs.Line.{value_at}
@@ -16,7 +16,7 @@ use Rattle.gg_sound.proofs.NumberLemmas.{placed}
 -- ---- places in an order
 
 module _ (circuit : FlatCircuit) (order : List ℕ) (ordered : IsOrder circuit order) where
-  -- a signal that is read stands before its reader
+  -- a signal that is read comes before the signal that reads it
   read-lower : (a b : ℕ) → Reads circuit a b → place_in order b < place_in order a
   read-lower a b reads =
       let at = placed order a (ordered.every a reads.signal) in
@@ -25,7 +25,7 @@ module _ (circuit : FlatCircuit) (order : List ℕ) (ordered : IsOrder circuit o
       let same : place_in order b ≡ before.place = one-place order (place_in order b) before.place ordered.once there.within before.within (there.is ∙ sym before.is) in
       omega (arith, same, before.before)
 
-  -- a signal that is reached is the signal itself, or stands before it
+  -- a signal that is reached is the signal itself, or comes before it
   pub reach-lower : (a b : ℕ) → Reaches circuit a b → (a ≡ b) ⊎ (place_in order b < place_in order a)
   reach-lower a b to = along-reaches circuit (λ (x : ℕ). (a ≡ x) ⊎ (place_in order x < place_in order a)) closed a b (inl refl) to
     where
@@ -36,7 +36,7 @@ module _ (circuit : FlatCircuit) (order : List ℕ) (ordered : IsOrder circuit o
 -- ---- parts
 
 module _ (whole part : FlatCircuit) (globals held memories : List ℕ) (is : IsPart whole part globals held memories) where
-  -- a signal of the part, which a signal reaches in the whole
+  -- x is a signal of the part, and a reaches it in the whole circuit
   record IsReachedIn (a x : ℕ) : Type 0 where
     within : x < length globals
     reached : Reaches whole (value_at globals a) (value_at globals x)

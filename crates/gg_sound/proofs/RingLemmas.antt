@@ -22,7 +22,7 @@ use Rattle.gg_sound.proofs.NeedLemmas.{HasNeeds}
 
 module _ (plan : Plan) (links : List Link) (kinds : List Kind) (end : ℕ) (circuit : FlatCircuit) (order : List ℕ) (ordered : IsOrder circuit order) (are : AreLinks plan links) (once : AllPairs (λ (v w : Link). v.signal ≢ w.signal) links)
     (needs : (m : ℕ) → m < length plan.machines → HasNeeds circuit links m (kind_at kinds m)) where
-  -- the place in the order of each link's signal
+  -- the place of each link's signal in the order
   abbrev ranks : List ℕ
   ranks = map (λ (w : Link). place_in order w.signal) links
 

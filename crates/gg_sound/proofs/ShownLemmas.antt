@@ -1,4 +1,4 @@
--- The rows of a part: what they show of the rows of the whole, and that they are a run on the columns of the part's own ins.
+-- The rows of a part: what they show of the whole circuit's rows, and that they are a run on the columns of the part's own ins.
 use Rattle.std.proofs.Common.{◌≡◌, ℕ, suc, ◌<◌, List, [], ◌∷◌, length, map, refl, sym, ◌∙◌, ap, ap₂, subst, arith}
 use Rattle.std.proofs.lemmas.List.{length-map, get_or-map, ext_get_or}
 use Rattle.std.proofs.lemmas.Grind.{same_number_lists}
@@ -14,7 +14,7 @@ use Rattle.gg_net.proofs.StateLemmas.{column-at}
 
 -- ---- rows
 
--- Some rows show at each place, in the first n cycles, what the others show at this signal.
+-- In the first n cycles, a signal has the value in the part's rows that its number in `globals` has in the circuit's rows.
 pub record AreShown (globals : List ℕ) (n : ℕ) (rows own : List (List ℕ)) : Type 0 where
   pub at : (t s : ℕ) → t < n → s < length globals → value_at (row_at own t) s ≡ value_at (row_at rows t) (value_at globals s)
 

@@ -17,7 +17,7 @@ use Rattle.gg_closed.proofs.KindLemmas.{IsInto, IsWordWire, IsTrayWire, Kind, Of
 use Rattle.gg_sound.proofs.NumberLemmas.{numbers-once, none-in, one-in}
 use Rattle.gg_sound.proofs.ListedLemmas.{taken-in, taken-is}
 
--- two links of one signal are one
+-- two links with the same signal are the same link
 pub link-one : (links : List Link) (c d : ℕ) → AllPairs (λ (v w : Link). v.signal ≢ w.signal) links → c < length links → d < length links → (link_at links c).signal ≡ (link_at links d).signal → c ≡ d
 link-one links c d once lc ld same = by (cases_lt c d) (cases_lt d c)
   where
@@ -27,7 +27,7 @@ link-one links c d once lc ld same = by (cases_lt c d) (cases_lt d c)
     by (inr le) (inr ge) = omega (arith, le, ge)
 
 module _ (circuit : FlatCircuit) (tree : InstanceTree) (listed : Listed) where
-  -- a link leads to a machine before the sources, but for those of the top's outputs
+  -- each link but those of the top's outputs leads to a machine before the sources
   consumer-low : (w : Link) → Kind circuit tree listed w → (w.consumer < first_source listed) ⊎ IsTrayWire circuit listed w
   consumer-low w (OfSource f) = inl (omega (arith, ap (λ (v : Link). v.consumer) f.is))
   consumer-low w (OfTray f) = inr f
@@ -45,7 +45,7 @@ module _ (circuit : FlatCircuit) (tree : InstanceTree) (listed : Listed) where
           let low = unit_or_hub-below tree listed.units (memory_at tree (value_at listed.memories f.place)).instance in
           omega (arith, low, ap (λ (v : Link). v.consumer) word.is)
 
-  -- the kind of a link by its number
+  -- the same for a link by its number
   consumer-at : (c : ℕ) → c < length (wires_of circuit tree listed) → ((link_at (wires_of circuit tree listed) c).consumer < first_source listed) ⊎ IsTrayWire circuit listed (link_at (wires_of circuit tree listed) c)
   consumer-at c lt =
       let links = wires_of circuit tree listed in

@@ -1,4 +1,4 @@
--- The network of a plan is wired, where its machines have as many ins and outs as the plan lists channels at them.
+-- The network of a plan is wired if its machines have as many ins and outs as the plan lists channels for them.
 use Rattle.std.proofs.Common.{◌≡◌, ℕ, ◌<◌, List, length, sym, ◌∙◌, ap, refl, subst, arith}
 use Rattle.std.specs.Prelude.{Contains, All}
 use Rattle.gg_flat.specs.Line.{value_at}
@@ -13,8 +13,8 @@ use Rattle.gg_sound.specs.Built.{wires_of_plan}
 use Rattle.gg_sound.proofs.LinkLemmas.{AreLinks, linked, length-wires}
 use Rattle.gg_sound.proofs.ListedLemmas.{taken-placed, given-placed, at-in, at-out}
 
--- A machine of this kind has an in for each channel that machine m of the plan takes, and an out for each that it gives; what its
--- outs need and its ports look at are ins that are there; and the ports that it serves are among its ports.
+-- A machine of this kind has an in for each channel that machine m of the plan takes, and an out for each that it gives. The ins
+-- that its outs need and its ports look at exist, and the ports that it serves are among its ports.
 pub record IsFitting (links : List Link) (m : ℕ) (kind : Kind) : Type 0 where
   pub ins : kind.ins ≡ length (channels_to links m)
   pub outs : kind.outs ≡ length (channels_from links m)
@@ -22,13 +22,13 @@ pub record IsFitting (links : List Link) (m : ℕ) (kind : Kind) : Type 0 where
   pub fields : All (λ port. All (λ i. i < kind.ins) (fields_of port.access)) kind.ports
   pub numbers : All (λ port. port.number < kind.port_count) kind.ports
 
--- so many machines are of these kinds
+-- there are `count` kinds, and each is right for the machine with its number
 pub record AreFitting (links : List Link) (count : ℕ) (kinds : List Kind) : Type 0 where
   pub total : length kinds ≡ count
   pub each : (m : ℕ) → m < count → IsFitting links m (kind_at kinds m)
 
 module _ (plan : Plan) (links : List Link) (kinds : List Kind) (end : ℕ) (are : AreLinks plan links) (fit : AreFitting links (length plan.machines) kinds) where
-  -- a channel stands at an in and an out that are there
+  -- a channel is connected at an in and an out that exist
   record IsFast (c : ℕ) : Type 0 where
     giver : (wire_at (wires_of_plan plan) c).producer < length kinds
     out : (wire_at (wires_of_plan plan) c).out < (kind_at kinds (wire_at (wires_of_plan plan) c).producer).outs

@@ -21,7 +21,7 @@ use Rattle.gg_cut.proofs.WireLemmas.{Each, Each-append, Each-numbered, filter-no
 
 -- ---- lists of links by number
 
--- of lists by number, where a test passes in one alone
+-- joined lists, of which only one has items that pass a test: the items that pass are those of this list
 filter-one : (test : Link → Bool) (f : ℕ → ℕ → List Link) (n : ℕ) (xs : List ℕ) (i : ℕ) → i < length xs → ((k x : ℕ) → (k ≡ n + i → ⊥) → Each (λ w. test w ≡ false) (f k x)) → filter test (numbered f n xs) ≡ filter test (f (n + i) (value_at xs i))
 filter-one test f n [] i lt others = absurd (omega (arith, lt))
 filter-one test f n (x ∷ xs) zero lt others =
@@ -35,7 +35,7 @@ filter-one test f n (x ∷ xs) (suc i) lt others =
     ∙ filter-one test f (suc n) xs i (omega (arith, lt)) (λ k y other. others k y (λ same. other (omega (arith, same))))
     ∙ ap (λ k. filter test (f k (value_at xs i))) (let same : suc n + i ≡ n + suc i = omega arith in same)
 
--- one of the lists is no longer than all
+-- one of the lists is no longer than all of them joined
 numbered-long : (f : ℕ → ℕ → List Link) (n : ℕ) (xs : List ℕ) (i : ℕ) → i < length xs → length (f (n + i) (value_at xs i)) ≤ length (numbered f n xs)
 numbered-long f n [] i lt = absurd (omega (arith, lt))
 numbered-long f n (x ∷ xs) zero lt =
@@ -49,7 +49,7 @@ numbered-long f n (x ∷ xs) (suc i) lt =
 -- ---- what machine m gives of a memory's channels
 
 module _ (m outside : ℕ) (other : outside ≡ m → ⊥) where
-  -- of three links the machine gives the last alone
+  -- of the three links of a reader the machine gives only the last
   keep : (b s : Bool) → b ≡ false → s ≡ true → (u v w : Link) (rest : List Link)
       → cond b (u ∷ cond b (v ∷ cond s (w ∷ rest) rest) (cond s (w ∷ rest) rest)) (cond b (v ∷ cond s (w ∷ rest) rest) (cond s (w ∷ rest) rest)) ≡ w ∷ rest
   keep true s not is u v w rest = absurd (true≢false not)
@@ -68,14 +68,14 @@ module _ (m outside : ℕ) (other : outside ≡ m → ⊥) where
       let not = ne_eqb outside m other in
       Each-append (λ w. (w.producer == m) ≡ false) (writer_wires outside k writer) (flattened (writer_wires outside k) writers) (not, (not, (not, (not, tt)))) (writers-give k writers)
 
-  -- nothing of another memory
+  -- none of the links of another memory
   readers-other : (k : ℕ) → (k ≡ m → ⊥) → (readers : List Reader) → Each (λ w. (w.producer == m) ≡ false) (flattened (reader_wires outside k) readers)
   readers-other k distinct [] = tt
   readers-other k distinct (reader ∷ readers) =
       let not = ne_eqb outside m other in
       Each-append (λ w. (w.producer == m) ≡ false) (reader_wires outside k reader) (flattened (reader_wires outside k) readers) (not, (not, (ne_eqb k m distinct, tt))) (readers-other k distinct readers)
 
-  -- nothing of a unit
+  -- none of the links of a unit
   port-other : (k : ℕ) → (k ≡ m → ⊥) → (ports : List InstancePort) → Each (λ w. (w.producer == m) ≡ false) (map (port_wire outside k) ports)
   port-other k distinct [] = tt
   port-other k distinct (port ∷ ports) = (by port.is_input, port-other k distinct ports)
@@ -148,7 +148,7 @@ module _ (circuit : FlatCircuit) (tree : InstanceTree) (listed : Listed) (m i : 
       ∙ append-nil (filter gives from_readers)
       ∙ readers-give m outer apart (readers_at circuit own)
 
-  -- the signals of the channels that the memory gives
+  -- the signals of the channels that the memory gives are the data of its readers
   pub memory-gives : signals_of (wires_of circuit tree listed) (channels_from (wires_of circuit tree listed) m) ≡ map (λ (reader : Reader). reader.word) (readers_at circuit own)
   memory-gives =
       let words = map (λ (reader : Reader). wire reader.word m outer) (readers_at circuit own) in
@@ -167,7 +167,7 @@ module _ (circuit : FlatCircuit) (tree : InstanceTree) (listed : Listed) (m i : 
       ∙ append-nil words)))
       ∙ map-map (λ (w : Link). w.signal) (λ (reader : Reader). wire reader.word m outer) (readers_at circuit own)
 
-  -- its ports are no more than all channels
+  -- the memory has no more ports than there are channels
   pub memory-few : length (readers_at circuit own) + length (writers_at circuit own) ≤ length (wires_of circuit tree listed)
   memory-few =
       let number = first_memory listed + i in

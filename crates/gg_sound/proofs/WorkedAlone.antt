@@ -1,7 +1,7 @@
--- A listed memory's part, cut once more by hand; and what isn't cut so.
+-- A listed memory's part, cut once more by hand; and what isn't such a cut.
 --
--- The part has the enable of the memory's only reader, its address and its data, in this order; its channels carry the address first. So
--- its in-signals are 1 and 0. Cut again, the address is signal 0.
+-- The part has the enable of the memory's only reader, its address and its data, in this order; its channels carry the address
+-- first. So its in-signals are 1 and 0. Cut again, the address is signal 0.
 use Rattle.std.proofs.Common.{◌≡◌, ◌≢◌, ℕ, zero, suc, ◌<◌, List, [], ◌∷◌, ◌++◌, refl, ap, arith, lit<}
 use Rattle.std.specs.Prelude.{AllPairs, Contains, slice_index_or}
 use Rattle.std.proofs.lemmas.List.Kept.{AllPairs-cons}
@@ -104,21 +104,21 @@ none-held =
 cut : IsCutAgain part alone
 cut = record { is_part = is-part; globals = refl; ins = refl; outs = refl; memories = refl; held = none-held }
 
--- ---- what isn't cut so
+-- ---- what isn't such a cut
 
--- a register that no signal holds comes along
+-- a cut that takes along a register that no signal holds
 idle : (piece : FlatCircuit) → ¬ IsCutAgain part (record alone { piece = piece; held = 0 ∷ [] })
 idle piece is = by (is.held.sound 0 (0, lit< tt, refl))
   where
     by : IsHeldIn part.piece (part.piece.ins ++ part.piece.outs) part.piece.ins 0 → ⊥
     by held = no-held held.signal 0 held.chosen held.holds.holds
 
--- the signals stand in the part's order, and not the in-signals first, in theirs
+-- a cut whose signals are in the part's order, instead of the in-signals first
 unturned : (piece : FlatCircuit) → ¬ IsCutAgain part (record alone { piece = piece; globals = 0 ∷ 1 ∷ 2 ∷ [] })
 unturned piece is = let head : List ℕ → ℕ = λ l. value_at l 0 in apart 0 1 refl (ap head is.globals)
 
 -- ---- the rows of a memory that stands alone
 
--- of rows of six signals: the address, the enable and the data
+-- of a row of six signals, a memory alone has the values of the address, the enable and the data
 its-rows : body_rows (Standing part) ((10 ∷ 11 ∷ 12 ∷ 13 ∷ 14 ∷ 15 ∷ []) ∷ []) ≡ (13 ∷ 14 ∷ 15 ∷ []) ∷ []
 its-rows = refl

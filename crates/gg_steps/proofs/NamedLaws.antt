@@ -1,4 +1,4 @@
--- The number that a word names, and the words of a line that is made of words.
+-- The number that a word names, and the words of a line that consists of words.
 use Rattle.std.proofs.Common.{◌≡◌, ℕ, zero, suc, ◌+◌, ◌≤◌, List, [], ◌∷◌, codes, Option, Some, Bool, true, false, cond, refl, sym, ap, ◌∙◌, subst, arith}
 use Rattle.std.specs.Prelude.{slice_get}
 use Rattle.std.specs.List.{position_from, slice_split, onto_first}
@@ -53,7 +53,7 @@ first-from name i (x ∷ names) (suc j) n e at =
     first-tail name x i n (bytes_eq name x) _ (bytes_eq-Decides name x) (λ same. let no : suc j ≤ 0 = at.first 0 (ap Some (sym same)) in absurd (omega arith))
     (first-from name (i + 1) names j n (omega (arith, e)) (record { has = at.has; first = λ k h. let below : suc j ≤ suc k = at.first (suc k) h in omega arith }))
 
--- a word names the number that goes by it, and no other
+-- a word's first place among the names is the number that goes by the word
 pub names-goes : (names : List (List ℕ)) (word : List ℕ) (n : ℕ) → HasNoBlank word → first_place word names ≡ Some n → GoesBy names n word
 names-goes names [] n plain e = absurd (cc)
 names-goes names (b ∷ word) n plain e =
@@ -68,7 +68,7 @@ goes-names names (b ∷ word) n goes =
     position_from-zero (bytes_eq (b ∷ word)) names
     ∙ first-from (b ∷ word) 0 names n n (omega arith) (record { has = goes.has; first = goes.first })
 
--- these words, with one blank between each two, are the line; no word has a blank
+-- the line is these words, with one blank between each two, and no word has a blank
 abbrev pub AreWordsOf : List ℕ → List (List ℕ) → Type 0
 AreWordsOf line [] = ⊥
 AreWordsOf line (x ∷ []) = (line ≡ x) × HasNoBlank x
@@ -97,13 +97,13 @@ words-kind : (b : ℕ) (line : List ℕ) (kind : Bool) (parts : List (List ℕ))
 words-kind b line true parts h are = words-behind b line parts h are
 words-kind b line false parts h are = words-onto b line parts h are
 
--- the words of a line are that
+-- a line is its words, with one blank between each two
 pub words-are : (line : List ℕ) → AreWordsOf line (words line)
 unfolding words
 words-are [] = (refl, no_byte)
 words-are (b ∷ line) = words-kind b line (is_blank b) (slice_split is_blank line) refl (words-are line)
 
--- the words that begin a step
+-- the words that begin a step have no blank
 pub latch-plain : HasNoBlank (codes "latch")
 unfolding words
 latch-plain = let are = words-are (codes "latch") in are.1
@@ -120,7 +120,7 @@ pub serve-plain : HasNoBlank (codes "serve")
 unfolding words
 serve-plain = let are = words-are (codes "serve") in are.1
 
--- a line of two words, and one of three
+-- the words of a line of two words, and of a line of three
 pub words-two : (line word name : List ℕ) → HasNoBlank word → StartsWith line word name → HasNoBlank name → words line ≡ word ∷ name ∷ []
 words-two line word name plain start plain_name =
     ap words start.whole ∙ words-front word start.blank name plain start.splits ∙ ap (λ more. word ∷ more) (words-last name plain_name)

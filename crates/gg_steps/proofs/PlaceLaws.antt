@@ -1,4 +1,4 @@
--- Laws of the first place of a name in a list of names, and of a table that finds it.
+-- The first place of a name in a list of names, and a table that finds it.
 use Rattle.std.proofs.Common.{◌≡◌, ℕ, ◌+◌, List, [], ◌∷◌, ◌++◌, Bor, length, Option, None, Some, Bool, true, false, cond, nat_eq, refl, sym, ap, ◌∙◌, arith}
 use Rattle.std.specs.Prelude.{is_some, if◌then◌else◌}
 use Rattle.std.specs.HashMap.{HashMap, get_by}
@@ -13,7 +13,7 @@ use Rattle.std.proofs.lemmas.Slice.Eq.{bytes_eq-Decides}
 use Rattle.gg_steps.specs.Naming.{first_place}
 use Rattle.gg_steps.specs.Table.{TellsNames}
 
--- with one more name, what had a place keeps it, and the new name has the next one
+-- after one more name, a name that had a place keeps it, and a new name has the next place
 abbrev pub place_after : Option ℕ → Bool → ℕ → Option ℕ
 place_after (Some i) b n = Some i
 place_after None true n = Some n
@@ -37,7 +37,7 @@ position-push p xs y =
     position_from-zero p (xs ++ y ∷ []) ∙ from-push p 0 xs y (length xs) (omega arith)
     ∙ ap (λ o. place_after o (p y) (length xs)) (sym (position_from-zero p xs))
 
--- a name that is there already changes no place
+-- one more name that is there already changes no place
 present_at : (q name : List ℕ) (b : Bool) (o p : Option ℕ) (n : ℕ) → Decides b (q ≡ name) → (q ≡ name → o ≡ p) → is_some p ≡ true → place_after o b n ≡ o
 present_at q name b (Some i) p n d same there = refl
 present_at q name false None p n d same there = refl
@@ -51,7 +51,7 @@ pub tells-present : (names : List (List ℕ)) (name : List ℕ) (places : HashMa
 tells-present names name places tells there = λ q.
     tells q ∙ sym (position-push (bytes_eq q) names name ∙ present_at q name (bytes_eq q name) (position (bytes_eq q) names) (position (bytes_eq name) names) (length names) (bytes_eq-Decides q name) (λ e. ap (λ x. position (bytes_eq x) names) e) there)
 
--- a new name has the next place
+-- one more name that is new has the next place
 new_at : (q name : List ℕ) (b e : Bool) (o p : Option ℕ) (n : ℕ) → Decides b (q ≡ name) → Decides e (name ≡ q) → (q ≡ name → o ≡ p) → is_some p ≡ false → (if e then Some n else o) ≡ place_after o b n
 new_at q name false true o p n d d2 same gone = let no : false ≡ true = d.1 (sym (d2.0 refl)) in absurd (cc)
 new_at q name true false o p n d d2 same gone = let no : false ≡ true = d2.1 (sym (d.0 refl)) in absurd (cc)
@@ -72,7 +72,7 @@ tells-new names name places new tells gone sets = λ q.
     ∙ new_at q name (bytes_eq q name) (bytes_eq name q) (position (bytes_eq q) names) (position (bytes_eq name) names) (length names) (bytes_eq-Decides q name) (bytes_eq-Decides name q) (λ e. ap (λ x. position (bytes_eq x) names) e) gone
     ∙ sym (position-push (bytes_eq q) names name)
 
--- a word with a byte names the first place at which it stands
+-- a word that isn't empty names the first place at which it is among the names
 pub first_place-some : (word : List ℕ) (names : List (List ℕ)) → nat_eq (length word) 0 ≡ false → first_place word names ≡ position (bytes_eq word) names
 first_place-some [] names h = absurd (cc)
 first_place-some (byte ∷ word) names h = refl

@@ -1,4 +1,4 @@
--- A line is read as a step exactly where it spells that step.
+-- A line is read as a step just if it spells that step.
 use Rattle.std.proofs.Common.{◌≡◌, ℕ, List, [], ◌∷◌, codes, Option, None, Some, Bool, true, false, refl, ap, ◌∙◌, subst}
 use Rattle.std.specs.Prelude.{option_map, if◌then◌else◌}
 use Rattle.std.specs.Bool.{Decides}
@@ -17,7 +17,7 @@ of_some : {A B : Type 0} (f : A → B) (o : Option A) (y : B) → option_map f o
 of_some f None y e = absurd (cc)
 of_some f (Some x) y e = (x, refl, cc)
 
--- ---- what is read is spelt
+-- ---- a line that is read as a step spells it
 
 latch-spelt : (naming : Naming) (line word name : List ℕ) (event : Event) → HasNoBlank name → StartsWith line word name → word ≡ codes "latch"
     → option_map (λ channel. Latch channel) (first_place name naming.channels) ≡ Some event → Spells naming line event
@@ -98,7 +98,7 @@ words-spelt naming line (word ∷ name ∷ own ∷ more ∷ rest) event are e = 
 pub step-spelt : (naming : Naming) (line : List ℕ) (event : Event) → step_of naming line ≡ Some event → Spells naming line event
 step-spelt naming line event e = words-spelt naming line (words line) event (words-are line) e
 
--- ---- what is spelt is read
+-- ---- a line that spells a step is read as it
 
 pub step-read : (naming : Naming) (line : List ℕ) (event : Event) → Spells naming line event → step_of naming line ≡ Some event
 step-read naming line (Latch channel) s =

@@ -1,5 +1,5 @@
--- The definitions of a steps file and of causes at small texts, and at their near misses. Bytes past letters are given by their
--- numbers: 9 is a tab, 10 a line feed, 11 a vertical tab, 13 a carriage return, 32 a space.
+-- The definitions of a steps file and of causes at small texts, and at their near misses. Bytes that aren't printable characters
+-- are given by their numbers: 9 is a tab, 10 a line feed, 11 a vertical tab, 13 a carriage return, 32 a space.
 use Rattle.std.proofs.Common.{◌≡◌, [], ◌∷◌, ◌++◌, None, Some, codes, refl, ap, lit≤}
 use Rattle.std.proofs.lemmas.Fmt.{decimal_digit}
 use Rattle.gg_net.specs.declared.event.Event.TheVariants.{Latch, Fire, Serve, Finish}
@@ -66,7 +66,7 @@ no_ports : step_of net (codes "serve hub: r") ≡ None
 unfolding words
 no_ports = refl
 
--- a name that isn't there, or that something else has
+-- a name that isn't there, or that only something else has
 no_channel : step_of net (codes "latch z") ≡ None
 unfolding words
 no_channel = refl
@@ -152,7 +152,7 @@ vertical_tab_is_no_blank : step_of net (codes "latch" ++ 11 ∷ codes "x") ≡ N
 unfolding words
 vertical_tab_is_no_blank = refl
 
--- a name of no bytes, which two blanks would give, is never named
+-- an empty name, which two blanks would give, is never named
 nothing_is_no_name : first_place [] ([] ∷ []) ≡ None
 nothing_is_no_name = refl
 
@@ -190,7 +190,7 @@ not_a_text : step_of net (codes "latch x" ++ 255 ∷ []) ≡ None
 unfolding words
 not_a_text = refl
 
--- files: line ends of both kinds, the last one left out or not, an empty line, and a return that no line feed follows
+-- files: line ends of both kinds, the last one left out or not, an empty line, and a carriage return that no line feed follows
 both_line_ends : steps_of net (codes "latch x" ++ 13 ∷ 10 ∷ (codes "fire x" ++ 10 ∷ [])) ≡ Some (Latch 0) ∷ Some (Fire 0) ∷ []
 unfolding words text_lines
 both_line_ends = refl

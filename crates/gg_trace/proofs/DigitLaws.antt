@@ -1,10 +1,10 @@
--- The number that is read of a field, digit by digit.
+-- The number that is read from a field, digit by digit.
 use Rattle.std.proofs.Common.{◌≡◌, ℕ, ◌+◌, ◌*◌, ◌^◌, ◌<◌, ◌≤◌, List, [], ◌∷◌, length, Option, None, Some, MatchOption, refl, ap, ◌∙◌, arith}
 use Rattle.std.specs.Char.{digit_value}
 use Rattle.std.specs.Str.Parse.{AllDigits, digits_value, digits_value_after}
 use Rattle.gg_trace.specs.Cells.{IsHexadecimal, hexadecimal, AppendsDigit}
 
--- field is what was read, and then rest; value is what was read, where that fits 128 bits
+-- `rest` is what is left of the field; `value` is the number read so far, or none if the field's number doesn't fit 128 bits
 pub record ReadsDigits (field rest : List ℕ) (value : Option ℕ) : Type 0 where
   pub before : AllDigits 16 rest → AllDigits 16 field
   pub whole : AllDigits 16 field → AllDigits 16 rest
@@ -13,7 +13,7 @@ pub record ReadsDigits (field rest : List ℕ) (value : Option ℕ) : Type 0 whe
 pub reads_nothing : (field : List ℕ) → ReadsDigits field field (Some 0)
 reads_nothing field = record { before = λ h. h; whole = λ h. h; number = refl }
 
--- more digits only make a number greater
+-- further digits never make a number smaller
 grows : (n : ℕ) (ds : List ℕ) → n ≤ digits_value_after 16 n ds
 grows n [] = omega arith
 grows n (d ∷ ds) = omega (arith, grows (n * 16 + digit_value d) ds)

@@ -1,4 +1,4 @@
--- The fields of a text, by its first field.
+-- The fields of a text: its first field, and the fields of what follows it.
 use Rattle.std.proofs.Common.{◌≡◌, ℕ, ◌+◌, ◌-◌, ◌<◌, ◌≤◌, Bool, true, false, not, List, [], ◌∷◌, length, get_or, take, drop, All, refl, sym, ap, ◌∙◌, subst, arith, suc, zero, length-drop}
 use Rattle.std.specs.List.{slice_split, onto_first, position_or_len}
 use Rattle.std.proofs.lemmas.List.Splits.{slice_split_first, slice_split_none, length-slice_split}
@@ -7,7 +7,7 @@ use Rattle.std.proofs.lemmas.List.{get_or_default, take_all, drop-drop, get_or-d
 use Rattle.std.proofs.lemmas.Bool.{false≢true}
 use Rattle.gg_trace.specs.Fields.{is_blank, fields, fields_of_text, fields_of_parts, later_fields}
 
--- a split has a first part
+-- an empty part adds no field, if another part follows
 later_fields-empty : (parts : List (List ℕ)) → 0 < length parts → later_fields ([] ∷ parts) ≡ later_fields parts
 later_fields-empty [] h = absurd (omega arith)
 later_fields-empty (x ∷ parts) h = refl
@@ -17,7 +17,7 @@ later_fields-onto b [] = refl
 later_fields-onto b (x ∷ []) = refl
 later_fields-onto b (x ∷ y ∷ parts) = refl
 
--- behind a blank, the fields are those of what follows the run of blanks
+-- after a blank, the fields are those of what follows the run of blanks
 later_fields-run : (p : ℕ → Bool) (text : List ℕ) → later_fields (slice_split p text) ≡ fields_of_parts (slice_split p (drop (position_or_len (λ b. not (p b)) text) text))
 later_fields-run p [] = refl
 later_fields-run p (b ∷ text) = by_kind (later_fields-run p text) (p b) refl
@@ -32,14 +32,14 @@ later_fields-run p (b ∷ text) = by_kind (later_fields-run p text) (p b) refl
         rw h (rw e (later_fields-empty (slice_split p text) (omega (arith, length-slice_split p text)) ∙ rest))
     by_kind rest false h = simp h (later_fields-onto b (slice_split p text))
 
--- where no blank follows, the text is the one field
+-- a text without a blank is one field
 pub fields_of_text-last : (text : List ℕ) (n : ℕ) → length text ≤ n → n ≤ length text → ((k : ℕ) → k < n → is_blank (get_or text k 0) ≡ false) → fields_of_text text ≡ take n text ∷ []
 unfolding fields_of_text
 fields_of_text-last text n long within same =
     let none : All (λ b. is_blank b ≡ false) text = λ k d h. ap is_blank (get_or_default text k d 0 h) ∙ same k (omega arith) in
     ap fields_of_parts (slice_split_none is_blank text none) ∙ ap (λ t. t ∷ []) (sym (take_all n text long))
 
--- the same for a test of any kind, at the places of its first yes and of the first no behind it
+-- for any test in place of `is_blank`: the first field ends where the test first holds, and the other fields follow
 first_part : (p : ℕ → Bool) (text : List ℕ) (n : ℕ) → position_or_len p text ≡ n → n < length text
     → fields_of_parts (slice_split p text) ≡ take n text ∷ later_fields (slice_split p (drop (n + 1) text))
 first_part p text n e inside =
@@ -52,7 +52,7 @@ not_is true false h = refl
 not_is false true h = refl
 not_is false false h = sym h
 
--- the run of blanks that begins at n ends m bytes on
+-- a run of m blanks that begins at n goes on for m - 1 bytes after its first
 behind_run : (p : ℕ → Bool) (text : List ℕ) (n m : ℕ) → n < length text → 0 < m
     → m ≤ length (drop n text) → ((k : ℕ) → k < m → p (get_or (drop n text) k 0) ≡ true)
     → (m < length (drop n text) → p (get_or (drop n text) m 0) ≡ false)
@@ -69,7 +69,7 @@ behind_run p text n m inside some within gap ends =
         let e : n + 1 + k ≡ n + (k + 1) = omega arith in
         get_or-drop (n + 1) text k 0 ∙ ap (λ i. get_or text i 0) e ∙ sym (get_or-drop n text (k + 1) 0)
 
--- the first field, and then the fields of what follows the run of blanks behind it
+-- the first field, and then the fields of what follows the run of blanks after it
 pub fields_of_text-first : (text : List ℕ) (n m : ℕ) → n < length text
     → ((k : ℕ) → k < n → is_blank (get_or text k 0) ≡ false) → is_blank (get_or text n 0) ≡ true
     → m ≤ length (drop n text) → ((k : ℕ) → k < m → is_blank (get_or (drop n text) k 0) ≡ true)

@@ -1,4 +1,4 @@
--- A text has at most one first fault, or columns, and these are the only ones.
+-- A text has at most one first fault. If it has columns, it has no fault, and its columns are the only ones.
 use Rattle.std.proofs.Common.{◌≡◌, ◌≢◌, ℕ, ◌^◌, ◌<◌, zero, suc, List, [], length, get_or, decimal, ◌⊎◌, inl, inr, refl, sym, ap, ◌∙◌, subst, arith}
 use Rattle.std.proofs.lemmas.List.{ext_get_or}
 use Rattle.std.proofs.lemmas.Bool.{cases_order}
@@ -11,7 +11,7 @@ use Rattle.gg_trace.specs.Header.{field, MayStand, IsHeader, HasHeaderFault}
 use Rattle.gg_trace.specs.Table.{row_limit}
 use Rattle.gg_trace.specs.Trace.{header_of, rows_of, row_at, IsValueField, IsRow, Columns, HasValueAt, IsTooWide, HasFault, ReachesRow, ReachesValue, IsFirstFault, IfFirstFault, HaveWidths}
 
--- a header has no fault
+-- a header for the ports has no fault
 header_good : (ports : List Port) (header : List (List ℕ)) (f : ℕ) → HasHeaderFault ports header f → IsHeader ports header → ⊥
 header_good ports header f fault good = by_kind fault.here
   where
@@ -36,7 +36,7 @@ one_header_fault ports header f g here there = by_order (cases_order f g)
     by_order (inr (inl before)) = absurd (not_before ports header f g here there before)
     by_order (inr (inr before)) = absurd (not_before ports header g f there here before)
 
--- the port that a field of a header names
+-- each field of a header after the first names a port
 named_port : (ports : List Port) (header : List (List ℕ)) (f : ℕ) → IsHeader ports header → 0 < f → f < length header → (i : ℕ) × IsNamed ports (field header f) i
 named_port ports header zero good some within = absurd (omega arith)
 named_port ports header (suc f) good some within = let may = good.each (suc f) within in (may.port, may.is)
@@ -50,7 +50,7 @@ bad_digits ports bytes r f good at none value =
 bad_width : (ports : List Port) (bytes : List ℕ) (r f : ℕ) → IsTooWide ports bytes r f → IsValueField ports (header_of bytes) (row_at bytes r) f → ⊥
 bad_width ports bytes r f wide value = omega (arith, wide.wide, (value.value wide.port wide.named).fits)
 
--- the header and the rows before a fault's row are good, and that row is not
+-- the header and the rows before the fault's row are good, and that row is not
 abbrev IsAtRow : List Port → List ℕ → TraceFault → Type 0
 IsAtRow ports bytes (Heading f) = Unit {0}
 IsAtRow ports bytes (RowNumber r) = ReachesRow ports bytes r × (r < length (rows_of bytes)) × ¬ IsRow ports (header_of bytes) r (row_at bytes r)
@@ -72,7 +72,7 @@ at_row ports bytes (FieldCount r c) h = (h.0.row, h.1.0, λ good. h.1.2 (sym h.1
 at_row ports bytes (TooManyRows r) h = (h.0, h.1.0, λ good. omega (arith, good.limit, h.1.1))
 at_row ports bytes NoMemory h = tt
 
--- two faults are of one row
+-- only one row is the first that isn't good
 one_row : (ports : List Port) (bytes : List ℕ) (r s : ℕ) → ReachesRow ports bytes r × (r < length (rows_of bytes)) × ¬ IsRow ports (header_of bytes) r (row_at bytes r)
     → ReachesRow ports bytes s × (s < length (rows_of bytes)) × ¬ IsRow ports (header_of bytes) s (row_at bytes s) → r ≡ s
 one_row ports bytes r s here there = by_order (cases_order r s)
@@ -82,7 +82,7 @@ one_row ports bytes r s here there = by_order (cases_order r s)
     by_order (inr (inl before)) = absurd (here.2 (there.0.before r before))
     by_order (inr (inr before)) = absurd (there.2 (here.0.before s before))
 
--- what a fault of a row says is not so where a later fault of it is reached
+-- a fault of a row contradicts that a later fault of the same row is reached
 limit_clash : (r s : ℕ) → r ≡ s → r ≡ row_limit → s < row_limit → ⊥
 limit_clash r s e limit below = omega (arith, e, limit, below)
 
@@ -96,7 +96,7 @@ value_clash : (ports : List Port) (bytes : List ℕ) (r s f g : ℕ) → r ≡ s
 value_clash ports bytes r s f g e some before bad reached =
     bad (subst (λ q. IsValueField ports (header_of bytes) (row_at bytes q) f) (sym e) (reached.before f some before))
 
--- two faults of values in one row are of one field
+-- two faults of values in one row are in the same field
 one_field : (ports : List Port) (bytes : List ℕ) (r s f g : ℕ) → r ≡ s → 0 < f → 0 < g → (IsValueField ports (header_of bytes) (row_at bytes r) f → ⊥) → (IsValueField ports (header_of bytes) (row_at bytes s) g → ⊥)
     → ReachesValue ports bytes r f → ReachesValue ports bytes s g → f ≡ g
 one_field ports bytes r s f g e some_f some_g bad_f bad_g here there = by_order (cases_order f g)
@@ -115,7 +115,7 @@ bad_by_digits ports bytes r f h = bad_digits ports bytes r f h.0.count.limit.row
 bad_by_width : (ports : List Port) (bytes : List ℕ) (r f : ℕ) → IsFirstFault ports bytes (TooWide r f) → IsValueField ports (header_of bytes) (row_at bytes r) f → ⊥
 bad_by_width ports bytes r f h = bad_width ports bytes r f h.1.1
 
--- a text has one first fault
+-- a text has at most one first fault
 pub one_first_fault : (ports : List Port) (bytes : List ℕ) (a b : TraceFault) → IsFirstFault ports bytes a → IsFirstFault ports bytes b → a ≡ b
 one_first_fault ports bytes (Heading f) (Heading g) h k = ap Heading (one_header_fault ports (header_of bytes) f g h.1 k.1)
 one_first_fault ports bytes (Heading f) (RowNumber s) h k = absurd (header_good ports (header_of bytes) f h.1 k.0.limit.row.header)
@@ -231,7 +231,7 @@ columns_have_no_fault ports bytes n columns (FieldCount r c) good h = h.2 (sym h
 columns_have_no_fault ports bytes n columns (TooManyRows r) good h = omega (arith, (good.rows r (omega (arith, h.0, good.count))).limit, h.1)
 columns_have_no_fault ports bytes n columns NoMemory good h = h
 
--- the value of a port in a row
+-- the value of a port in a row is the number in the port's field
 value_of_port : (ports : List Port) (bytes : List ℕ) (n : ℕ) (columns : List (List ℕ)) (i r : ℕ) (good : Columns ports bytes n columns) → (h : i < length ports) → r < n
     → get_or (get_or columns i []) r 0 ≡ hexadecimal (field (row_at bytes r) (good.header.all i h).at)
 value_of_port ports bytes n columns i r good h k =
@@ -248,7 +248,7 @@ columns_have_widths ports bytes n columns good = record { fits = fits }
         let cell = ((good.rows r k).values listed.at listed.behind listed.within).value i (record { within = h; is = sym listed.is }) in
         subst (λ v. v < 2 ^ width_at ports i) (sym (value_of_port ports bytes n columns i r good h k)) cell.fits
 
--- a text has one count of rows and one list of columns
+-- a text has only one count of rows, and only one list of columns
 pub one_count : (ports : List Port) (bytes : List ℕ) (m n : ℕ) (xs ys : List (List ℕ)) → Columns ports bytes m xs → Columns ports bytes n ys → m ≡ n
 one_count ports bytes m n xs ys p q = sym p.count ∙ q.count
 
@@ -265,7 +265,7 @@ one_columns ports bytes m n xs ys p q = ext_get_or [] xs ys (p.width ∙ sym q.w
         (λ r before. value_of_port ports bytes m xs i r p h (omega (arith, p.height i h))
         ∙ sym (q.values r (p.header.all i h).at i (omega (arith, p.height i h, count)) (p.header.all i h).behind (p.header.all i h).within (record { within = h; is = sym (p.header.all i h).is })))
 
--- what is answered is the first fault, or want of memory
+-- an answer is the first fault, or `NoMemory`
 pub first_or_memory : (ports : List Port) (bytes : List ℕ) (given first : TraceFault) → IfFirstFault ports bytes given → IsFirstFault ports bytes first → (given ≡ first) ⊎ (given ≡ NoMemory)
 first_or_memory ports bytes (Heading f) first h k = inl (one_first_fault ports bytes (Heading f) first h k)
 first_or_memory ports bytes (RowNumber r) first h k = inl (one_first_fault ports bytes (RowNumber r) first h k)

@@ -1,4 +1,4 @@
--- The names of a header, as far as they are read.
+-- The part of a header whose names were read.
 use Rattle.std.proofs.Common.{◌≡◌, ◌≢◌, ℕ, ◌+◌, ◌<◌, ◌≤◌, zero, suc, Bool, true, false, List, [], ◌∷◌, ◌++◌, length, get_or, set, drop, replicate, codes, ◌⊎◌, inl, inr, refl, sym, ap, ◌∙◌, subst, arith, add-one, length-drop}
 use Rattle.std.proofs.lemmas.List.{get_or_append_left, get_or_at, length_push, get_or-set_same, get_or-set_other, length-set, length-replicate}
 use Rattle.std.proofs.lemmas.Bool.{false≢true, cases_eq}
@@ -8,7 +8,7 @@ use Rattle.gg_trace.specs.Ports.{name_at, IsNamed, HasDistinctNames}
 use Rattle.gg_trace.specs.Header.{field, MayStand, IsListed, HasHeaderFault}
 use Rattle.gg_trace.specs.Places.{IsPlace, IsHeading}
 
--- the header is `cycle`, the names at these places, and then rest; marks are of the ports that are named
+-- the header begins with `cycle` and the names of the ports at these places, and rest is left; the marks show the named ports
 pub record ReadsNames (ports : List Port) (header rest : List (List ℕ)) (places : List ℕ) (marks : List Bool) : Type 0 where
   pub begins : field header 0 ≡ codes "cycle"
   pub left : drop (length places + 1) header ≡ rest
@@ -36,7 +36,7 @@ reads_cycle ports rest n e = record {
   unmarked = λ i within is g h. absurd (omega arith);
 }
 
--- the names of different ports differ
+-- a name belongs to at most one port
 pub one_port : (ports : List Port) → HasDistinctNames ports → (name : List ℕ) (i j : ℕ) → IsNamed ports name i → IsNamed ports name j → i ≡ j
 one_port ports distinct name i j p q = distinct i j p.within q.within (p.is ∙ sym q.is)
 
@@ -50,7 +50,7 @@ differ {ports} {header} reads distinct g h before within e =
     reads.distinct g h before within
     (one_port ports distinct (field header (h + 1)) _ _ (along ports _ _ _ e (reads.named g (omega arith))) (reads.named h within))
 
--- each field that was read may stand
+-- each field that was read is right
 pub stands : {ports : List Port} {header rest : List (List ℕ)} {places : List ℕ} {marks : List Bool} → ReadsNames ports header rest places marks → HasDistinctNames ports
     → (f : ℕ) → f < length places + 1 → MayStand ports header f
 stands reads distinct zero h = reads.begins
@@ -65,7 +65,7 @@ stands {ports} {header} {rest} {places} reads distinct (suc f) h = record {
     new (suc g) some before e =
         differ reads distinct g f (omega arith) (omega arith) (ap (field header) (add-one g) ∙ e ∙ ap (field header) (sym (add-one f)))
 
--- where the next name may not be taken, its field is the fault
+-- if the next field names no port, or a port that was named before, the fault is there
 pub name_fault : (ports : List Port) (header more : List (List ℕ)) (x : List ℕ) (places : List ℕ) (marks : List Bool) → ReadsNames ports header (x ∷ more) places marks → HasDistinctNames ports
     → ((i : ℕ) → IsNamed ports x i → get_or marks i false ≡ true) → HasHeaderFault ports header (length places + 1)
 name_fault ports header more x places marks reads distinct taken = record {
@@ -144,7 +144,7 @@ push_unmarked places marks p within unmarked i inside is g h same = by_port (cas
             unmarked i (omega (arith, length-set marks p true)) (sym (get_or-set_other marks p i true false ne) ∙ is) g before
             (sym (get_or_append_left places (p ∷ []) 0 g before) ∙ same)
 
--- the next name is taken
+-- if the next field names a port that wasn't named before, its name is read too
 pub reads_name : (ports : List Port) (header more : List (List ℕ)) (x : List ℕ) (places : List ℕ) (marks : List Bool) (p : ℕ) → ReadsNames ports header (x ∷ more) places marks
     → IsNamed ports x p → get_or marks p false ≡ false → ReadsNames ports header more (places ++ p ∷ []) (set marks p true)
 reads_name ports header more x places marks p reads is new =
@@ -163,7 +163,7 @@ reads_name ports header more x places marks p reads is new =
       unmarked = push_unmarked places marks p within reads.unmarked;
     }
 
--- where each port is named, the whole is a header
+-- if all fields were read and each port was named, the fields are a header
 pub reads_header : (ports : List Port) (header : List (List ℕ)) (places : List ℕ) (marks : List Bool) → ReadsNames ports header [] places marks → HasDistinctNames ports
     → ((i : ℕ) → i < length marks → get_or marks i false ≡ true) → IsHeading ports header places
 reads_header ports header places marks reads distinct whole = record {
@@ -194,7 +194,7 @@ reads_header ports header places marks reads distinct whole = record {
           is = sym ((reads.named here.at here.within).is) ∙ ap (name_at ports) here.is;
         }
 
--- where a port is not named, the header is too short
+-- if all fields were read and a port wasn't named, the fault is just past the last field
 pub missing_name : (ports : List Port) (header : List (List ℕ)) (places : List ℕ) (marks : List Bool) (i : ℕ) → ReadsNames ports header [] places marks → HasDistinctNames ports
     → i < length marks → get_or marks i false ≡ false → HasHeaderFault ports header (length places + 1)
 missing_name ports header places marks i reads distinct within is = record {

@@ -1,4 +1,4 @@
--- The lines of a text, by its first line.
+-- The lines of a text: its first line, and the lines of what follows it.
 use Rattle.std.proofs.Common.{◌≡◌, ℕ, ◌+◌, ◌<◌, false, eqb, List, [], ◌∷◌, length, get_or, take, drop, refl, ap, ◌∙◌, subst, arith, eq-eqb}
 use Rattle.std.specs.List.{slice_split}
 use Rattle.std.specs.Str.Lines.{lines_of_parts, strip_carriage_return}
@@ -20,7 +20,7 @@ last_part x some =
     let e : eqb (length x) 0 ≡ false = not_eqb (length x) 0 (λ none. omega arith) in
     rw e refl
 
--- where no line feed stands in it, the text is the one line
+-- a text that isn't empty and has no line feed is one line
 pub text_lines-last : (text : List ℕ) → 0 < length text → ((k : ℕ) → k < length text → get_or text k 0 ≡ 10 → ⊥) → text_lines text ≡ text ∷ []
 unfolding text_lines
 text_lines-last text some none =
@@ -31,7 +31,7 @@ pub no_bytes : (text : List ℕ) → length text ≡ 0 → text ≡ []
 no_bytes [] h = refl
 no_bytes (b ∷ text) h = absurd (omega arith)
 
--- the first line, and then those of what follows its line end
+-- the first line, and then the lines of what follows its line end
 parts_first : (x : List ℕ) (parts : List (List ℕ)) → 0 < length parts → lines_of_parts (x ∷ parts) ≡ strip_carriage_return x ∷ lines_of_parts parts
 parts_first x [] h = absurd (omega arith)
 parts_first x (y ∷ parts) h = refl

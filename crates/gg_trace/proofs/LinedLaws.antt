@@ -1,4 +1,4 @@
--- The lines of a text are the one list that it spells.
+-- `AreLines` holds for just one list of lines: the one that `text_lines` computes.
 use Rattle.std.proofs.Common.{◌≡◌, ◌≢◌, ℕ, ◌+◌, ◌-◌, zero, suc, Bool, true, false, eqb, List, [], ◌∷◌, ◌++◌, length, get_or, drop, ◌⊎◌, inl, inr, refl, sym, ap, ◌∙◌, subst, arith, length-append}
 use Rattle.std.specs.Str.Lines.{strip_carriage_return}
 use Rattle.std.proofs.lemmas.Bool.{cases_eq}
@@ -8,7 +8,7 @@ use Rattle.gg_trace.specs.Fields.{text_lines}
 use Rattle.gg_trace.specs.Lined.{HasNoFeed, EndsInReturn, IsLineEnd, IsEnded, AreLines}
 use Rattle.gg_trace.proofs.LineLaws.{text_lines-nil, text_lines-last, text_lines-first}
 
--- the byte behind a front part
+-- the byte after a front part
 behind : (front rest : List ℕ) (b : ℕ) → get_or (front ++ b ∷ rest) (length front) 0 ≡ b
 behind [] rest b = refl
 behind (c ∷ front) rest b = behind front rest b
@@ -28,7 +28,7 @@ none_goes (b ∷ line) h = by_kind (eqb (get_or (b ∷ line) (length (b ∷ line
         absurd (h (record { some = omega arith; is = return }))
     by_kind false e = rw e refl
 
--- a front part without a line feed, and then one
+-- a front part without a line feed that a line feed follows is the first line, without a carriage return at its end
 cut_at : (front rest : List ℕ) → HasNoFeed front → text_lines (front ++ 10 ∷ rest) ≡ strip_carriage_return front ∷ text_lines rest
 cut_at front rest plain =
     text_lines-first (front ++ 10 ∷ rest) (length front) (omega (arith, length-append front (10 ∷ rest)))
@@ -52,7 +52,7 @@ joined : (line rest : List ℕ) → line ++ (13 ∷ 10 ∷ rest) ≡ (line ++ 13
 joined [] rest = refl
 joined (b ∷ line) rest = ap (λ t. b ∷ t) (joined line rest)
 
--- a line with its end is the first
+-- a line that is followed by its end is the first line
 ended_first : (text line rest : List ℕ) → IsEnded text line rest → text_lines text ≡ line ∷ text_lines rest
 ended_first text line rest ended = by_end ended.is_end
   where

@@ -1,4 +1,4 @@
--- The first element of what is left of a list.
+-- The next element of a list, after some were taken from its front.
 use Rattle.std.proofs.Common.{◌≡◌, ℕ, ◌+◌, ◌<◌, List, ◌∷◌, length, get_or, drop, sym, ap, ◌∙◌, arith, length-drop}
 use Rattle.std.proofs.lemmas.List.{get_or-drop, drop-drop}
 

@@ -1,11 +1,11 @@
--- The fields of a line are the one list that parts it.
+-- `AreFields` holds for just one list of fields: the one that `fields` computes.
 use Rattle.std.proofs.Common.{◌≡◌, ℕ, ◌+◌, ◌<◌, zero, suc, Bool, true, false, List, [], ◌∷◌, ◌++◌, length, get_or, drop, refl, sym, ap, ◌∙◌, subst, arith, length-append}
 use Rattle.std.proofs.lemmas.List.{take_all, take_at, drop_at, get_or_append_left, get_or-append-add}
 use Rattle.gg_trace.specs.Fields.{is_blank, fields, fields_of_text}
 use Rattle.gg_trace.specs.Parted.{HasNoBlank, IsGap, IsCut, IsParted, AreFields}
 use Rattle.gg_trace.proofs.FieldLaws.{fields_of_text-last, fields_of_text-first}
 
--- a cut gives the first field
+-- a text that is cut into a first field and a rest has this first field
 cut_field : (text field rest : List ℕ) → IsCut text field rest → fields_of_text text ≡ field ∷ fields_of_text rest
 cut_field text field rest cut =
     subst (λ t. fields_of_text t ≡ field ∷ fields_of_text rest) (sym cut.whole)
@@ -46,7 +46,7 @@ cut_field text field rest cut =
         ap (λ t. is_blank (get_or t (length cut.gap) 0)) after ∙ ap (λ n. is_blank (get_or behind n 0)) (sym e)
         ∙ ap is_blank (get_or-append-add cut.gap rest 0 0) ∙ cut.ends (omega (arith, long, h))
 
--- what parts a text is its fields
+-- if a text is these fields with gaps between them, they are its fields
 parted_is : (text : List ℕ) (fs : List (List ℕ)) → IsParted text fs → fs ≡ fields_of_text text
 parted_is text [] h = absurd h
 parted_is text (f ∷ []) h =
@@ -107,7 +107,7 @@ parts (b ∷ text) = by_kind (parts text) (is_blank b) refl
     by_kind found true h = lengthen b text found.0 h found.1
     by_kind found false h = join b text found.0 h found.1
 
--- the fields part the text
+-- a text is its fields with gaps between them
 fields_part : (text : List ℕ) → IsParted text (fields_of_text text)
 fields_part text = let found = parts text in subst (IsParted text) (parted_is text found.0 found.1) found.1
 

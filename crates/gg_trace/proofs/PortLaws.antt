@@ -1,4 +1,4 @@
--- What is read of a list of ports.
+-- Names and widths of ports, read from a list of ports.
 use Rattle.std.proofs.Common.{◌≡◌, ℕ, ◌<◌, List, [], get_or, length, sym, ap, ◌∙◌}
 use Rattle.std.proofs.lemmas.List.{get_or-map}
 use Rattle.gg_flat.specs.declared.ports.Port.{Port}

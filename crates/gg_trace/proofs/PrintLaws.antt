@@ -1,4 +1,4 @@
--- The digits of a value.
+-- The hexadecimal digits of a value.
 use Rattle.std.proofs.Common.{◌≡◌, ℕ, ◌+◌, ◌-◌, ◌*◌, ◌/◌, ◌%◌, ◌^◌, ◌<◌, ◌≤◌, zero, suc, List, [], ◌∷◌, ◌++◌, refl, sym, ap, ◌∙◌, subst, arith, append_assoc, length}
 use Rattle.std.proofs.Math.Nat.{pow-succ', mod-eq_of_lt}
 use Rattle.std.proofs.lemmas.Nat.{pow-add, mod-pow-add}
@@ -26,7 +26,7 @@ next_digit (suc k) value h =
     let e : suc k - 1 ≡ k = omega arith in
     rw e (ap (λ n. digit_char (value / n % 16) ∷ hex_digits k value) (sym (sixteen k)))
 
--- a text that takes the next digit
+-- the next digit goes from what is left to the text, so that both together stay the same
 pub push_digit : (text new whole : List ℕ) (p value d : ℕ) → 0 < p → d ≡ digit_char (value / 2 ^ (4 * (p - 1)) % 16) → new ≡ text ++ d ∷ [] → text ++ hex_digits p value ≡ whole
     → new ++ hex_digits (p - 1) value ≡ whole
 push_digit text new whole p value d some digit longer before =
@@ -36,7 +36,7 @@ push_digit text new whole p value d some digit longer before =
 carry : (n d p v w : ℕ) → w ≡ d * p + v → (n * 16 + d) * p + v ≡ n * (16 * p) + w
 carry n d p v w e = omega (arith, e)
 
--- what the digits of a value write, behind a number
+-- the number that is read if the last k digits of a value follow the number n
 digits_after : (k n value : ℕ) → digits_value_after 16 n (hex_digits k value) ≡ n * 16 ^ k + value % 16 ^ k
 digits_after zero n value = omega arith
 digits_after (suc k) n value =
@@ -66,7 +66,7 @@ length-hex_digits : (k value : ℕ) → length (hex_digits k value) ≡ k
 length-hex_digits zero value = refl
 length-hex_digits (suc k) value = ap (λ n. suc n) (length-hex_digits k value)
 
--- a value is read as it is printed
+-- a value is read back as it was printed
 pub printed_value : (width value : ℕ) → 0 < width → value < 2 ^ width → IsCell width (hex_digits (digit_count width) value) × (hexadecimal (hex_digits (digit_count width) value) ≡ value)
 unfolding IsHexadecimal hexadecimal
 printed_value width value some fits = (

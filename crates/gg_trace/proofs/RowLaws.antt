@@ -12,7 +12,7 @@ use Rattle.gg_trace.specs.Table.{row_limit}
 use Rattle.gg_trace.specs.Places.{ArePlaces, AreCells, AreValues, StopsAt, HasValueFault, HasValuesFault, PassesCycle, ReadsRow, HasRowFault}
 use Rattle.gg_trace.proofs.ListLaws.{next_item}
 
--- the first cells are read, and rest is left
+-- the first `at` cells were read, and rest is left
 pub record ReadsCells (ports : List Port) (places : List ℕ) (cells rest : List (List ℕ)) (values : List ℕ) (at : ℕ) : Type 0 where
   pub left : drop at cells ≡ rest
   pub count : length cells ≡ length places
@@ -76,7 +76,7 @@ abbrev stops : (ports : List Port) (places : List ℕ) (cells more : List (List 
 stops ports places cells more x values at row r f reads is_row is_field =
     record { at = at; is_row = is_row; is_field = is_field; within = next_cell reads; before = reads.good }
 
--- a fault of the next cell is the row's
+-- a fault of the next cell is a fault of the row's values
 pub cell_fault : (ports : List Port) (places : List ℕ) (cells more : List (List ℕ)) (x values : List ℕ) (at row : ℕ) (fault : TraceFault) → ReadsCells ports places cells (x ∷ more) values at
     → HasValueFault (width_at ports (get_or places at 0)) x row (at + 1) fault → HasValuesFault ports places cells row fault
 cell_fault ports places cells more x values at row (NotHexadecimal r f) reads h =
@@ -91,7 +91,7 @@ cell_fault ports places cells more x values at row (FieldCount r c) reads h = h
 cell_fault ports places cells more x values at row (TooManyRows r) reads h = h
 cell_fault ports places cells more x values at row NoMemory reads h = h
 
--- all cells are read
+-- if no cell is left, all cells were read
 pub reads_all_cells : (ports : List Port) (places : List ℕ) (cells : List (List ℕ)) (values : List ℕ) (at : ℕ) → ReadsCells ports places cells [] values at
     → AreCells ports places cells (length places) × AreValues places cells values (length places)
 reads_all_cells ports places cells values at reads =
@@ -101,7 +101,7 @@ reads_all_cells ports places cells values at reads =
 passes : (places : List ℕ) (row : ℕ) (line cells : List (List ℕ)) (first : List ℕ) → line ≡ first ∷ cells → row < row_limit → length line ≡ length places + 1 → first ≡ decimal row → PassesCycle places row line
 passes places row line cells first e limit count is = record { limit = limit; count = count; is = ap (λ fields. field fields 0) e ∙ is }
 
--- a row is read where its number and its cells are
+-- a row is read if its number and its cells were read
 pub row_reads : (ports : List Port) (places : List ℕ) (row : ℕ) (line cells : List (List ℕ)) (first values : List ℕ) → line ≡ first ∷ cells → row < row_limit → length line ≡ length places + 1 → first ≡ decimal row
     → AreCells ports places cells (length places) × AreValues places cells values (length places) → ReadsRow ports places row line values
 row_reads ports places row line cells first values e limit count is read = record {
@@ -110,7 +110,7 @@ row_reads ports places row line cells first values e limit count is read = recor
   gives = subst (λ rest. AreValues places rest values (length places)) (sym (ap (drop 1) e)) read.1;
 }
 
--- a fault of its cells is the row's
+-- a fault of the row's cells is a fault of the row
 pub row_fault : (ports : List Port) (places : List ℕ) (row : ℕ) (line cells : List (List ℕ)) (first : List ℕ) (fault : TraceFault) → line ≡ first ∷ cells → row < row_limit → length line ≡ length places + 1 → first ≡ decimal row
     → HasValuesFault ports places cells row fault → HasRowFault ports places row line fault
 row_fault ports places row line cells first (NotHexadecimal r f) e limit count is h =

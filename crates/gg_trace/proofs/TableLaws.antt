@@ -1,4 +1,4 @@
--- The columns of a table whose rows stand one after another.
+-- The columns of a table whose rows are in a list, one after another.
 use Rattle.std.proofs.Common.{◌≡◌, ℕ, ◌+◌, ◌*◌, ◌<◌, ◌≤◌, List, [], ◌∷◌, ◌++◌, map, length, get_or, take, drop, sym, ap, ◌∙◌, arith, length-drop}
 use Rattle.std.specs.List.{range_with_len}
 use Rattle.std.proofs.lemmas.List.{get_or-map, get_or-take, get_or-drop, get_or_default, same_lists, length-map, length-take-le}
@@ -24,7 +24,7 @@ value_at rows width cells i r h k =
     ap (λ column. get_or column r 0) (column_at rows width cells i h)
     ∙ get_or-map-range_with_len (λ q. get_or cells (q * width + i) 0) 0 rows r r 0 k (omega arith)
 
--- row r of a table
+-- row r of a table is the part of the list that begins at r * width
 pub row_in : (rows width : ℕ) (cells : List ℕ) (r : ℕ) → length cells ≡ rows * width → r < rows → take width (drop (r * width) cells) ≡ row_of (table_of rows width cells).columns r
 row_in rows width cells r size h =
     same_lists _ _ (wide ∙ sym (length-map columns (λ column. get_or column r 0) ∙ length-columns rows width cells)) each

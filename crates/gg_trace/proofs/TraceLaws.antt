@@ -1,4 +1,4 @@
--- The rows of a trace, as far as they are read.
+-- The rows of a trace that were read so far.
 use Rattle.std.proofs.Common.{◌≡◌, ℕ, ◌+◌, ◌*◌, ◌^◌, ◌<◌, ◌≤◌, zero, suc, List, [], ◌∷◌, ◌++◌, map, length, get_or, take, drop, ◌⊎◌, inl, inr, sym, ap, ◌∙◌, subst, arith, add-one, length-drop, length-append}
 use Rattle.std.proofs.lemmas.List.{get_or-drop, get_or-take, take_all, drop_at, take-append-le, drop-append-le}
 use Rattle.std.proofs.lemmas.Bool.{cases_eq}
@@ -39,7 +39,7 @@ values_before ports header line places n heading distinct within cells (suc g) s
     subst (IsValueField ports header line) (add-one g)
     (value_field ports header line places g heading distinct (omega arith) (cells.each g (omega arith)))
 
--- a row that is read is one of the header
+-- a row that was read is a row under this header
 is_row : (ports : List Port) (header line : List (List ℕ)) (places values : List ℕ) (r : ℕ) → IsHeading ports header places → HasDistinctNames ports
     → ReadsRow ports places r line values → IsRow ports header r line
 is_row ports header line places values r heading distinct reads = record {
@@ -50,7 +50,7 @@ is_row ports header line places values r heading distinct reads = record {
       values_before ports header line places (length places) heading distinct (omega arith) reads.cells f some (omega (arith, heading.count));
 }
 
--- a front part of the rows is read, and the lines are left; cells are the values, row by row
+-- the first rows were read, and these lines are left; `cells` are the values of the rows, one row after another
 pub record ReadsRows (ports : List Port) (bytes : List ℕ) (lines : List (List ℕ)) (places values cells : List ℕ) (rows : ℕ) : Type 0 where
   pub heading : IsHeading ports (header_of bytes) places
   pub left : drop rows (rows_of bytes) ≡ map fields lines
@@ -78,12 +78,12 @@ reaches {ports} {bytes} {lines} {places} reads distinct = record {
   before = λ q h. is_row ports (header_of bytes) (row_at bytes q) places _ q reads.heading distinct (reads.each q h);
 }
 
--- the next row of the text
+-- the first line that is left is the next row of the text
 next_row : {ports : List Port} {bytes text : List ℕ} {lines : List (List ℕ)} {places values cells : List ℕ} {rows : ℕ} → ReadsRows ports bytes (text ∷ lines) places values cells rows
     → (row_at bytes rows ≡ fields text) × (rows < length (rows_of bytes)) × (drop (rows + 1) (rows_of bytes) ≡ map fields lines)
 next_row {ports} {bytes} {text} {lines} {places} {values} {cells} {rows} reads = next_item (rows_of bytes) (map fields lines) (fields text) [] rows reads.left
 
--- the values of the rows before, and those of a new one
+-- a new row leaves the values of the rows before as they are, and its own values follow
 old_row : (width rows r : ℕ) (cells new : List ℕ) → length cells ≡ rows * width → r < rows → take width (drop (r * width) (cells ++ new)) ≡ take width (drop (r * width) cells)
 old_row width rows r cells new size h =
     let ends : r * width + width ≤ length cells = grind arith in
@@ -120,7 +120,7 @@ reads_row ports bytes text lines places values cells new rows reads size row = r
             let before : r < rows = omega arith in
             subst (ReadsRow ports places r (row_at bytes r)) (sym (old_row (length ports) rows r cells new reads.room before)) (reads.each r before)
 
--- where the header's names and the row's number are right, each value before a cell's field is good
+-- if the header, the rows before, this row's number and its first n cells are good, nothing before its next cell is faulty
 reaches_value : (ports : List Port) (bytes : List ℕ) (places : List ℕ) (rows n : ℕ) → IsHeading ports (header_of bytes) places → HasDistinctNames ports → ReachesRow ports bytes rows
     → PassesCycle places rows (row_at bytes rows) → n ≤ length places → AreCells ports places (drop 1 (row_at bytes rows)) n → ReachesValue ports bytes rows (n + 1)
 reaches_value ports bytes places rows n heading distinct before passes within cells = record {
@@ -132,7 +132,7 @@ reaches_value ports bytes places rows n heading distinct before passes within ce
 value_at_cell : (ports : List Port) (bytes : List ℕ) (places : List ℕ) (rows g : ℕ) → IsHeading ports (header_of bytes) places → rows < length (rows_of bytes) → g < length places → HasValueAt bytes rows (g + 1)
 value_at_cell ports bytes places rows g heading row within = record { row = row; behind = omega arith; within = omega (arith, heading.count) }
 
--- the fault of a row is the text's first
+-- if the header and the rows before are good, a fault of this row is the text's first
 first_of_row : (ports : List Port) (bytes : List ℕ) (places : List ℕ) (rows : ℕ) (fault : TraceFault) → IsHeading ports (header_of bytes) places → HasDistinctNames ports → ReachesRow ports bytes rows
     → rows ≤ row_limit → rows < length (rows_of bytes) → HasRowFault ports places rows (row_at bytes rows) fault → IfFirstFault ports bytes fault
 first_of_row ports bytes places rows (Heading f) heading distinct before limit row h = absurd h
@@ -179,7 +179,7 @@ row_fault ports bytes text lines places values cells rows fault reads distinct h
     first_of_row ports bytes places rows fault reads.heading distinct (reaches reads distinct) reads.limit next.1
     (subst (λ line. HasRowFault ports places rows line fault) (sym next.0) h)
 
--- the fault of the header is the text's first
+-- a fault of the header is the text's first
 pub header_fault : (ports : List Port) (bytes : List ℕ) (fault : TraceFault) → IfHeaderFault ports (header_of bytes) fault → IfFirstFault ports bytes fault
 header_fault ports bytes (Heading f) h = (tt, h)
 header_fault ports bytes (RowNumber r) h = absurd h
@@ -189,7 +189,7 @@ header_fault ports bytes (FieldCount r c) h = absurd h
 header_fault ports bytes (TooManyRows r) h = absurd h
 header_fault ports bytes NoMemory h = tt
 
--- the value of a port in a row
+-- the value of a port in a row that was read is the number in the port's field
 row_value : (ports : List Port) (header line : List (List ℕ)) (places cells : List ℕ) (r f i : ℕ) → IsHeading ports header places → HasDistinctNames ports
     → ReadsRow ports places r line (take (length ports) (drop (r * length ports) cells)) → 0 < f → f < length header → IsNamed ports (field header f) i
     → get_or cells (r * length ports + i) 0 ≡ hexadecimal (field line f)
@@ -202,7 +202,7 @@ row_value ports header line places cells r (suc g) i heading distinct reads some
     sym (get_or-drop (r * length ports) cells i 0) ∙ sym (get_or-take (length ports) (drop (r * length ports) cells) i 0 named.within)
     ∙ gives ∙ ap hexadecimal (cell_is line g ∙ ap (field line) e)
 
--- all rows are read
+-- if no line is left, all rows were read, and the columns are those of the text
 pub reads_all_rows : (ports : List Port) (bytes places values cells : List ℕ) (rows : ℕ) → ReadsRows ports bytes [] places values cells rows → HasDistinctNames ports
     → Columns ports bytes rows (table_of rows (length ports) cells).columns
 reads_all_rows ports bytes places values cells rows reads distinct = record {

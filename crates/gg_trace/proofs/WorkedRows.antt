@@ -1,5 +1,5 @@
--- The definitions of a trace at small texts, and at their near misses. Bytes past letters are given by their numbers: 9 is a
--- tab, 10 a line feed, 13 a carriage return, 32 a space.
+-- The definitions of a trace at small texts, and at their near misses. Bytes that aren't printable characters are given by their
+-- numbers: 9 is a tab, 10 a line feed, 13 a carriage return, 32 a space.
 use Rattle.std.proofs.Common.{◌≡◌, ◌≢◌, ℕ, zero, suc, ◌+◌, ◌<◌, ◌^◌, ◌*◌, List, [], ◌∷◌, ◌++◌, length, get_or, codes, decimal, inr, refl, sym, ap, ◌∙◌, subst, arith, lit≤}
 use Rattle.std.specs.Char.{digit_value}
 use Rattle.std.proofs.lemmas.Fmt.{decimal_digit}
@@ -19,7 +19,7 @@ use Rattle.gg_trace.specs.declared.row_values.TheConstants.{ROW_LIMIT}
 limit : row_limit ≡ ROW_LIMIT
 limit = refl
 
--- A line ends with LF or CR LF, the last with the text too; a CR that no LF follows is the line's own.
+-- A line ends with LF or CR LF, the last with the text too; a CR that no LF follows is part of its line.
 lines_of_both_ends : text_lines (97 ∷ 13 ∷ 10 ∷ 98 ∷ 10 ∷ 99 ∷ []) ≡ codes "a" ∷ codes "b" ∷ codes "c" ∷ []
 unfolding text_lines
 lines_of_both_ends = refl
@@ -36,7 +36,7 @@ return_within_stays : text_lines (97 ∷ 13 ∷ 98 ∷ 10 ∷ []) ≡ (97 ∷ 13
 unfolding text_lines
 return_within_stays = refl
 
--- an empty line between two line ends counts, and what follows the last line end does not where it is empty
+-- an empty line between two line ends counts; what follows the last line end doesn't count if it is empty
 empty_last_piece : text_lines (97 ∷ 10 ∷ 10 ∷ []) ≡ codes "a" ∷ [] ∷ []
 unfolding text_lines
 empty_last_piece = refl
@@ -49,7 +49,7 @@ no_line : text_lines [] ≡ []
 unfolding text_lines
 no_line = refl
 
--- A run of spaces and tabs parts two fields; one at an end has an empty field beside it, and an empty line has no field.
+-- A run of spaces and tabs parts two fields. A run at an end has an empty field beside it. An empty line has no field.
 two_blanks : fields (codes "a  b") ≡ codes "a" ∷ codes "b" ∷ []
 unfolding fields fields_of_text
 two_blanks = refl
@@ -74,7 +74,7 @@ no_field : fields [] ≡ []
 unfolding fields
 no_field = refl
 
--- the port `x` of eight bits, the port `y` of four, signed, and a port that is called as the header begins
+-- the port `x` of eight bits, the port `y` of four, signed, and a port with the name `cycle`, with which a header begins
 abbrev x : Port
 x = record { name = codes "x"; ty = record { kind = UInt; width = 8; positive = lit≤ tt; bounded = lit≤ tt } }
 
@@ -100,7 +100,7 @@ header_x = record { begins = lit≤ tt; each = each; all = all }
     all zero h = record { at = 1; behind = lit≤ tt; within = lit≤ tt; is = refl }
     all (suc i) h = absurd (omega arith)
 
--- a port may be called `cycle`: the first field is none of the names
+-- a port may be called `cycle`: the first field of a header isn't one of the names
 header_cycle : IsHeader (cycle_port ∷ []) (codes "cycle" ∷ codes "cycle" ∷ [])
 header_cycle = record { begins = lit≤ tt; each = each; all = all }
   where
@@ -113,7 +113,7 @@ header_cycle = record { begins = lit≤ tt; each = each; all = all }
     all zero h = record { at = 1; behind = lit≤ tt; within = lit≤ tt; is = refl }
     all (suc i) h = absurd (omega arith)
 
--- and then `cycle` alone leaves it out
+-- so a header that is `cycle` alone leaves out this port's name
 not_header_cycle : IsHeader (cycle_port ∷ []) (codes "cycle" ∷ []) → ⊥
 not_header_cycle h = let listed = h.all 0 (lit≤ tt) in omega (arith, listed.behind, listed.within)
 
@@ -137,7 +137,7 @@ header_y_x = record { begins = lit≤ tt; each = each; all = all }
     all (suc zero) h = record { at = 1; behind = lit≤ tt; within = lit≤ tt; is = refl }
     all (suc (suc i)) h = absurd (omega arith)
 
--- rows of one digit each begin so
+-- the numbers of the first two rows, in decimal
 zero_is : decimal 0 ≡ codes "0"
 zero_is = decimal_digit 0 (lit≤ tt)
 
@@ -148,7 +148,7 @@ one_is = decimal_digit 1 (lit≤ tt)
 abbrev small_values : List (List ℕ)
 small_values = (10 ∷ 255 ∷ []) ∷ (15 ∷ 0 ∷ []) ∷ []
 
--- the text of the output trace that they are
+-- the text of the output trace with these columns
 printed : trace_text (x ∷ y ∷ []) small_values 2
     ≡ codes "cycle x y" ++ 10 ∷ codes "0 0a f" ++ 10 ∷ codes "1 ff 0" ++ 10 ∷ []
 printed = rw (zero_is, one_is) refl
@@ -217,7 +217,7 @@ small_columns = record { header = header_y_x; count = refl; rows = rows; width =
     values (suc zero) (suc (suc zero)) i h some within named = subst (λ p. get_or (get_or small_values p []) 1 0 ≡ 255) (is_x i named) refl
     values (suc (suc r)) (suc f) i h some within named = absurd (omega arith)
 
--- Under the header `cycle x`, one row 0 of each fault, and the header that leaves the name out.
+-- For the port `x`: a header that leaves out its name, and under the header `cycle x` one row 0 for each fault of a row.
 missing_name : IsFirstFault (x ∷ []) (codes "cycle" ++ 10 ∷ []) (Heading 1)
 unfolding fields fields_of_text text_lines
 missing_name = (tt, record { before = before; here = inr (refl, not_header) })

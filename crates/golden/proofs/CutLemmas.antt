@@ -1,4 +1,4 @@
--- How `check` has ended, where its files are accepted.
+-- How `check` ends if its files are accepted.
 use Rattle.std.proofs.Common.{◌≡◌, ℕ, List, [], refl, sym, ◌∙◌, subst, inl, inr, ◌⊎◌}
 use Rattle.std.specs.Prelude.{Option, Result, Err}
 use Rattle.gg_check.specs.Alike.{AreAlike}
@@ -19,7 +19,7 @@ use Rattle.gg_partfile.proofs.OnceLemmas.{request-once}
 use Rattle.golden.proofs.PartitionLemmas.{DesignsAgree}
 use Rattle.golden.proofs.WritingLemmas.{append_known-nil}
 
--- the cut of a request has one text, for all designs that are alike
+-- the cut of a request has only one text, and designs that are alike have the same one
 abbrev pub OneText : Type 0
 OneText = (one other : Ordered) (request : Request) (default : ℕ) (text others : List ℕ) → AreAlike one other → IsTextOfCut one request default text → IsTextOfCut other request default others → text ≡ others
 
@@ -34,7 +34,7 @@ module _ (files : List ℕ → Told) (lost cut unwritten : Type 0) (T : Type 0) 
         (subst (λ (r : Request). IsTextOfCut another r capacity other) (request-once partition same request asked asks) told) is;
   }
 
-  -- it was printed, or memory ran out before anything was
+  -- the text was printed, or memory ran out before anything was
   pub cut-ends : (circuit partition : List ℕ) (design : Ordered) (request : Request) (capacity : ℕ) → MeansDesign circuit design → IsPartition partition request → (r : Result T Ending)
       → ((text : List ℕ) × IsTextOfCut design request capacity text × Prints before now unwritten text r) ⊎ ((r ≡ Err NoMemory) × (now ≡ before))
       → EndedOn files lost cut unwritten before now (Write (IsOnlyCutText circuit partition capacity)) r

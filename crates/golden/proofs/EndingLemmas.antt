@@ -1,4 +1,4 @@
--- How a command has ended, file by file.
+-- How a command ends, file by file.
 use Rattle.std.proofs.Common.{◌≡◌, ℕ, List, [], refl, sym, subst, inl, inr}
 use Rattle.std.specs.Prelude.{Option, Result, Ok, Err}
 use Rattle.gg_flat.specs.Circuit.{FlatCircuit}
@@ -23,7 +23,7 @@ module _ (files : List ℕ → Told) (lost cut unwritten : Type 0) (T : Type 0) 
   refused-ends file next Unwritten refused = absurd refused
   refused-ends file next NoMemory refused = ([], sym (append_known-nil before), Ends.WantsMemory (inl refl) (refl, refl))
 
-  -- the words were no command that is there, or weren't read for want of memory, and nothing was written
+  -- the words were no command, or memory ran out while they were read, and nothing was written
   pub unasked-ends : (words : List (List ℕ)) (ending : Ending) → IfRefused (λ said. (¬ AskForCommand words) × TellsUnasked words said) ending
       → CallEnded files lost cut unwritten {T = T} before before words (Err ending)
   unasked-ends words (Refused said) refused = ([], sym (append_known-nil before), Unasked refused.0 said refused.1 (refl, refl) refl)
@@ -31,7 +31,7 @@ module _ (files : List ℕ → Told) (lost cut unwritten : Type 0) (T : Type 0) 
   unasked-ends words NoMemory refused = ([], sym (append_known-nil before), WantsMemoryFirst (refl, refl) refl)
 
   module _ (now : Option (List ℕ)) where
-    -- the whole text was written, or it stopped
+    -- the whole text was written, or writing stopped
     pub printed-ends : (order : Order) (whole : List ℕ) (r : Result T Ending) → IsWritten files order whole → Prints before now unwritten whole r
         → EndedOn files lost cut unwritten before now order r
     printed-ends order whole (Ok done) written prints = (whole, prints, Ends.Done written (refl, refl))
@@ -39,7 +39,7 @@ module _ (files : List ℕ → Told) (lost cut unwritten : Type 0) (T : Type 0) 
     printed-ends order whole (Err Unwritten) written (failed, front) = (front.0, front.2, Ends.Unwritten failed whole written front.1 (refl, refl))
     printed-ends order whole (Err NoMemory) written front = (front.0, front.2, Ends.WantsMemory (inr (whole, written, front.1)) (refl, refl))
 
-    -- a file was accepted, and what comes next has ended
+    -- a file was accepted, and what follows it has ended
     accepted-ended : (lost' cut' : Type 0) → (lost' → lost) → (cut' → cut) → (file : File) (next : List ℕ → Order) (bytes : List ℕ)
         → CanBe files file bytes → file.accepts bytes → (status : ℕ) (text line : List ℕ)
         → Ends files lost' cut' unwritten (next bytes) status text line → Ends files lost cut unwritten (Load file next) status text line
@@ -62,13 +62,13 @@ module _ (files : List ℕ → Told) (lost cut unwritten : Type 0) (T : Type 0) 
           (subst (λ (t : List ℕ → Told). Ends t lost' cut' unwritten (next bytes) (said_by r).status ended.0 (said_by r).line) same ended.2),
     )
 
--- a trace that is refused for the circuit is refused for its bytes
+-- a trace that is refused for a flat circuit that some bytes mean is refused for these bytes
 pub trace-refused : (files : List ℕ → Told) (lost cut : Type 0) (circuit : List ℕ) (flat : FlatCircuit) (name : List ℕ) → Means circuit flat
     → (said : Said) → IsRefused files lost cut (trace_file_of flat name) said → IsRefused files lost cut (trace_file_for circuit name) said
 trace-refused files lost cut circuit flat name means said (inl load) = inl load
 trace-refused files lost cut circuit flat name means said (inr (bytes, can, tells)) = inr (bytes, record { held = can.held; within = can.within }, (flat, means, tells))
 
--- a call that has ended so, and whose line was reported, has answered its status
+-- a call that has ended, and whose line was reported, answers its status
 pub status-answered : (files : List ℕ → Told) (lost cut unwritten : Type 0) (T : Type 0) (words : List (List ℕ)) (trouble : Type 0) (out out' err err' : Option (List ℕ))
     (r : Result T Ending) (status : ℕ) → status ≡ (said_by r).status → CallEnded files lost cut unwritten out out' words r
     → Reports err err' trouble (said_by r).line → Answered words files lost cut unwritten trouble out out' err err' status

@@ -1,4 +1,4 @@
--- What is said of a circuit's text that is refused.
+-- What is reported for a circuit's text that is refused.
 use Rattle.std.proofs.Common.{◌≡◌, ◌≢◌, ℕ, ◌++◌, List, None, Some, refl, sym, ap, ◌∙◌, subst, inl}
 use Rattle.std.specs.Prelude.{codes, decimal}
 use Rattle.std.specs.Str.{IsUtf8}
@@ -15,7 +15,7 @@ use Rattle.golden.specs.Lines.{Said, TellsUnread, circuit_fault}
 use Rattle.golden.specs.Order.{IsExactFile}
 use Rattle.golden.specs.Run.{TellsCircuit, circuit_file}
 
--- what names a fault line with this number: the first of the three causes that holds there
+-- the text that names fault line n: of the three causes, the first that holds there
 data NamesLine (n : ℕ) (line : LineTokens) (text : List ℕ) : Type 0 where
   Deep : (deep : IsTooDeep line.tokens) (is : text ≡ codes "too deep line " ++ decimal n) → NamesLine n line text
   Outside : (word : List ℕ) (shallow : IsTooDeep line.tokens → ⊥) (first : first_outside line.tokens ≡ Some word) (is : text ≡ codes "outside line " ++ decimal n ++ codes " " ++ word) → NamesLine n line text
@@ -32,7 +32,7 @@ names-line-once n line text other (Syntax shallow none is) (Deep deep is') = abs
 names-line-once n line text other (Syntax shallow none is) (Outside word shallow' first is') = cc
 names-line-once n line text other (Syntax shallow none is) (Syntax shallow' none' is') = is ∙ sym is'
 
--- what names the fault of a text that isn't read
+-- the text that names the fault of a text that isn't read
 data NamesUnread (bytes text : List ℕ) : Type 0 where
   NoText : (none : IsUtf8 bytes → ⊥) (is : text ≡ codes "not text") → NamesUnread bytes text
   AtLine : (utf8 : IsUtf8 bytes) (n : ℕ) (line : LineTokens) (at : IsFaultLine bytes n line) (names : NamesLine n line text) → NamesUnread bytes text
@@ -65,7 +65,7 @@ NoFaultAccepted = (text : List ℕ) (fault : FrontFault) → IsAcceptedText text
 abbrev pub NoFaultUnread : Type 0
 NoFaultUnread = (text : List ℕ) (one : ReadFault) (fault : Fault) → one ≢ unread.NoMemory → HasReadFault text one → IsFaulty text fault → ⊥
 
--- of a text with a fault of reading just that is said
+-- if a text has a fault of reading, only this fault is reported
 told-once : OneFaultLine → NoFaultUnread → (bytes : List ℕ) (fault : ReadFault) (other : FrontFault) → fault ≢ unread.NoMemory → HasReadFault bytes fault
     → other ≢ front.NoMemory → HasFrontFault bytes other → front_text other ≡ fault_text fault
 told-once one apart bytes fault (front.Read other) some has told has' =
@@ -78,7 +78,7 @@ pub unread-once : OneFaultLine → NoFaultUnread → (bytes : List ℕ) (fault :
 unread-once one apart bytes fault said other has tells (told, has', some, is) =
     is ∙ ap circuit_fault (told-once one apart bytes fault told tells.0 has some has') ∙ sym tells.1
 
--- nothing is said of a circuit's bytes that are accepted, and all that is said of others has the status 1
+-- nothing is reported for a circuit's bytes that are accepted, and all that is reported for others has the status 1
 pub circuit_file-exact : NoFaultAccepted → (name : List ℕ) → IsExactFile (circuit_file name)
 circuit_file-exact never name = record {
   apart = λ bytes said accepts refuses. never bytes refuses.0 accepts refuses.2 refuses.1;

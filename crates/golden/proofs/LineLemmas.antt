@@ -13,7 +13,7 @@ use Rattle.golden.specs.Endings.{Prints}
 use Rattle.golden.proofs.PrintingLemmas.{rose-earlier, stop-within}
 use Rattle.golden.proofs.WritingLemmas.{append_known-append, append_known-nil}
 
--- some lines are a front part of all
+-- the first lines are a front part of all lines
 pub lines-front : {A : Type 0} (f : A → List ℕ) (xs : List A) (i : ℕ) → IsFront (flat_map f (take i xs)) (flat_map f xs)
 lines-front f xs zero = (flat_map f xs, refl)
 lines-front f [] (suc i) = ([], refl)
@@ -21,7 +21,7 @@ lines-front f (x ∷ xs) (suc i) =
     let front = lines-front f xs i in
     (front.0, append_assoc (f x) (flat_map f (take i xs)) front.0 ∙ ap (λ l. f x ++ l) front.1)
 
--- so many lines stand on a sink behind what stood before
+-- the first i lines are on the output sink, after what was there before
 pub record LinesTo {A : Type 0} (f : A → List ℕ) (xs : List A) (before now : Option (List ℕ)) (faults faults' refused refused' i : ℕ) : Type 0 where
   pub written : now ≡ append_known before (flat_map f (take i xs))
   pub faults_stay_or_rise : faults ≤ faults'
@@ -47,20 +47,20 @@ module _ {A : Type 0} (f : A → List ℕ) (xs : List A) (before now now' : Opti
       stop-within T before now now' (Rose b' b'') (Rose b b'') (flat_map f (take i xs)) (f x) (flat_map f xs) ending so.written (rose-earlier b b' b'' so.faults_stay_or_rise)
       (subst (λ l. IsFront l (flat_map f xs)) (sym (ap (λ y. flat_map f (take i xs) ++ f y) (sym is) ∙ lines-more f xs i d lt)) (lines-front f xs (i + 1))) prints
 
--- a text and then another
+-- if a text was printed after another, both together were printed
 pub prints-then : (T : Type 0) (before now now' : Option (List ℕ)) (b b' b'' : ℕ) (one other : List ℕ) (r : Result T Ending) → b ≤ b' → now ≡ append_known before one
     → Prints now now' (Rose b' b'') other r → Prints before now' (Rose b b'') (one ++ other) r
 prints-then T before now now' b b' b'' one other (Ok done) le e prints = prints ∙ ap (λ w. append_known w other) e ∙ append_known-append before one other
 prints-then T before now now' b b' b'' one other (Err ending) le e prints =
     stop-within T before now now' (Rose b' b'') (Rose b b'') one other (one ++ other) ending e (rose-earlier b b' b'' le) ([], append-nil (one ++ other)) prints
 
--- a text that stopped before another
+-- if the first of two texts stopped, both together stopped there
 pub prints-first : (T : Type 0) (before now : Option (List ℕ)) (failed : Type 0) (one other : List ℕ) (ending : Ending)
     → Prints {T = T} before now failed one (Err ending) → Prints {T = T} before now failed (one ++ other) (Err ending)
 prints-first T before now failed one other ending prints =
     stop-within T before before now failed failed [] one (one ++ other) ending (sym (append_known-nil before)) (λ x. x) (other, refl) prints
 
--- a plan's text that stopped among the machines
+-- if a plan's text stopped among the machines, the whole text stopped there
 pub plan-first : (T : Type 0) (before now : Option (List ℕ)) (failed : Type 0) (machines : List Machine) (plan : Plan) (ending : Ending) → machines ≡ plan.machines
     → Prints {T = T} before now failed (flat_map line_of_machine machines) (Err ending) → Prints {T = T} before now failed (plan_text plan) (Err ending)
 plan-first T before now failed machines plan ending e prints =

@@ -1,15 +1,15 @@
--- The names of a cut, one machine more.
+-- The names of a cut, with one more machine.
 use Rattle.std.proofs.Common.{◌≡◌, ℕ, zero, suc, ◌+◌, ◌<◌, List, [], ◌∷◌, ◌++◌, length, map, take, get_or, refl, sym, ap, ◌∙◌, arith, append_assoc}
 use Rattle.std.specs.List.{range_with_len}
 use Rattle.gg_steps.specs.Naming.{Naming}
 
--- what is made of a list up to the next item
+-- what a function makes of the first items of a list, and of one more
 map-more : {A B : Type 0} (f : A → B) (xs : List A) (m : ℕ) (d : A) → m < length xs → map f (take m xs) ++ f (get_or xs m d) ∷ [] ≡ map f (take (suc m) xs)
 map-more f [] m d lt = absurd (omega arith)
 map-more f (x ∷ xs) zero d lt = refl
 map-more f (x ∷ xs) (suc m) d lt = ap (λ l. f x ∷ l) (map-more f xs m d (omega (arith, lt)))
 
--- and of numbers up to the next
+-- what a function makes of some numbers in order, and of one more
 pub range-more : {B : Type 0} (g : ℕ → B) (a m : ℕ) → map g (range_with_len a m) ++ g (a + m) ∷ [] ≡ map g (range_with_len a (suc m))
 range-more g a zero = ap (λ k. g k ∷ []) (let e : a + 0 ≡ a = omega arith in e)
 range-more g a (suc m) =

@@ -1,4 +1,4 @@
--- How the steps of a plan's network have ended.
+-- How the steps of a plan's network end.
 use Rattle.std.proofs.Common.{◌≡◌, ℕ, ◌+◌, ◌<◌, ◌≤◌, List, [], ◌++◌, length, replicate, take, get_or, refl, sym, ap, ◌∙◌, subst, arith}
 use Rattle.std.specs.Prelude.{IfOk, MatchResult, Option, Result, Ok, Err, codes, decimal, flat_map}
 use Rattle.std.specs.List.{range_with_len}
@@ -31,7 +31,7 @@ use Rattle.golden.specs.Replayed.{NetEnds, NetWent, NetStops, name_in, net_line,
 use Rattle.golden.proofs.ReadingLemmas.{IfRefused-map}
 
 module _ (plan : Plan) (columns : List (List ℕ)) (n : ℕ) (lists : List (List ℕ)) (net : Network) (opens : IsOpeningOf plan columns n net) where
-  -- before the first cycle a log without a token is right
+  -- before the first cycle a log without tokens is right
   pub opening-log : (log : List (List ℕ)) (count : ℕ) → count ≡ length net.wires → log ≡ replicate count [] → AreFronts lists net log
   opening-log log count same is =
       let machines = opens.machines in
@@ -41,7 +41,7 @@ module _ (plan : Plan) (columns : List (List ℕ)) (n : ℕ) (lists : List (List
       let given : log ≡ replicate (length (wires_of_plan plan)) [] = is ∙ ap (λ k. replicate k []) wires in
       subst (λ (x : Network). AreFronts lists x log) (sym opens.is) (subst (λ l. AreFronts lists opening l) (sym given) fronts)
 
-  -- steps leave the channels as they are
+  -- steps don't change the number of channels
   pub wires-stay : (events : List (Option Event)) (new : Network) → Steps net events new → length new.wires ≡ length plan.channels
   wires-stay events new steps =
       ap (λ (f : Frame). length f.wires) (steps-frame net events new steps) ∙ ap (λ (x : Network). length x.wires) opens.is ∙ length-from plan 0 plan.channels
@@ -61,7 +61,7 @@ module _ (plan : Plan) (columns : List (List ℕ)) (n : ℕ) (lists : List (List
     net-stops stopped ending stops says =
         NetStops opens.machines (record { built = opens.built; kept = opening-kept }) new stopped (subst (λ (x : Network). StopsAt 1 x events new stopped) opens.is stops) ending refl says refl
 
--- the names and the steps by other words
+-- how the steps end, for equal names and equal steps
 pub net-named : (plan : Plan) (columns : List (List ℕ)) (n : ℕ) (lists : List (List ℕ)) (runs : List (List (List ℕ))) (names own : Naming) (events : List (Option Event)) (text : List ℕ) (T : Type 0) (before now : Option (List ℕ)) (failed : Type 0) (r : Result T Ending)
     → names ≡ own → events ≡ steps_of names text
     → NetEnds plan columns n lists runs names events before now failed r → NetEnds plan columns n lists runs own (steps_of own text) before now failed r
@@ -71,7 +71,7 @@ net-named plan columns n lists runs names own events text T before now failed r 
 
 -- ---- lines
 
--- the line of a channel, from what is told of it
+-- the line of a channel, from its name, width, counts and tokens
 pub line-of : (plan : Plan) (lists log : List (List ℕ)) (net : Network) (c : ℕ) (channels : List Channel) (own : Channel) (name tokens : List ℕ) (width put took : ℕ)
     → channels ≡ plan.channels → c < length plan.channels → length net.wires ≡ length plan.channels → AreFronts lists net log
     → name ≡ (get_or channels c own).name → width ≡ (get_or channels c own).ty.width → put ≡ puts net c → took ≡ takes net c → tokens ≡ tokens_at log c
@@ -87,7 +87,7 @@ line-of plan lists log net c channels own name tokens width put took same known 
     ∙ ap (λ x. channel_line (name_in plan c) (width_in plan c) (puts net c) x tokens) takes_are
     ∙ ap (λ x. channel_line (name_in plan c) (width_in plan c) (puts net c) (takes net c) x) given
 
--- a number of so many stands at its own place
+-- the numbers below n, listed in order: each is at its own place
 pub in-range : (i n : ℕ) → i < n → i < length (range_with_len 0 n)
 in-range i n lt = omega (arith, lt, length-range_with_len 0 n)
 
@@ -107,7 +107,7 @@ step-line front text told step e same =
     ap (λ (l : List ℕ). step_said l)
     (ap (λ x. x ++ codes ": " ++ text) e ∙ ap (λ x. codes "golden: step " ++ decimal step ++ codes ": " ++ x) same)
 
--- what is made is said, where memory suffices
+-- what was made is reported, unless memory ran out
 pub made-said : {E : Type 0} (r : Result Said E) (ending : Ending) (made whole : Said) → made ≡ whole
     → MatchResult r (λ said. IfRefused (λ given. given ≡ said) ending) (λ _. ending ≡ NoMemory) → IfOk r (λ said. said ≡ made) → IfRefused (λ said. said ≡ whole) ending
 made-said (Ok said) ending made whole same ends is = IfRefused-map (λ given e. e ∙ is ∙ same) ending ends

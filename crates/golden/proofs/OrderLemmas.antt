@@ -1,19 +1,19 @@
--- The one order of refusals: what is told decides it.
+-- The order of refusals: what the shelf tells of the files decides what is reported.
 use Rattle.std.proofs.Common.{◌≡◌, ℕ, ◌<◌, ◌≤◌, List, sym, ap, ◌∙◌, subst, inl, inr, length, arith}
 use Rattle.gg_io.specs.Told.{Told, Holds, CanHold, CanBeOver}
 use Rattle.golden.specs.Lines.{Said}
 use Rattle.golden.specs.Order.{File, Order, Load, Write, CanBe, IsRefused, StopsAt, IsWritten, IsTold, IsDueOf, DueAt, IsDueAccepted, IsExactFile, IsExact, IsJudgement}
 
 module _ (files : List ℕ → Told) where
-  -- the bytes of a told file are those that are told
+  -- a told file can only have the bytes that are told
   pub told-bytes : (file : File) (bytes other : List ℕ) → IsTold files file bytes → CanBe files file other → other ≡ bytes
   told-bytes file bytes other told can = let held = can.held in let h : CanHold (Holds bytes) other = subst (λ t. CanHold t other) told held in h
 
-  -- a file holds one text
+  -- only one text is told of a file
   told-once : (file : File) (bytes other : List ℕ) → IsTold files file bytes → IsTold files file other → other ≡ bytes
   told-once file bytes other told told' = let e : Holds other ≡ Holds bytes = sym told' ∙ told in cc
 
-  -- what is due where the first file is told and accepted is due behind it
+  -- if the first file is told and accepted, what is due is due for what follows it
   pub due-behind : (file : File) (next : List ℕ → Order) (bytes : List ℕ) (said : Said) → IsExactFile file → IsTold files file bytes
       → length bytes ≤ file.limit → file.accepts bytes → DueAt files (Load file next) said → DueAt files (next bytes) said
   due-behind file next bytes said exact told fits accepts (other, told', inl (inl o)) =
@@ -23,7 +23,7 @@ module _ (files : List ℕ → Told) where
   due-behind file next bytes said exact told fits accepts (other, told', inr (short, accepts', d)) =
       subst (λ b. DueAt files (next b) said) (told-once file bytes other told told') d
 
-  -- what is due where the first file is told and refused is said of its bytes
+  -- if the first file is told and refused, what is due may be reported for its bytes
   pub due-refused : (file : File) (next : List ℕ → Order) (bytes : List ℕ) (due said : Said) → IsExactFile file → IsTold files file bytes
       → length bytes ≤ file.limit → file.refuses bytes due → DueAt files (Load file next) said → file.refuses bytes said
   due-refused file next bytes due said exact told fits refuses (other, told', inl (inl o)) =
@@ -32,11 +32,11 @@ module _ (files : List ℕ → Told) where
   due-refused file next bytes due said exact told fits refuses (other, told', inr (short, accepts, d)) =
       absurd (exact.apart bytes due (subst file.accepts (told-once file bytes other told told') accepts) refuses)
 
-  -- a told file that is over its limit has more bytes
+  -- a told file that can be over its limit has more bytes than the limit
   pub told-over : (file : File) (bytes : List ℕ) → IsTold files file bytes → CanBeOver (files file.name) file.limit → file.limit < length bytes
   told-over file bytes told over = let h : CanBeOver (Holds bytes) file.limit = subst (λ t. CanBeOver t file.limit) told over in h
 
-  -- a told file that is to be refused isn't accepted
+  -- a told file for which a refusal is due isn't accepted
   pub due-not_accepted : (file : File) (bytes other : List ℕ) (due : Said) → IsExactFile file → IsTold files file bytes
       → IsDueOf files file bytes due → CanBe files file other → file.accepts other → ⊥
   due-not_accepted file bytes other due exact told (inl o) can accepts =
@@ -44,7 +44,7 @@ module _ (files : List ℕ → Told) where
   due-not_accepted file bytes other due exact told (inr o) can accepts =
       exact.apart bytes due (subst file.accepts (told-bytes file bytes other told can) accepts) o.1
 
-  -- what is due isn't written
+  -- if a refusal is due, nothing is written
   pub written-due : (order : Order) (due : Said) (text : List ℕ) → IsExact order → DueAt files order due → IsWritten files order text → ⊥
   written-due (Load file next) due text exact (bytes, told, inl d) (other, can, accepts, later) = due-not_accepted file bytes other due exact.0 told d can accepts
   written-due (Load file next) due text exact (bytes, told, inr (short, accepts, d)) (other, can, accepts', later) =
@@ -52,7 +52,7 @@ module _ (files : List ℕ → Told) where
   written-due (Write IsText) due text exact d written = d
 
   module _ (lost cut : Type 0) where
-    -- what is said of a told file that is to be refused is due of it, with the same status, where no load fails
+    -- if no load fails, what is reported for a told file for which a refusal is due is due itself, with the same status
     pub refused-due : (file : File) (bytes : List ℕ) (due said : Said) → IsExactFile file → (lost → ⊥) → IsTold files file bytes
         → IsDueOf files file bytes due → IsRefused files lost cut file said → IsDueOf files file bytes said × (said.status ≡ due.status)
     refused-due file bytes due said exact none told d (inl (inl h)) = absurd (none h.0)
@@ -64,7 +64,7 @@ module _ (files : List ℕ → Told) where
         let refused : file.refuses bytes said = subst (λ b. file.refuses b said) (told-bytes file bytes other told can) refuses in
         (inr (o.0, refused), exact.status bytes said refused ∙ sym (exact.status bytes due o.1))
 
-    -- a told file that is accepted isn't refused, where no load fails
+    -- if no load fails, a told file that is accepted isn't refused
     pub accepted-not_refused : (file : File) (bytes : List ℕ) (said : Said) → IsExactFile file → (lost → ⊥) → IsTold files file bytes
         → length bytes ≤ file.limit → file.accepts bytes → IsRefused files lost cut file said → ⊥
     accepted-not_refused file bytes said exact none told short accepts (inl (inl h)) = none h.0
@@ -72,7 +72,7 @@ module _ (files : List ℕ → Told) where
     accepted-not_refused file bytes said exact none told short accepts (inr (other, can, refuses)) =
         exact.apart bytes said accepts (subst (λ b. file.refuses b said) (told-bytes file bytes other told can) refuses)
 
-    -- where no load fails and something is due, what is said is due, with the same status
+    -- if no load fails and a refusal is due, what is reported is due, with the same status
     pub stops-due : (order : Order) (due said : Said) → IsExact order → (lost → ⊥) → DueAt files order due → StopsAt files lost cut order said
         → DueAt files order said × (said.status ≡ due.status)
     stops-due (Load file next) due said exact none (bytes, told, inl d) (inl refused) =
@@ -84,14 +84,14 @@ module _ (files : List ℕ → Told) where
         ((bytes, told, inr (short, accepts, r.0)), r.1)
     stops-due (Write IsText) due said exact none d stops = absurd stops
 
-    -- where no load fails, files that are told and accepted aren't refused
+    -- if no load fails, files that are told and accepted aren't refused
     pub stops-accepted : (order : Order) (said : Said) → IsExact order → (lost → ⊥) → IsDueAccepted files order → StopsAt files lost cut order said → ⊥
     stops-accepted (Load file next) said exact none (bytes, told, short, accepts, d) (inl refused) = accepted-not_refused file bytes said exact.0 none told short accepts refused
     stops-accepted (Load file next) said exact none (bytes, told, short, accepts, d) (inr (other, can, accepts', later)) =
         stops-accepted (next bytes) said (exact.1 bytes) none d (subst (λ b. StopsAt files lost cut (next b) said) (told-bytes file bytes other told can) later)
     stops-accepted (Write IsText) said exact none d stops = stops
 
--- the order's refusals stand where more was lost or cut, as in a longer call
+-- what may be reported may be reported too if more was lost or cut, as in a longer call
 pub stops-more : (files : List ℕ → Told) (lost lost' cut cut' : Type 0) → (lost → lost') → (cut → cut') → (order : Order) (said : Said)
     → StopsAt files lost cut order said → StopsAt files lost' cut' order said
 stops-more files lost lost' cut cut' f g (Load file next) said (inl (inl (inl h))) = inl (inl (inl (f h.0, h.1)))
@@ -100,7 +100,7 @@ stops-more files lost lost' cut cut' f g (Load file next) said (inl (inr h)) = i
 stops-more files lost lost' cut cut' f g (Load file next) said (inr (bytes, can, accepts, later)) = inr (bytes, can, accepts, stops-more files lost lost' cut cut' f g (next bytes) said later)
 stops-more files lost lost' cut cut' f g (Write IsText) said stops = stops
 
--- Of what a call says where a file is refused: its status tells why.
+-- Why a file was refused, by the status of what is reported.
 pub data Why (files : List ℕ → Told) (lost cut : Type 0) (order : Order) (said : Said) : Type 0 where
   Lost : (status : said.status ≡ 3) (rose : lost) → Why files lost cut order said
   Cut : (status : said.status ≡ 8) (rose : cut) (stops : StopsAt files ⊥ cut order said) → Why files lost cut order said

@@ -1,4 +1,4 @@
--- What an outcome says of its status, clause by clause.
+-- What an outcome tells by its status, clause by clause.
 use Rattle.std.proofs.Common.{◌≡◌, ◌≢◌, ℕ, Bool, List, [], ◌≤◌, length, refl, ap, sym, ◌∙◌, subst, inl, inr, arith, ◌⊎◌}
 use Rattle.std.specs.Prelude.{Option, Some, Result, Ok, Err}
 use Rattle.std.specs.Io.KnownBytes.{append_known}
@@ -32,11 +32,11 @@ use Rattle.golden.specs.Run.{IsOnlyText, IsTraceFor, TellsCircuit, TellsTraceFor
 use Rattle.golden.proofs.OrderLemmas.{Why, Lost, Cut, Judged, why-stops, stops-due, written-due, stops-accepted, due-behind, due-refused}
 use Rattle.golden.proofs.WritingLemmas.{append_known-nil}
 
--- words mean one thing at most
+-- words mean at most one thing
 abbrev pub OneMeaning : Type 0
 OneMeaning = (words : List (List ℕ)) (one other : Result Cmd (List ℕ)) → Says words one → Says words other → one ≡ other
 
--- so they ask for one command at most
+-- so words ask for at most one command
 asks-once : OneMeaning → (words : List (List ℕ)) (command other : Command) → Asks words command → Asks words other → command ≡ other
 asks-once once words (Run a b c k w m) (Run x y z l v n) asks others = let e = once words (Ok (cmd.Run a b c k w m)) (Ok (cmd.Run x y z l v n)) asks others in cc
 asks-once once words (Run a b c k w m) (Replay x y z o l) asks others = let e = once words (Ok (cmd.Run a b c k w m)) (Ok (cmd.Replay x y z o l)) asks others in absurd (cc)
@@ -48,13 +48,13 @@ asks-once once words (Check a b k) (Run x y z l v n) asks others = let e = once 
 asks-once once words (Check a b k) (Replay x y z o l) asks others = let e = once words (Ok (cmd.Check a b k)) (Ok (cmd.Replay x y z o l)) asks others in absurd (cc)
 asks-once once words (Check a b k) (Check x y l) asks others = let e = once words (Ok (cmd.Check a b k)) (Ok (cmd.Check x y l)) asks others in cc
 
--- a fault that is no want of memory is one of the words
+-- a fault that isn't `NoMemory` is a fault of the words
 pub word-fault : (words : List (List ℕ)) (fault : WordFault) → fault ≢ word.NoMemory → command_line.IfWordFault words fault → command_line.IsWordFault words fault
 word-fault words (word.Refused kind) some h = h
 word-fault words (word.WrongNumber value) some h = h
 word-fault words word.NoMemory some h = absurd (some refl)
 
--- what is said of words that are no command has status 2
+-- what is reported for words that are no command has the status 2
 fault-status : (fault : WordFault) (said : Said) → TellsWords fault said → said.status ≡ 2
 fault-status (word.Refused kind) said tells = ap (λ (s : Said). s.status) tells
 fault-status (word.WrongNumber value) said tells = ap (λ (s : Said). s.status) tells
@@ -63,7 +63,7 @@ fault-status word.NoMemory said tells = absurd tells
 unasked-status : (words : List (List ℕ)) (said : Said) → TellsUnasked words said → said.status ≡ 2
 unasked-status words said (fault, has, tells) = fault-status fault said tells
 
--- the other statuses are none of a judgement
+-- no other status is one of a judgement
 unjudged-0 : IsJudgement 0 → ⊥
 unjudged-0 (inl e) = absurd (omega arith)
 unjudged-0 (inr (inl e)) = absurd (omega arith)
@@ -100,7 +100,7 @@ unjudged-8 (inr (inl e)) = absurd (omega arith)
 unjudged-8 (inr (inr (inl e))) = absurd (omega arith)
 unjudged-8 (inr (inr (inr e))) = absurd (omega arith)
 
--- a name that is there is this one
+-- names are equal if they are equal as optional names
 some-name : (one other : List ℕ) → Some one ≡ Some other → one ≡ other
 some-name one other e = cc
 
@@ -109,7 +109,7 @@ abbrev pub ExactOrders : Type 0
 ExactOrders = (command : Command) → IsExact (order_of command)
 
 module _ (files : List ℕ → Told) (lost cut unwritten : Type 0) where
-  -- why a command ended so: one of these, with its status
+  -- why a command ended, with its status
   data WhyEnds (order : Order) (status : ℕ) (text line : List ℕ) : Type 0 where
     Stopped : (said : Said) (stops : StopsAt files lost cut order said) (is : status ≡ said.status) (tells : line ≡ said.line) (none : text ≡ []) → WhyEnds order status text line
     Wrote : (written : IsWritten files order text) (is : status ≡ 0) → WhyEnds order status text line
@@ -213,7 +213,7 @@ module _ (files : List ℕ → Told) (lost cut unwritten : Type 0) where
     unasked-2 (Unasked none said tells says nothing) unasked = inl (says.0 ∙ unasked-status words said tells)
     unasked-2 (WantsMemoryFirst says nothing) unasked = inr says.0
 
-    -- something is said that is due, or memory ran out
+    -- what is reported is due, with the same status, or memory ran out
     abbrev SaysDue : Order → Said → Type 0
     SaysDue order due = ((status ≡ due.status) × ((said : Said) × DueAt files order said × (status ≡ said.status) × (line ≡ said.line))) ⊎ (status ≡ 5)
 
@@ -249,17 +249,17 @@ module _ (files : List ℕ → Told) (lost cut unwritten : Type 0) where
     complete-status exact once (Unasked unasked said tells says nothing) none wrote other others d = absurd (unasked (other, others))
     complete-status exact once (WantsMemoryFirst says nothing) none wrote other others d = inr says.0
 
--- of a text with a fault of reading just that is said
+-- if a text has a fault of reading, only this fault is reported
 abbrev pub OneReading : Type 0
 OneReading = (bytes : List ℕ) (fault : ReadFault) (said other : Said) → HasReadFault bytes fault → TellsUnread fault said → TellsCircuit bytes other → other ≡ said
 
--- of a partition and a trace one thing is said at most
+-- at most one thing is reported for each file that follows the circuit
 abbrev pub UniqueOrders : Type 0
 UniqueOrders = (command : Command) (circuit : List ℕ) → IsUnique (order_behind command circuit)
 
 -- what is promised of a call that answered this status
 module _ {words : List (List ℕ)} {files : List ℕ → Told} {lost cut unwritten trouble : Type 0} {out out' err err' : Option (List ℕ)} {status : ℕ} (a : Answered words files lost cut unwritten trouble out out' err err' status) where
-  -- a line that is said is reported
+  -- what has the status and the line of the call was reported
   reported-as : (said : Said) → status ≡ said.status → a.line ≡ said.line → Tells err err' trouble status said
   reported-as said is e = record { is = is; reported = subst (λ (l : List ℕ). Reports err err' trouble l) e a.reported }
 
@@ -292,7 +292,7 @@ module _ {words : List (List ℕ)} {files : List ℕ → Told} {lost cut unwritt
           → ((status ≡ due.status) × ((said : Said) × DueAt files (order_of command) said × Tells err err' trouble status said)) ⊎ (status ≡ 5)
       tells-due command due asks d = due-told (order_of command) due (due-said files lost cut unwritten words status a.text a.line exact once a.outcome none command due asks d)
 
-      -- what is said is this, where nothing else is due
+      -- if only this is due, this is what is reported
       only-due : (order : Order) (due : Said) → ((said : Said) → DueAt files order said → said ≡ due)
           → ((status ≡ due.status) × ((said : Said) × DueAt files order said × Tells err err' trouble status said)) ⊎ (status ≡ 5)
           → Tells err err' trouble status due ⊎ (status ≡ 5)
@@ -437,18 +437,18 @@ module _ {words : List (List ℕ)} {files : List ℕ → Told} {lost cut unwritt
       complete = complete-status files lost cut unwritten words status a.text a.line exact once a.outcome;
     }
 
--- the words ask for a command of the same names
+-- with equal names, words ask for the same `run`
 pub asks-same : (words : List (List ℕ)) (a b c x y z : List ℕ) (k w : ℕ) (m : Bool) → x ≡ a → y ≡ b → z ≡ c → Asks words (Run a b c k w m) → Asks words (Run x y z k w m)
 asks-same words a b c x y z k w m p q r asks =
     subst (λ (n : List ℕ). Asks words (Run n y z k w m)) (sym p) (subst (λ (n : List ℕ). Asks words (Run a n z k w m)) (sym q) (subst (λ (n : List ℕ). Asks words (Run a b n k w m)) (sym r) asks))
 
--- and so with `replay`
+-- with equal names, words ask for the same `replay`
 pub asks-replay : (words : List (List ℕ)) (a b c d x y z w : List ℕ) (k : ℕ) → x ≡ a → y ≡ b → z ≡ c → w ≡ d → Asks words (Replay a b c d k) → Asks words (Replay x y z w k)
 asks-replay words a b c d x y z w k p q r s asks =
     subst (λ (n : List ℕ). Asks words (Replay n y z w k)) (sym p) (subst (λ (n : List ℕ). Asks words (Replay a n z w k)) (sym q)
     (subst (λ (n : List ℕ). Asks words (Replay a b n w k)) (sym r) (subst (λ (n : List ℕ). Asks words (Replay a b c n k)) (sym s) asks)))
 
--- and with `check`
+-- with equal names, words ask for the same `check`
 pub asks-check : (words : List (List ℕ)) (a b x y : List ℕ) (k : ℕ) → x ≡ a → y ≡ b → Asks words (Check a b k) → Asks words (Check x y k)
 asks-check words a b x y k p q asks =
     subst (λ (n : List ℕ). Asks words (Check n y k)) (sym p) (subst (λ (n : List ℕ). Asks words (Check a n k)) (sym q) asks)

@@ -1,4 +1,4 @@
--- The fault of a partition: it is one, whichever design the circuit's bytes are taken to mean.
+-- A partition has at most one fault, whichever design the circuit's bytes are taken to mean.
 use Rattle.std.proofs.Common.{◌≡◌, ℕ, ◌++◌, List, None, Some, refl, sym, ap, ◌∙◌, subst, inl, inr}
 use Rattle.std.specs.Prelude.{codes}
 use Rattle.gg_cut.specs.Fault.{first_fault}
@@ -22,16 +22,16 @@ use Rattle.golden.specs.Partition.{Cuts, HasFault, OfFile, OfRequest, IsPartitio
 
 -- ---- the fault of bytes
 
--- a fault for one design is one for the other
+-- a fault for one design is a fault for a design that is alike
 fault-carried : (one other : Ordered) → AreAlike one other → (bytes text : List ℕ) → HasFault one bytes text → HasFault other bytes text
 fault-carried one other a bytes text (OfFile key wrong is) = OfFile key wrong is
 fault-carried one other a bytes text (OfRequest request asks fault first is) = OfRequest request asks fault (sym (fault-same one other a request) ∙ first) is
 
--- bytes that hold a request are refused with no key
+-- bytes that hold a request aren't refused for a key
 abbrev pub FileApart : Type 0
 FileApart = (bytes key : List ℕ) (request : Request) → IsPartition bytes request → ¬ file.IsRefused bytes key
 
--- and bytes that are refused are refused with one
+-- bytes are refused for at most one key
 abbrev pub OneKey : Type 0
 OneKey = (bytes first second : List ℕ) → file.IsRefused bytes first → file.IsRefused bytes second → first ≡ second
 
@@ -71,7 +71,7 @@ fault-once apart key design bytes text other (OfRequest request asks fault first
 none-some : (design : Ordered) (a b : Request) (fault : CutFault) → a ≡ b → first_fault design a ≡ None → first_fault design b ≡ Some fault → ⊥
 none-some design a b fault e p q = let h : None ≡ Some fault = sym p ∙ ap (first_fault design) e ∙ q in absurd (cc)
 
--- a request without a fault has none
+-- bytes that hold a request without a fault have no fault
 faultless : FileApart → (design : Ordered) (bytes text : List ℕ) (request : Request) → Cuts design bytes request → HasFault design bytes text → ⊥
 faultless apart design bytes text request cuts (OfFile key wrong is) = apart bytes key request cuts.asks wrong
 faultless apart design bytes text request cuts (OfRequest request' asks fault first is) =
@@ -91,29 +91,29 @@ module _ (agree : DesignsAgree) (apart : FileApart) (key : OneKey) (circuit : Li
   partition-status : (bytes : List ℕ) (said : Said) → TellsPartitionFor circuit bytes said → said.status ≡ 6
   partition-status bytes said (one, means, (text, has, is)) = ap (λ (s : Said). s.status) is
 
-  -- nothing is said of a partition without a fault, and all that is said of others has the status 6
+  -- nothing is reported for a partition without a fault, and all that is reported for others has the status 6
   pub partition_file-exact : (name : List ℕ) → IsExactFile (partition_file_for circuit name)
   partition_file-exact name = record { apart = partition-apart; status = partition-status; judges = inr (inl refl) }
 
-  -- and it is one thing at most
+  -- at most one thing is reported for a partition
   pub partition_file-unique : (name : List ℕ) → IsUniqueFile (partition_file_for circuit name)
   partition_file-unique name = partition-once
 
--- a partition that is refused for the design is refused for the circuit's bytes
+-- a partition that is refused for a design that some bytes mean is refused for these bytes
 pub partition-refused : (files : List ℕ → Told) (lost cut : Type 0) (circuit : List ℕ) (design : Ordered) (name : List ℕ) → MeansDesign circuit design
     → (said : Said) → IsRefused files lost cut (partition_file_of design name) said → IsRefused files lost cut (partition_file_for circuit name) said
 partition-refused files lost cut circuit design name means said (inl load) = inl load
 partition-refused files lost cut circuit design name means said (inr (bytes, can, tells)) = inr (bytes, record { held = can.held; within = can.within }, (design, means, tells))
 
--- ---- what is said of a fault
+-- ---- what is reported for a fault
 
--- a key that is refused is what is said of the bytes
+-- if a key is refused, this may be reported for the bytes
 pub file-refused : (design : Ordered) (bytes slice : List ℕ) (said : Said) → slice ≡ bytes
     → (key : List ℕ) × file.IsRefused slice key × (said ≡ partition_fault (codes "P1 " ++ key)) → TellsPartitionOf design bytes said
 file-refused design bytes slice said e (key, wrong, is) =
     (codes "P1 " ++ key, OfFile key (subst (λ (b : List ℕ). file.IsRefused b key) e wrong) refl, is)
 
--- and so is the first fault of the request that they hold
+-- if the request that the bytes hold has a fault, the first one may be reported for the bytes
 pub request-refused : (design : Ordered) (bytes slice : List ℕ) (request : Request) (said : Said) → slice ≡ bytes → IsPartition slice request
     → (fault : CutFault) × (first_fault design request ≡ Some fault) × (said ≡ partition_fault (cut.fault_text fault)) → TellsPartitionOf design bytes said
 request-refused design bytes slice request said e asks (fault, first, is) =

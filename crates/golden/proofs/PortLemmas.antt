@@ -20,7 +20,7 @@ use Rattle.gg_trace.specs.Trace.{Columns, HaveWidths}
 use Rattle.gg_flat.specs.Ports.{port_with, port_at, ports_at, in_ports, out_ports}
 
 module _ (circuit : FlatCircuit) where
-  -- a signal's port
+  -- the port of a signal: its name is the signal's path, its width the signal's
   record IsPort (s : ℕ) : Type 0 where
     pub port : Port
     pub is : port_at circuit s ≡ Some port
@@ -47,7 +47,7 @@ module _ (circuit : FlatCircuit) where
         | inr past ↦ let le = past.0 in absurd (omega arith)
       ]
 
-  -- ports and the signals that they are
+  -- these are the ports of these signals
   pub record AreOf (ports : List Port) (ss : List ℕ) : Type 0 where
     pub count : length ports ≡ length ss
     pub named : (i : ℕ) → i < length ss → name_at ports i ≡ get_or circuit.paths (value_at ss i) []
@@ -101,7 +101,7 @@ module _ (circuit : FlatCircuit) where
         let b : driver_at circuit (value_at circuit.ins j) ≡ Input j = (formed.ins j lj).1 in
         let c : Input i ≡ Input j = sym a ∙ ap (driver_at circuit) e ∙ b in cc
 
-    -- no two inputs have one name
+    -- no two inputs have the same name
     pub in_ports-distinct : HasDistinctNames (in_ports circuit)
     in_ports-distinct i j li lj e =
         let are = ins-are in
@@ -111,7 +111,7 @@ module _ (circuit : FlatCircuit) where
         ins_once i j ki kj (paths_once (value_at circuit.ins i) (value_at circuit.ins j) (formed.ins i ki).0 (formed.ins j kj).0
         (sym (are.named i ki) ∙ e ∙ are.named j kj))
 
-    -- a row of a trace of the inputs is what the circuit can get in a cycle
+    -- a row of a trace of the inputs can be the inputs of a cycle
     pub row-inputs : (bytes : List ℕ) (n : ℕ) (columns : List (List ℕ)) → Columns (in_ports circuit) bytes n columns
         → HaveWidths (in_ports circuit) n columns → (t : ℕ) → t < n → IsInputs circuit (row_of columns t)
     row-inputs bytes n columns cols fit t lt =
@@ -131,7 +131,7 @@ module _ (circuit : FlatCircuit) where
               subst (λ (w : ℕ). value_at (row_of columns t) i < 2 ^ w) width (subst (λ (v : ℕ). v < 2 ^ width_at (in_ports circuit) i) (sym value) bound);
         }
 
-    -- what a trace gives the inputs is columns that the circuit can get
+    -- the columns that a trace gives the inputs are columns for the circuit
     pub trace-columns : (bytes : List ℕ) (n : ℕ) (columns : List (List ℕ)) → Columns (in_ports circuit) bytes n columns
         → HaveWidths (in_ports circuit) n columns → IsColumns circuit n columns
     trace-columns bytes n columns cols fit =

@@ -23,7 +23,7 @@ use Rattle.golden.specs.RunText.{out_columns}
 use Rattle.golden.specs.Endings.{Prints}
 use Rattle.golden.proofs.WritingLemmas.{append_known-append, append_known-nil}
 
--- the first `cycle` rows stand behind the header, and the simulator is in the state before the next, of any run
+-- the first `cycle` rows are on the output sink after the header, and the simulator is in the state before the next, in any run
 pub record PrintedTo (circuit : FlatCircuit) (inputs : Table) (ports : List Port) (before now : Option (List ℕ)) (faults faults' refused refused' : ℕ) (cycle : ℕ) (mono : Simulation) (outs : List ℕ) : Type 0 where
   pub same : mono.circuit ≡ circuit
   pub count : length outs ≡ length circuit.outs
@@ -42,7 +42,7 @@ outputs-row circuit rows t lt (s ∷ signals) =
     let head : value_at (row_at rows t) s ≡ slice_index (column rows s) t = sym (get_or-map (λ (row : List ℕ). value_at row s) rows t [] 0 lt) in
     let rest = outputs-row circuit rows t lt signals in cc
 
--- a settled row of a state and inputs is the only one
+-- a state and inputs have only one settled row
 abbrev pub SettledOnce : Type 0
 SettledOnce = (circuit : FlatCircuit) (order : List ℕ) (state : State) (inputs v w : List ℕ) → IsOrder circuit order → Settled circuit state inputs v → Settled circuit state inputs w → v ≡ w
 
@@ -54,7 +54,7 @@ cycle-row once circuit order columns n rows t before after inputs printed ordere
     once circuit order before inputs cycle.row (row_at rows t) ordered cycle.settled
     (subst (λ (s : State). Settled circuit s inputs (row_at rows t)) (sym is) (subst (λ (i : List ℕ). Settled circuit (state_at circuit (opening_start circuit) rows t) i (row_at rows t)) (sym given) (run.settled t lt)))
 
--- the front of a text of rows
+-- the text of the first rows is a front part of the text of all rows
 pub trace_text-front : (ports : List Port) (columns : List (List ℕ)) (n t : ℕ) → t ≤ n → IsFront (trace_text ports columns t) (trace_text ports columns n)
 trace_text-front ports columns zero t le = let e : t ≡ zero = omega arith in ([], append-nil (trace_text ports columns t) ∙ ap (trace_text ports columns) e)
 trace_text-front ports columns (suc n) t le =
@@ -68,7 +68,7 @@ trace_text-front ports columns (suc n) t le =
           )
     ]
 
--- one row behind a text of rows
+-- one row after a text of rows
 pub trace_text-more : (ports : List Port) (columns : List (List ℕ)) (t : ℕ) (values : List ℕ) → values ≡ row_of columns t
     → trace_text ports columns t ++ row_line ports t values ≡ trace_text ports columns (t + 1)
 trace_text-more ports columns t values e =
@@ -93,11 +93,11 @@ cycle-follows once circuit order columns n rows t before after inputs printed or
       row = cycle.outputs_are ∙ ap (outputs circuit) row ∙ outputs-row circuit rows t within circuit.outs;
     }
 
--- a count that rose later rose
+-- a count that rose since some time rose since an earlier one
 pub rose-earlier : (a b c : ℕ) → a ≤ b → Rose b c → Rose a c
 rose-earlier a b c le rose = omega arith
 
--- a front part of a text, behind another
+-- a front part of a row, after a text, is a front part of the whole text
 pub stands-within : (base now now' : Option (List ℕ)) (text row whole : List ℕ) → now ≡ append_known base text → IsFront (text ++ row) whole
     → StandsFront now now' row → StandsFront base now' whole
 stands-within base now now' text row whole is front (part, rest, puts) = (
@@ -110,7 +110,7 @@ stands-within base now now' text row whole is front (part, rest, puts) = (
   puts ∙ ap (λ (w : Option (List ℕ)). append_known w part) is ∙ append_known-append base text part,
 )
 
--- where a row stops, a front part of the whole text stands
+-- if a row stops, a front part of the whole text is there
 pub stop-within : (T : Type 0) (base now now' : Option (List ℕ)) (failed failed' : Type 0) (text row whole : List ℕ) (ending : Ending)
     → now ≡ append_known base text → (failed → failed') → IsFront (text ++ row) whole
     → Prints {T = T} now now' failed row (Err ending) → Prints {T = T} base now' failed' whole (Err ending)
@@ -119,7 +119,7 @@ stop-within T base now now' failed failed' text row whole Unwritten is more fron
 stop-within T base now now' failed failed' text row whole NoMemory is more front prints = stands-within base now now' text row whole is front prints
 
 module _ (circuit : FlatCircuit) (inputs : Table) (ports : List Port) (before now now' : Option (List ℕ)) (f f' f'' r r' r'' t : ℕ) (mono mono' : Simulation) (outs outs' : List ℕ) where
-  -- one cycle more
+  -- one more cycle
   pub printed-next : SettledOnce → (order : List ℕ) → IsOrder circuit order → t < inputs.rows → (row : List ℕ) → row ≡ row_of inputs.columns t
       → PrintedTo circuit inputs ports before now f f' r r' t mono outs
       → mono'.circuit ≡ mono.circuit → Cycle mono.circuit mono.state row outs' mono'.state → now' ≡ append_known now (row_line ports t outs')
@@ -143,7 +143,7 @@ module _ (circuit : FlatCircuit) (inputs : Table) (ports : List Port) (before no
         refused_stay_or_rise = omega arith;
       }
 
-  -- where a row stops, a front part of the whole text stands
+  -- if the row of a cycle stops, a front part of the whole text is there
   pub printed-stop : SettledOnce → (order : List ℕ) → IsOrder circuit order → t < inputs.rows → (row : List ℕ) → row ≡ row_of inputs.columns t
       → PrintedTo circuit inputs ports before now f f' r r' t mono outs
       → Cycle mono.circuit mono.state row outs' mono'.state → (T : Type 0) (ending : Ending) → Prints {T = T} now now' (Rose f' f'') (row_line ports t outs') (Err ending)
@@ -161,14 +161,14 @@ module _ (circuit : FlatCircuit) (inputs : Table) (ports : List Port) (before no
       (subst (λ (x : List ℕ). IsFront x (trace_text ports (out_columns circuit rows) inputs.rows)) (sym (trace_text-more ports (out_columns circuit rows) t outs' follows.row)) front)
       prints
 
--- what stands after a header that stopped
+-- if the header stops, a front part of the whole text is there
 pub header-stop : (T : Type 0) (before now : Option (List ℕ)) (failed : Type 0) (ports : List Port) (columns : List (List ℕ)) (n : ℕ) (piece : List ℕ) (ending : Ending)
     → piece ≡ header_line ports → Prints {T = T} before now failed piece (Err ending) → Prints {T = T} before now failed (trace_text ports columns n) (Err ending)
 header-stop T before now failed ports columns n piece ending e prints =
     stop-within T before before now failed failed [] (header_line ports) (trace_text ports columns n) ending (sym (append_known-nil before)) (λ x. x)
     (trace_text-front ports columns n 0 (omega arith)) (subst (λ (p : List ℕ). Prints {T = T} before now failed p (Err ending)) e prints)
 
--- a failed put is one of the whole call
+-- a failed put of a part of a call is one of the whole call
 pub prints-more : (T : Type 0) (before now : Option (List ℕ)) (failed failed' : Type 0) (text : List ℕ) (r : Result T Ending) → (failed → failed')
     → Prints before now failed text r → Prints before now failed' text r
 prints-more T before now failed failed' text (Ok done) more prints = prints
@@ -176,7 +176,7 @@ prints-more T before now failed failed' text (Err (Refused said)) more prints = 
 prints-more T before now failed failed' text (Err Unwritten) more prints = (more prints.0, prints.1)
 prints-more T before now failed failed' text (Err NoMemory) more prints = prints
 
--- the text of a run, by the ports that were made and the circuit that is simulated
+-- what is printed for the ports that were made and the simulated circuit is printed for the circuit, if they are the circuit's
 pub run-prints : (T : Type 0) (before now : Option (List ℕ)) (failed : Type 0) (r : Result T Ending) (circuit simulated : FlatCircuit) (ports : List Port) (columns : List (List ℕ)) (n : ℕ)
     → simulated ≡ circuit → ports ≡ out_ports circuit → (rows : List (List ℕ)) → IsRun circuit columns n rows
     → ((rows : List (List ℕ)) → IsRun simulated columns n rows → Prints before now failed (trace_text ports (out_columns simulated rows) n) r)

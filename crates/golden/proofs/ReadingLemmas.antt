@@ -17,7 +17,7 @@ use Rattle.golden.specs.RunText.{Feeds}
 use Rattle.golden.proofs.PortLemmas.{in_ports-distinct, out_ports-count, trace-columns}
 use Rattle.golden.specs.Endings.{IfRefused}
 
--- a fault that is no want of memory is the trace's first
+-- a fault that isn't `NoMemory` is the trace's first
 pub first-of : (ports : List Port) (bytes : List ℕ) (fault : TraceFault) → fault ≢ trace.NoMemory → IfFirstFault ports bytes fault → IsFirstFault ports bytes fault
 first-of ports bytes (Heading f) some h = h
 first-of ports bytes (RowNumber r) some h = h
@@ -27,19 +27,19 @@ first-of ports bytes (FieldCount r c) some h = h
 first-of ports bytes (TooManyRows r) some h = h
 first-of ports bytes trace.NoMemory some h = absurd (some refl)
 
--- the first fault for a circuit's ports is that of its inputs
+-- the first fault of a trace for the ports that were made is the first for the circuit's inputs
 pub fault-of : (circuit : FlatCircuit) (ports : List Port) (bytes slice : List ℕ) (fault : TraceFault) → ports ≡ in_ports circuit → slice ≡ bytes
     → fault ≢ trace.NoMemory → IfFirstFault ports slice fault → IsFirstFault (in_ports circuit) bytes fault
 fault-of circuit ports bytes slice fault e f some h =
     subst (λ (p : List Port). IsFirstFault p bytes fault) e (subst (λ (b : List ℕ). IsFirstFault ports b fault) f (first-of ports slice fault some h))
 
--- what is said of an ending
+-- what holds of a reported refusal may be replaced by what follows from it
 pub IfRefused-map : {P Q : Said → Type 0} → ((said : Said) → P said → Q said) → (ending : Ending) → IfRefused P ending → IfRefused Q ending
 IfRefused-map f (Refused said) h = f said h
 IfRefused-map f Unwritten h = h
 IfRefused-map f NoMemory h = h
 
--- the ports of a circuit's inputs
+-- the ports that were made are those of a circuit's inputs
 pub ports-are : (circuit piece : FlatCircuit) (ports : List Port) → ports ≡ in_ports piece → piece ≡ circuit → ports ≡ in_ports circuit
 ports-are circuit piece ports p r = p ∙ ap (λ (c : FlatCircuit). in_ports c) r
 
@@ -47,7 +47,7 @@ ports-are circuit piece ports p r = p ∙ ap (λ (c : FlatCircuit). in_ports c) 
 pub ports-distinct : (circuit : FlatCircuit) (ports : List Port) → ports ≡ in_ports circuit → IsWellFormed circuit → HasDistinctNames ports
 ports-distinct circuit ports e formed = subst (λ (p : List Port). HasDistinctNames p) (sym e) (in_ports-distinct circuit formed)
 
--- what the trace gives the inputs is what it gives their ports
+-- what the trace gives the inputs is what it gives the ports that were made
 pub feeds-ports : (circuit : FlatCircuit) (ports : List Port) (bytes slice : List ℕ) → ports ≡ in_ports circuit → slice ≡ bytes
     → (n : ℕ) (columns : List (List ℕ)) → Feeds circuit bytes n columns → Columns ports slice n columns
 feeds-ports circuit ports bytes slice e f n columns feeds =
@@ -59,17 +59,17 @@ pub ports-feed : (circuit : FlatCircuit) (ports : List Port) (bytes slice : List
 ports-feed circuit ports bytes slice e f n columns cols =
     subst (λ (p : List Port). Columns p bytes n columns) e (subst (λ (b : List ℕ). Columns ports b n columns) f cols)
 
--- the ports of a circuit's outputs
+-- the ports that were made are those of a circuit's outputs
 pub outs-are : (circuit piece : FlatCircuit) (ports : List Port) → ports ≡ out_ports piece → piece ≡ circuit → ports ≡ out_ports circuit
 outs-are circuit piece ports p r = p ∙ ap (λ (c : FlatCircuit). out_ports c) r
 
--- as many as the simulated circuit has
+-- they are as many as the simulated circuit has outputs
 pub outs-count : (circuit simulated : FlatCircuit) (ports : List Port) → ports ≡ out_ports circuit → simulated ≡ circuit → IsWellFormed circuit
     → length ports ≡ length simulated.outs
 outs-count circuit simulated ports p e formed =
     ap (λ (x : List Port). length x) p ∙ out_ports-count circuit formed ∙ sym (ap (λ (c : FlatCircuit). length c.outs) e)
 
--- what the trace gives is columns that the circuit can get
+-- the columns that the trace gives the ports are columns for the circuit
 pub ports-fed : (circuit : FlatCircuit) (ports : List Port) (bytes : List ℕ) (n : ℕ) (columns : List (List ℕ)) → ports ≡ in_ports circuit → IsWellFormed circuit
     → Columns ports bytes n columns → HaveWidths ports n columns → IsColumns circuit n columns
 ports-fed circuit ports bytes n columns e formed =

@@ -1,4 +1,4 @@
--- How `replay` has ended: from the network of a plan to the setting of its design, and from there to the order of refusals.
+-- How `replay` ends: from the network of a plan to the setting of its design, and from there to the order of refusals.
 use Rattle.std.proofs.Common.{◌≡◌, ℕ, zero, suc, ◌+◌, ◌<◌, ◌≤◌, List, [], ◌∷◌, ◌++◌, length, map, refl, sym, ap, ◌∙◌, subst, inr, arith}
 use Rattle.std.specs.Prelude.{Option, None, Result, Ok, Err, flat_map, slice_index_or, take}
 use Rattle.std.specs.List.{range_with_len}
@@ -63,7 +63,7 @@ use Rattle.golden.proofs.SettingLemmas.{designs-alike, layouts-same, leads-same,
 
 -- ---- lists by number
 
--- what a function makes of the items of a list is what another makes of their numbers
+-- a function of the items of a list makes the same list as a function of their numbers, if they agree
 map-range : {A B : Type 0} (f : A → B) (g : ℕ → B) (xs : List A) (a : ℕ) → ((k : ℕ) (any : A) → k < length xs → f (slice_index_or xs k any) ≡ g (a + k))
     → map f xs ≡ map g (range_with_len a (length xs))
 map-range f g [] a h = refl
@@ -76,7 +76,7 @@ map-range f g (x ∷ xs) a h =
 map-numbers : {A B : Type 0} (f : A → B) (g : ℕ → B) (xs : List A) → ((k : ℕ) (any : A) → k < length xs → f (slice_index_or xs k any) ≡ g k) → map f xs ≡ map g (range_with_len 0 (length xs))
 map-numbers f g xs h = map-range f g xs 0 (λ k any lt. h k any lt ∙ ap g (let e : k ≡ 0 + k = omega arith in e))
 
--- lines that are the same for each number
+-- functions that give the same lines for each number give the same text
 lines-on : (f g : ℕ → List ℕ) (a n : ℕ) → ((k : ℕ) → a ≤ k → k < a + n → f k ≡ g k) → flat_map f (range_with_len a n) ≡ flat_map g (range_with_len a n)
 lines-on f g a zero h = refl
 lines-on f g a (suc n) h =
@@ -231,7 +231,7 @@ module _ (agree : DesignsAgree)
   own-setting : (rows : List (List ℕ)) (layout : Layout) → AreSet design request capacity n columns rows layout → IsSetting circuit partition trace capacity (setting_of design request n columns rows layout)
   own-setting rows layout are = record { means = means; cuts = cuts; feeds = feeds.feeds; run = are.run; laid = are.laid }
 
-  -- the text of where the steps lead is the only one
+  -- the text of the marking that the steps lead to is the only one
   only-replay-text : (rows : List (List ℕ)) (layout : Layout) (are : AreSet design request capacity n columns rows layout) (steps : List ℕ) (marking : Marking)
       → replayed (setting_of design request n columns rows layout) steps ≡ Ok marking → (other : List ℕ) → IsReplayText circuit partition trace capacity steps other
       → other ≡ replay_text (setting_of design request n columns rows layout) marking

@@ -19,11 +19,11 @@ use Rattle.golden.proofs.SettingLemmas.{steps_file-exact, steps_file-unique}
 abbrev pub InsAgree : Type 0
 InsAgree = (bytes : List ℕ) (one other : FlatCircuit) → Means bytes one → Means bytes other → in_ports one ≡ in_ports other
 
--- a trace has one first fault
+-- a trace has at most one first fault
 abbrev pub OneFirstFault : Type 0
 OneFirstFault = (ports : List Port) (bytes : List ℕ) (one other : TraceFault) → IsFirstFault ports bytes one → IsFirstFault ports bytes other → one ≡ other
 
--- and a trace with columns has none
+-- a trace with columns has no first fault
 abbrev pub NoFault : Type 0
 NoFault = (ports : List Port) (bytes : List ℕ) (n : ℕ) (columns : List (List ℕ)) (fault : TraceFault) → Columns ports bytes n columns → IsFirstFault ports bytes fault → ⊥
 
@@ -41,11 +41,11 @@ module _ (agree : InsAgree) (once : OneFirstFault) (never : NoFault) (circuit : 
   trace-status : (bytes : List ℕ) (said : Said) → TellsTraceFor circuit bytes said → said.status ≡ 7
   trace-status bytes said (one, means, (fault, first, is)) = ap (λ (s : Said). s.status) is
 
-  -- nothing is said of a trace without a fault, and all that is said of others has the status 7
+  -- nothing is reported for a trace without a fault, and all that is reported for others has the status 7
   trace_file-exact : (name : List ℕ) → IsExactFile (trace_file_for circuit name)
   trace_file-exact name = record { apart = trace-apart; status = trace-status; judges = inr (inr (inl refl)) }
 
-  -- and it is one thing at most
+  -- at most one thing is reported for a trace
   trace_file-unique : (name : List ℕ) → IsUniqueFile (trace_file_for circuit name)
   trace_file-unique name = trace-once
 

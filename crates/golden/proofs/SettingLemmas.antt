@@ -1,4 +1,4 @@
--- Two settings of the same bytes: the same steps may be done, and the same is told of them.
+-- Two settings of the same bytes: the same steps may be done, and the same is reported for a step that isn't.
 use Rattle.std.proofs.Common.{◌≡◌, ℕ, ◌+◌, ◌-◌, List, ◌∷◌, ◌++◌, length, map, refl, sym, ap, ◌∙◌, subst, inr}
 use Rattle.std.specs.Prelude.{Result, Ok, Err, codes, flat_map, take}
 use Rattle.std.specs.List.{range_with_len}
@@ -36,7 +36,7 @@ use Rattle.golden.proofs.PartitionLemmas.{DesignsAgree}
 
 -- ---- names
 
--- the names of a cut, by the parts of a design that they are made of
+-- the names of a cut, from the parts of a design that they are made of
 abbrev naming_from : (paths : List (List ℕ)) (ins outs : List ℕ) → InstanceTree → Request → List Wire → Naming
 naming_from paths ins outs tree request wires =
     let listed = listed_of tree request in
@@ -52,7 +52,7 @@ naming_from paths ins outs tree request wires =
       ports = map (port_names tree listed) (range_with_len 0 (first_source listed + length ins + length outs));
     }
 
--- the channels of a cut, of two designs that are alike
+-- the channels of a cut are the same for two designs that are alike
 wires-alike : (one other : Ordered) → AreAlike one other → (request : Request)
     → wires_of one.circuit one.tree (listed_of one.tree request) ≡ wires_of other.circuit other.tree (listed_of other.tree request)
 wires-alike one other s request =
@@ -88,13 +88,13 @@ module _ (agree : DesignsAgree) (circuit partition trace : List ℕ) (capacity :
   naming-same : naming_of a.design a.request ≡ naming_of b.design b.request
   naming-same = ap (naming_of a.design) requests-same ∙ naming-alike a.design b.design designs-alike b.request
 
-  -- the steps lead to the same
+  -- the steps lead to the same in both settings
   pub leads-same : (steps : List ℕ) → replayed a steps ≡ replayed b steps
   leads-same steps =
       ap (λ (l : Layout). replayed_from l 1 (opening_marking l) (steps_of (naming_of a.design a.request) steps)) layouts-same
       ∙ ap (λ (n : Naming). replayed_from b.layout 1 (opening_marking b.layout) (steps_of n steps)) naming-same
 
-  -- and the same is said of a step that is refused
+  -- the same is reported in both settings for a step that is refused
   pub stopped-same : (steps : List ℕ) (stopped : Stopped) → stopped_said a steps stopped ≡ stopped_said b steps stopped
   stopped-same steps stopped = ap (λ (n : Naming). stopped_by n (steps_of n steps) stopped) naming-same
 
@@ -122,17 +122,17 @@ module _ (agree : DesignsAgree) (circuit partition trace : List ℕ) (capacity :
   steps-status : (bytes : List ℕ) (said : Said) → TellsSteps circuit partition trace capacity bytes said → said.status ≡ 9
   steps-status bytes said (a, x, (stopped, stops, is)) = ap (λ (s : Said). s.status) is
 
-  -- nothing is said of steps that may all be done, and all that is said of others has the status 9
+  -- nothing is reported for steps that may all be done, and all that is reported for others has the status 9
   pub steps_file-exact : (name : List ℕ) → IsExactFile (steps_file_for circuit partition trace capacity name)
   steps_file-exact name = record { apart = steps-apart; status = steps-status; judges = inr (inr (inr refl)) }
 
-  -- and it is one thing at most
+  -- at most one thing is reported for steps
   pub steps_file-unique : (name : List ℕ) → IsUniqueFile (steps_file_for circuit partition trace capacity name)
   steps_file-unique name = steps-once
 
 -- ---- the text
 
--- the line of a channel, by the parts that it is made of
+-- the line of a channel, from the parts that it is made of
 abbrev line_from : (paths : List (List ℕ)) (shapes : List Shape) → Layout → Marking → (rows : List (List ℕ)) → List Wire → ℕ → List ℕ
 line_from paths shapes layout marking rows wires c =
     channel_line (path_at paths (wire_at wires c).signal) (shape_at shapes (wire_at wires c).signal).width (puts layout marking c) (takes layout marking c)
@@ -144,7 +144,7 @@ text_from paths shapes layout marking rows wires = flat_map (line_from paths sha
 abbrev wires_in : Setting → List Wire
 wires_in setting = wires_of setting.design.circuit setting.design.tree (listed_of setting.design.tree setting.request)
 
--- alike settings with the same rows and the same marking have the same text
+-- settings with alike designs, the same rows and the same marking have the same text
 pub texts-same : (a b : Setting) (one other : Marking) → AreAlike a.design b.design → a.request ≡ b.request → a.layout ≡ b.layout → a.rows ≡ b.rows → one ≡ other
     → replay_text a one ≡ replay_text b other
 texts-same a b one other s requests layouts rows same =
@@ -156,7 +156,7 @@ texts-same a b one other s requests layouts rows same =
     ∙ ap (λ (r : Request). text_from b.design.circuit.paths (signal_shapes b.design.circuit) b.layout other b.rows (wires_of a.design.circuit a.design.tree (listed_of a.design.tree r))) requests
     ∙ ap (λ (w : List Wire). text_from b.design.circuit.paths (signal_shapes b.design.circuit) b.layout other b.rows w) (wires-alike a.design b.design s b.request)
 
--- the rows of a setting of the same circuit and trace are those of a design with an order
+-- each setting of the same circuit and trace has the rows of this run
 pub rows-same : ((bytes : List ℕ) (one other : FlatCircuit) → Means bytes one → Means bytes other → in_ports one ≡ in_ports other)
     → ((bytes : List ℕ) (one other : FlatCircuit) (columns : List (List ℕ)) (n : ℕ) (rows : List (List ℕ)) → Means bytes one → Means bytes other → IsRun one columns n rows → IsRun other columns n rows)
     → ((circuit : FlatCircuit) (order : List ℕ) (columns : List (List ℕ)) (n : ℕ) (rows others : List (List ℕ)) → IsOrder circuit order → IsRun circuit columns n rows → IsRun circuit columns n others → rows ≡ others)

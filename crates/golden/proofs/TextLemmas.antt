@@ -1,4 +1,4 @@
--- The text of a circuit's own run on a trace is one.
+-- A circuit's own run on a trace has only one text.
 use Rattle.std.proofs.Common.{◌≡◌, ℕ, List, map, sym, ap, ◌∙◌, subst}
 use Rattle.gg_flat.specs.Circuit.{FlatCircuit}
 use Rattle.gg_flat.specs.Order.{IsOrder}
@@ -11,7 +11,7 @@ use Rattle.gg_trace.specs.Trace.{Columns}
 use Rattle.golden.specs.Run.{IsTextOf}
 use Rattle.golden.specs.RunText.{Feeds, FeedsOnly, out_columns}
 
--- the same ports, the same outputs, rows and count have the same text
+-- the same ports, outputs, rows and count have the same text
 same-text : (ports ports' : List Port) (outs outs' : List ℕ) (rows rows' : List (List ℕ)) (n n' : ℕ) → ports ≡ ports' → outs ≡ outs' → rows ≡ rows' → n ≡ n'
     → trace_text ports (map (column rows) outs) n ≡ trace_text ports' (map (column rows') outs') n'
 same-text ports ports' outs outs' rows rows' n n' p o r c =
@@ -21,7 +21,7 @@ same-text ports ports' outs outs' rows rows' n n' p o r c =
     ∙ ap (λ (x : ℕ). trace_text ports' (map (column rows') outs') x) c
 
 -- Where all flat circuits that some bytes mean have the same ports, outputs and runs, and a circuit with an order has one
--- run, each text of a run is that of this one.
+-- run, each text of a run is the text of this one.
 pub only-text : ((bytes : List ℕ) (one other : FlatCircuit) → Means bytes one → Means bytes other → in_ports one ≡ in_ports other)
     → ((bytes : List ℕ) (one other : FlatCircuit) → Means bytes one → Means bytes other → out_ports one ≡ out_ports other)
     → ((bytes : List ℕ) (one other : FlatCircuit) → Means bytes one → Means bytes other → one.outs ≡ other.outs)

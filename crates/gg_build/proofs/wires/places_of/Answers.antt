@@ -6,7 +6,7 @@ use Rattle.gg_build.specs.Wires.{IsNoted, channels_at, AreListed}
 use Rattle.gg_build.proofs.PlaceLemmas.{ArePlacedTo, placed-none, placed-more, placed-all, listed-at}
 use Rattle.gg_build.proofs.wires.places_of.Goals as goal
 
--- the list of one machine: short enough, and of channels that are there
+-- the list of one machine: it is short enough, and its channels exist
 record IsOneOf (lists : List (List ℕ)) (count m : ℕ) (list : List ℕ) : Type 0 where
   there : m < length lists
   is : channels_at lists m ≡ list

@@ -1,4 +1,4 @@
--- A loop of the flat circuit is the first fault of the circuit.
+-- A loop of the flat circuit is a first fault of the circuit.
 use Rattle.gg_front.proofs.LoopLemmas.{refused-loop}
 use Rattle.gg_front.proofs.front_end.design_of.Goals as goal
 

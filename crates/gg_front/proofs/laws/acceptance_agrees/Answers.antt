@@ -1,4 +1,4 @@
--- A text spells one circuit at most.
+-- A text spells at most one circuit.
 use Rattle.std.proofs.Common.{subst}
 use Rattle.gg_front.specs.Accepted.{IsAccepted}
 use Rattle.gg_front.proofs.laws.acceptance_agrees.Goals as goal

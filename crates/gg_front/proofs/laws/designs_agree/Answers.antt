@@ -1,4 +1,4 @@
--- A text spells one circuit at most, which has one tree.
+-- A text spells at most one circuit, which has only one tree.
 use Rattle.std.proofs.Common.{sym, ◌∙◌, subst}
 use Rattle.gg_ast.specs.Tree.{CircuitTree}
 use Rattle.gg_digest.specs.IsFlat.{IsFlat}

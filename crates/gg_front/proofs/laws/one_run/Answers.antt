@@ -1,4 +1,4 @@
--- A text spells one circuit at most, so a flat circuit that the bytes mean is one of that circuit.
+-- A text spells at most one circuit, so a flat circuit that the bytes mean is a flat circuit of this one.
 use Rattle.std.proofs.Common.{subst}
 use Rattle.gg_ast.specs.Tree.{CircuitTree}
 use Rattle.gg_digest.specs.IsFlat.{IsFlat}

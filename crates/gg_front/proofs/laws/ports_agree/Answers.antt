@@ -1,4 +1,4 @@
--- A text spells one circuit at most, and the flat circuits of that have the same ports.
+-- A text spells at most one circuit, and all flat circuits of a circuit have the same ports.
 use Rattle.std.proofs.Common.{subst}
 use Rattle.gg_ast.specs.Tree.{CircuitTree}
 use Rattle.gg_digest.specs.IsFlat.{IsFlat}
