@@ -1,13 +1,12 @@
--- The marks of the signals that nodes name, node by node.
-use Rattle.std.proofs.Common.{◌≡◌, ℕ, ◌+◌, ◌<◌, List, [], ◌∷◌, ◌++◌, length, take, Bool, sym, ap, ◌∙◌, subst, inl, inr, ◌⊎◌, arith}
+-- Sets of marks, what the nodes of a line name, and the driver at a place.
+use Rattle.std.proofs.Common.{◌≡◌, ℕ, ◌<◌, List, [], length, Bool, sym, ap, ◌∙◌, inl, inr, ◌⊎◌, arith}
 use Rattle.std.specs.Prelude.{slice_index_or}
-use Rattle.std.proofs.lemmas.List.{length-map, take_more, get_or-map}
+use Rattle.std.proofs.lemmas.List.{length-map, get_or-map}
 use Rattle.gg_flat.specs.declared.line.Node.{Node}
 use Rattle.gg_flat.specs.declared.line.Op.TheVariants.{Ref}
 use Rattle.gg_flat.specs.declared.piece.Driver.TheVariants.{Input}
 use Rattle.gg_flat.specs.declared.piece.Signal.{Signal}
 use Rattle.gg_flat.specs.Reads.{Names}
-use Rattle.gg_flat.proofs.NameLemmas.{Names-push, Names-new, Names-push_cases}
 use Rattle.gg_order.specs.Marks.{driver_of, Marks}
 
 -- one set of marks after another
@@ -32,14 +31,6 @@ Names-none s h = omega (arith, h.1)
 pub Names-at : (nodes : List Node) (i : ℕ) (n : Node) (s : ℕ) → i < length nodes → n ≡ slice_index_or nodes i n → n.op ≡ Ref s → Names nodes s
 Names-at nodes i n s lt is op =
     (i, omega (arith, length-map nodes (λ (m : Node). m.op)), get_or-map (λ (m : Node). m.op) nodes i n (Ref s) lt ∙ ap (λ (m : Node). m.op) (sym is) ∙ op)
-
--- the marks of one more node
-pub Marks-node : (nodes : List Node) (i : ℕ) (n : Node) (a b c : List Bool) → i < length nodes → n ≡ slice_index_or nodes i n → Marks (Names (take i nodes)) a b → Marks (λ s. n.op ≡ Ref s) b c → Marks (Names (take (i + 1) nodes)) a c
-Marks-node nodes i n a b c lt is first second =
-    let more : take (i + 1) nodes ≡ take i nodes ++ n ∷ [] = take_more nodes i n lt ∙ ap (λ (m : Node). take i nodes ++ m ∷ []) (sym is) in
-    subst (λ (l : List Node). Marks (Names l) a c) (sym more)
-    (Marks-then (Names (take i nodes)) (λ s. n.op ≡ Ref s) (Names (take i nodes ++ n ∷ [])) a b c
-    (λ s h. Names-push (take i nodes) n s h) (λ s h. Names-new (take i nodes) n s h) (λ s h. Names-push_cases (take i nodes) n s h) first second)
 
 -- the driver of the signal at a place
 pub driver_of-at : (signals : List Signal) (k : ℕ) (signal : Signal) → k < length signals → (slice_index_or signals k signal).driver ≡ driver_of signals k

@@ -6,8 +6,7 @@
 //!
 //! - `order` returns an order exactly if the circuit has no combinational loop. Else it returns such a loop, which
 //!   begins with the signal whose path is the least by bytes (`IsToldLoop`). It may return `NoMemory` instead;
-//! - a `Design` is a well-formed flat circuit, with the tree of its instances and an order of it;
-//! - `mark_driver` marks exactly the signals that a driver names.
+//! - a `Design` is a well-formed flat circuit, with the tree of its instances and an order of it.
 //!
 //! The time that `order` takes is linear in the numbers of signals and nodes.
 #![tactic(auto)]
@@ -16,10 +15,8 @@ mod design;
 mod fault;
 mod graph;
 mod loops;
-mod marks;
 mod ordering;
 
 pub use design::Design;
 pub use fault::OrderFault;
-pub use marks::mark_driver;
 pub use ordering::{Order, order};
