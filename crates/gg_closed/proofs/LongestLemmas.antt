@@ -2,13 +2,14 @@
 use Rattle.std.proofs.Common.{◌≡◌, ◌≢◌, ℕ, zero, suc, ◌+◌, ◌-◌, ◌<◌, ◌≤◌, List, length, get_or, true, true≢false, refl, sym, ◌∙◌, ap, subst, Some, None, inl, inr, ◌⊎◌, eq-eqb, true-eqb, arith}
 use Rattle.std.specs.Prelude.{Option, ◌==◌}
 use Rattle.std.proofs.lemmas.Bool.{cases_lt, cases_eq}
+use Rattle.std.proofs.lemmas.List.Folds.{list_any_at}
 use Rattle.gg_flat.specs.Line.{value_at}
 use Rattle.gg_flat.specs.Circuit.{FlatCircuit}
 use Rattle.gg_flat.specs.Tree.{InstanceTree, IsTree, IsInnermost, path_at, memory_at}
 use Rattle.gg_flat.specs.Scoped.{IsScoped, IsFieldOf, memory_fields}
 use Rattle.gg_cut.specs.declared.listed.Listed.{Listed}
 use Rattle.gg_cut.specs.Listed.{lies, first_place, unit_or_hub, owner_of_instance, owner_of, has_signal, has_field, memory_or}
-use Rattle.gg_cut.proofs.PathLemmas.{IsPlace, first_place-Some, first_place-None, any-at, one-place}
+use Rattle.gg_cut.proofs.PathLemmas.{IsPlace, first_place-Some, first_place-None, one-place}
 use Rattle.gg_cut.specs.Plan.{memory_owner}
 use Rattle.gg_closed.specs.Apart.{AreApart}
 use Rattle.gg_closed.specs.Longest.{HoldsPath, Covers, IsLongest, IsOfLongest}
@@ -120,7 +121,7 @@ module _ (circuit : FlatCircuit) (tree : InstanceTree) (listed : Listed) (fits :
           none : IsOfLongest (λ path. Covers path (path_at tree.paths k)) paths 0
           none i lt h =
               let at = covering k i lk lt h in
-              true≢false (sym (any-at (λ unit. lies tree k unit) listed.units i 0 at.0 at.1) ∙ first_place-None (λ unit. lies tree k unit) listed.units e)
+              true≢false (sym (list_any_at (λ unit. lies tree k unit) listed.units i 0 at.0 at.1) ∙ first_place-None (λ unit. lies tree k unit) listed.units e)
       by (Some u) e = subst (IsOfLongest (λ path. Covers path (path_at tree.paths k)) paths) (ap unit_or_hub (sym e)) some
         where
           at : IsPlace (λ unit. lies tree k unit) listed.units u
@@ -222,8 +223,8 @@ module _ (circuit : FlatCircuit) (tree : InstanceTree) (listed : Listed) (fits :
             none : IsNoField circuit tree listed s
             none i d lt field =
                 let has : has_field circuit tree s (get_or listed.memories i d) ≡ true =
-                any-at (λ t. t == s) (memory_fields circuit (memory_at tree (get_or listed.memories i d)).memory) field.0 s field.1 (eq-eqb (get_or (memory_fields circuit (memory_at tree (get_or listed.memories i d)).memory) field.0 s) s field.2) in
-                true≢false (sym (any-at (has_field circuit tree s) listed.memories i d lt has) ∙ first_place-None (has_field circuit tree s) listed.memories e)
+                list_any_at (λ t. t == s) (memory_fields circuit (memory_at tree (get_or listed.memories i d)).memory) field.0 s field.1 (eq-eqb (get_or (memory_fields circuit (memory_at tree (get_or listed.memories i d)).memory) field.0 s) s field.2) in
+                true≢false (sym (list_any_at (has_field circuit tree s) listed.memories i d lt has) ∙ first_place-None (has_field circuit tree s) listed.memories e)
         by (Some j) e = subst (IsOfLongest (λ path. HoldsPath path (path_at circuit.paths s)) paths) (sym number) (field-longest j at.within field)
           where
             other : ℕ
@@ -313,7 +314,7 @@ module _ (circuit : FlatCircuit) (tree : InstanceTree) (listed : Listed) (fits :
         by None e = subst (IsOfLongest (λ path. Covers path (path_at tree.memory_paths j)) paths) (sym (ap (memory_or (length listed.units) (owner_of_instance tree listed.units (memory_at tree j).instance)) e)) (held-longest none)
           where
             none : (i : ℕ) → i < length listed.memories → value_at listed.memories i ≢ j
-            none i li same = true≢false (sym (any-at (λ t. t == j) listed.memories i 0 li (eq-eqb (value_at listed.memories i) j same)) ∙ first_place-None (λ t. t == j) listed.memories e)
+            none i li same = true≢false (sym (list_any_at (λ t. t == j) listed.memories i 0 li (eq-eqb (value_at listed.memories i) j same)) ∙ first_place-None (λ t. t == j) listed.memories e)
         by (Some u) e = subst (IsOfLongest (λ path. Covers path (path_at tree.memory_paths j)) paths) (sym number) (own-longest u at.within (true-eqb (value_at listed.memories u) j (sym (at.passes 0))))
           where
             number : memory_owner tree listed j ≡ suc (length listed.units + u)

@@ -5,6 +5,7 @@ use Rattle.std.specs.List.{list_any}
 use Rattle.std.proofs.lemmas.Bool.Decides.{Decides-eqb}
 use Rattle.std.proofs.lemmas.List.{take_more, get_or-set_same, get_or-set_other, length-set, map-append}
 use Rattle.std.proofs.lemmas.List.Folds.{list_any-append}
+use Rattle.std.proofs.Math.Bool.{or-false, or_assoc, or-true}
 use Rattle.gg_flat.specs.Tree.{InstanceTree, instance_at}
 use Rattle.gg_order.specs.Marks.{is_marked}
 use Rattle.gg_cut.specs.Listed.{lies_within, lies, of_parent, ParentsBefore, AreMarks, instance_of}
@@ -39,20 +40,12 @@ module _ (tree : InstanceTree) (before : ParentsBefore tree) where
   fuel-same zero (suc g) k i lf lg lt = sym (by-none (instance_at tree k).parent refl)
     where
       by-none : (p : Option ℕ) → (instance_at tree k).parent ≡ p → ((k == i) || of_parent (λ parent. lies_within tree g parent i) p) ≡ (k == i)
-      by-none None e = or-none (k == i)
-        where
-          or-none : (b : Bool) → (b || false) ≡ b
-          or-none true = refl
-          or-none false = refl
+      by-none None e = or-false (k == i)
       by-none (Some p) e = absurd (omega (arith, before k p lt e, lf))
   fuel-same (suc f) zero k i lf lg lt = by-none (instance_at tree k).parent refl
     where
       by-none : (p : Option ℕ) → (instance_at tree k).parent ≡ p → ((k == i) || of_parent (λ parent. lies_within tree f parent i) p) ≡ (k == i)
-      by-none None e = or-none (k == i)
-        where
-          or-none : (b : Bool) → (b || false) ≡ b
-          or-none true = refl
-          or-none false = refl
+      by-none None e = or-false (k == i)
       by-none (Some p) e = absurd (omega (arith, before k p lt e, lg))
   fuel-same (suc f) (suc g) k i lf lg lt = by (instance_at tree k).parent refl (λ p q r s. fuel-same f g p i q r s)
     where
@@ -73,11 +66,7 @@ module _ (tree : InstanceTree) (before : ParentsBefore tree) where
   lies-alone k i lt parent =
       fuel-same k (suc k) k i (omega arith) (omega arith) lt
       ∙ ap (λ above. (k == i) || of_parent (λ parent. lies_within tree k parent i) above) parent
-      ∙ or-none (k == i)
-    where
-      or-none : (b : Bool) → (b || false) ≡ b
-      or-none true = refl
-      or-none false = refl
+      ∙ or-false (k == i)
 
   pub lies-self : (k : ℕ) → k < length tree.instances → lies tree k k ≡ true
   lies-self k lt =
@@ -120,21 +109,13 @@ module _ (tree : InstanceTree) (before : ParentsBefore tree) where
 pub marked-more : (marks : List Bool) (node k : ℕ) → node < length marks → is_marked (set marks node true) k ≡ (is_marked marks k || (node == k))
 marked-more marks node k lt = by (nat_eq k node) refl
   where
-    or-true : (a : Bool) → true ≡ (a || true)
-    or-true true = refl
-    or-true false = refl
-
-    or-none : (a : Bool) → a ≡ (a || false)
-    or-none true = refl
-    or-none false = refl
-
     by : (b : Bool) → nat_eq k node ≡ b → is_marked (set marks node true) k ≡ (is_marked marks k || (node == k))
     by true e =
         let same : k ≡ node = (Decides-eqb k node).0 e in
-        ap (is_marked (set marks node true)) same ∙ get_or-set_same marks node true false lt ∙ or-true (is_marked marks k) ∙ ap (λ b. is_marked marks k || b) (sym (eq-eqb node k (sym same)))
+        ap (is_marked (set marks node true)) same ∙ get_or-set_same marks node true false lt ∙ sym (or-true (is_marked marks k)) ∙ ap (λ b. is_marked marks k || b) (sym (eq-eqb node k (sym same)))
     by false e =
         let other : k ≢ node = λ same. absurd (falsehood (sym e ∙ (Decides-eqb k node).1 same)) in
-        get_or-set_other marks node k true false other ∙ or-none (is_marked marks k) ∙ ap (λ b. is_marked marks k || b) (sym (unequal (λ same. other (sym same))))
+        get_or-set_other marks node k true false other ∙ sym (or-false (is_marked marks k)) ∙ ap (λ b. is_marked marks k || b) (sym (unequal (λ same. other (sym same))))
       where
         falsehood : {A : Type 0} → false ≡ true → A
         falsehood e = absurd (cc)
@@ -148,15 +129,11 @@ marked-more marks node k lt = by (nat_eq k node) refl
 
 -- ---- what is marked above
 
-or-move : (a b c : Bool) → ((a || b) || c) ≡ (a || (b || c))
-or-move true b c = refl
-or-move false b c = refl
-
 -- setting an instance's mark, and then those of all that its parent lies in, marks all that the instance lies in
 pub above-more : (tree : InstanceTree) → ParentsBefore tree → (marks : List Bool) (node p k : ℕ) → node < length tree.instances → node < length marks → (instance_at tree node).parent ≡ Some p → (is_marked (set marks node true) k || lies tree p k) ≡ (is_marked marks k || lies tree node k)
 above-more tree before marks node p k lt room parent =
     ap (λ b. b || lies tree p k) (marked-more marks node k room)
-    ∙ or-move (is_marked marks k) (node == k) (lies tree p k)
+    ∙ or_assoc (is_marked marks k) (node == k) (lies tree p k)
     ∙ ap (λ b. is_marked marks k || b) (sym (lies-parent tree before node p k lt parent))
 
 -- where there is no parent, setting the mark is enough
@@ -198,11 +175,7 @@ module _ (tree : InstanceTree) (units : List (List ℕ)) (i : ℕ) (own above : 
   units-are = ap (map (instance_of tree)) now-is ∙ map-append (instance_of tree) (take i units) (path ∷ [])
 
   any-push : (test : ℕ → Bool) (xs : List ℕ) (x : ℕ) → list_any test (xs ++ x ∷ []) ≡ (list_any test xs || test x)
-  any-push test xs x = list_any-append test xs (x ∷ []) ∙ ap (λ b. list_any test xs || b) (or-none (test x))
-    where
-      or-none : (b : Bool) → (b || false) ≡ b
-      or-none true = refl
-      or-none false = refl
+  any-push test xs x = list_any-append test xs (x ∷ []) ∙ ap (λ b. list_any test xs || b) (or-false (test x))
 
   flip : (a b : ℕ) → (a == b) ≡ (b == a)
   flip a b = by (a == b) refl (b == a) refl

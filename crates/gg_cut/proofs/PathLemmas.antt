@@ -4,8 +4,9 @@ use Rattle.std.specs.Prelude.{Option, IfSome, IfNone, MatchOption, option_map, C
 use Rattle.std.specs.List.{list_any}
 use Rattle.std.proofs.lemmas.Bool.{cases_lt}
 use Rattle.std.proofs.lemmas.List.{take_more}
-use Rattle.std.proofs.lemmas.List.Folds.{list_any-append}
+use Rattle.std.proofs.lemmas.List.Folds.{list_any-append, list_any_at}
 use Rattle.std.proofs.lemmas.Slice.Eq.{bytes_eq-Decides}
+use Rattle.std.proofs.Math.Bool.{or-false}
 use Rattle.gg_flat.proofs.PathLemmas.{found-path}
 use Rattle.gg_cut.specs.Listed.{first_place, place_of, is_among}
 
@@ -29,15 +30,6 @@ module _ {A : Type 0} (test : A → Bool) where
 
   pub first_place-None : (xs : List A) → first_place test xs ≡ None → list_any test xs ≡ false
   first_place-None xs none = subst (λ r. MatchOption r (list_any test xs ≡ false) (IsPlace test xs)) none (place-tells xs)
-
-  pub any-at : (xs : List A) (i : ℕ) (d : A) → i < length xs → test (get_or xs i d) ≡ true → list_any test xs ≡ true
-  any-at [] i d lt passes = absurd (omega arith)
-  any-at (x ∷ xs) zero d lt passes = ap (λ t. t || list_any test xs) passes
-  any-at (x ∷ xs) (suc i) d lt passes = or-true (test x) (list_any test xs) (any-at xs i d (omega arith) passes)
-    where
-      or-true : (a b : Bool) → b ≡ true → (a || b) ≡ true
-      or-true true b e = refl
-      or-true false b e = e
 
 -- the list has this path at place k
 pub record HoldsPath (paths : List (List ℕ)) (k : ℕ) (path : List ℕ) : Type 0 where
@@ -72,7 +64,7 @@ look-up paths path result once found missing = by result found missing (place_of
         absurd (missing (j, at.within, sym ((bytes_eq-Decides path (get_or paths j path)).0 (at.passes path))))
     by (Some k) found missing None e =
         let holds = holds-path paths k path found in
-        let any : list_any (bytes_eq path) paths ≡ true = any-at (bytes_eq path) paths k [] holds.within ((bytes_eq-Decides path (get_or paths k [])).1 (sym holds.is)) in
+        let any : list_any (bytes_eq path) paths ≡ true = list_any_at (bytes_eq path) paths k [] holds.within ((bytes_eq-Decides path (get_or paths k [])).1 (sym holds.is)) in
         absurd (true≢false (sym any ∙ first_place-None (bytes_eq path) paths e))
     by (Some k) found missing (Some j) e =
         let holds = holds-path paths k path found in
@@ -83,7 +75,7 @@ look-up paths path result once found missing = by result found missing (place_of
 pub among-found : (paths : List (List ℕ)) (path : List ℕ) (k : ℕ) → slice_get paths k ≡ Some path → is_among paths path ≡ true
 among-found paths path k found =
     let holds = holds-path paths k path found in
-    any-at (bytes_eq path) paths k [] holds.within ((bytes_eq-Decides path (get_or paths k [])).1 (sym holds.is))
+    list_any_at (bytes_eq path) paths k [] holds.within ((bytes_eq-Decides path (get_or paths k [])).1 (sym holds.is))
 
 pub among-missing : (paths : List (List ℕ)) (path : List ℕ) → ¬ Contains paths path → is_among paths path ≡ false
 among-missing paths path missing = by (is_among paths path) refl
@@ -102,16 +94,12 @@ Includes-more paths i set new x lt read before same few =
     record {
       same = λ path.
           same path
-          ∙ ap₂ (λ a b. a || b) (before.same path) (sym (or-none (bytes_eq path x)))
+          ∙ ap₂ (λ a b. a || b) (before.same path) (sym (or-false (bytes_eq path x)))
           ∙ sym (list_any-append (bytes_eq path) (take i paths) (x ∷ []))
           ∙ ap (λ y. is_among (take i paths ++ y ∷ []) path) read
           ∙ ap (λ l. is_among l path) (sym (take_more paths i x lt));
       few = omega (arith, few, before.few);
     }
-  where
-    or-none : (b : Bool) → (b || false) ≡ b
-    or-none true = refl
-    or-none false = refl
 
 pub among-contains : (paths : List (List ℕ)) (path : List ℕ) → Contains paths path → is_among paths path ≡ true
-among-contains paths path (k, lt, is) = any-at (bytes_eq path) paths k path lt ((bytes_eq-Decides path (get_or paths k path)).1 (sym is))
+among-contains paths path (k, lt, is) = list_any_at (bytes_eq path) paths k path lt ((bytes_eq-Decides path (get_or paths k path)).1 (sym is))

@@ -3,6 +3,7 @@ use Rattle.std.proofs.Common.{◌≡◌, ◌↔◌, ◌⊎◌, ℕ, zero, suc, �
 use Rattle.std.specs.Prelude.{All, Contains, IsSome, slice_index_or, slice_set}
 use Rattle.std.proofs.lemmas.Bool.Decides.{Decides-eqb}
 use Rattle.std.proofs.lemmas.List.{get_or-set_same, get_or-set_other, length-map, length-replicate, length-set}
+use Rattle.std.proofs.lemmas.Option.{none-some}
 use Rattle.gg_flat.specs.Line.{shape_at, value_at}
 use Rattle.gg_flat.specs.Circuit.{FlatCircuit, signal_shapes}
 use Rattle.gg_flat.specs.WellFormed.{IsWellFormed}
@@ -10,6 +11,7 @@ use Rattle.gg_flat.specs.State.{State, IsState, next_state}
 use Rattle.gg_flat.specs.Settled.{Settled, driver_value}
 use Rattle.gg_node.specs.Machine.{RunsPiece, latch_at, latched_value, latched_values, first_empty, empty_or, needs_at}
 use Rattle.gg_node.specs.Token.{IsTokenOf, IsNextOf}
+use Rattle.gg_node.proofs.EmptyLemmas.{filled, empty-after}
 use Rattle.gg_program.specs.ConeValue.{IsConeValue}
 use Rattle.gg_needs.specs.Needs.{AreNeedsOfOuts}
 use Rattle.gg_program.specs.Programmed.{Programmed}
@@ -21,18 +23,11 @@ use Rattle.gg_fame1.specs.Unit.{unit_machine, HaveTokens, IsOfPiece}
 
 -- ---- latches
 
-none-is-no-some : (i : ℕ) → ◌≡◌ {A = Option ℕ} (Some i) None → ⊥
-none-is-no-some i is = cc
-
-there : (latch : Option ℕ) (i : ℕ) (rest : Option ℕ) → empty_or latch i rest ≡ None → (latch ≡ Some (latched_value latch)) × (rest ≡ None)
-there None i rest is = absurd (none-is-no-some i is)
-there (Some v) i rest is = (refl, is)
-
 -- if none of these ins is empty, each has its token
 pub has-token : (latches : List (Option ℕ)) (ins : List ℕ) → first_empty latches ins ≡ None → (k d : ℕ) → k < length ins → latch_at latches (slice_index_or ins k d) ≡ Some (latched_value (latch_at latches (slice_index_or ins k d)))
 has-token latches [] none k d below = absurd (omega arith)
-has-token latches (i ∷ ins) none zero d below = (there (latch_at latches i) i (first_empty latches ins) none).0
-has-token latches (i ∷ ins) none (suc k) d below = has-token latches ins (there (latch_at latches i) i (first_empty latches ins) none).1 k d (omega arith)
+has-token latches (i ∷ ins) none zero d below = (filled (latch_at latches i) i (first_empty latches ins) none).0
+has-token latches (i ∷ ins) none (suc k) d below = has-token latches ins (filled (latch_at latches i) i (first_empty latches ins) none).1 k d (omega arith)
 
 -- if a token is put into a latch, and the same value into the input, the latches still have the inputs' tokens
 pub tokens-latched : (latches : List (Option ℕ)) (inputs : List ℕ) (place token : ℕ) → length latches ≡ length inputs → place < length latches → HaveTokens latches inputs → HaveTokens (slice_set latches place (Some token)) (slice_set inputs place token)
@@ -178,11 +173,7 @@ kept-empty piece state slots n flags typed cycle none count outs =
       cycle = cycle;
       ins = length-replicate n None ∙ count;
       outs = outs;
-      put = λ i within. (λ has. absurd (none (value_at piece.ins i) has), λ some. absurd (none-some (latch_at (replicate n None) i) (empty-at n i) some));
-      tokens = λ i value is. absurd (none-is-no-some value (sym is ∙ empty-at n i));
+      put = λ i within. (λ has. absurd (none (value_at piece.ins i) has), λ some. absurd (none-some (latch_at (replicate n None) i) (empty-after n i) some));
+      tokens = λ i value is. absurd (none-some value (sym (empty-after n i) ∙ is));
     }
   where
-    empty-at : (n i : ℕ) → latch_at (replicate n None) i ≡ None
-    empty-at zero i = refl
-    empty-at (suc n) zero = refl
-    empty-at (suc n) (suc i) = empty-at n i

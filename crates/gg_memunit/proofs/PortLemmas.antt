@@ -2,7 +2,7 @@
 use Rattle.std.proofs.Common.{◌≡◌, ℕ, zero, suc, ◌+◌, ◌-◌, ◌<◌, ◌≤◌, List, [], ◌∷◌, ◌++◌, Option, Some, None, Bool, true, false, length, map, refl, sym, ap, ◌∙◌, subst, inl, inr, ◌⊎◌, arith}
 use Rattle.std.specs.Prelude.{slice_get, nat_lt, if◌then◌else◌, MatchOption, ⊤}
 use Rattle.std.specs.Option.{option_map}
-use Rattle.std.proofs.lemmas.Option.{slice_get-map}
+use Rattle.std.proofs.lemmas.Option.{slice_get-map, none-some}
 use Rattle.std.proofs.lemmas.Bool.{cases_lt, lt-ltb, le-ltb}
 use Rattle.std.proofs.lemmas.List.{length-map, length-append}
 use Rattle.gg_flat.specs.declared.memory.UnderWrite.TheVariants.{Old, New, Undefined}
@@ -183,14 +183,11 @@ classify latency readers writers j = by latency
     by (One Undefined) below = old below
     by (One New) below = new below
 
-none-is-no-some : (p : ℕ) → ◌≡◌ {A = Option ℕ} None (Some p) → ⊥
-none-is-no-some p is = subst (λ option. MatchOption option ⊤ (λ n. ⊥)) is tt
-
 module _ (latency : Latency) (readers : List Reader) (writers : List Writer) (j p : ℕ) (is : port_number (slice_get (ports_by latency readers writers) j) ≡ Some p) where
   pub due-below : j < count_by latency (length readers) (length writers)
   due-below = elim (cases_lt j (count_by latency (length readers) (length writers))) [
     | inl lt ↦ lt
-    | inr ge ↦ absurd (none-is-no-some p (sym (ap port_number (none_past latency readers writers j (omega (arith, ge, count_ports latency readers writers)))) ∙ is))
+    | inr ge ↦ absurd (none-some p (sym (ap port_number (none_past latency readers writers j (omega (arith, ge, count_ports latency readers writers)))) ∙ is))
   ]
 
   -- the number of a known port

@@ -3,6 +3,7 @@ use Rattle.std.proofs.Common.{◌≡◌, ℕ, suc, ◌<◌, List, [], ◌∷◌,
 use Rattle.std.specs.Prelude.{All, fold, slice_index_or, slice_set, ◌==◌, ◌&&◌, if◌then◌else◌}
 use Rattle.std.proofs.lemmas.List.Sums.{fold-append}
 use Rattle.std.proofs.Math.Seq.{take-length}
+use Rattle.std.proofs.lemmas.List.{nil_from_length}
 use Rattle.gg_flat.specs.declared.memory.UnderWrite.TheVariants.{Old, New, Undefined}
 use Rattle.gg_flat.specs.declared.memory.Latency.{Latency}
 use Rattle.gg_flat.specs.declared.memory.Latency.TheVariants.{Zero, One}
@@ -89,10 +90,6 @@ module _ (n : ℕ) (v w : List ℕ) (same : (i : ℕ) → i < n → value_at v i
 
 -- ---- all ports served
 
-no-numbers : (xs : List ℕ) → length xs ≡ 0 → xs ≡ []
-no-numbers [] none = refl
-no-numbers (x ∷ xs) none = absurd (omega arith)
-
 one-of : (banks : List Bank) → length banks ≡ 1 → banks ≡ bank_at banks 0 ∷ []
 one-of [] one = absurd (omega arith)
 one-of (bank ∷ []) one = refl
@@ -107,7 +104,7 @@ served-through piece state latches signals is typed settled =
     let memory = found.0 in
     let only = found.1 in
     let bank = bank_at state.banks 0 in
-    let none : state.registers ≡ [] = no-numbers state.registers (typed.typed.count ∙ ap (λ (registers : List Register). length (map (λ (register : Register). shape register.ty) registers)) is.alone) in
+    let none : state.registers ≡ [] = nil_from_length state.registers (typed.typed.count ∙ ap (λ (registers : List Register). length (map (λ (register : Register). shape register.ty) registers)) is.alone) in
     let one : state.banks ≡ bank ∷ [] = one-of state.banks (typed.held.count ∙ is.one) in
     let held : IsBank memory bank = subst (λ (memories : List Memory). IsBank (slice_index_or memories 0 memory) bank) only (typed.held.each 0 memory (omega (arith, is.one))) in
     let looks = of-sole (λ (memory : Memory). All (LooksAmong (length piece.ins)) memory.readers) piece.memories memory only is.readers in

@@ -7,6 +7,7 @@ use Rattle.std.specs.Str.{bytes_eq}
 use Rattle.std.proofs.lemmas.Bool.Decides.{nat_tests}
 use Rattle.std.proofs.lemmas.List.Folds.{list_any-append}
 use Rattle.std.proofs.lemmas.Slice.Eq.{bytes_eq-Decides}
+use Rattle.std.proofs.Math.Bool.{or-false, or-true}
 use Rattle.indexmap.specs.IndexSet.{insert_key}
 use denote.Ref.{Bor}
 use Rattle.gg_ast.specs.Places.{place_of}
@@ -25,10 +26,6 @@ pub any-texts : (q : List ℕ) (keys : List (Bor (List ℕ))) → list_any (is_t
 any-texts q [] = refl
 any-texts q (k ∷ ks) = ap (λ b. bytes_eq q k.now || b) (any-texts q ks)
 
-or_false : (b : Bool) → b || false ≡ b
-or_false true = refl
-or_false false = refl
-
 pub texts-append : (xs ys : List (Bor (List ℕ))) → texts (xs ++ ys) ≡ texts xs ++ texts ys
 texts-append [] ys = refl
 texts-append (x ∷ xs) ys = ap (λ l. x.now ∷ l) (texts-append xs ys)
@@ -37,15 +34,12 @@ texts-append (x ∷ xs) ys = ap (λ l. x.now ∷ l) (texts-append xs ys)
 any-again : (q name : List ℕ) (names : List (List ℕ)) → list_any (bytes_eq name) names ≡ true → list_any (bytes_eq q) names ≡ list_any (bytes_eq q) (names ++ name ∷ [])
 any-again q name names there = go (bytes_eq q name) refl ∙ sym (list_any-append (bytes_eq q) names (name ∷ []))
   where
-    or_true : (b : Bool) → b || true ≡ true
-    or_true true = refl
-    or_true false = refl
 
     go : (b : Bool) → bytes_eq q name ≡ b → list_any (bytes_eq q) names ≡ list_any (bytes_eq q) names || (bytes_eq q name || false)
     go true e =
         ap (λ x. list_any (bytes_eq x) names) ((bytes_eq-Decides q name).0 e) ∙ there
-        ∙ sym (ap (λ b. list_any (bytes_eq q) names || (b || false)) e ∙ or_true (list_any (bytes_eq q) names))
-    go false e = sym (ap (λ b. list_any (bytes_eq q) names || (b || false)) e ∙ or_false (list_any (bytes_eq q) names))
+        ∙ sym (ap (λ b. list_any (bytes_eq q) names || (b || false)) e ∙ or-true (list_any (bytes_eq q) names))
+    go false e = sym (ap (λ b. list_any (bytes_eq q) names || (b || false)) e ∙ or-false (list_any (bytes_eq q) names))
 
 -- a set after a key was put into it
 pub any-inserted : (q : List ℕ) (keys : List (Bor (List ℕ))) (k : Bor (List ℕ)) → list_any (bytes_eq q) (texts (insert_key (λ a b. bytes_eq a.now b.now) keys k)) ≡ list_any (bytes_eq q) (texts keys ++ k.now ∷ [])

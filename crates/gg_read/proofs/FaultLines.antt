@@ -2,6 +2,7 @@
 use Rattle.std.proofs.Common.{◌≡◌, ℕ, zero, suc, ◌+◌, ◌<◌, ◌≤◌, ◌⊎◌, inl, inr, List, [], ◌∷◌, length, take, Option, Some, None, refl, sym, ap, ◌∙◌, subst, arith}
 use Rattle.std.specs.Prelude.{slice_get, unwrap_or}
 use Rattle.std.specs.Str.Lines.{lines}
+use Rattle.std.proofs.lemmas.Option.{same_Some}
 use Rattle.gg_lex.specs.declared.token.Tok.{Tok}
 use Rattle.gg_lex.specs.Lines.{Lexes}
 use Rattle.gg_lex.proofs.Readings.{Lexes-same}
@@ -13,12 +14,9 @@ use Rattle.gg_row.specs.Forms.{SpellsRow}
 use Rattle.gg_read.specs.Text.{LinePlace, AtStart, LineTokens, AreLineTokens, AreRows, IsBlank, IsForm, IsNoForm, IsAtFault, IsTooDeep, AreShallow, IsEndPlace, IsFaultLine, HasNoFaultLine, Spells, place_after, without_version}
 use Rattle.gg_row.proofs.RowLaws.{spelt-row_at, row_at-nothing}
 
-pub some_same : {A : Type 0} (x y : A) → Some x ≡ Some y → x ≡ y
-some_same x y e = ap (λ o. unwrap_or o x) e
-
 -- the tokens of a line spell one row at most
 pub same_row : (ts : List Tok) (r s : Row) → SpellsRow r ts → SpellsRow s ts → r ≡ s
-same_row ts r s spelt again = some_same r s (sym (spelt-row_at ts r spelt) ∙ spelt-row_at ts s again)
+same_row ts r s spelt again = same_Some r s (sym (spelt-row_at ts r spelt) ∙ spelt-row_at ts s again)
 
 -- a blank line is no row
 pub blank_no_row : (line : LineTokens) (row : Row) → IsBlank line → SpellsRow row line.tokens → ⊥
@@ -31,7 +29,7 @@ blank_no_row line row blank spelt =
 same_next : (place : LinePlace) (line : LineTokens) (r s : Row) (p q : LinePlace) → IsForm place line r p → IsForm place line s q → p ≡ q
 same_next place line r s p q form again =
     let row : r ≡ s = same_row line.tokens r s form.spelt again.spelt in
-    some_same p q (sym form.there ∙ ap (λ (x : Row). place_after place x) row ∙ again.there)
+    same_Some p q (sym form.there ∙ ap (λ (x : Row). place_after place x) row ∙ again.there)
 
 -- lines are read as rows in one way at most
 AreRows-same : (place : LinePlace) (n : ℕ) (held : List LineTokens) (rows others : List Numbered) (last final : LinePlace) → AreRows place n held rows last → AreRows place n held others final → (rows ≡ others) × (last ≡ final)
@@ -69,11 +67,11 @@ among_rows : (place : LinePlace) (n : ℕ) (ls : List (List ℕ)) (before held :
 among_rows place n ls before [] rows others mid last l line tokens again less read other there lexed none = omega (arith, less)
 among_rows place n [] before (h ∷ hs) rows others mid last l line tokens again less read other there lexed none = absurd again
 among_rows place n (k ∷ ks) [] (h ∷ hs) rows others mid last l line tokens again less read (inl (blank, more)) there lexed none =
-    let same : k ≡ l = some_same k l there in
+    let same : k ≡ l = same_Some k l there in
     let equal : h ≡ line = same_line k h line again.0 (subst (λ (x : List ℕ). Lexes x line.tokens line.bad) (sym same) lexed) in
     none.0 (subst (λ (x : LineTokens). IsBlank x) equal blank)
 among_rows place n (k ∷ ks) [] (h ∷ hs) rows others mid last l line tokens again less read (inr (r, p, rs, form, same_rows, more)) there lexed none =
-    let same : k ≡ l = some_same k l there in
+    let same : k ≡ l = same_Some k l there in
     let equal : h ≡ line = same_line k h line again.0 (subst (λ (x : List ℕ). Lexes x line.tokens line.bad) (sym same) lexed) in
     none.1 r p (subst (λ (x : LineTokens). IsForm mid x r p) equal (subst (λ (x : LinePlace). IsForm x h r p) (sym read.1) form))
 among_rows place n (k ∷ ks) (b ∷ bs) (h ∷ hs) rows others mid last l line tokens again less (inl (blank, more)) (inl (blank_too, rest)) there lexed none =
@@ -94,7 +92,7 @@ deep_among : (ls : List (List ℕ)) (held : List LineTokens) (i : ℕ) (l : List
 deep_among ls [] i l line tokens shallow less there lexed deep = omega (arith, less)
 deep_among [] (h ∷ hs) i l line tokens shallow less there lexed deep = absurd tokens
 deep_among (k ∷ ks) (h ∷ hs) zero l line tokens shallow less there lexed deep =
-    let same : k ≡ l = some_same k l there in
+    let same : k ≡ l = same_Some k l there in
     let equal : h ≡ line = same_line k h line tokens.0 (subst (λ (x : List ℕ). Lexes x line.tokens line.bad) (sym same) lexed) in
     shallow.0 (subst (λ (x : LineTokens). IsTooDeep x.tokens) (sym equal) deep)
 deep_among (k ∷ ks) (h ∷ hs) (suc i) l line tokens shallow less there lexed deep =
@@ -141,7 +139,7 @@ one_fault_line-law text n m line other a b = (omega (arith, a.number, b.number, 
         → ((l : List ℕ) × (slice_get (lines text) (length b.before) ≡ Some l) × Lexes l other.tokens other.bad × IsAtFault b.place other)
         ⊎ ((length (lines text) ≡ length b.before) × (other ≡ record { tokens = []; bad = None }) × (IsEndPlace b.place → ⊥)) → line ≡ other
     by_faults (inl (l, there, lexed, none)) (inl (k, here, again, none_too)) =
-        let same : l ≡ k = some_same l k (sym there ∙ ap (λ (i : ℕ). slice_get (lines text) i) size ∙ here) in
+        let same : l ≡ k = same_Some l k (sym there ∙ ap (λ (i : ℕ). slice_get (lines text) i) size ∙ here) in
         same_line k line other (subst (λ (x : List ℕ). Lexes x line.tokens line.bad) same lexed) again
     by_faults (inl (l, there, lexed, none)) (inr (end, empty, incomplete)) =
         absurd (omega (arith, end, size, inside (lines text) (length a.before) l there))

@@ -5,6 +5,7 @@ use Rattle.std.specs.Str.{bytes_eq}
 use Rattle.std.proofs.lemmas.List.Folds.{list_any-append}
 use Rattle.std.proofs.lemmas.List.{map-append, take_more, take_all}
 use Rattle.std.proofs.lemmas.Slice.Eq.{bytes_eq-Decides}
+use Rattle.std.proofs.Math.Bool.{or-false, or-true}
 use Rattle.indexmap.specs.IndexSet.{insert_key}
 use Rattle.gg_ast.specs.declared.expression.Reference.{Reference}
 use Rattle.gg_ast.specs.declared.expression.Reference.TheVariants as references
@@ -60,25 +61,17 @@ same-is (references.FieldOf a b c) (references.FieldOf x y z) h =
     ∙ ap (λ l. references.FieldOf x l c) ((bytes_eq-Decides b y).0 q.0)
     ∙ ap (references.FieldOf x y) ((bytes_eq-Decides c z).0 q.1)
 
-or_false : (b : Bool) → b || false ≡ b
-or_false true = refl
-or_false false = refl
-
-or_true : (b : Bool) → b || true ≡ true
-or_true true = refl
-or_true false = refl
-
 -- a list with one more reference
 pub among-push : (r q : Reference) (refs : List Reference) → is_among (refs ++ q ∷ []) r ≡ is_among refs r || same_reference r q
-among-push r q refs = list_any-append (same_reference r) refs (q ∷ []) ∙ ap (λ b. is_among refs r || b) (or_false (same_reference r q))
+among-push r q refs = list_any-append (same_reference r) refs (q ∷ []) ∙ ap (λ b. is_among refs r || b) (or-false (same_reference r q))
 
 -- a reference that is there already adds nothing
 among-again : (r q : Reference) (refs : List Reference) → is_among refs q ≡ true → is_among refs r ≡ is_among (refs ++ q ∷ []) r
 among-again r q refs there = go (same_reference r q) refl ∙ sym (among-push r q refs)
   where
     go : (b : Bool) → same_reference r q ≡ b → is_among refs r ≡ is_among refs r || same_reference r q
-    go true e = ap (is_among refs) (same-is r q e) ∙ there ∙ sym (ap (λ b. is_among refs r || b) e ∙ or_true (is_among refs r))
-    go false e = sym (ap (λ b. is_among refs r || b) e ∙ or_false (is_among refs r))
+    go true e = ap (is_among refs) (same-is r q e) ∙ there ∙ sym (ap (λ b. is_among refs r || b) e ∙ or-true (is_among refs r))
+    go false e = sym (ap (λ b. is_among refs r || b) e ∙ or-false (is_among refs r))
 
 pub among-inserted : (r : Reference) (keys : List Key) (k : Key) → is_among (map reference_of (insert_key eq-value.it keys k)) r ≡ is_among (map reference_of keys ++ reference_of k ∷ []) r
 among-inserted r keys k = go (list_any (eq-value.it k) keys) refl
@@ -97,7 +90,7 @@ among-own k keys = among-keys eq-value.it own k keys
 -- ---- what statements connect
 
 connected-push : (before : List Stmt) (s : Stmt) (r : Reference) → is_connected (before ++ s ∷ []) r ≡ is_connected before r || connects r s
-connected-push before s r = list_any-append (connects r) before (s ∷ []) ∙ ap (λ b. is_connected before r || b) (or_false (connects r s))
+connected-push before s r = list_any-append (connects r) before (s ∷ []) ∙ ap (λ b. is_connected before r || b) (or-false (connects r s))
 
 -- after a statement that connects q, the list with q added tells what the statements connect
 pub told-more : (before : List Stmt) (s : Stmt) (q : Reference) (refs new : List Reference) → connected_by s ≡ Some q → ((r : Reference) → is_among new r ≡ is_among (refs ++ q ∷ []) r) → TellsConnected before refs → TellsConnected (before ++ s ∷ []) new
@@ -109,7 +102,7 @@ told-more before s q refs new is grown told = λ r.
 -- after a statement that connects nothing, the same list tells what the statements connect
 pub told-same : (before : List Stmt) (s : Stmt) (refs : List Reference) → connected_by s ≡ None → TellsConnected before refs → TellsConnected (before ++ s ∷ []) refs
 told-same before s refs is told = λ r.
-    told r ∙ sym (or_false (is_connected before r)) ∙ ap (λ o. is_connected before r || is_reference_to r o) (sym is) ∙ sym (connected-push before s r)
+    told r ∙ sym (or-false (is_connected before r)) ∙ ap (λ o. is_connected before r || is_reference_to r o) (sym is) ∙ sym (connected-push before s r)
 
 pub told-start : TellsConnected [] []
 told-start = λ r. refl

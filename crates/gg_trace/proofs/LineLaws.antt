@@ -27,10 +27,6 @@ text_lines-last text some none =
     ap lines_of_parts (slice_split_none (λ c. eqb c 10) text (λ k d h. not_eqb _ 10 (λ e. none k h (get_or_default text k 0 d h ∙ e))))
     ∙ last_part text some
 
-pub no_bytes : (text : List ℕ) → length text ≡ 0 → text ≡ []
-no_bytes [] h = refl
-no_bytes (b ∷ text) h = absurd (omega arith)
-
 -- the first line, and then the lines of what follows its line end
 parts_first : (x : List ℕ) (parts : List (List ℕ)) → 0 < length parts → lines_of_parts (x ∷ parts) ≡ strip_carriage_return x ∷ lines_of_parts parts
 parts_first x [] h = absurd (omega arith)

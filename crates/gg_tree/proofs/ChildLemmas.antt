@@ -4,6 +4,7 @@ use Rattle.std.specs.Prelude.{flat_map, Contains, option_map}
 use Rattle.std.specs.Str.{bytes_eq}
 use Rattle.std.proofs.lemmas.List.Elements.{Contains-append_cases}
 use Rattle.std.proofs.lemmas.Slice.Eq.{bytes_eq-Decides}
+use Rattle.std.proofs.lemmas.Option.{same_Some}
 use Rattle.gg_ast.specs.declared.expression.Reference.{Reference}
 use Rattle.gg_ast.specs.declared.expression.Reference.TheVariants.{Local, PortOf, FieldOf}
 use Rattle.gg_ast.specs.declared.module.Port.{Port}
@@ -163,9 +164,6 @@ held-module modules a of_module h e = go (place_of of_module (names_of modules))
     go None e = absurd (cc)
     go (Some k) e = ap (option_map (λ (x : Held). x.number)) e
 
-some-module : (m n : ModuleTree) → Some m ≡ Some n → m ≡ n
-some-module m n e = cc
-
 -- where `i` is an instance, a reference `i.p` that has a type is to a port `p` of its module
 pub child-known : (circuit : CircuitTree) (n : ℕ) (h : Held) (a b : List ℕ) → Differ (flat_map name_by (module_at circuit.modules n).statements) → is_some (types_of circuit n (PortOf a b)) ≡ true → Contains (held_by circuit.modules (module_at circuit.modules n).statements) h → h.name ≡ a → (p : Port) × Contains (module_at circuit.modules h.number).ports p × (p.name ≡ b)
 child-known circuit n h a b differ typed c named = go (Contains-append_cases (map entry_by_port m.ports) (flat_map (entries_by circuit.modules) m.statements) entry.entry entry.among)
@@ -184,7 +182,7 @@ child-known circuit n h a b differ typed c named = go (Contains-append_cases (ma
         let made = made-by (held_by_kind circuit.modules) (module_at circuit.modules n).statements h c in
         let one : made.statement ≡ s.statement = one-statement (module_at circuit.modules n).statements made.place s.place made.statement s.statement a differ made.inside s.inside made.at s.at (held-named circuit.modules made.statement.kind h made.makes ∙ ap (λ x. x ∷ []) named) (ap name_by_kind child.is) in
         let place = held-module circuit.modules a child.of_module h (ap (held_by_kind circuit.modules) (sym child.is) ∙ ap (λ (x : Stmt). held_by_kind circuit.modules x.kind) (sym one) ∙ made.makes) in
-        let same : child.child ≡ module_at circuit.modules h.number = some-module child.child (module_at circuit.modules h.number) (sym child.named ∙ (at-place circuit.modules child.of_module h.number place).named) in
+        let same : child.child ≡ module_at circuit.modules h.number = same_Some child.child (module_at circuit.modules h.number) (sym child.named ∙ (at-place circuit.modules child.of_module h.number place).named) in
         (child.port, subst (λ (x : ModuleTree). Contains x.ports child.port) same child.listed, child.port_name)
 
 -- ---- fields of memories

@@ -2,9 +2,6 @@
 use Rattle.std.proofs.Common.{◌≡◌, ◌≢◌, ℕ, zero, suc, ◌<◌, List, [], ◌∷◌, length, get_or, Bool, true, false, Option, Some, None, refl, ap, ◌∙◌, arith}
 use Rattle.std.specs.Prelude.{Contains, filter, if◌then◌else◌}
 
-pub some-same : {A : Type 0} (a b : A) → Some a ≡ Some b → a ≡ b
-some-same a b e = cc
-
 pub some-of : {A : Type 0} (o : Option A) → o ≢ None → (x : A) × (o ≡ Some x)
 some-of None h = absurd (h refl)
 some-of (Some x) h = (x, refl)

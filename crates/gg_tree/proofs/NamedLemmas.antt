@@ -4,6 +4,7 @@ use Rattle.std.proofs.Common.{◌≡◌, ◌≢◌, ◌⊎◌, inl, inr, ℕ, ze
 use Rattle.std.specs.Prelude.{flat_map, Contains}
 use Rattle.std.proofs.lemmas.Bool.{cases_lt}
 use Rattle.std.proofs.lemmas.List.{length-map, get_or-map}
+use Rattle.std.proofs.lemmas.Option.{same_Some}
 use Rattle.gg_ast.specs.Places.{place_of}
 use Rattle.gg_ast.specs.Tree.{CircuitTree, module_names}
 use Rattle.gg_flat.specs.Circuit.{FlatCircuit}
@@ -14,7 +15,6 @@ use Rattle.gg_digest.specs.Flat.{flat_memory, memories_at}
 use Rattle.gg_digest.specs.IsFlat.{IsFlat, number_of}
 use Rattle.gg_tree.specs.IsTreeOf.{IsTreeOf, held_memory, held_memories, signal_paths, site_paths}
 use Rattle.gg_digest.specs.Signals.{Own, OwnBank, memory_signals}
-use Rattle.gg_tree.proofs.ElementLemmas.{some-same}
 use Rattle.gg_tree.proofs.JoinLemmas.{joined-once, joined-some}
 use Rattle.gg_tree.proofs.PlaceLemmas.{Placed}
 use Rattle.gg_tree.proofs.RangeLemmas.{count_to, count-le, placed-at, placed-same}
@@ -152,6 +152,6 @@ module _ (circuit : CircuitTree) (flat : FlatCircuit) (tree : InstanceTree) (top
           let u = h.under in
           let once = joined-once u.outer.path m.site.path u.held.name m.own.name (plain.of_instances u.outer.number u.held u.among) (plain.of_memories m.site m.own listed)
           (sym (path-is circuit flat tree top known_top is_flat is_tree distinct (suc k) (site_below u.outer u.held) u.at_place) ∙ same ∙ path) in
-          let place : h.above ≡ m.holder = some-same h.above m.holder (sym (path-place circuit tree top known_top is_tree distinct.of_sites h.above u.outer u.at_outer) ∙ ap (λ path. place_of path (site_paths circuit)) once.0 ∙ path-place circuit tree top known_top is_tree distinct.of_sites m.holder m.site m.placed) in
+          let place : h.above ≡ m.holder = same_Some h.above m.holder (sym (path-place circuit tree top known_top is_tree distinct.of_sites h.above u.outer u.at_outer) ∙ ap (λ path. place_of path (site_paths circuit)) once.0 ∙ path-place circuit tree top known_top is_tree distinct.of_sites m.holder m.site m.placed) in
           let site : u.outer ≡ m.site = placed-same (length circuit.modules) circuit.modules (sites_of circuit) m.holder u.outer m.site (subst (λ i. Placed (length circuit.modules) circuit.modules (sites_of circuit) i u.outer) place u.at_outer) m.placed in
           names.apart m.site u.held m.own (subst (λ (x : Site). Contains (held_at circuit.modules x.number) u.held) site u.among) listed once.1

@@ -3,6 +3,7 @@ use Rattle.std.proofs.Common.{◌≡◌, ◌≢◌, ◌⊎◌, inl, inr, ℕ, ze
 use Rattle.std.specs.Prelude.{flat_map, Contains, AllPairs}
 use Rattle.std.proofs.lemmas.Bool.{cases_lt}
 use Rattle.std.proofs.lemmas.List.{length-map, get_or-map}
+use Rattle.std.proofs.lemmas.Option.{same_Some}
 use Rattle.gg_bits.specs.Shape.{uint, shape}
 use Rattle.gg_ast.specs.declared.module.Port.{Port}
 use Rattle.gg_ast.specs.Places.{place_of}
@@ -22,7 +23,7 @@ use Rattle.gg_tree.specs.IsTreeOf.{IsTreeOf, IsInstanceFor, IsPortFor, IsMemoryA
 use Rattle.gg_digest.specs.Known.{types_of}
 use Rattle.gg_digest.specs.Signals.{Own, own, FromOutside, OwnBank}
 use Rattle.gg_digest.proofs.NameLemmas.{Differ, place_of-path}
-use Rattle.gg_tree.proofs.ElementLemmas.{some-same, element-at}
+use Rattle.gg_tree.proofs.ElementLemmas.{element-at}
 use Rattle.gg_tree.proofs.PairwiseLemmas.{Pairwise-length}
 use Rattle.gg_tree.proofs.PlaceLemmas.{within, within-some, Placed, Under, held_from}
 use Rattle.gg_tree.proofs.RangeLemmas.{count_to, count-le, Ranges, placed-at, placed-inside, innermost-own}
@@ -155,7 +156,7 @@ module _ (circuit : CircuitTree) (flat : FlatCircuit) (tree : InstanceTree) (top
         go : (j < i + whole (site_at i known_i)) ⊎ (i + whole (site_at i known_i) ≤ j) → ((instance_at tree i).end ≤ (instance_at tree j).first) ⊎ ((instance_at tree j).end ≤ (instance_at tree i).first)
         go (inl among) =
             let r = inner-parent i j (site_at i known_i) (stands_at i known_i) before among in
-            let same : r.0 ≡ above = some-same r.0 above (sym (tells.parent j r.0 r.2) ∙ other) in
+            let same : r.0 ≡ above = same_Some r.0 above (sym (tells.parent j r.0 r.2) ∙ other) in
             let u = tells.under i above known_i one in
             absurd (omega (arith, same, r.1, u.before))
         go (inr behind) = inl (omega (arith, tells.ends i (site_at i known_i) (stands_at i known_i), tells.begins j known_j, count-le (signals_in circuit) (sites_of circuit) (i + whole (site_at i known_i)) j behind))
@@ -308,7 +309,7 @@ module _ (circuit : CircuitTree) (flat : FlatCircuit) (tree : InstanceTree) (top
         number_here : get_or (instance_at tree p.holder).memories p.offset (memory_at tree j).memory ≡ (memory_at tree j).memory
         number_here =
             let at = Pairwise-at (IsMemoryAt circuit) (memories_at circuit.modules p.site) (instance_at tree p.holder).memories p.offset (flat_memory p.site p.own) (memory_at tree j).memory h.memories (omega (arith, p.known, size)) in
-            some-same (get_or (instance_at tree p.holder).memories p.offset (memory_at tree j).memory) (memory_at tree j).memory
+            same_Some (get_or (instance_at tree p.holder).memories p.offset (memory_at tree j).memory) (memory_at tree j).memory
             (sym at.number.is ∙ ap (λ (m : FlatMemory). place_of m.path (memory_paths (memories_of circuit))) said_here ∙ p.is_for.number.is)
 
         listed : Contains (instance_at tree p.holder).memories (memory_at tree j).memory

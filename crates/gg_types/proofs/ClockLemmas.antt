@@ -5,13 +5,14 @@ use Rattle.std.proofs.lemmas.Slice.Eq.{bytes_eq-Decides}
 use Rattle.std.proofs.lemmas.Bool.{eqb-false}
 use Rattle.std.proofs.lemmas.Bool.Decides.{eqb_tells}
 use Rattle.std.specs.Str.{bytes_eq}
+use Rattle.std.proofs.lemmas.Option.{none-some}
 use Rattle.gg_ast.specs.declared.statement.Stmt.{Stmt}
 use Rattle.gg_types.specs.declared.clocks.Way.{Way}
 use Rattle.gg_types.specs.declared.clocks.Way.TheVariants.{FromOutside, FromDriver, Nowhere}
 use Rattle.gg_types.specs.Clocks.{is_followed, is_outside, driven_by, led_on, lead_from, lead_of, next_of, stay_or, followed, leads}
 use Rattle.gg_types.specs.Named.{find_named, flag_at}
 use Rattle.gg_types.specs.Places.{ArePlaces, TellsNext, Reaches, place_in, next_at, next_place, set_next, with_driven, iterate, way_at}
-use Rattle.gg_types.proofs.PlaceLemmas.{same_bytes, some_apart, place-within, place-same, way-placed, placed-way}
+use Rattle.gg_types.proofs.PlaceLemmas.{same_bytes, place-within, place-same, way-placed, placed-way}
 
 if_same : {A : Type 0} (b : Bool) (x : A) → (if b then x else x) ≡ x
 if_same true x = refl
@@ -65,7 +66,7 @@ follow-tells ways before s next tells = go (driven_by s.kind) refl
           where
             by : (name : List ℕ) (k : ℕ) → place_in name ways ≡ Some k → (b : Bool) → bytes_eq name d.0 ≡ b → next_place ways before name k ≡ next_place ways (before ++ s ∷ []) name k
             by name k u false e = other name k e
-            by name k u true e = absurd (some_apart k (sym v ∙ ap (λ n. place_in n ways) (sym (same_bytes name d.0 e)) ∙ u))
+            by name k u true e = absurd (none-some k (sym v ∙ ap (λ n. place_in n ways) (sym (same_bytes name d.0 e)) ∙ u))
         at (Some p) v = role (is_followed (find_named d.0 ways)) refl
           where
             lt : p < length ways
