@@ -21,11 +21,6 @@ use Rattle.gg_count.specs.Graph.{gathered, gathered_over, value_below}
 abbrev pub numbers_of : List Held → List ℕ
 numbers_of hs = map (λ h. h.number) hs
 
--- gathering the first instance, if there is one, and then the rest is gathering them all
-pub gathered_over-cons : (how : Gathering) (value : ℕ → ℕ) (own : ℕ) (first : Option Held) (rest : List Held) → gathered_over how value (gathered_over how value own (option_to_list first)) rest ≡ gathered_over how value own (cons_option first rest)
-gathered_over-cons how value own None rest = refl
-gathered_over-cons how value own (Some h) rest = refl
-
 -- without instances, what is gathered is what the module has of its own
 pub gathered_over-none : (how : Gathering) (value : ℕ → ℕ) (own : ℕ) (hs : List Held) → ((t : ℕ) → ¬ Contains (numbers_of hs) t) → gathered_over how value own hs ≡ own
 gathered_over-none how value own [] none = refl
@@ -48,13 +43,6 @@ pub record IsGathered (how : Gathering) (modules : List ModuleTree) (own order :
   pub count : length values ≡ length own
   pub done : (k levels : ℕ) → Contains (take i order) k → i ≤ suc levels → get_or values k 0 ≡ value_below how modules (λ j. get_or own j 0) levels k
   pub left : (k : ℕ) → ¬ Contains (take i order) k → get_or values k 0 ≡ get_or own k 0
-
-pub gathered-begun : (how : Gathering) (modules : List ModuleTree) (own order : List ℕ) → IsGathered how modules own order 0 own
-gathered-begun how modules own order = record {
-  count = refl;
-  done = λ k levels h le. absurd (omega (arith, h.1));
-  left = λ k h. refl;
-}
 
 -- the next module of an order isn't among those before it
 once : (order : List ℕ) (i : ℕ) → AllPairs (λ a b. a ≢ b) order → i < length order → ¬ Contains (take i order) (get_or order i 0)

@@ -151,9 +151,6 @@ pub record Apart (tree : InstanceTree) (units : List (List ℕ)) (i : ℕ) (own 
   pub own_count : length own ≡ length tree.instances
   pub above_count : length above ≡ length tree.instances
 
-pub Apart-none : (tree : InstanceTree) (units : List (List ℕ)) (own above : List Bool) → ((k : ℕ) → is_marked own k ≡ false) → ((k : ℕ) → is_marked above k ≡ false) → length own ≡ length tree.instances → length above ≡ length tree.instances → Apart tree units 0 own above
-Apart-none tree units own above none empty count many = record { clash = refl; marks = none; higher = empty; own_count = count; above_count = many }
-
 module _ (tree : InstanceTree) (units : List (List ℕ)) (i : ℕ) (own above : List Bool) (path : List ℕ) (lt : i < length units) (read : path ≡ get_or units i path) (apart : Apart tree units i own above) where
   -- a unit overlaps an earlier one exactly if it lies in one, or one lies in it
   clash-is : list_any (overlap tree path) (take i units) ≡ (list_any (lies tree (instance_of tree path)) (map (instance_of tree) (take i units)) || is_marked above (instance_of tree path))

@@ -73,30 +73,6 @@ pub record MarkedTo (signals : List ℕ) (i : ℕ) (old marks : List Bool) : Typ
   pub count : length marks ≡ length old
   pub marked : AreMarks (take i signals) marks
 
-pub MarkedTo-more : (signals : List ℕ) (i : ℕ) (old marks : List Bool) → i < length signals → get_or signals i 0 < length old → MarkedTo signals i old marks → MarkedTo signals (i + 1) old (set marks (get_or signals i 0) true)
-MarkedTo-more signals i old marks lt within before =
-    let s = get_or signals i 0 in
-    record {
-      count = length-set marks s true ∙ before.count;
-      marked = λ k.
-          marked-more marks s k (omega (arith, within, before.count))
-          ∙ ap₂ (λ a b. a || b) (before.marked k) (flip s k)
-          ∙ sym (push (λ t. k == t) (take i signals) s)
-          ∙ ap (list_any (λ t. k == t)) (sym (take_more signals i 0 lt));
-    }
-  where
-    push : (test : ℕ → Bool) (xs : List ℕ) (x : ℕ) → list_any test (xs ++ x ∷ []) ≡ (list_any test xs || test x)
-    push test xs x = list_any-append test xs (x ∷ []) ∙ ap (λ b. list_any test xs || b) (or-false (test x))
-
-    flip : (a b : ℕ) → (a == b) ≡ (b == a)
-    flip a b = by (a == b) refl (b == a) refl
-      where
-        by : (p : Bool) → (a == b) ≡ p → (q : Bool) → (b == a) ≡ q → p ≡ q
-        by true e true f = refl
-        by false e false f = refl
-        by true e false f = absurd (true≢false (sym (eq-eqb b a (sym (true-eqb a b (sym e)))) ∙ f))
-        by false e true f = absurd (true≢false (sym (eq-eqb a b (sym (true-eqb b a (sym f)))) ∙ e))
-
 -- ---- channels by name
 
 -- the name of signal k is the name of a channel exactly if k is the signal of one

@@ -12,18 +12,6 @@ use Rattle.gg_cut.specs.Fault.{or_else, first_clash, same_path, repeated, entrie
 pub rest-at : {A : Type 0} (xs : List A) (i : ℕ) (x : A) → i < length xs → x ≡ get_or xs i x → drop i xs ≡ x ∷ drop (i + 1) xs
 rest-at xs i x lt read = drop-cons xs i x lt ∙ ap₂ (λ y l. y ∷ l) (sym read) (ap (λ n. drop n xs) (sym (add-one i)))
 
-pub find-here : {A : Type 0} (test : A → Bool) (x : A) (xs : List A) → test x ≡ true → find test (x ∷ xs) ≡ Some x
-find-here test x xs passes = ap (λ b. cond b (Some x) (find test xs)) passes
-
-pub find-next : {A : Type 0} (test : A → Bool) (x : A) (xs : List A) → test x ≡ false → find test (x ∷ xs) ≡ find test xs
-find-next test x xs fails = ap (λ b. cond b (Some x) (find test xs)) fails
-
-pub find-stop : {A : Type 0} (test : A → Bool) (xs : List A) (i : ℕ) (x : A) → i < length xs → x ≡ get_or xs i x → test x ≡ true → find test xs ≡ find test (drop i xs) → find test xs ≡ Some x
-find-stop test xs i x lt read passes so_far = so_far ∙ ap (find test) (rest-at xs i x lt read) ∙ find-here test x (drop (i + 1) xs) passes
-
-pub find-more : {A : Type 0} (test : A → Bool) (xs : List A) (i : ℕ) (x : A) → i < length xs → x ≡ get_or xs i x → test x ≡ false → find test xs ≡ find test (drop i xs) → find test xs ≡ find test (drop (i + 1) xs)
-find-more test xs i x lt read fails so_far = so_far ∙ ap (find test) (rest-at xs i x lt read) ∙ find-next test x (drop (i + 1) xs) fails
-
 -- ---- clashes
 
 pub first_clash-append : (clash : List ℕ → List ℕ → Bool) (earlier xs ys : List (List ℕ)) → first_clash clash earlier (xs ++ ys) ≡ or_else (first_clash clash earlier xs) (first_clash clash (earlier ++ xs) ys)
@@ -50,9 +38,6 @@ or_else-map f (Some x) b = refl
 pub told-first : (a b : Option CutFault) (cause : CutFault) → IsTold a cause → IsTold (or_else a b) cause
 told-first a b cause (inl memory) = inl memory
 told-first a b cause (inr is) = inr (ap (λ f. or_else f b) is)
-
-pub told-second : (a b : Option CutFault) → a ≡ None → or_else a b ≡ b
-told-second a b none = ap (λ f. or_else f b) none
 
 -- a fault reported of one is reported of an equal one
 pub told-same : (a b : Option CutFault) (cause : CutFault) → a ≡ b → IsTold a cause → IsTold b cause

@@ -89,17 +89,5 @@ pub record Includes (paths : List (List ℕ)) (i : ℕ) (set : List (List ℕ)) 
   pub same : (path : List ℕ) → is_among set path ≡ is_among (take i paths) path
   pub few : length set ≤ i
 
-pub Includes-more : (paths : List (List ℕ)) (i : ℕ) (set new : List (List ℕ)) (x : List ℕ) → i < length paths → x ≡ get_or paths i x → Includes paths i set → ((path : List ℕ) → is_among new path ≡ (is_among set path || bytes_eq path x)) → length new ≤ length set + 1 → Includes paths (i + 1) new
-Includes-more paths i set new x lt read before same few =
-    record {
-      same = λ path.
-          same path
-          ∙ ap₂ (λ a b. a || b) (before.same path) (sym (or-false (bytes_eq path x)))
-          ∙ sym (list_any-append (bytes_eq path) (take i paths) (x ∷ []))
-          ∙ ap (λ y. is_among (take i paths ++ y ∷ []) path) read
-          ∙ ap (λ l. is_among l path) (sym (take_more paths i x lt));
-      few = omega (arith, few, before.few);
-    }
-
 pub among-contains : (paths : List (List ℕ)) (path : List ℕ) → Contains paths path → is_among paths path ≡ true
 among-contains paths path (k, lt, is) = list_any_at (bytes_eq path) paths k path lt ((bytes_eq-Decides path (get_or paths k path)).1 (sym is))

@@ -104,10 +104,6 @@ input-column design columns n rows i is given run lt =
 
 -- ---- all machines
 
-some-machine : (machines : List Machine) (m : ℕ) → m < length machines → Machine
-some-machine [] m lt = absurd (omega arith)
-some-machine (machine ∷ machines) m lt = machine
-
 module _ (design : Ordered) (request : Request) (columns : List (List ℕ)) (n : ℕ) (rows : List (List ℕ)) (is : IsDesign design) (given : IsColumns design.circuit n columns) (run : IsRun design.circuit columns n rows) where
   answers : (listed : Listed) (m : ℕ) (body : Body) → IsBody design listed (wires_of design.circuit design.tree listed) m body
       → Answers body n (get_or columns (m - first_source listed) []) (map (column rows) (signals_of (wires_of design.circuit design.tree listed) (channels_to (wires_of design.circuit design.tree listed) m))) (map (column rows) (signals_of (wires_of design.circuit design.tree listed) (channels_from (wires_of design.circuit design.tree listed) m)))

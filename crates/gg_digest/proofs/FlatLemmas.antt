@@ -76,15 +76,6 @@ memory_paths-more banks place items old new h more =
     ∙ ap (λ l. memory_paths banks ++ l) (sym (map-twice (λ (x : FlatMemory). x.path) f items))
     ∙ sym (map-append (λ (x : FlatMemory). x.path) banks (map f items))
 
--- there are as many types as paths
-pub table-even : (table : Table) (xs : List FlatSignal) → table_signals table ≡ signals_of xs → length table.types.items ≡ length table.paths
-table-even table xs h =
-    sym (length-map table.types.items (λ (t : Ty). shape t))
-    ∙ ap (λ (s : Signals). length s.shapes) h
-    ∙ length-map xs (λ (x : FlatSignal). x.shape)
-    ∙ sym (length-map xs (λ (x : FlatSignal). x.path))
-    ∙ sym (ap (λ (s : Signals). length s.paths) h)
-
 -- ---- one more signal of a site
 
 pub seam : {A B : Type 0} (f : A → B) (xs : List B) (all : List A) (i : ℕ) (a : A) → i < length all → a ≡ get_or all i a → (xs ++ map f (take i all)) ++ f a ∷ [] ≡ xs ++ map f (take (i + 1) all)

@@ -67,9 +67,6 @@ shape-last xs x =
     ap (λ (l : List Shape). get_or l (length xs) (uint 0)) (map-append (λ (y : FlatSignal). y.shape) xs (x ∷ []))
     ∙ get_or_push (shapes xs) x.shape (uint 0) (length xs) (length-map xs (λ (y : FlatSignal). y.shape))
 
-drivers_of : List Signal → List Driver
-drivers_of signals = map (λ (x : Signal). x.driver) signals
-
 driver-push : (signals : List Signal) (n : Signal) (s : ℕ) → s < length signals → get_or (map (λ (x : Signal). x.driver) (signals ++ n ∷ [])) s (Input 0) ≡ get_or (map (λ (x : Signal). x.driver) signals) s (Input 0)
 driver-push signals n s lt =
     ap (λ (l : List Driver). get_or l s (Input 0)) (map-append (λ (x : Signal). x.driver) signals (n ∷ []))
@@ -136,20 +133,6 @@ module _ (types : Types) (signals : Signals) (memories : List (List ℕ)) where
   inputs_made i st sh (Answers memory place (latency.One under) addr en) r register h = ap is_input_driver h.0
 
   -- ---- the flat circuit so far
-
-  pub so_far-begun : IsSoFar types signals memories [] no_circuit 0
-  so_far-begun = record {
-    paths = refl;
-    shapes = refl;
-    drivers = λ s lt. absurd (omega (arith, lt));
-    register_count = refl;
-    input_count = refl;
-    fitting = λ s lt. absurd (omega (arith, lt));
-    registers_fit = All-nil (IsRegister (HasType signals.shapes));
-    no_memories = refl;
-    no_ins = refl;
-    no_outs = refl;
-  }
 
   pub so_far-more : (xs : List FlatSignal) (x : FlatSignal) (flat : FlatCircuit) (inputs more : ℕ) (path : List ℕ) (ty : Ty) (r : Driver) (register : Option Register) → IsSoFar types signals memories xs flat inputs → path ≡ x.path → shape ty ≡ x.shape → IsMade types signals memories inputs (length flat.registers) x.shape x.drive r register → IsFitting signals.shapes x.shape r register → more ≡ (if is_input_driver r then inputs + 1 else inputs) → IsSoFar types signals memories (xs ++ x ∷ []) (with_made flat path ty r register) more
   so_far-more xs x flat inputs more path ty r register h named shaped m fit counted = record {

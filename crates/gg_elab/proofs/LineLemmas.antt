@@ -52,9 +52,6 @@ shape_at-last nodes n =
     ∙ ap (λ k. shape_at (shapes_of nodes ++ shape n.ty ∷ []) k) (sym (length-shapes_of nodes))
     ∙ get_or-append_seam (shapes_of nodes) (shape n.ty) [] (uint 0)
 
-ops_of : List Node → List Op
-ops_of nodes = map (λ (m : Node). m.op) nodes
-
 pub op_at-push : (nodes : List Node) (n : Node) (k : ℕ) → k < length nodes → op_at (nodes ++ n ∷ []) k ≡ op_at nodes k
 op_at-push nodes n k lt =
     let ops = map (λ (m : Node). m.op) nodes in

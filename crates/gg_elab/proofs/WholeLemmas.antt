@@ -46,13 +46,6 @@ whole types all banks ports table memories one two three inputs same listed far 
 
 -- ---- memories
 
-pub memories-begun : (paths : List (List ℕ)) (flat : FlatCircuit) → flat.memories ≡ [] → HasMemories paths [] flat flat
-memories-begun paths flat none = record {
-  rest = refl;
-  count = ap (λ (l : List Memory). length l) none;
-  each = λ m other any lt. absurd (omega (arith, lt));
-}
-
 -- the memories that were added to an old circuit are those of the new one
 pub memories-own : (paths : List (List ℕ)) (said : List FlatMemory) (old new : FlatCircuit) → HasMemories paths said old new → HasMemories paths said new new
 memories-own paths said old new h = record { rest = refl; count = h.count; each = h.each }

@@ -179,13 +179,5 @@ module _ (w : Where) (nodes : List Node) (e : Term) (k : ℕ) (h : Added w [] no
         bit = zero_shape nodes new (uint 1) c;
       }
 
--- a line of 0 alone may be connected to its sink
-pub IsLine-zero : (w : Where) (new : List Node) (sink : Shape) → IsZeroOf [] new sink → IsSource (HasType w.signals.shapes) sink new
-IsLine-zero w new sink z = record {
-  line = record { some = omega (arith, ap (λ (l : List Node). length l) z.added); typed = zero_typed [] new sink z w (λ k lt. absurd (omega arith)) };
-  kind = ap (λ (s : Shape). s.kind) (zero_shape [] new sink z);
-  width = omega (arith, ap (λ (s : Shape). s.width) (zero_shape [] new sink z));
-}
-
 pub no_names : (new : List Node) (sink : Shape) → IsZeroOf [] new sink → (s : ℕ) → Names new s → ⊥
 no_names new sink z s n = let h = zero_names [] new sink z s n in omega (arith, h.1)

@@ -176,4 +176,3 @@ kept-empty piece state slots n flags typed cycle none count outs =
       put = λ i within. (λ has. absurd (none (value_at piece.ins i) has), λ some. absurd (none-some (latch_at (replicate n None) i) (empty-after n i) some));
       tokens = λ i value is. absurd (none-some value (sym (empty-after n i) ∙ is));
     }
-  where

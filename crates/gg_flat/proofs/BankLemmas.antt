@@ -47,9 +47,6 @@ memories-valued circuit signals formed typed = λ m d lt. IsMemory-value (signal
 pub looks-among : (signals : List ℕ) (memory : Memory) → IsMemory (HasValue signals) memory → All (LooksAmong (length signals)) memory.readers
 looks-among signals memory is r d lt = let reader = is.readers r d lt in (reader.address.0, reader.enable.0)
 
-pub writes-among : (signals : List ℕ) (memory : Memory) → IsMemory (HasValue signals) memory → All (WritesAmong (length signals)) memory.writers
-writes-among signals memory is w d lt = let writer = is.writers w d lt in (writer.address.0, writer.enable.0, writer.input.0, writer.masked.0)
-
 -- ---- one memory
 
 module _ (signals : List ℕ) (word : Shape) (depth : ℕ) where

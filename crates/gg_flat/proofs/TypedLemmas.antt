@@ -60,9 +60,6 @@ IsLine-value shapes values nodes typed line =
 pub IsSource-value : (shapes : List Shape) (values : List ℕ) (sink : Shape) (nodes : List Node) → AreTyped shapes values → IsSource (HasType shapes) sink nodes → IsSource (HasValue values) sink nodes
 IsSource-value shapes values sink nodes typed source = record { line = IsLine-value shapes values nodes typed source.line; kind = source.kind; width = source.width }
 
-pub IsCondition-value : (shapes : List Shape) (values : List ℕ) (nodes : List Node) → AreTyped shapes values → IsCondition (HasType shapes) nodes → IsCondition (HasValue values) nodes
-IsCondition-value shapes values nodes typed condition = record { line = IsLine-value shapes values nodes typed condition.line; bit = condition.bit }
-
 -- the shape of the in-signal at a place
 pub shape_at-in_shapes : (circuit : FlatCircuit) (place : ℕ) → place < length circuit.ins → shape_at (in_shapes circuit) place ≡ shape_at (signal_shapes circuit) (value_at circuit.ins place)
 shape_at-in_shapes circuit place within = get_or-map (shape_at (signal_shapes circuit)) circuit.ins place 0 (uint 0) within

@@ -33,11 +33,3 @@ module _ {A : Type 0} (f : A → List ℕ) (xs : List A) where
       only : (j k : ℕ) → Contains (k ∷ []) j → j ≡ k
       only j k (zero, lt, e) = sym e
       only j k (suc n, lt, e) = absurd (omega (arith, lt))
-
-  -- if the next element gives nothing, all was given before
-  pub given-none : (i j : ℕ) (x : A) → i < length xs → x ≡ get_or xs i x → f x ≡ [] → Contains (flat_map f (take (i + 1) xs)) j → Contains (flat_map f (take i xs)) j
-  given-none i j x lt is gives h =
-      subst (λ (l : List ℕ). Contains l j) (given-more i x lt is ∙ ap (λ l. flat_map f (take i xs) ++ l) gives ∙ append-nil (flat_map f (take i xs))) h
-
-  pub given-all : (i j : ℕ) → length xs ≤ i → Contains (flat_map f xs) j → Contains (flat_map f (take i xs)) j
-  given-all i j le h = subst (λ (l : List A). Contains (flat_map f l) j) (sym (take_all i xs le)) h

@@ -37,9 +37,6 @@ same-more start names words new i name lt is same more = λ q.
     ∙ sym (list_any-append (bytes_eq q) start (take i names ++ name ∷ []))
     ∙ sym (ap (λ l. list_any (bytes_eq q) (start ++ l)) grown)
 
-pub same-start : (start : List (List ℕ)) → HaveSame start (start ++ [])
-same-start start = λ q. ap (list_any (bytes_eq q)) (sym (append-nil start))
-
 -- ---- field by field
 
 any-ports : (q : List ℕ) (kind : fields.MemoryField) → list_any (bytes_eq q) (ports_in_field kind) ≡ list_any (bytes_eq q) (readers_in kind) || list_any (bytes_eq q) (writers_in kind)
@@ -57,7 +54,6 @@ ports_of fs = flat_map (λ (g : Field). ports_in_field g.kind) fs
 four : (a b c d : Bool) → (a || b) || (c || d) ≡ (a || c) || (b || d)
 four true b c d = refl
 four false true c d = sym (or-true c)
-  where
 four false false c d = refl
 
 any-of : (q : List ℕ) (fs : List Field) → list_any (bytes_eq q) (ports_of fs) ≡ list_any (bytes_eq q) (readers_of fs) || list_any (bytes_eq q) (writers_of fs)

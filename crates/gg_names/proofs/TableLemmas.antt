@@ -34,7 +34,6 @@ texts-append (x ∷ xs) ys = ap (λ l. x.now ∷ l) (texts-append xs ys)
 any-again : (q name : List ℕ) (names : List (List ℕ)) → list_any (bytes_eq name) names ≡ true → list_any (bytes_eq q) names ≡ list_any (bytes_eq q) (names ++ name ∷ [])
 any-again q name names there = go (bytes_eq q name) refl ∙ sym (list_any-append (bytes_eq q) names (name ∷ []))
   where
-
     go : (b : Bool) → bytes_eq q name ≡ b → list_any (bytes_eq q) names ≡ list_any (bytes_eq q) names || (bytes_eq q name || false)
     go true e =
         ap (λ x. list_any (bytes_eq x) names) ((bytes_eq-Decides q name).0 e) ∙ there

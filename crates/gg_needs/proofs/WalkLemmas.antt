@@ -18,27 +18,6 @@ use Rattle.gg_needs.specs.Marks.{marks_of, Adds}
 use Rattle.gg_needs.specs.Walk.{AreOwn, AreReached, HandsOn}
 use Rattle.gg_needs.proofs.AddLemmas.{bit-marked, bit-unmarked, bit-cases}
 
--- ---- a signal hands its marks on
-
-pub HandsOn-adds : (circuit : FlatCircuit) (signal own : ℕ) (before after : List ℕ) → signal < length circuit.signals → own ≡ value_at before signal → Adds own (NamesSignal (driver_at circuit signal)) before after → HandsOn circuit signal before after
-HandsOn-adds circuit signal own before after known is adds =
-    record {
-      count = adds.count;
-      each = λ place. elim (bit-cases own place) [
-        | inl one ↦ ReadsMarked-driver circuit signal (marks_of place before) (marks_of place after) known
-            (bit-marked place before signal (ap (λ (n : ℕ). bit_at n place) (sym is) ∙ one)) (adds.given place one)
-        | inr none ↦ subst (ReadsMarked circuit signal (marks_of place before)) (sym (adds.kept place none))
-            (ReadsMarked-none circuit signal (marks_of place before) (bit-unmarked place before signal (ap (λ (n : ℕ). bit_at n place) (sym is) ∙ none)))
-      ];
-    }
-
-pub HandsOn-none : (circuit : FlatCircuit) (signal : ℕ) (marks : List ℕ) → value_at marks signal ≡ 0 → HandsOn circuit signal marks marks
-HandsOn-none circuit signal marks is =
-    record {
-      count = refl;
-      each = λ place. ReadsMarked-none circuit signal (marks_of place marks) (bit-unmarked place marks signal (ap (λ (n : ℕ). bit_at n place) is ∙ bit_at-zero place));
-    }
-
 -- ---- the out-signals' own marks
 
 pub AreOwn-none : (group : List ℕ) (count k : ℕ) (marks : List ℕ) → marks ≡ replicate count 0 → k ≡ 0 → AreOwn group count k marks

@@ -64,14 +64,6 @@ pub missing-grows : (latches : List (Option ℕ)) (i value : ℕ) (ins : List �
 missing-grows latches i value ins below none =
     none-empty (slice_set latches i (Some value)) ins (λ k d within. latch-grows latches i value (slice_index_or ins k d) below (all-filled latches ins none k d within))
 
--- ---- flags
-
--- a flag that is set exists
-pub flag-within : (flags : List Bool) (o : ℕ) → flag_at flags o ≡ true → o < length flags
-flag-within [] o is = absurd (true≢false (sym is))
-flag-within (flag ∷ flags) zero is = omega arith
-flag-within (flag ∷ flags) (suc o) is = let within : o < length flags = flag-within flags o is in omega arith
-
 -- ---- after a cycle
 
 pub no-latch : (n i value : ℕ) → latch_at (replicate n None) i ≡ Some value → ⊥

@@ -50,7 +50,3 @@ closed-one (Number w) = omega arith
 closed-one (Text w) = omega arith
 closed-one (Symbol mark.CloseParen) = omega arith
 closed-one (Symbol _) = omega arith
-
-pub first_outside-more : (ts : List Tok) (i : ℕ) (t : Tok) → i < length ts → t ≡ get_or ts i t → first_outside (drop i ts) ≡ option_or (outside_text t) (first_outside (drop (i + 1) ts))
-first_outside-more ts i t within is =
-    at_drop_more first_outside ts i t within ∙ ap (λ (u : Tok). option_or (outside_text u) (first_outside (drop (i + 1) ts))) (sym is)

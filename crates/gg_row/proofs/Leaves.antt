@@ -81,9 +81,6 @@ symbol_at-spells m (Symbol a ∷ ts) t h =
     let same : a ≡ m = same_mark a m (equal_bytes (spelling a) (spelling m) p.0) in
     ap (λ x. Symbol x ∷ ts) same ∙ ap (λ l. Symbol m ∷ l) p.1
 
-pub symbol_at-here : (m : Mark) (t : List Tok) → symbol_at m (Symbol m ∷ t) ≡ Some t
-symbol_at-here m t = ap (λ b. if b then Some t else None) (same_bytes (spelling m))
-
 pub word_at-spells : (w : List ℕ) (ts t : List Tok) → word_at w ts ≡ Some t → ts ≡ Word w ∷ t
 word_at-spells w [] t h = absurd (cc)
 word_at-spells w (Number v ∷ ts) t h = absurd (cc)

@@ -104,17 +104,7 @@ pub told-same : (before : List Stmt) (s : Stmt) (refs : List Reference) → conn
 told-same before s refs is told = λ r.
     told r ∙ sym (or-false (is_connected before r)) ∙ ap (λ o. is_connected before r || is_reference_to r o) (sym is) ∙ sym (connected-push before s r)
 
-pub told-start : TellsConnected [] []
-told-start = λ r. refl
-
 -- the first i statements and the next one are the first i + 1
 pub told-next : (statements : List Stmt) (i : ℕ) (s : Stmt) (refs : List Reference) → i < length statements → s ≡ get_or statements i s → TellsConnected (take i statements ++ s ∷ []) refs → TellsConnected (take (i + 1) statements) refs
 told-next statements i s refs lt is told =
     subst (λ l. TellsConnected l refs) (sym (take_more statements i s lt ∙ ap (λ x. take i statements ++ x ∷ []) (sym is))) told
-
-pub told-all : (statements : List Stmt) (i : ℕ) (refs : List Reference) → length statements ≤ i → TellsConnected (take i statements) refs → TellsConnected statements refs
-told-all statements i refs le told = subst (λ l. TellsConnected l refs) (take_all i statements le) told
-
--- whether a connection is a second one, by the list of what the statements before it connect
-pub second-told : (scope : List (Reference × Role)) (before : List Stmt) (line : ℕ) (r : Reference) (refs : List Reference) → TellsConnected before refs → second_to scope before line (Some r) ≡ fault_if (is_sink (meaning_of scope r) && is_among refs r) (SecondConnection line (written r))
-second-told scope before line r refs told = ap (λ b. fault_if (is_sink (meaning_of scope r) && b) (SecondConnection line (written r))) (sym (told r))

@@ -32,9 +32,6 @@ module _ {A : Type 0} (f : A → List Fault) (xs : List A) where
   rest-step : (i : ℕ) (d : A) → i < length xs → rest i ≡ f (get_or xs i d) ++ rest (i + 1)
   rest-step i d lt = ap (flat_map f) (drop_more xs i d lt)
 
-  pub rest-end : (i : ℕ) → length xs ≤ i → rest i ≡ []
-  rest-end i le = ap (flat_map f) (drop_all i xs le)
-
   -- if no element up to the i-th has a fault, all faults are after it
   pub rest-more : (i : ℕ) (d x : A) → i < length xs → x ≡ get_or xs i d → f x ≡ [] → flat_map f xs ≡ rest i → flat_map f xs ≡ rest (i + 1)
   rest-more i d x lt is none h = h ∙ rest-step i d lt ∙ ap (λ y. f y ++ rest (i + 1)) (sym is) ∙ ap (λ l. l ++ rest (i + 1)) none

@@ -21,17 +21,6 @@ pub record ReadsCells (ports : List Port) (places : List ℕ) (cells rest : List
   pub good : AreCells ports places cells at
   pub gives : AreValues places cells values at
 
-pub reads_none : (ports : List Port) (places : List ℕ) (cells : List (List ℕ)) (values : List ℕ) → length cells ≡ length places → length values ≡ length ports
-    → ReadsCells ports places cells cells values 0
-reads_none ports places cells values count size = record {
-  left = refl;
-  count = count;
-  reached = omega arith;
-  size = size;
-  good = record { each = λ g h. absurd (omega arith) };
-  gives = record { each = λ g h. absurd (omega arith) };
-}
-
 -- the next cell is within the row
 pub next_cell : {ports : List Port} {places : List ℕ} {cells more : List (List ℕ)} {x values : List ℕ} {at : ℕ} → ReadsCells ports places cells (x ∷ more) values at → at < length places
 next_cell {ports} {places} {cells} {more} {x} {values} {at} reads = omega (arith, (next_item cells more x [] at reads.left).1, reads.count)

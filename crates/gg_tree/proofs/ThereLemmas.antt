@@ -105,10 +105,3 @@ holder-there circuit place c = go place.outer (turned (outer-there circuit (site
     go None h = tt
     go (Some around) (inl e) = absurd (cc)
     go (Some around) (inr h) = subst (Contains (site_paths circuit)) (sym (ap (path_or around.path) h.1)) h.2
-
--- ---- ports
-
--- a port that has a type is a signal
-pub some-signal : (found : Option Ty) (ty : GroundType) → option_map (λ (t : Ty). shape t) found ≡ type_shape ty → is_none found ≡ false → is_some (type_shape ty) ≡ true
-some-signal None ty is some = absurd (cc)
-some-signal (Some t) ty is some = ap (λ (o : Option Shape). is_some o) (sym is)

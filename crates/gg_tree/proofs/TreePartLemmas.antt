@@ -39,37 +39,10 @@ Pairwise-filter R test all i a ys more lt is h k =
     subst (λ l. Pairwise R l (ys ++ more)) (sym (filter-append test (take i all) (a ∷ [])) ∙ ap (filter test) (ap (λ x. take i all ++ x ∷ []) is ∙ sym (take_more all i a lt)))
     (Pairwise-append R (filter test (take i all)) (filter test (a ∷ [])) ys more h k)
 
--- the signals of the sites up to the next one
-pub signals_to-more : (circuit : CircuitTree) (places : List Place) (i : ℕ) (p : Place) (digest : Digest) → i < length places → p ≡ get_or places i p → IsDigest (types_of circuit) circuit.modules p.number digest → signals_to circuit places (i + 1) ≡ signals_to circuit places i + length digest.signals.items
-signals_to-more circuit places i p digest lt is d =
-    ap (λ l. length l) (signals-more (types_of circuit) circuit.modules places i p digest lt is d)
-    ∙ length-append (flat_signals (types_of circuit) circuit.modules (map site_of (take i places))) (map (λ o. flat_signal circuit.modules (site_of p) (own_of o)) digest.signals.items)
-    ∙ ap (λ n. signals_to circuit places i + n) (length-map digest.signals.items (λ o. flat_signal circuit.modules (site_of p) (own_of o)))
-
 -- The list has the number of the first signal of each of the first i sites.
 pub record TellsFirsts (circuit : CircuitTree) (places : List Place) (i : ℕ) (firsts : List ℕ) : Type 0 where
   pub size : length firsts ≡ i
   pub each : (k : ℕ) → k < i → slice_index firsts k ≡ signals_to circuit places k
-
-pub firsts-none : (circuit : CircuitTree) (places : List Place) → TellsFirsts circuit places 0 []
-firsts-none circuit places = record { size = refl; each = λ k lt. absurd (omega (arith, lt)) }
-
-pub firsts-more : (circuit : CircuitTree) (places : List Place) (i : ℕ) (firsts new : List ℕ) (next : ℕ) → TellsFirsts circuit places i firsts → next ≡ signals_to circuit places i → new ≡ firsts ++ next ∷ [] → TellsFirsts circuit places (i + 1) new
-firsts-more circuit places i firsts new next h is e = record {
-  size = ap (λ (l : List ℕ). length l) e ∙ length-append firsts (next ∷ []) ∙ omega (arith, h.size);
-  each = λ k lt. ap (λ (l : List ℕ). slice_index l k) e ∙ go k (cases_lt k i) lt;
-}
-  where
-    last : (l : List ℕ) (n : ℕ) → get_or (l ++ n ∷ []) (length l) 0 ≡ n
-    last [] n = refl
-    last (x ∷ xs) n = last xs n
-
-    go : (k : ℕ) → (k < i) ⊎ (i ≤ k) → k < i + 1 → slice_index (firsts ++ next ∷ []) k ≡ signals_to circuit places k
-    go k (inl inside) lt = front firsts (next ∷ []) k 0 (omega (arith, inside, h.size)) ∙ h.each k inside
-    go k (inr behind) lt =
-        let here : k ≡ length firsts = omega (arith, lt, behind, h.size) in
-        let there : i ≡ k = omega (arith, lt, behind) in
-        ap (λ j. get_or (firsts ++ next ∷ []) j 0) here ∙ last firsts next ∙ is ∙ ap (signals_to circuit places) there
 
 -- ---- an instance
 

@@ -178,12 +178,6 @@ module _ (ways : List (List ℕ × Way)) (statements : List Stmt) where
   follows next tells zero name k u = ap is_outside (placed-way name ways k u)
   follows next tells (suc n) name k u = go (is_followed (find_named name ways)) refl (lead_of name statements) refl (follows next tells n)
     where
-      Rest : Type 0
-      Rest = (q : List ℕ) (j : ℕ) → place_in q ways ≡ Some j → is_outside (find_named (followed ways statements n q) ways) ≡ is_outside (way_at ways (iterate n next j))
-
-      goal-at : Option (List ℕ) → ℕ → Type 0
-      goal-at o j = is_outside (find_named (followed ways statements n (stay_or name o)) ways) ≡ is_outside (way_at ways (iterate n next j))
-
       go : (b : Bool) → is_followed (find_named name ways) ≡ b → (o : Option (List ℕ)) → lead_of name statements ≡ o → ((q : List ℕ) (j : ℕ) → place_in q ways ≡ Some j → is_outside (find_named (followed ways statements n q) ways) ≡ is_outside (way_at ways (iterate n next j))) → is_outside (find_named (followed ways statements n (stay_or name (next_of ways statements name))) ways) ≡ is_outside (way_at ways (iterate n next (slice_index next k)))
       go false t o v rest =
           let here : slice_index next k ≡ k = tells.told name k u ∙ ap (λ b. if b then next_at ways k (lead_of name statements) else k) t in

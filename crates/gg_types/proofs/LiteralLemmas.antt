@@ -186,10 +186,6 @@ literal_shape-none l e = go (is_width l.width)
 pub literal-no_other : (l : Literal) → literal_fits l ≡ false → (p : ℕ) → p < 2 ^ l.width → number_of l.kind l.width p ≢ literal_number l
 literal-no_other l e p small is = true≢false (sym (stands_for l.kind l.width p (literal_number l) small is) ∙ e)
 
--- the pattern of a literal that fits stands for its number
-pub literal-stands : (l : Literal) → literal_fits l ≡ true → number_of l.kind l.width (literal_value l) ≡ literal_number l
-literal-stands l e = (signed_Decides (number_of l.kind l.width (literal_value l)) (literal_number l)).0 e
-
 -- ---- the tests of the code, by kind and sign
 
 -- in a u128, 1 shifted left by k places, k below 128, is 2 ^ k

@@ -11,21 +11,6 @@ use Rattle.gg_walk.specs.declared.state.Stage.TheVariants.{New, Open, Done}
 use Rattle.gg_walk.proofs.RingLemmas.{IsChain-pop, GoesRound-end, once-drop}
 use Rattle.gg_walk.proofs.StageLemmas.{stage-within, stage_set-same, stage_set-other, stage_set-cases, stage_replicate, place_replicate, contains_old, contains_new, contains_cases, contains_at, last-new, once-pop, after-push}
 
-pub Walks-none : (Edge : ℕ → ℕ → Type 0) (Below : ℕ → ℕ → ℕ → Type 0) (count : ℕ) → ((s t : ℕ) → Below s 0 t → ⊥) → Walks Edge Below count [] (replicate count New) (replicate count 0) []
-Walks-none Edge Below count none = record {
-  stage_count = length-replicate count New;
-  place_count = length-replicate count 0;
-  finished = λ s is. let e : New ≡ Done = sym (stage_replicate count s) ∙ is in cc;
-  ordered = λ s h. absurd (omega (arith, h.1));
-  on_path = λ s is. let e : New ≡ Open = sym (stage_replicate count s) ∙ is in cc;
-  opened = λ s h. absurd (omega (arith, h.1));
-  order_once = λ i j d lt within. absurd (omega (arith, within));
-  path_once = λ i j d lt within. absurd (omega (arith, within));
-  after = λ i t lt edge. absurd (omega (arith, lt));
-  chain = tt;
-  scanned = λ s t below. absurd (none s t (subst (λ (p : ℕ). Below s p t) (place_replicate count s) below));
-}
-
 -- a new node joins the path
 pub Walks-enter : {Edge : ℕ → ℕ → Type 0} {Below : ℕ → ℕ → ℕ → Type 0} {count : ℕ} {path : List ℕ} {stages : List Stage} {places order : List ℕ} (t : ℕ) → Walks Edge Below count path stages places order → t < count → stage_at stages t ≡ New → IsChain Edge (path ++ t ∷ []) → Walks Edge Below count (path ++ t ∷ []) (set stages t Open) places order
 Walks-enter {Edge = Edge} {Below = Below} {count = count} {path = path} {stages = stages} {places = places} {order = order} t w lt fresh chain = record {
@@ -174,15 +159,6 @@ IsOrderOf-walked {Edge = Edge} {Below = Below} {count = count} {stages = stages}
     done s New is met = absurd (met is)
     done s Open is met = absurd (none_open s is)
     done s Done is met = is
-
--- when a node gets a stage that isn't New, all nodes that were met stay met
-pub StaysMet-set : (stages : List Stage) (s : ℕ) (x : Stage) → x ≢ New → StaysMet stages (set stages s x)
-StaysMet-set stages s x old a met is =
-    let lt = stage-within stages a met in
-    elim (cases_lt s (length stages)) [
-      | inl less ↦ elim (stage_set-cases stages a s x New less is) [ inl h ↦ old h.1 | inr h ↦ met h.1 ]
-      | inr ge ↦ met (sym (get_or-set_other stages s a x New (λ e. omega (arith, lt, ge, e))) ∙ is)
-    ]
 
 -- a walk with equal lists is the same walk
 pub Walks-same : {Edge : ℕ → ℕ → Type 0} {Below : ℕ → ℕ → ℕ → Type 0} {count : ℕ} {p q : List ℕ} {a b : List Stage} {c d x y : List ℕ} → p ≡ q → a ≡ b → c ≡ d → x ≡ y → Walks Edge Below count p a c x → Walks Edge Below count q b d y
