@@ -20,6 +20,7 @@ use Rattle.gg_cut.specs.Channels.{channel_names}
 use Rattle.gg_cut.proofs.ChannelLemmas.{wires-signals}
 use Rattle.gg_cut.proofs.PathLemmas.{first_place-Some}
 use Rattle.gg_cut.proofs.RangeLemmas.{filter-below}
+use Rattle.gg_cut.proofs.FindLemmas.{none-map}
 use Rattle.gg_closed.specs.Apart.{AreApart}
 use Rattle.gg_closed.specs.Apart.{AreFew}
 use Rattle.gg_closed.proofs.ListLemmas.{AllPairs-map}
@@ -27,17 +28,13 @@ use Rattle.std.specs.Prelude.{bytes_eq}
 
 -- ---- neither of two has a fault
 
-none-first : {A : Type 0} (a b : Option A) → or_else a b ≡ None → a ≡ None
+pub none-first : {A : Type 0} (a b : Option A) → or_else a b ≡ None → a ≡ None
 none-first None b e = refl
 none-first (Some x) b e = absurd (cc)
 
-none-second : {A : Type 0} (a b : Option A) → or_else a b ≡ None → b ≡ None
+pub none-second : {A : Type 0} (a b : Option A) → or_else a b ≡ None → b ≡ None
 none-second None b e = e
 none-second (Some x) b e = absurd (cc)
-
-none-map : {A B : Type 0} (f : A → B) (a : Option A) → option_map f a ≡ None → a ≡ None
-none-map f None e = refl
-none-map f (Some x) e = absurd (cc)
 
 -- ---- nothing is found
 

@@ -67,8 +67,6 @@ pub record ArePaths (tree : InstanceTree) (listed : Listed) (paths : List (List 
   pub memory : (i : ℕ) → i < length listed.memories → path_at paths (length listed.units + i) ≡ path_at tree.memory_paths (value_at listed.memories i)
 
 module _ (circuit : FlatCircuit) (tree : InstanceTree) (listed : Listed) (fits : IsTree circuit tree) (scoped : IsScoped circuit tree) (apart : AreApart tree listed) (paths : List (List ℕ)) (are : ArePaths tree listed paths) where
-  unit-at : (i : ℕ) → i < length listed.units → value_at listed.units i < length tree.instances
-  unit-at i lt = apart.known i 0 lt
 
   memory-in : (j : ℕ) → j < length listed.memories → value_at listed.memories j < length tree.memories
   memory-in j lt = apart.memories j 0 lt
@@ -84,9 +82,9 @@ module _ (circuit : FlatCircuit) (tree : InstanceTree) (listed : Listed) (fits :
 
   -- two units are the same if their paths are equal or one holds the other
   fronts-one : (i j : ℕ) → i < length listed.units → j < length listed.units → Fronts (path_at tree.paths (value_at listed.units i)) (path_at tree.paths (value_at listed.units j)) → i ≡ j
-  fronts-one i j li lj (Equal same) = lies-one i j li lj (covers-lies circuit tree fits (value_at listed.units j) (value_at listed.units i) (unit-at j lj) (unit-at i li) (inl (sym same)))
-  fronts-one i j li lj (Outer h) = sym (lies-one j i lj li (covers-lies circuit tree fits (value_at listed.units i) (value_at listed.units j) (unit-at i li) (unit-at j lj) (inr h)))
-  fronts-one i j li lj (Inner h) = lies-one i j li lj (covers-lies circuit tree fits (value_at listed.units j) (value_at listed.units i) (unit-at j lj) (unit-at i li) (inr h))
+  fronts-one i j li lj (Equal same) = lies-one i j li lj (covers-lies circuit tree fits (value_at listed.units j) (value_at listed.units i) (apart.known j 0 lj) (apart.known i 0 li) (inl (sym same)))
+  fronts-one i j li lj (Outer h) = sym (lies-one j i lj li (covers-lies circuit tree fits (value_at listed.units i) (value_at listed.units j) (apart.known i 0 li) (apart.known j 0 lj) (inr h)))
+  fronts-one i j li lj (Inner h) = lies-one i j li lj (covers-lies circuit tree fits (value_at listed.units j) (value_at listed.units i) (apart.known j 0 lj) (apart.known i 0 li) (inr h))
 
   place-of : (i : ℕ) → i < length paths → Among (length listed.units) (length listed.memories) i
   place-of i lt = among (length listed.units) (length listed.memories) i (omega (arith, lt, are.count))
@@ -109,7 +107,7 @@ module _ (circuit : FlatCircuit) (tree : InstanceTree) (listed : Listed) (fits :
   covering k i lk lt h = by (place-of i lt)
     where
       by : Among (length listed.units) (length listed.memories) i → (i < length listed.units) × (lies tree k (value_at listed.units i) ≡ true)
-      by (First less) = (less, covers-lies circuit tree fits (value_at listed.units i) k (unit-at i less) lk (unit-covers i k less h))
+      by (First less) = (less, covers-lies circuit tree fits (value_at listed.units i) k (apart.known i 0 less) lk (unit-covers i k less h))
       by (Behind j lj e) = absurd (memory-covers-none j k lj lk (subst (λ n. Covers (path_at paths n) (path_at tree.paths k)) e h))
 
   pub instance-longest : (k : ℕ) → k < length tree.instances → IsOfLongest (λ path. Covers path (path_at tree.paths k)) paths (owner_of_instance tree listed.units k)
@@ -162,7 +160,7 @@ module _ (circuit : FlatCircuit) (tree : InstanceTree) (listed : Listed) (fits :
         to i lt h =
             let at = covering k i inner.known lt h in
             subst (λ p. HoldsPath p (path_at circuit.paths s)) (sym (are.unit i at.0))
-            (covers-held circuit tree fits scoped (value_at listed.units i) k s inner (apart.lower i 0 at.0) (unit-at i at.0) (unit-covers i k at.0 h))
+            (covers-held circuit tree fits scoped (value_at listed.units i) k s inner (apart.lower i 0 at.0) (apart.known i 0 at.0) (unit-covers i k at.0 h))
 
         back : (i : ℕ) → i < length paths → HoldsPath (path_at paths i) (path_at circuit.paths s) → Covers (path_at paths i) (path_at tree.paths k)
         back i lt h = by (place-of i lt)
@@ -170,7 +168,7 @@ module _ (circuit : FlatCircuit) (tree : InstanceTree) (listed : Listed) (fits :
             by : Among (length listed.units) (length listed.memories) i → Covers (path_at paths i) (path_at tree.paths k)
             by (First less) =
                 subst (λ p. Covers p (path_at tree.paths k)) (sym (are.unit i less))
-                (held-covers circuit tree fits scoped (value_at listed.units i) k s inner (unit-at i less) (unit-holds i less h))
+                (held-covers circuit tree fits scoped (value_at listed.units i) k s inner (apart.known i 0 less) (unit-holds i less h))
             by (Behind j lj e) = absurd (none j 0 lj (memory-holds j lj (subst (λ n. HoldsPath (path_at paths n) (path_at circuit.paths s)) e h)))
 
     -- the longest path that holds the path of a field of a listed memory is the memory's
@@ -189,11 +187,11 @@ module _ (circuit : FlatCircuit) (tree : InstanceTree) (listed : Listed) (fits :
         holds = field-held circuit tree fits scoped (value_at listed.memories j) s (memory-in j lj) field
 
         shorter : (i : ℕ) → i < length listed.units → Fronts (path_at tree.paths (value_at listed.units i)) (path_at tree.memory_paths (value_at listed.memories j)) → length (path_at paths i) < length (path_at paths (length listed.units + j))
-        shorter i li (Equal same) = absurd (scoped.apart (value_at listed.units i) (value_at listed.memories j) (unit-at i li) (memory-in j lj) same)
+        shorter i li (Equal same) = absurd (scoped.apart (value_at listed.units i) (value_at listed.memories j) (apart.known i 0 li) (memory-in j lj) same)
         shorter i li (Outer h) =
             let less = holds-shorter (path_at tree.paths (value_at listed.units i)) (path_at tree.memory_paths (value_at listed.memories j)) h in
             omega (arith, less, ap length (are.unit i li), ap length (are.memory j lj))
-        shorter i li (Inner h) = absurd (memory-no-instance circuit tree fits scoped (value_at listed.memories j) (value_at listed.units i) (memory-in j lj) (unit-at i li) h)
+        shorter i li (Inner h) = absurd (memory-no-instance circuit tree fits scoped (value_at listed.memories j) (value_at listed.units i) (memory-in j lj) (apart.known i 0 li) h)
 
         same-memory : (i : ℕ) → i < length listed.memories → IsFieldOf circuit tree (value_at listed.memories i) s → i ≡ j
         same-memory i li other =
@@ -255,7 +253,7 @@ module _ (circuit : FlatCircuit) (tree : InstanceTree) (listed : Listed) (fits :
     unit-memory i li h = by (subst (λ p. Covers p (path_at tree.memory_paths j)) (are.unit i li) h)
       where
         by : Covers (path_at tree.paths (value_at listed.units i)) (path_at tree.memory_paths j) → HoldsPath (path_at tree.paths (value_at listed.units i)) (path_at tree.memory_paths j)
-        by (inl same) = absurd (scoped.apart (value_at listed.units i) j (unit-at i li) lj same)
+        by (inl same) = absurd (scoped.apart (value_at listed.units i) j (apart.known i 0 li) lj same)
         by (inr up) = up
 
     -- where the memory is listed, its own path is the longest
@@ -296,7 +294,7 @@ module _ (circuit : FlatCircuit) (tree : InstanceTree) (listed : Listed) (fits :
         to i lt h =
             let at = covering (memory_at tree j).instance i (fits.held j lj).instance lt h in
             inr (subst (λ p. HoldsPath p (path_at tree.memory_paths j)) (sym (are.unit i at.0))
-            (covers-memory circuit tree fits scoped (value_at listed.units i) j (apart.lower i 0 at.0) (unit-at i at.0) lj (unit-covers i (memory_at tree j).instance at.0 h)))
+            (covers-memory circuit tree fits scoped (value_at listed.units i) j (apart.lower i 0 at.0) (apart.known i 0 at.0) lj (unit-covers i (memory_at tree j).instance at.0 h)))
 
         back : (i : ℕ) → i < length paths → Covers (path_at paths i) (path_at tree.memory_paths j) → Covers (path_at paths i) (path_at tree.paths (memory_at tree j).instance)
         back i lt h = by (place-of i lt)

@@ -10,6 +10,7 @@ use Rattle.gg_flat.specs.Line.{value_at}
 use Rattle.gg_flat.specs.Circuit.{FlatCircuit}
 use Rattle.gg_flat.specs.Tree.{InstanceTree, IsTree, instance_at, memory_at}
 use Rattle.gg_flat.specs.Scoped.{IsScoped, IsPort, IsFieldOf, memory_fields}
+use Rattle.gg_flat.proofs.ListLemmas.{filter-cases, one-place}
 use Rattle.gg_cut.specs.declared.wires.Wire.{Wire}
 use Rattle.gg_cut.specs.declared.listed.Listed.{Listed}
 use Rattle.gg_cut.specs.Listed.{lies}
@@ -18,7 +19,7 @@ use Rattle.gg_cut.proofs.KnownLemmas.{parents-before}
 use Rattle.gg_cut.specs.Channels.{wires_of, port_signals, channel_signals, flattened}
 use Rattle.gg_cut.proofs.ChannelLemmas.{wires-signals}
 use Rattle.gg_closed.specs.Apart.{AreApart}
-use Rattle.gg_closed.proofs.ListLemmas.{Somewhere, map-cases, filter-cases, flattened-cases, AllPairs-append, AllPairs-flattened, AllPairs-map, one-place}
+use Rattle.gg_closed.proofs.ListLemmas.{Somewhere, map-cases, flattened-cases, AllPairs-append, AllPairs-flattened, AllPairs-map}
 use Rattle.gg_closed.proofs.TreeLemmas.{innermost-one}
 use Rattle.gg_closed.proofs.NameLemmas.{port-no-field, field-one}
 

@@ -7,13 +7,14 @@ use Rattle.gg_flat.specs.Line.{value_at}
 use Rattle.gg_flat.specs.Circuit.{FlatCircuit, readers_at, reader_at}
 use Rattle.gg_flat.specs.Tree.{InstanceTree, IsTree, IsInnermost, instance_at, memory_at, parent_place}
 use Rattle.gg_flat.specs.Scoped.{IsScoped, IsInputOf, IsFieldOf, IsWritten, memory_fields}
+use Rattle.gg_flat.proofs.ListLemmas.{Contains-map, Contains-filter}
 use Rattle.gg_cut.specs.declared.wires.Wire.{Wire}
 use Rattle.gg_cut.specs.declared.listed.Listed.{Listed}
 use Rattle.gg_cut.specs.Listed.{owner_of_instance, owner_of}
 use Rattle.gg_cut.specs.Channels.{wire, wires_of, first_memory, first_source}
 use Rattle.gg_cut.specs.Plan.{IsInner, Makes}
 use Rattle.gg_closed.specs.Apart.{AreApart}
-use Rattle.gg_closed.proofs.ListLemmas.{Somewhere, Contains-map, Contains-filter}
+use Rattle.gg_closed.proofs.ListLemmas.{Somewhere}
 use Rattle.gg_closed.proofs.TreeLemmas.{Innermost, innermost}
 use Rattle.gg_closed.proofs.PlaceLemmas.{owner-unit, owner-inner, owner-top}
 use Rattle.gg_closed.proofs.KindLemmas.{IsPortWire, IsFieldWire, IsInto, IsWordWire, Kind, OfSource, OfPort, OfField, OfTray, outside_unit, outside_memory, kind-of, source-wire, unit-wire, memory-wire}

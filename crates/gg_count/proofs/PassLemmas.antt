@@ -13,6 +13,7 @@ use Rattle.gg_ast.specs.declared.statement.Stmt.{Stmt}
 use Rattle.gg_ast.specs.Tree.{ModuleTree}
 use Rattle.gg_walk.specs.Graph.{node_at, IsOrderOf}
 use Rattle.gg_walk.proofs.ListLemmas.{below-more, below-all}
+use Rattle.gg_flat.proofs.ListLemmas.{further}
 use Rattle.gg_count.specs.declared.pass.Gathering.{Gathering}
 use Rattle.gg_count.specs.Sites.{Held, held_by, held_by_kind, held_at, module_at, HoldsModule}
 use Rattle.gg_count.specs.Graph.{gathered, gathered_over, value_below}
@@ -26,15 +27,12 @@ pub gathered_over-none : (how : Gathering) (value : ℕ → ℕ) (own : ℕ) (hs
 gathered_over-none how value own [] none = refl
 gathered_over-none how value own (h ∷ hs) none = absurd (none h.number (0, omega arith, refl))
 
-there : (t n : ℕ) (ns : List ℕ) → Contains ns t → Contains (n ∷ ns) t
-there t n ns (k, lt, is) = (suc k, omega (arith, lt), is)
-
 -- what is gathered is the same if the values of all modules that are held are the same
 pub gathered_over-same : (how : Gathering) (f g : ℕ → ℕ) (own : ℕ) (hs : List Held) → ((t : ℕ) → Contains (numbers_of hs) t → f t ≡ g t) → gathered_over how f own hs ≡ gathered_over how g own hs
 gathered_over-same how f g own [] same = refl
 gathered_over-same how f g own (h ∷ hs) same =
     let here : f h.number ≡ g h.number = same h.number (0, omega arith, refl) in
-    gathered_over-same how f g (gathered how own (f h.number)) hs (λ t later. same t (there t h.number (numbers_of hs) later))
+    gathered_over-same how f g (gathered how own (f h.number)) hs (λ t later. same t (further h.number (numbers_of hs) t later))
     ∙ ap (λ v. gathered_over how g (gathered how own v) hs) here
 
 -- The first i modules of the order have their values, with all below them down to i - 1 levels or more; the others have what

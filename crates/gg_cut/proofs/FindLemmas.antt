@@ -69,9 +69,9 @@ clash-stop share i group seen cause lt read so_far told =
     (sym (or_else-map Doubled (first_clash same_path seen group) rest) ∙ ap (option_map Doubled) (sym (clash-at share i group seen lt read so_far)))
     (told-first (option_map Doubled (first_clash same_path seen group)) (option_map Doubled rest) cause told)
 
-no-map : {A B : Type 0} (f : A → B) (a : Option A) → option_map f a ≡ None → a ≡ None
-no-map f None e = refl
-no-map f (Some x) e = absurd (cc)
+pub none-map : {A B : Type 0} (f : A → B) (a : Option A) → option_map f a ≡ None → a ≡ None
+none-map f None e = refl
+none-map f (Some x) e = absurd (cc)
 
 -- the groups before place i have no clash, and their entries stand in `seen`
 pub record SeenGroups (share : List (List (List ℕ))) (i : ℕ) (seen : List (List ℕ)) : Type 0 where
@@ -81,7 +81,7 @@ pub record SeenGroups (share : List (List (List ℕ))) (i : ℕ) (seen : List (L
 pub SeenGroups-more : (share : List (List (List ℕ))) (i : ℕ) (group seen new : List (List ℕ)) → i < length share → group ≡ get_or share i group → SeenGroups share i seen → option_map (λ path. Doubled path) (first_clash same_path seen group) ≡ None → new ≡ seen ++ group → SeenGroups share (i + 1) new
 SeenGroups-more share i group seen new lt read before none is =
     record {
-      clash = clash-at share i group seen lt read before.clash ∙ ap (λ f. or_else f (first_clash same_path (seen ++ group) (entries (drop (i + 1) share)))) (no-map (λ path. Doubled path) (first_clash same_path seen group) none)
+      clash = clash-at share i group seen lt read before.clash ∙ ap (λ f. or_else f (first_clash same_path (seen ++ group) (entries (drop (i + 1) share)))) (none-map (λ path. Doubled path) (first_clash same_path seen group) none)
           ∙ ap (λ l. first_clash same_path l (entries (drop (i + 1) share))) (sym is);
       total = omega (arith, before.total, ap length is, length-append seen group, ap length (entries-at share i group lt read), length-append group (entries (drop (i + 1) share)));
     }

@@ -9,6 +9,7 @@ use Rattle.gg_flat.specs.Circuit.{FlatCircuit, signal_shapes}
 use Rattle.gg_flat.specs.Settled.{driver_value}
 use Rattle.gg_flat.specs.Run.{opening_start, IsRun, IsColumns, state_at, row_at, inputs_at, column}
 use Rattle.gg_flat.proofs.UniqueLemmas.{IsRunFrom-once}
+use Rattle.gg_flat.proofs.ListLemmas.{some-item}
 use Rattle.gg_order.specs.Design.{Ordered, IsDesign}
 use Rattle.gg_part.specs.PartRun.{part_row, part_rows, part_columns}
 use Rattle.gg_part.specs.declared.part.Part.{Part}
@@ -43,10 +44,6 @@ map-same f g [] same = refl
 map-same f g (x ∷ xs) same = ap₂ (λ y l. y ∷ l) (same x) (map-same f g xs same)
 
 -- ---- the lists of channels
-
-some-channel : (channels : List Channel) (c : ℕ) → c < length channels → Channel
-some-channel [] c lt = absurd (omega arith)
-some-channel (channel ∷ channels) c lt = channel
 
 -- the lists of the channels that pass a test are the columns of their signals
 lists-signals : (lists rows : List (List ℕ)) (wires : List Wire) (test : ℕ → Bool) (a n : ℕ) → ((c : ℕ) → c < a + n → get_or lists c [] ≡ column rows (wire_at wires c).signal)
@@ -124,7 +121,7 @@ Solves-columns design request default plan columns n rows is planned given run =
     let lists = columns_of plan rows in
     let list-at : (c : ℕ) → c < 0 + length wires → get_or lists c [] ≡ column rows (wire_at wires c).signal = λ c lt.
     let known : c < length plan.channels = omega (arith, lt, planned.channel_total) in
-    let some = some-channel plan.channels c known in
+    let some = some-item plan.channels c known in
     get_or-map (λ (channel : Channel). column rows channel.signal) plan.channels c some [] known ∙ ap (column rows) (planned.channel c some known).signal in
     record {
       count = length-map plan.channels (λ channel. column rows channel.signal);

@@ -7,6 +7,7 @@ use Rattle.gg_flat.specs.declared.piece.Register.{Register}
 use Rattle.gg_flat.specs.Line.{shape_at, value_at, AreTyped}
 use Rattle.gg_flat.specs.State.{next_register, next_registers}
 use Rattle.gg_flat.proofs.TypedLemmas.{AreTyped-set}
+use Rattle.gg_flat.proofs.ListLemmas.{some-item}
 
 -- the shapes of registers
 abbrev pub shapes_of_registers : List Register → List Shape
@@ -30,16 +31,11 @@ next_registers-at signals (register ∷ registers) [] i some count lt = absurd (
 next_registers-at signals (register ∷ registers) (own ∷ old) zero some count lt = refl
 next_registers-at signals (register ∷ registers) (own ∷ old) (suc i) some count lt = next_registers-at signals registers old i some (omega arith) (omega arith)
 
--- some register of a list that isn't empty
-pub some-register : (registers : List Register) (i : ℕ) → i < length registers → Register
-some-register [] i within = absurd (omega arith)
-some-register (register ∷ registers) i within = register
-
 pub Advanced-all : (registers : List Register) (signals old own : List ℕ) → length old ≡ length registers → Advanced registers signals old (length registers) own → own ≡ next_registers signals registers old
 Advanced-all registers signals old own count advanced =
     let long : length own ≡ length registers = advanced.typed.count ∙ length-map registers (λ (x : Register). shape x.ty) in
     same_number_lists own (next_registers signals registers old) (long ∙ sym (length-next_registers signals registers old count)) (λ i lt.
     let within : i < length registers = omega (arith, lt, long) in
-    let some = some-register registers i within in
+    let some = some-item registers i within in
     advanced.next i within (get_or registers i some) (get_or_default registers i some (get_or registers i some) within)
     ∙ sym (next_registers-at signals registers old i some count within))

@@ -8,7 +8,7 @@ use Rattle.gg_flat.specs.Line.{value_at}
 use Rattle.gg_flat.specs.Circuit.{reader_at}
 use Rattle.gg_flat.specs.Memory.{Bank, found_word, next_bank, next_banks, bank_at, AreBanks}
 use Rattle.gg_flat.proofs.BankLemmas.{length-next_banks, next_banks-at}
-use Rattle.gg_flat.proofs.TypedLemmas.{some-memory}
+use Rattle.gg_flat.proofs.ListLemmas.{some-item}
 
 -- ---- read registers
 
@@ -29,5 +29,5 @@ pub BanksSoFar-all : (signals : List ℕ) (memories : List Memory) (old banks : 
 BanksSoFar-all signals memories old banks held all =
     ext_get_or (record { words = []; reads = [] }) banks (next_banks signals memories old) (all.count ∙ sym (length-next_banks signals memories old held.count)) (λ i lt.
     let within : i < length memories = omega (arith, lt, all.count) in
-    let some = some-memory memories i within in
+    let some = some-item memories i within in
     all.next i some within ∙ sym (next_banks-at signals memories old i some held.count within))

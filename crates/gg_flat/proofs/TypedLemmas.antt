@@ -22,6 +22,7 @@ use Rattle.gg_flat.specs.Memory.{read_word, read_count, bank_at}
 use Rattle.gg_flat.specs.WellFormed.{IsWellFormed, MayDrive, IsDataOf, IsReader, reader_driver}
 use Rattle.gg_flat.specs.State.{State, IsState}
 use Rattle.gg_flat.specs.Settled.{IsInputs, in_shapes, HasSource, driver_value}
+use Rattle.gg_flat.proofs.ListLemmas.{some-item}
 
 -- a pattern of w bits is below 2 ^ w
 pub pattern_of-lt : (w : ℕ) (z : ℤ) → pattern_of w z < 2 ^ w
@@ -77,11 +78,6 @@ pub record HasReader (circuit : FlatCircuit) (m r s : ℕ) : Type 0 where
   pub sink : shape_at (signal_shapes circuit) s ≡ shape memory.word
   pub driver : driver_at circuit s ≡ reader_driver memory.latency m r reader
 
--- some memory of a list that isn't empty
-pub some-memory : (memories : List Memory) (m : ℕ) → m < length memories → Memory
-some-memory [] m within = absurd (omega arith)
-some-memory (memory ∷ memories) m within = memory
-
 -- the place of a memory that has a reader is in the list
 pub within-readers : (memories : List Memory) (m r : ℕ) → r < length (slice_index_or (map (λ (k : Memory). k.readers) memories) m []) → m < length memories
 within-readers [] zero r lt = absurd (omega arith)
@@ -92,7 +88,7 @@ within-readers (memory ∷ memories) (suc m) r lt = let before = within-readers 
 pub has-reader : (circuit : FlatCircuit) (m r s : ℕ) → IsWellFormed circuit → IsDataOf circuit m r s → HasReader circuit m r s
 has-reader circuit m r s formed of =
     let within = within-readers circuit.memories m r of.0 in
-    let some = some-memory circuit.memories m within in
+    let some = some-item circuit.memories m within in
     let memory = get_or circuit.memories m some in
     let found : get_or circuit.memories m memory ≡ memory = get_or_default circuit.memories m memory some within in
     let readers : readers_at circuit m ≡ memory.readers = get_or-map (λ (k : Memory). k.readers) circuit.memories m some [] within in

@@ -5,12 +5,13 @@ use Rattle.std.proofs.lemmas.List.{map-append}
 use Rattle.std.proofs.lemmas.Grind.{flat_map-append}
 use Rattle.gg_ast.specs.Tree.{ModuleTree}
 use Rattle.gg_flat.specs.Tree.{joined}
+use Rattle.gg_flat.proofs.ListLemmas.{further, Contains-map}
 use Rattle.gg_count.specs.Sites.{Held, Site, site_below, sites, held_at}
 use Rattle.gg_digest.proofs.FlatLemmas.{map-twice}
 use Rattle.gg_digest.proofs.NameLemmas.{Differ, Differ-tail}
 use Rattle.gg_tree.proofs.DeclaredLemmas.{Differ-head}
 use Rattle.gg_tree.proofs.JoinLemmas.{joined-twice}
-use Rattle.gg_digest.proofs.AmongLemmas.{further, MadeOf, from-map, in-map, from-flat_map}
+use Rattle.gg_digest.proofs.AmongLemmas.{MadeOf, from-map, from-flat_map}
 use Rattle.gg_formed.proofs.DifferLemmas.{Differ-none, Differ-append, Differ-map, IsDotless, behind-once, first-once}
 
 -- the name of something in an instance: the instance's name, a dot, and its name there
@@ -54,7 +55,7 @@ module _ (modules : List ModuleTree) (own : ℕ → List (List ℕ)) (are : AreA
       clash w a b =
           let c = from-map (behind b.of) (names_below n b.of.number) w b.made in
           let same = first-once h.name b.of.name a.of c.of (are.plain k h (each h (0, omega arith, refl))) (are.plain k b.of (each b.of (further h hs b.of b.among))) (a.made ∙ sym c.made) in
-          Differ-head h.name (map (λ (x : Held). x.name) hs) differ (subst (Contains (map (λ (x : Held). x.name) hs)) (sym same) (in-map (λ (x : Held). x.name) hs b.of b.among))
+          Differ-head h.name (map (λ (x : Held). x.name) hs) differ (subst (Contains (map (λ (x : Held). x.name) hs)) (sym same) (Contains-map (λ (x : Held). x.name) hs b.of b.among))
 
   names-differ : (n k : ℕ) → Differ (names_below n k)
   names-differ zero k = are.differ k

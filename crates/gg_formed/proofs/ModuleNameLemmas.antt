@@ -17,6 +17,7 @@ use Rattle.gg_names.specs.Along.{along, along_from}
 use Rattle.gg_names.specs.Namespace.{name_by, name_by_kind, port_names, names_in, names_after}
 use Rattle.gg_names.specs.Repetitions.{repeated_in, repeated_in_field, repeated_port, repeated_by, repeated_by_kind, repeated_declarations, repetitions}
 use Rattle.gg_flat.specs.Tree.{joined}
+use Rattle.gg_flat.proofs.ListLemmas.{Contains-map}
 use Rattle.gg_count.specs.Sites.{Held, Site, top_site, module_at, held_at, held_by_kind, sites_from, sites_of}
 use Rattle.gg_digest.specs.Flat.{FlatSignal, flat_signal, signals_at, FlatMemory, flat_memory, memories_at}
 use Rattle.gg_digest.specs.IsFlat.{memory_paths}
@@ -34,7 +35,7 @@ use Rattle.gg_tree.proofs.JoinLemmas.{dot-within}
 use Rattle.gg_tree.proofs.OwnLemmas.{own_in}
 use Rattle.gg_tree.proofs.SoundLemmas.{apart-names}
 use Rattle.gg_tree.proofs.WordLemmas.{ports-named, held-word, bank-word, BankWords}
-use Rattle.gg_digest.proofs.AmongLemmas.{MadeOf, in-map, from-map, in-flat_map, from-flat_map, in-filter_map}
+use Rattle.gg_digest.proofs.AmongLemmas.{MadeOf, from-map, in-flat_map, from-flat_map, in-filter_map}
 use Rattle.gg_formed.proofs.ApartLemmas.{behind, AreApart, own_paths, paths-differ}
 use Rattle.gg_formed.proofs.DifferLemmas.{Differ-none, Differ-one, Differ-append, IsDotless, first-once, BeginsIn, begins-apart, parts-differ, filter_map-parts, flat_map-parts}
 use Rattle.gg_formed.proofs.PortNameLemmas.{bank-differs, fields-apart}
@@ -215,7 +216,7 @@ module _ (circuit : CircuitTree) (are_names : AreNamesOfCircuit circuit) (once :
   ports-begin k w c =
       let p = from-flat_map port_words (body k).ports w c in
       let b = optional-begins p.of.name (cause_of_port p.of.direction) (type_shape p.of.ty) w p.made in
-      record { first = p.of.name; among = in-map (λ (q : Port). q.name) (body k).ports p.of p.among; is = named p.of.name w b }
+      record { first = p.of.name; among = Contains-map (λ (q : Port). q.name) (body k).ports p.of p.among; is = named p.of.name w b }
     where
       named : (n w : List ℕ) → BeginsIn (n ∷ []) w → (w ≡ n) ⊎ ((r : List ℕ) × (w ≡ n ++ 46 ∷ r))
       named n w b = subst (λ (x : List ℕ). (w ≡ x) ⊎ ((r : List ℕ) × (w ≡ x ++ 46 ∷ r))) (one-word n b.first b.among) b.is

@@ -14,6 +14,7 @@ use Rattle.gg_flat.specs.declared.memory.Writer.{Writer}
 use Rattle.gg_flat.specs.declared.tree.Instance.{Instance}
 use Rattle.gg_flat.specs.declared.tree.InstancePort.{InstancePort}
 use Rattle.gg_flat.specs.declared.tree.MemoryInstance.{MemoryInstance}
+use Rattle.gg_flat.proofs.ListLemmas.{some-item}
 use Rattle.gg_count.specs.Sites.{Site, Outer, module_at, sites_of}
 use Rattle.gg_digest.specs.Flat.{FlatMemory, memories_at, signals_at}
 use Rattle.gg_digest.specs.IsFlat.{IsFlat, IsMemoryOf}
@@ -142,13 +143,8 @@ bank-same paths said a b p q =
     ∙ ap (λ (x : List Reader). bank_made b.word b.depth b.latency x a.writers) (p.readers ∙ sym q.readers)
     ∙ ap (λ (x : List Writer). bank_made b.word b.depth b.latency b.readers x) (p.writers ∙ sym q.writers)
 
--- a default for lists with a place m: their first element
-some-default : {A : Type 0} (xs : List A) (m : ℕ) → m < length xs → A
-some-default [] m lt = absurd (omega (arith, lt))
-some-default (x ∷ xs) m lt = x
-
 pub banks-same : (circuit : CircuitTree) (one other : FlatCircuit) → IsFlat circuit one → IsFlat circuit other → one.memories ≡ other.memories
 banks-same circuit one other p q =
     places-same one.memories other.memories (p.memory_count ∙ sym q.memory_count)
-    (λ m any lt. let below : m < length (memories_of circuit) = omega (arith, lt, p.memory_count) in let said = some-default (memories_of circuit) m below in
+    (λ m any lt. let below : m < length (memories_of circuit) = omega (arith, lt, p.memory_count) in let said = some-item (memories_of circuit) m below in
     bank-same _ _ _ _ (p.memories m said any below) (q.memories m said any below))

@@ -8,7 +8,8 @@ use Rattle.std.proofs.lemmas.List.Elements.{Contains-get_or}
 use Rattle.std.proofs.lemmas.List.FromFn.{length-range_with_len, get_or-range_with_len}
 use Rattle.std.proofs.lemmas.List.Kept.{AllPairs-filter}
 use Rattle.gg_flat.specs.Line.{value_at}
-use Rattle.gg_closed.proofs.ListLemmas.{map-cases, Contains-map}
+use Rattle.gg_flat.proofs.ListLemmas.{Contains-map}
+use Rattle.gg_closed.proofs.ListLemmas.{map-cases}
 use Rattle.gg_check.proofs.SameCutLemmas.{ascending-same}
 use Rattle.gg_sound.specs.Built.{place_in}
 use Rattle.gg_sound.proofs.NumberLemmas.{placed}

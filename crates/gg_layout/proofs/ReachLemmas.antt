@@ -8,7 +8,8 @@ use Rattle.gg_flat.specs.declared.piece.Driver.TheVariants.{Input, MemoryWord, R
 use Rattle.gg_flat.specs.Line.{value_at}
 use Rattle.gg_flat.specs.Circuit.{FlatCircuit, driver_at}
 use Rattle.gg_flat.specs.Reads.{NamesSignal, Reads, IsPath, Reaches}
-use Rattle.gg_closed.proofs.ListLemmas.{Contains-cases, one-place, pairs-nil}
+use Rattle.gg_flat.proofs.ListLemmas.{Contains-cases, one-place}
+use Rattle.gg_closed.proofs.ListLemmas.{pairs-nil}
 
 -- the places, ascending, of just the in-signals that a signal reaches
 pub record AreReached (circuit : FlatCircuit) (out : ℕ) (places : List ℕ) : Type 0 where

@@ -21,8 +21,7 @@ use Rattle.gg_flat.specs.Circuit.{FlatCircuit, signal_shapes, driver_at, readers
 use Rattle.gg_flat.specs.Reads.{Names, ResetNames, NextNames}
 use Rattle.gg_flat.specs.Tree.{path_at}
 use Rattle.gg_flat.specs.WellFormed.{IsDataOf, MayDrive, IsReset, IsRegister, IsReader, IsWriter, IsMemory, IsWellFormed, reader_driver}
-use Rattle.gg_flat.proofs.AdvanceLemmas.{some-register}
-use Rattle.gg_flat.proofs.TypedLemmas.{some-memory}
+use Rattle.gg_flat.proofs.ListLemmas.{some-item}
 use Rattle.gg_part.specs.Part.{IsPart, IsFrom, renamed_op, renamed_line, renamed_next, renamed_reset, renamed_register, renamed_reader, renamed_writer, renamed_memory, NamesBelow, ReadsAmong}
 use Rattle.gg_part.proofs.RenameLemmas.{shapes_of-renamed, length-renamed, line_shape-renamed}
 use Rattle.gg_part.proofs.RunLemmas.{shape-part, length-shapes}
@@ -125,7 +124,7 @@ module _ (whole part : FlatCircuit) (globals held memories : List ℕ) (is : IsP
   readers-part : (m : ℕ) → m < length memories → readers_at whole (value_at memories m) ≡ map (λ reader. renamed_reader globals reader) (readers_at part m)
   readers-part m lt =
       let within : m < length part.memories = omega (arith, lt, is.memory_count) in
-      let some = some-memory part.memories m within in
+      let some = some-item part.memories m within in
       let local = get_or part.memories m some in
       let at = is.memory_from m lt in
       get_or-map (λ (k : Memory). k.readers) whole.memories (value_at memories m) (renamed_memory globals local) [] at.within
@@ -135,7 +134,7 @@ module _ (whole part : FlatCircuit) (globals held memories : List ℕ) (is : IsP
   latency-part : (m : ℕ) → m < length memories → latency_at whole (value_at memories m) ≡ latency_at part m
   latency-part m lt =
       let within : m < length part.memories = omega (arith, lt, is.memory_count) in
-      let some = some-memory part.memories m within in
+      let some = some-item part.memories m within in
       let local = get_or part.memories m some in
       let at = is.memory_from m lt in
       get_or-map (λ (k : Memory). k.latency) whole.memories (value_at memories m) (renamed_memory globals local) Zero at.within
@@ -145,7 +144,7 @@ module _ (whole part : FlatCircuit) (globals held memories : List ℕ) (is : IsP
   reader-among : (m r : ℕ) → m < length memories → r < length (readers_at part m) → ReadsAmong (length globals) (reader_at (readers_at part m) r)
   reader-among m r lt inside =
       let within : m < length part.memories = omega (arith, lt, is.memory_count) in
-      let some = some-memory part.memories m within in
+      let some = some-item part.memories m within in
       let same : readers_at part m ≡ (get_or part.memories m some).readers = get_or-map (λ (k : Memory). k.readers) part.memories m some [] within in
       subst (λ (l : List Reader). ReadsAmong (length globals) (reader_at l r)) (sym same) (((is.memory_from m lt).below some).readers r (record { addr = 0; en = 0; word = 0 }) (subst (λ (l : List Reader). r < length l) same inside))
 
@@ -167,7 +166,7 @@ module _ (whole part : FlatCircuit) (globals held memories : List ℕ) (is : IsP
   drive-part s outer (Held r) known from may =
       let old = subst (MayDrive whole (value_at globals s)) from.1 may in
       let within : r < length part.registers = omega (arith, from.0, is.register_count) in
-      let some = some-register part.registers r within in
+      let some = some-item part.registers r within in
       let local = get_or part.registers r some in
       let at = is.register_from r from.0 in (
         within,

@@ -15,23 +15,13 @@ use Rattle.gg_cut.specs.Fault.{or_else, most_capacity, out_of_range, range_fault
 use Rattle.gg_cut.specs.Plan.{wire_at}
 use Rattle.gg_cut.proofs.KnownLemmas.{signals-known}
 use Rattle.gg_cut.proofs.ChannelLemmas.{wires-signals}
+use Rattle.gg_cut.proofs.FindLemmas.{none-map}
 use Rattle.gg_closed.proofs.FaultlessLemmas as closed
 use Rattle.gg_closed.proofs.EndLemmas as ends
+use Rattle.gg_closed.proofs.FaultlessLemmas.{none-first, none-second}
 use Rattle.gg_plan.specs.Made.{IsCapacity}
 
 -- ---- the first of several faults
-
-none-first : {A : Type 0} (a b : Option A) → or_else a b ≡ None → a ≡ None
-none-first None b e = refl
-none-first (Some x) b e = absurd (cc)
-
-none-rest : {A : Type 0} (a b : Option A) → or_else a b ≡ None → b ≡ None
-none-rest None b e = e
-none-rest (Some x) b e = absurd (cc)
-
-none-map : {A B : Type 0} (f : A → B) (a : Option A) → option_map f a ≡ None → a ≡ None
-none-map f None e = refl
-none-map f (Some x) e = absurd (cc)
 
 -- the capacities of a request without a fault are in range
 pub range-free : (design : Ordered) (request : Request) → first_fault design request ≡ None → range_fault request.capacity ≡ None
@@ -43,8 +33,8 @@ range-free design request none =
     let last = channel_fault circuit request listed signals in
     let limits = or_else (option_map (λ n. TooManyUnits n) (too_many_units listed)) (option_map (λ n. TooManyChannels n) (too_many_channels signals)) in
     none-first (range_fault request.capacity) limits
-    (none-rest (option_map (λ p. UnknownChannel p) (unknown_channel (channel_names circuit signals) request.capacity)) (or_else (range_fault request.capacity) limits)
-    (none-rest (kind_fault tree request) last (none-rest (entry_fault tree request) (or_else (kind_fault tree request) last) none)))
+    (none-second (option_map (λ p. UnknownChannel p) (unknown_channel (channel_names circuit signals) request.capacity)) (or_else (range_fault request.capacity) limits)
+    (none-second (kind_fault tree request) last (none-second (entry_fault tree request) (or_else (kind_fault tree request) last) none)))
 
 -- ---- capacities
 

@@ -12,11 +12,12 @@ use Rattle.gg_flat.specs.Line.{value_at}
 use Rattle.gg_flat.specs.Circuit.{driver_at}
 use Rattle.gg_flat.specs.Memory.{LooksAmong, WritesAmong}
 use Rattle.gg_flat.specs.WellFormed.{IsWellFormed, AreDriven, reader_driver}
+use Rattle.gg_flat.proofs.ListLemmas.{one-place}
 use Rattle.gg_part.specs.Part.{MemoryBelow, renamed_memory, renamed_reader, renamed_writer}
 use Rattle.gg_part.specs.Building.{IsHeldIn}
 use Rattle.gg_part.specs.declared.part.Part.{Part}
 use Rattle.gg_part.proofs.FormedLemmas.{IsWellFormed-part}
-use Rattle.gg_closed.proofs.ListLemmas.{map-cases, one-place}
+use Rattle.gg_closed.proofs.ListLemmas.{map-cases}
 use Rattle.gg_memunit.specs.MemoryUnit.{outs_of, IsMemoryPiece}
 use Rattle.gg_memunit.proofs.UnitLemmas.{sole, of-only}
 use Rattle.gg_sound.specs.Alone.{IsCutAgain}

@@ -6,8 +6,9 @@ use Rattle.std.proofs.lemmas.Grind.{same_number_lists}
 use Rattle.std.proofs.lemmas.Simd.{map-map}
 use Rattle.gg_flat.specs.declared.memory.Reader.{Reader}
 use Rattle.gg_flat.specs.Line.{value_at}
+use Rattle.gg_flat.proofs.ListLemmas.{one-place}
 use Rattle.gg_part.specs.Part.{renamed_reader, ReadsAmong}
-use Rattle.gg_closed.proofs.ListLemmas.{map-cases, one-place}
+use Rattle.gg_closed.proofs.ListLemmas.{map-cases}
 
 pub All-unmap : {A B : Type 0} (P : B → Type 0) (f : A → B) (xs : List A) → All P (map f xs) → All (λ x. P (f x)) xs
 All-unmap P f xs all = λ i d lt. subst P (get_or-map f xs i d (f d) lt) (all i (f d) (omega (arith, lt, length-map xs f)))

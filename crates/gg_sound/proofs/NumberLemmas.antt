@@ -8,9 +8,9 @@ use Rattle.std.proofs.lemmas.List.FromFn.{length-range_with_len, get_or-range_wi
 use Rattle.std.proofs.lemmas.List.Kept.{AllPairs-filter}
 use Rattle.std.proofs.lemmas.List.Folds.{list_any_at}
 use Rattle.gg_flat.specs.Line.{value_at}
+use Rattle.gg_flat.proofs.ListLemmas.{here, Contains-filter, filter-cases, one-place}
 use Rattle.gg_cut.specs.Listed.{first_place}
 use Rattle.gg_cut.proofs.PathLemmas.{first_place-Some, first_place-None}
-use Rattle.gg_closed.proofs.ListLemmas.{Contains-filter, filter-cases, here, one-place}
 use Rattle.gg_sound.specs.Built.{place_in}
 
 -- ---- places

@@ -6,10 +6,10 @@ use Rattle.gg_flat.specs.Circuit.{FlatCircuit, driver_at}
 use Rattle.gg_flat.specs.Reads.{Reads, Reaches}
 use Rattle.gg_flat.specs.Order.{IsOrder}
 use Rattle.gg_flat.proofs.OrderLemmas.{read-before}
+use Rattle.gg_flat.proofs.ListLemmas.{one-place}
 use Rattle.gg_needs.proofs.ReachLemmas.{Reaches-itself, Reaches-on, along-reaches}
 use Rattle.gg_part.specs.Part.{IsPart}
 use Rattle.gg_part.proofs.AlongLemmas.{named-in}
-use Rattle.gg_closed.proofs.ListLemmas.{one-place}
 use Rattle.gg_sound.specs.Built.{place_in}
 use Rattle.gg_sound.proofs.NumberLemmas.{placed}
 

@@ -13,6 +13,7 @@ use Rattle.gg_flat.specs.WellFormed.{IsWellFormed}
 use Rattle.gg_flat.specs.Tree.{InstanceTree, IsTree, memory_at}
 use Rattle.gg_flat.specs.Scoped.{IsScoped}
 use Rattle.gg_flat.specs.Order.{IsOrder}
+use Rattle.gg_flat.proofs.ListLemmas.{Contains-map, Contains-filter, filter-cases, in-range, range-below}
 use Rattle.gg_part.specs.InOrder.{Precedes, IsAlong}
 use Rattle.gg_cut.specs.declared.wires.Wire.{Wire}
 use Rattle.gg_cut.specs.declared.listed.Listed.{Listed}
@@ -23,11 +24,11 @@ use Rattle.gg_cut.specs.Plan.{wire_at, channels_to, channels_from, signals_of, H
 use Rattle.gg_closed.specs.Apart.{AreApart}
 use Rattle.gg_split.specs.Share.{IsShareOf}
 use Rattle.gg_split.specs.Spread.{AreChannels, IsChannelBelow, has_by, has, signals_among, memories_below, AreSignals, AreMemories}
-use Rattle.gg_closed.proofs.ListLemmas.{Contains-filter, filter-cases, Contains-map, map-cases, AllPairs-map}
+use Rattle.gg_closed.proofs.ListLemmas.{map-cases, AllPairs-map}
 use Rattle.gg_closed.proofs.TreeLemmas.{innermost}
 use Rattle.gg_closed.proofs.PlaceLemmas.{place-signal}
 use Rattle.gg_closed.proofs.OnceLemmas.{channel-one}
-use Rattle.gg_closed.proofs.MakerLemmas.{Gets, in-range, range-below, chosen-in, chosen-out, wire-among, no-channel, owner-signal}
+use Rattle.gg_closed.proofs.MakerLemmas.{Gets, chosen-in, chosen-out, wire-among, no-channel, owner-signal}
 use Rattle.gg_closed.proofs.WrittenLemmas.{inner-plain}
 use Rattle.gg_closed.proofs.ChoiceLemmas.{gets-known, choice}
 

@@ -23,7 +23,7 @@ use Rattle.gg_tree.proofs.OwnLemmas.{own_in, own-place, placed-known, count-next
 use Rattle.gg_tree.proofs.HeldMemoryLemmas.{banks_in, MemoryPlace, memory-place, memory-count, held-count}
 use Rattle.gg_tree.proofs.TreeLemmas.{HasDistinctPaths, HasPlainNames, no_own, path-is, OwnPlace, own-place-of, memory-path, holder-is}
 use Rattle.gg_tree.proofs.FieldLemmas.{FieldPlace, number_behind}
-use Rattle.gg_tree.proofs.ScopeOfTreeLemmas.{HasApartNames, just-below, fields-are}
+use Rattle.gg_tree.proofs.ScopeOfTreeLemmas.{HasApartNames, just-below, fields-are, number-at}
 
 module _ (circuit : CircuitTree) (tree : InstanceTree) (top : ℕ) (known_top : place_of circuit.name (module_names circuit) ≡ Some top) (is_tree : IsTreeOf circuit tree) where
   abbrev Stands : ℕ → Site → Type 0
@@ -87,8 +87,6 @@ module _ (circuit : CircuitTree) (tree : InstanceTree) (top : ℕ) (known_top : 
       offset = let same : memories_to m.holder ≡ memories_to k = ap memories_to holder in omega (arith, m.counted, same)
 
 module _ (circuit : CircuitTree) (flat : FlatCircuit) (tree : InstanceTree) (top : ℕ) (known_top : place_of circuit.name (module_names circuit) ≡ Some top) (is_flat : IsFlat circuit flat) (is_tree : IsTreeOf circuit tree) (distinct : HasDistinctPaths circuit) (plain : HasPlainNames circuit) (names : HasApartNames circuit) where
-  number-at : (paths : List (List ℕ)) (path : List ℕ) (s : ℕ) → place_of path paths ≡ Some s → number_of paths path ≡ s
-  number-at paths path s e = ap (λ o. unwrap_or o 0) e
 
   -- an own signal that is a field of one of the site's memories is a field of a memory in the tree
   field-here : (k : ℕ) (x : Site) → Placed (length circuit.modules) circuit.modules (sites_of circuit) k x → (o : ℕ) → o < length (own_in circuit x) → FieldPlace (module_at circuit.modules x.number).statements (get_or (own_in circuit x) o no_own) → IsMemoryField flat tree k (count_to (signals_in circuit) (sites_of circuit) k + o)

@@ -12,6 +12,7 @@ use Rattle.gg_flat.specs.Along.{rows_along}
 use Rattle.gg_flat.specs.Run.{IsColumns, IsRun, column}
 use Rattle.gg_flat.proofs.AlongLemmas.{IsRun-along}
 use Rattle.gg_flat.specs.Tree.{path_at}
+use Rattle.gg_flat.proofs.ListLemmas.{some-item}
 use Rattle.gg_front.specs.Meaning.{Means, MeansDesign}
 use Rattle.gg_io.specs.Told.{Told}
 use Rattle.gg_order.specs.Design.{IsDesign, Ordered}
@@ -27,6 +28,7 @@ use Rattle.gg_cut.specs.declared.plan.Machine as planned
 use Rattle.gg_cut.specs.declared.plan.Plan.{Plan}
 use Rattle.gg_cut.specs.declared.wires.Wire.{Wire}
 use Rattle.gg_check.specs.CheckText.{channel_name}
+use Rattle.gg_check.proofs.SameCutLemmas.{lines-same}
 use Rattle.gg_node.specs.Machine.{Machine, cycle_limit}
 use Rattle.gg_net.specs.declared.event.Event.{Event}
 use Rattle.gg_net.specs.Kept.{list_at}
@@ -75,18 +77,6 @@ map-range f g (x ∷ xs) a h =
 
 map-numbers : {A B : Type 0} (f : A → B) (g : ℕ → B) (xs : List A) → ((k : ℕ) (any : A) → k < length xs → f (slice_index_or xs k any) ≡ g k) → map f xs ≡ map g (range_with_len 0 (length xs))
 map-numbers f g xs h = map-range f g xs 0 (λ k any lt. h k any lt ∙ ap g (let e : k ≡ 0 + k = omega arith in e))
-
--- functions that give the same lines for each number give the same text
-lines-on : (f g : ℕ → List ℕ) (a n : ℕ) → ((k : ℕ) → a ≤ k → k < a + n → f k ≡ g k) → flat_map f (range_with_len a n) ≡ flat_map g (range_with_len a n)
-lines-on f g a zero h = refl
-lines-on f g a (suc n) h =
-    let head : f a ≡ g a = h a (omega arith) (omega arith) in
-    let rest = lines-on f g (a + 1) n (λ k le lt. h k (omega (arith, le)) (omega (arith, lt))) in
-    ap (λ l. l ++ flat_map f (range_with_len (a + 1) n)) head ∙ ap (λ l. g a ++ l) rest
-
-some-item : {A : Type 0} (xs : List A) (k : ℕ) → k < length xs → A
-some-item [] k lt = absurd (omega (arith, lt))
-some-item (x ∷ xs) k lt = x
 
 module _ (design : Ordered) (request : Request) (default : ℕ) (plan : Plan) (columns : List (List ℕ)) (n : ℕ) (rows : List (List ℕ)) (given : IsGiven design request default plan columns n rows) where
   abbrev the_listed : Listed
@@ -152,7 +142,7 @@ module _ (design : Ordered) (request : Request) (default : ℕ) (plan : Plan) (c
 
     text-is : net_text plan lists net ≡ replay_text the_setting (marking_of net)
     text-is =
-        lines-on (net_line plan lists net) (channel_told the_setting (marking_of net) the_wires) 0 (length plan.channels) (λ c le lt. line-is c (omega (arith, lt)))
+        lines-same (net_line plan lists net) (channel_told the_setting (marking_of net) the_wires) 0 (length plan.channels) (λ c le lt. line-is c (omega (arith, lt)))
         ∙ ap (λ k. flat_map (channel_told the_setting (marking_of net) the_wires) (range_with_len 0 k)) given.planned.channel_total
 
   -- ---- the steps
