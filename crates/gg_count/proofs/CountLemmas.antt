@@ -1,5 +1,5 @@
 -- What is counted along the graph of modules is what is counted over the sites.
-use Rattle.std.proofs.Common.{◌≡◌, ◌≢◌, ℕ, zero, suc, ◌+◌, ◌-◌, ◌<◌, ◌≤◌, ◌^◌, min, max, List, [], ◌∷◌, ◌++◌, length, get_or, drop, map, Option, Some, None, refl, sym, ap, ◌∙◌, subst, arith, true, false, true≢false, Bool, if◌then◌else◌, ◌||◌, inl, inr, ◌⊎◌, eq-eqb, replicate}
+use Rattle.std.proofs.Common.{◌≡◌, ◌≢◌, ℕ, zero, suc, ◌+◌, ◌-◌, ◌<◌, ◌≤◌, ◌^◌, min, max, List, [], ◌∷◌, length, get_or, drop, map, Option, Some, None, refl, sym, ap, ◌∙◌, subst, arith, true, false, true≢false, Bool, if◌then◌else◌, ◌||◌, inl, inr, ◌⊎◌, eq-eqb, replicate}
 use Rattle.std.specs.Prelude.{fold, sum_by, Contains, nat_eq, nat_lt, is_some, option_map}
 use Rattle.std.specs.List.{flat_map, cons_option}
 use Rattle.std.proofs.lemmas.List.{length-map, length-drop, get_or-map, get_or-replicate}
@@ -16,7 +16,7 @@ use Rattle.gg_ast.proofs.NamePlaces.{place_of-below}
 use Rattle.gg_count.specs.declared.pass.Gathering.{Gathering}
 use Rattle.gg_count.specs.declared.pass.Gathering.TheVariants.{Sum, Height, Least}
 use Rattle.gg_count.specs.Counts.{capped, deepest, words_in, deep_in, deep_or, deep_from, deep_place, deep_places, deep_at, is_reached}
-use Rattle.gg_count.specs.Graph.{gathered, gathered_over, value_below}
+use Rattle.gg_count.specs.Graph.{gathered_over, value_below}
 use Rattle.gg_count.specs.Sites.{Site, Held, held, held_by, held_by_kind, held_at, module_at, site_below, sites, top_site, all_sites}
 use Rattle.gg_count.proofs.PassLemmas.{numbers_of, gathered_over-same}
 

@@ -1,21 +1,19 @@
 -- One pass over the modules, and what is known of their values on the way.
-use Rattle.std.proofs.Common.{◌≡◌, ◌≢◌, ℕ, zero, suc, ◌+◌, ◌<◌, ◌≤◌, List, [], ◌∷◌, ◌++◌, length, get_or, take, drop, set, map, Option, Some, None, option_to_list, refl, sym, ap, ◌∙◌, subst, inl, inr, ◌⊎◌, eqb, eq-eqb, arith, true, false}
-use Rattle.std.specs.Prelude.{Contains, AllPairs, fold}
-use Rattle.std.specs.List.{IsDistinct, list_any, filter_map, cons_option}
+use Rattle.std.proofs.Common.{◌≡◌, ◌≢◌, ℕ, zero, suc, ◌+◌, ◌<◌, ◌≤◌, List, [], ◌∷◌, length, get_or, take, set, map, refl, sym, ap, ◌∙◌, subst, inl, inr, eqb, arith, true, false}
+use Rattle.std.specs.Prelude.{Contains, AllPairs}
 use Rattle.std.proofs.lemmas.Bool.Decides.{nat_tests}
-use Rattle.std.proofs.lemmas.List.{get_or-take, length-take, get_or_default, get_or-set_same, get_or-set_other, take_all}
-use Rattle.std.proofs.Math.Seq.{drop-cons}
+use Rattle.std.proofs.lemmas.List.{get_or-take, length-take, get_or_default, get_or-set_same, get_or-set_other}
 use Rattle.std.proofs.Math.ListN.{length-set}
 use Rattle.std.proofs.lemmas.Map.Steps.{length-le_from_distinct_below}
 use Rattle.std.proofs.lemmas.Map.Keys.{IsDistinct-from_apart}
 use Rattle.std.proofs.lemmas.Map.Views.{Contains-from_any}
 use Rattle.gg_ast.specs.declared.statement.Stmt.{Stmt}
 use Rattle.gg_ast.specs.Tree.{ModuleTree}
-use Rattle.gg_walk.specs.Graph.{node_at, IsOrderOf}
+use Rattle.gg_walk.specs.Graph.{IsOrderOf}
 use Rattle.gg_walk.proofs.ListLemmas.{below-more, below-all}
 use Rattle.gg_flat.proofs.ListLemmas.{further}
 use Rattle.gg_count.specs.declared.pass.Gathering.{Gathering}
-use Rattle.gg_count.specs.Sites.{Held, held_by, held_by_kind, held_at, module_at, HoldsModule}
+use Rattle.gg_count.specs.Sites.{Held, held_by, held_at, module_at, HoldsModule}
 use Rattle.gg_count.specs.Graph.{gathered, gathered_over, value_below}
 
 -- the places of the modules of these instances

@@ -1,11 +1,9 @@
 -- The signals of the channels: those of the wires; all in the circuit; and how channels are found by name.
-use Rattle.std.proofs.Common.{◌≡◌, ◌≢◌, ℕ, suc, ◌+◌, ◌<◌, List, [], ◌∷◌, ◌++◌, length, map, set, get_or, take, slice_get, Bool, true, false, true≢false, true-eqb, eq-eqb, refl, sym, ◌∙◌, ap, ap₂, Some, arith}
+use Rattle.std.proofs.Common.{◌≡◌, ◌≢◌, ℕ, suc, ◌+◌, ◌<◌, List, [], ◌∷◌, ◌++◌, length, map, take, slice_get, Bool, true, false, true≢false, true-eqb, eq-eqb, refl, sym, ◌∙◌, ap, ap₂, Some, arith}
 use Rattle.std.specs.Prelude.{Contains, All, AllPairs, bytes_eq, ◌||◌, ◌==◌, if◌then◌else◌, flat_map}
 use Rattle.std.specs.List.{list_any}
-use Rattle.std.proofs.lemmas.List.{map-append, take_more, length-set, get_or_default}
-use Rattle.std.proofs.lemmas.List.Folds.{list_any-append}
+use Rattle.std.proofs.lemmas.List.{map-append, get_or_default}
 use Rattle.std.proofs.lemmas.Slice.Eq.{bytes_eq-Decides}
-use Rattle.std.proofs.Math.Bool.{or-false}
 use Rattle.gg_flat.specs.declared.tree.InstancePort.{InstancePort}
 use Rattle.gg_flat.specs.Circuit.{FlatCircuit, readers_at}
 use Rattle.gg_flat.specs.Tree.{InstanceTree, path_at, instance_at, memory_at, parent_place}
@@ -15,7 +13,6 @@ use Rattle.gg_cut.specs.declared.listed.Listed.{Listed}
 use Rattle.gg_cut.specs.Listed.{owner_of_instance, is_among, AreMarks}
 use Rattle.gg_cut.specs.Channels.{wire, numbered, flattened, first_memory, first_source, first_tray, port_wire, port_wires, reader_wires, writer_wires, field_wires, source_wires, tray_wires, wires_of, port_signals, channel_signals}
 use Rattle.gg_cut.proofs.PathLemmas.{HoldsPath, holds-path, one-place}
-use Rattle.gg_cut.proofs.ChainLemmas.{marked-more}
 
 abbrev signal_of : Wire → ℕ
 signal_of w = w.signal

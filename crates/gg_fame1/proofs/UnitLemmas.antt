@@ -9,7 +9,7 @@ use Rattle.gg_flat.specs.Circuit.{FlatCircuit, signal_shapes}
 use Rattle.gg_flat.specs.WellFormed.{IsWellFormed}
 use Rattle.gg_flat.specs.State.{State, IsState, next_state}
 use Rattle.gg_flat.specs.Settled.{Settled, driver_value}
-use Rattle.gg_node.specs.Machine.{RunsPiece, latch_at, latched_value, latched_values, first_empty, empty_or, needs_at}
+use Rattle.gg_node.specs.Machine.{RunsPiece, latch_at, latched_value, latched_values, first_empty, needs_at}
 use Rattle.gg_node.specs.Token.{IsTokenOf, IsNextOf}
 use Rattle.gg_node.proofs.EmptyLemmas.{filled, empty-after}
 use Rattle.gg_program.specs.ConeValue.{IsConeValue}

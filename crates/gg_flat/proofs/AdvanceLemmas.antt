@@ -1,12 +1,11 @@
 -- The registers' next values, one by one.
-use Rattle.std.proofs.Common.{◌≡◌, ◌≢◌, ℕ, zero, suc, ◌<◌, ◌≤◌, ◌+◌, List, [], ◌∷◌, length, map, set, get_or, refl, sym, ◌∙◌, ap, subst, arith, below_more}
-use Rattle.std.proofs.lemmas.List.{get_or-map, get_or-set_same, get_or-set_other, get_or_default, length-map}
+use Rattle.std.proofs.Common.{◌≡◌, ℕ, zero, suc, ◌<◌, ◌≤◌, List, [], ◌∷◌, length, map, get_or, refl, sym, ◌∙◌, ap, arith}
+use Rattle.std.proofs.lemmas.List.{get_or_default, length-map}
 use Rattle.std.proofs.lemmas.Grind.{same_number_lists}
-use Rattle.gg_bits.specs.Shape.{Shape, shape, uint, Fits}
+use Rattle.gg_bits.specs.Shape.{Shape, shape}
 use Rattle.gg_flat.specs.declared.piece.Register.{Register}
-use Rattle.gg_flat.specs.Line.{shape_at, value_at, AreTyped}
+use Rattle.gg_flat.specs.Line.{value_at, AreTyped}
 use Rattle.gg_flat.specs.State.{next_register, next_registers}
-use Rattle.gg_flat.proofs.TypedLemmas.{AreTyped-set}
 use Rattle.gg_flat.proofs.ListLemmas.{some-item}
 
 -- the shapes of registers

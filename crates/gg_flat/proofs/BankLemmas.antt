@@ -13,7 +13,7 @@ use Rattle.gg_flat.specs.declared.memory.Writer.{Writer}
 use Rattle.gg_flat.specs.declared.memory.Memory.{Memory}
 use Rattle.gg_flat.specs.Line.{value_at, AreTyped, HasType, HasValue}
 use Rattle.gg_flat.specs.Circuit.{FlatCircuit, signal_shapes}
-use Rattle.gg_flat.specs.Memory.{Bank, found_word, hits, next_word, next_words, next_reads, next_bank, next_banks, opening_bank, read_count, words_read, bank_at, AreWords, IsBank, AreBanks, LooksAmong, WritesAmong}
+use Rattle.gg_flat.specs.Memory.{Bank, found_word, hits, next_word, next_words, next_reads, next_bank, next_banks, opening_bank, read_count, words_read, bank_at, AreWords, IsBank, AreBanks, LooksAmong}
 use Rattle.gg_flat.specs.Served.{Access, ByReader, ByWriter, Brings, written, after_access}
 use Rattle.gg_flat.specs.WellFormed.{IsWriter, IsMemory, IsWellFormed}
 use Rattle.gg_flat.proofs.TypedLemmas.{read_word-fits}

@@ -1,7 +1,6 @@
 -- The loops over the read registers of a memory, and over memories.
-use Rattle.std.proofs.Common.{◌≡◌, ◌≢◌, ℕ, ◌+◌, ◌<◌, ◌≤◌, List, [], length, map, set, get_or, sym, ◌∙◌, ap, arith, below_more}
-use Rattle.std.proofs.lemmas.List.{ext_get_or, get_or-map, get_or-set_same, get_or-set_other, get_or_default, length-set, length-map}
-use Rattle.std.proofs.lemmas.Grind.{same_number_lists}
+use Rattle.std.proofs.Common.{◌≡◌, ℕ, ◌<◌, ◌≤◌, List, [], length, get_or, sym, ◌∙◌, arith}
+use Rattle.std.proofs.lemmas.List.{ext_get_or}
 use Rattle.gg_flat.specs.declared.memory.Reader.{Reader}
 use Rattle.gg_flat.specs.declared.memory.Memory.{Memory}
 use Rattle.gg_flat.specs.Line.{value_at}

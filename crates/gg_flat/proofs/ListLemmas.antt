@@ -1,10 +1,11 @@
 -- What a list contains, what `map` and `filter` make of it, and the numbers of a range.
-use Rattle.std.proofs.Common.{◌≡◌, ◌≢◌, ℕ, zero, suc, ◌+◌, ◌<◌, ◌≤◌, List, [], ◌∷◌, length, map, get_or, Bool, true, false, true≢false, refl, sym, ◌∙◌, ap, subst, inl, inr, ◌⊎◌, arith}
+use Rattle.std.proofs.Common.{◌≡◌, ◌≢◌, ℕ, zero, suc, ◌+◌, ◌<◌, ◌≤◌, List, [], ◌∷◌, length, map, get_or, Bool, true, false, true≢false, refl, sym, ◌∙◌, ap, subst, inl, inr, ◌⊎◌, arith, ap₂}
 use Rattle.std.specs.Prelude.{filter, cond, Contains, AllPairs}
 use Rattle.std.specs.List.{range_with_len}
 use Rattle.std.proofs.lemmas.Bool.{cases_lt, cases_Bool}
 use Rattle.std.proofs.lemmas.List.{length-map, get_or-map}
 use Rattle.std.proofs.lemmas.List.FromFn.{get_or-range_with_len, length-range_with_len}
+use Rattle.std.proofs.lemmas.List.Kept.{AllPairs-filter}
 
 -- some item of a list that isn't empty
 pub some-item : {A : Type 0} (xs : List A) (k : ℕ) → k < length xs → A
@@ -25,6 +26,10 @@ Contains-cases x y xs (suc k, lt, is) = inr (k, omega (arith, lt), is)
 
 pub Contains-map : {A B : Type 0} (f : A → B) (xs : List A) (x : A) → Contains xs x → Contains (map f xs) (f x)
 Contains-map f xs x c = (c.0, omega (arith, c.1, length-map xs f), get_or-map f xs c.0 x (f x) c.1 ∙ ap f c.2)
+
+pub map-same : {A B : Type 0} (f g : A → B) (xs : List A) → ((x : A) → f x ≡ g x) → map f xs ≡ map g xs
+map-same f g [] same = refl
+map-same f g (x ∷ xs) same = ap₂ (λ y l. y ∷ l) (same x) (map-same f g xs same)
 
 -- ---- what a filter leaves
 
@@ -69,6 +74,13 @@ range-below n c h =
     let lt : h.0 < n = omega (arith, h.1, length-range_with_len 0 n) in
     let is = sym (get_or-range_with_len 0 n h.0 c lt) ∙ h.2 in
     omega (arith, lt, is)
+
+-- the numbers below n that pass a test are ascending
+pub numbers-up : (test : ℕ → Bool) (n : ℕ) → AllPairs (λ a b. a < b) (filter test (range_with_len 0 n))
+numbers-up test n = AllPairs-filter (λ a b. a < b) test (range_with_len 0 n)
+    (λ i j d lt inside.
+    let high : j < n = omega (arith, inside, length-range_with_len 0 n) in
+    omega (arith, lt, get_or-range_with_len 0 n i d (omega (arith, lt, high)), get_or-range_with_len 0 n j d high))
 
 -- in a list of distinct numbers each stands at one place
 pub one-place : (xs : List ℕ) (i j : ℕ) → AllPairs (λ a b. a ≢ b) xs → i < length xs → j < length xs → get_or xs i 0 ≡ get_or xs j 0 → i ≡ j

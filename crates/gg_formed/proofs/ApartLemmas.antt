@@ -5,7 +5,7 @@ use Rattle.std.proofs.lemmas.List.{map-append}
 use Rattle.std.proofs.lemmas.Grind.{flat_map-append}
 use Rattle.gg_ast.specs.Tree.{ModuleTree}
 use Rattle.gg_flat.specs.Tree.{joined}
-use Rattle.gg_flat.proofs.ListLemmas.{further, Contains-map}
+use Rattle.gg_flat.proofs.ListLemmas.{further, Contains-map, map-same}
 use Rattle.gg_count.specs.Sites.{Held, Site, site_below, sites, held_at}
 use Rattle.gg_digest.proofs.FlatLemmas.{map-twice}
 use Rattle.gg_digest.proofs.NameLemmas.{Differ, Differ-tail}
@@ -22,10 +22,6 @@ behind h r = h.name ++ 46 ∷ r
 pub joined-same : (p a b : List ℕ) → joined p a ≡ joined p b → a ≡ b
 joined-same [] a b e = e
 joined-same (c ∷ cs) a b e = behind-once (c ∷ cs) a b e
-
-map-same : {A B : Type 0} (f g : A → B) (xs : List A) → ((x : A) → f x ≡ g x) → map f xs ≡ map g xs
-map-same f g [] h = refl
-map-same f g (x ∷ xs) h = ap₂ (λ y l. y ∷ l) (h x) (map-same f g xs h)
 
 -- What is known of the names of modules: what each has of its own differs; so do its instances' names, which aren't empty and
 -- have no dot; and nothing of its own is named as something in an instance.

@@ -1,6 +1,6 @@
 -- The tokens, the accesses and the next state of a memory unit.
 use Rattle.std.proofs.Common.{◌≡◌, ℕ, zero, suc, ◌+◌, ◌<◌, ◌^◌, List, [], ◌∷◌, Option, None, Some, Bool, length, map, refl, sym, ap, subst, ◌∙◌, arith}
-use Rattle.std.specs.Prelude.{All, replicate, slice_get, slice_index_or, slice_set, MatchOption, ⊤}
+use Rattle.std.specs.Prelude.{All, replicate, slice_get, slice_index_or, slice_set}
 use Rattle.std.proofs.lemmas.List.{get_or-map, length-map, map-set, nil_from_length}
 use Rattle.gg_flat.specs.declared.memory.Latency.{Latency}
 use Rattle.gg_flat.specs.declared.memory.Latency.TheVariants.{Zero, One}
@@ -16,7 +16,7 @@ use Rattle.gg_flat.specs.Settled.{Settled, driver_value}
 use Rattle.gg_flat.specs.WellFormed.{AreDriven, reader_driver}
 use Rattle.gg_flat.specs.Memory.{Bank, found_word, read_word, next_words_from, next_reads, next_banks, read_count, LooksAmong}
 use Rattle.gg_flat.specs.Served.{after_access}
-use Rattle.gg_node.specs.Machine.{RunsPiece, Port, Machine, latch_at, latched_value, latched_values, first_empty, empty_or, needs_at, port_number}
+use Rattle.gg_node.specs.Machine.{RunsPiece, Port, Machine, latch_at, latched_value, latched_values, first_empty, needs_at, port_number}
 use Rattle.gg_node.specs.Token.{AgreesOn, IsTokenOf, IsNextOf, accessed}
 use Rattle.gg_node.specs.Step.{with_served}
 use Rattle.gg_node.proofs.EmptyLemmas.{filled}

@@ -1,6 +1,6 @@
 -- What is found along a list, element by element.
-use Rattle.std.proofs.Common.{◌≡◌, ℕ, ◌+◌, ◌<◌, ◌≤◌, List, [], ◌∷◌, ◌++◌, length, get_or, take, drop, Some, refl, sym, ap, subst, ◌∙◌, append_assoc}
-use Rattle.std.proofs.lemmas.List.{take_more, drop_more, drop_all}
+use Rattle.std.proofs.Common.{◌≡◌, ℕ, ◌+◌, ◌<◌, List, [], ◌∷◌, ◌++◌, length, get_or, take, drop, Some, sym, ap, subst, ◌∙◌}
+use Rattle.std.proofs.lemmas.List.{take_more, drop_more}
 use Rattle.gg_names.specs.declared.fault.Repetition.{Repetition}
 use Rattle.gg_names.specs.declared.fault.NamesFault.{NamesFault}
 use Rattle.gg_names.specs.declared.fault.NamesFault.TheVariants.{Repeated, NoMemory}

@@ -1,16 +1,14 @@
 -- A walk from the back of an order to its front marks just what a signal reaches.
-use Rattle.std.proofs.Common.{◌≡◌, ◌≢◌, ℕ, zero, suc, ◌+◌, ◌<◌, ◌≤◌, List, length, set, replicate, Bool, true, false, true≢false, refl, sym, ◌∙◌, ap, subst, inl, inr, arith, nat_eq}
-use Rattle.std.proofs.lemmas.List.{get_or-set_same, get_or-set_other, length-set, length-replicate}
+use Rattle.std.proofs.Common.{◌≡◌, ◌≢◌, ℕ, ◌+◌, ◌<◌, List, length, Bool, true, false, true≢false, refl, sym, ◌∙◌, subst, inl, inr, arith}
 use Rattle.std.proofs.lemmas.Bool.{cases_lt}
-use Rattle.std.proofs.lemmas.Bool.Decides.{Decides-eqb}
 use Rattle.gg_flat.specs.Line.{value_at}
 use Rattle.gg_flat.specs.Circuit.{FlatCircuit, driver_at}
-use Rattle.gg_flat.specs.Reads.{Reads, NamesSignal, Reaches}
+use Rattle.gg_flat.specs.Reads.{Reads, NamesSignal}
 use Rattle.gg_flat.specs.Order.{IsOrder}
 use Rattle.gg_flat.proofs.OrderLemmas.{read-before, place-of}
 use Rattle.gg_order.specs.Marks.{is_marked, Marks}
 use Rattle.gg_needs.specs.Walk.{MarksReached, IsClosed, IsWalk, ReadsMarked}
-use Rattle.gg_needs.proofs.ReachLemmas.{Reaches-itself, Reaches-on, along-reaches}
+use Rattle.gg_needs.proofs.ReachLemmas.{Reaches-on, along-reaches}
 
 -- one step of the walk: the signal at place k is looked at
 pub IsWalk-step : (circuit : FlatCircuit) (order : List ℕ) (out k n : ℕ) (before after : List Bool) → IsOrder circuit order → k < length order → n ≡ k + 1 → length after ≡ length circuit.signals → ReadsMarked circuit (value_at order k) before after → IsWalk circuit order out n before → IsWalk circuit order out k after

@@ -6,17 +6,17 @@ use Rattle.std.proofs.lemmas.List.{length-map, length-replicate}
 use Rattle.std.proofs.lemmas.List.FromFn.{length-range_with_len, get_or-range_with_len}
 use Rattle.std.proofs.lemmas.Nat.Bits.{bit_at-zero, bit_at-pow_same, bit_at-pow_other}
 use Rattle.gg_flat.specs.Line.{value_at}
-use Rattle.gg_flat.specs.Circuit.{FlatCircuit, driver_at}
-use Rattle.gg_flat.specs.Reads.{NamesSignal, Reaches}
+use Rattle.gg_flat.specs.Circuit.{FlatCircuit}
+use Rattle.gg_flat.specs.Reads.{Reaches}
 use Rattle.gg_part.specs.InOrder.{IsInOrder}
 use Rattle.gg_part.proofs.AlongLemmas.{IsOrder-numbers}
 use Rattle.gg_order.specs.Marks.{is_marked}
 use Rattle.gg_needs.specs.Walk.{IsWalk, ReadsMarked}
 use Rattle.gg_needs.proofs.ReachLemmas.{Reaches-itself}
-use Rattle.gg_needs.proofs.ReachedLemmas.{IsWalk-step, MarksReached-walk, ReadsMarked-driver, ReadsMarked-none}
+use Rattle.gg_needs.proofs.ReachedLemmas.{IsWalk-step, MarksReached-walk}
 use Rattle.gg_needs.specs.Marks.{marks_of, Adds}
 use Rattle.gg_needs.specs.Walk.{AreOwn, AreReached, HandsOn}
-use Rattle.gg_needs.proofs.AddLemmas.{bit-marked, bit-unmarked, bit-cases}
+use Rattle.gg_needs.proofs.AddLemmas.{bit-unmarked}
 
 -- ---- the out-signals' own marks
 

@@ -8,7 +8,7 @@ use Rattle.gg_flat.specs.Line.{value_at}
 use Rattle.gg_flat.specs.State.{State}
 use Rattle.gg_node.specs.Machine.{Machine, no_machine, machine_at}
 use Rattle.gg_node.specs.Token.{IsToken, IsNextState}
-use Rattle.gg_node.specs.Step.{MayLatch, MayFire, MayServe, MayFinish, with_latch, with_flag, with_served, finished}
+use Rattle.gg_node.specs.Step.{MayLatch, MayFire, with_latch, with_flag, with_served, finished}
 use Rattle.gg_net.specs.declared.shape.Wire.{Wire}
 use Rattle.gg_net.specs.declared.shape.Station.{Station}
 use Rattle.gg_net.specs.declared.event.Event.TheVariants.{Latch, Fire, Serve, Finish}
@@ -20,7 +20,7 @@ use Rattle.gg_net.specs.Seats.{machines_by, seated, IsReseated, HasGoneOn}
 use Rattle.gg_net.specs.Net.{net_of, held_at, AreListed, HasRoom, IsWithinLimits, IsNet}
 use Rattle.gg_net.proofs.SeatLemmas.{machines-set, are-seated}
 use Rattle.gg_net.proofs.StepLemmas.{kept-step}
-use Rattle.gg_net.proofs.MayLemmas.{consumer-there, producer-there, may-latch, may-fire, may-serve, may-finish}
+use Rattle.gg_net.proofs.MayLemmas.{consumer-there, producer-there, may-latch, may-fire}
 
 -- ---- kinds
 

@@ -1,6 +1,6 @@
 -- What a request without a fault says of its capacities, channels and machines.
 use Rattle.std.proofs.Common.{◌≡◌, ℕ, zero, suc, ◌^◌, ◌<◌, ◌≤◌, List, [], ◌∷◌, length, get_or, Bool, true, false, refl, ap, Some, None, arith}
-use Rattle.std.specs.Prelude.{Option, option_map, find, cond, ◌||◌, ◌==◌, nat_lt, unwrap_or, bytes_eq, All}
+use Rattle.std.specs.Prelude.{option_map, find, cond, ◌||◌, ◌==◌, nat_lt, unwrap_or, bytes_eq, All}
 use Rattle.std.proofs.lemmas.List.{get_or-map, length-map}
 use Rattle.std.proofs.lemmas.Bool.{ltb-false}
 use Rattle.gg_flat.specs.WellFormed.{IsWellFormed}

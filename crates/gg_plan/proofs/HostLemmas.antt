@@ -1,11 +1,10 @@
 -- The first machine of a host, and the numbers of hosts.
 use Rattle.std.proofs.Common.{◌≡◌, ℕ, zero, suc, ◌+◌, ◌-◌, ◌<◌, ◌≤◌, List, [], ◌∷◌, ◌++◌, length, map, get_or, drop, Bool, true, false, true≢false, true-eqb, refl, sym, ◌∙◌, ap, ap₂, Some, None, min, ⊎_elim, below_more, arith}
-use Rattle.std.specs.Prelude.{Option, filter, cond, ◌==◌, if◌then◌else◌, ◌||◌, find, option_map, bytes_eq}
+use Rattle.std.specs.Prelude.{Option, filter, cond, ◌==◌, if◌then◌else◌, ◌||◌, find}
 use Rattle.std.specs.List.{list_any, range_with_len}
 use Rattle.std.proofs.lemmas.List.{get_or-map, get_or_default, get_or_push, get_or_append_left, length-append}
 use Rattle.std.proofs.lemmas.Bool.{cases_lt}
 use Rattle.gg_flat.specs.Line.{value_at}
-use Rattle.gg_cut.specs.Listed.{place_of}
 use Rattle.gg_cut.specs.Hosts.{machine_of, least_machine, group_of, leader_in, leader, host_of}
 use Rattle.gg_cut.proofs.FindLemmas.{rest-at}
 use Rattle.gg_cut.proofs.RangeLemmas.{filter-more}

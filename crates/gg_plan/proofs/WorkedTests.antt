@@ -1,8 +1,8 @@
 -- Tests that show of a plan in full that it is a plan of a cut, or that it isn't: each is computed, and a lemma says what it shows.
-use Rattle.std.proofs.Common.{◌≡◌, ◌≢◌, ◌==◌, ◌&&◌, ◌||◌, ◌↔◌, ◌⊎◌, ℕ, zero, suc, ◌<◌, ◌≤◌, List, [], ◌∷◌, length, map, get_or, set, replicate, Bool, true, false, true≢false, not, nat_eq, nat_lt, refl, sym, ◌∙◌, ap, subst, inl, inr, arith}
+use Rattle.std.proofs.Common.{◌≡◌, ◌≢◌, ◌==◌, ◌&&◌, ◌||◌, ◌↔◌, ◌⊎◌, ℕ, zero, suc, ◌<◌, ◌≤◌, List, [], ◌∷◌, length, map, get_or, set, replicate, Bool, true, false, true≢false, not, nat_eq, nat_lt, refl, sym, ◌∙◌, ap, subst, inl, inr, arith, ltb-true}
 use Rattle.std.specs.Prelude.{if◌then◌else◌, Contains, AllPairs, bytes_eq}
 use Rattle.std.specs.List.{list_all}
-use Rattle.std.proofs.lemmas.Bool.Decides.{Decides-eqb, Decides-ltb}
+use Rattle.std.proofs.lemmas.Bool.Decides.{Decides-eqb}
 use Rattle.std.proofs.lemmas.List.{get_or-map, get_or-set_other, get_or_default, length-map}
 use Rattle.std.proofs.lemmas.List.Kept.{AllPairs-cons}
 use Rattle.std.proofs.lemmas.Slice.Eq.{bytes_eq-Decides}
@@ -51,9 +51,6 @@ pub test-below : (test : ℕ → Bool) (n : ℕ) → all_below test n ≡ true �
 test-below test zero is k lt = absurd (omega arith)
 test-below test (suc n) is zero lt = (both-true (test 0) (all_below (λ k. test (suc k)) n) is).0
 test-below test (suc n) is (suc k) lt = test-below (λ i. test (suc i)) n (both-true (test 0) (all_below (λ k. test (suc k)) n) is).1 k (omega arith)
-
-pub below-test : (a b : ℕ) → nat_lt a b ≡ true → a < b
-below-test a b is = (Decides-ltb a b).0 is
 
 -- the number is in the list
 abbrev pub has : List ℕ → ℕ → Bool
@@ -106,7 +103,7 @@ not-true true is = cc
 not-true false is = refl
 
 pub ascending : (xs : List ℕ) → all_pairs nat_lt xs ≡ true → AllPairs (λ a b. a < b) xs
-ascending xs is = pairs-test nat_lt (λ a b. a < b) below-test xs is
+ascending xs is = pairs-test nat_lt (λ a b. a < b) ltb-true xs is
 
 pub distinct : (xs : List ℕ) → all_pairs (λ a b. not (a == b)) xs ≡ true → AllPairs (λ a b. a ≢ b) xs
 distinct xs is = pairs-test (λ a b. not (a == b)) (λ a b. a ≢ b) (λ a b t same. true≢false (sym ((Decides-eqb a b).1 same) ∙ not-true (a == b) t)) xs is
@@ -183,7 +180,7 @@ named-only (Computed line) s at = names-refs line s at
 
 -- a line names only signals below n
 pub names-below : (n : ℕ) (line : List Node) → list_all (λ s. nat_lt s n) (refs line) ≡ true → NamesBelow n line
-names-below n line is s names = below-test s n (test-of (λ t. nat_lt t n) (refs line) is s (refs-names line s names))
+names-below n line is s names = ltb-true s n (test-of (λ t. nat_lt t n) (refs line) is s (refs-names line s names))
 
 -- the signals of a circuit stand in an order of evaluation
 abbrev pub in_order : FlatCircuit → Bool
@@ -191,7 +188,7 @@ in_order circuit = all_below (λ a. list_all (λ s. nat_lt s a) (named (driver_a
 
 pub in-order : (circuit : FlatCircuit) → in_order circuit ≡ true → IsInOrder circuit
 in-order circuit is a b reads =
-    below-test b a (test-of (λ s. nat_lt s a) (named (driver_at circuit a)) (test-below (λ x. list_all (λ s. nat_lt s x) (named (driver_at circuit x))) (length circuit.signals) is a reads.signal) b (named-all (driver_at circuit a) b reads.names))
+    ltb-true b a (test-of (λ s. nat_lt s a) (named (driver_at circuit a)) (test-below (λ x. list_all (λ s. nat_lt s x) (named (driver_at circuit x))) (length circuit.signals) is a reads.signal) b (named-all (driver_at circuit a) b reads.names))
 
 -- ---- what a signal reaches
 
@@ -409,7 +406,7 @@ abbrev pub are_known : FlatCircuit → List ℕ → Bool
 are_known circuit signals = list_all (λ s. nat_lt s (length circuit.signals)) signals
 
 known-at : (circuit : FlatCircuit) (signals : List ℕ) (s : ℕ) → are_known circuit signals ≡ true → Contains signals s → s < length circuit.signals
-known-at circuit signals s is at = below-test s (length circuit.signals) (test-of (λ t. nat_lt t (length circuit.signals)) signals is s at)
+known-at circuit signals s is at = ltb-true s (length circuit.signals) (test-of (λ t. nat_lt t (length circuit.signals)) signals is s at)
 
 -- just the signals that a machine makes or takes
 abbrev pub has_signals : FlatCircuit → InstanceTree → Listed → List Wire → ℕ → List ℕ → Bool
@@ -475,7 +472,7 @@ is-part-with whole part globals held memories count known once paths types drive
       types = types;
       drivers = each-below (λ s. IsFrom part.ins globals held memories s (driver_at whole (value_at globals s)) (driver_at part s)) (length globals) drivers;
       ins = each-below (λ place. (value_at part.ins place < length globals) × (driver_at part (value_at part.ins place) ≡ Input place)) (length part.ins) ins;
-      outs = λ place lt. below-test (value_at part.outs place) (length globals) (test-of (λ s. nat_lt s (length globals)) part.outs outs (value_at part.outs place) (place, lt, get_or_default part.outs place (value_at part.outs place) 0 lt));
+      outs = λ place lt. ltb-true (value_at part.outs place) (length globals) (test-of (λ s. nat_lt s (length globals)) part.outs outs (value_at part.outs place) (place, lt, get_or_default part.outs place (value_at part.outs place) 0 lt));
       register_count = register_count;
       register_from = register_from;
       memory_count = memory_count;

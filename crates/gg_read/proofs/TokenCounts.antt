@@ -1,11 +1,10 @@
 -- How many brackets tokens open and close, counted token by token; and the first outside word.
-use Rattle.std.proofs.Common.{◌≡◌, ℕ, ◌+◌, ◌<◌, ◌≤◌, List, [], ◌∷◌, ◌++◌, length, take, drop, get_or, sym, ap, ◌∙◌, arith}
-use Rattle.std.specs.Option.{option_or}
-use Rattle.std.proofs.lemmas.List.{take_more, at_drop_more}
+use Rattle.std.proofs.Common.{◌≡◌, ℕ, ◌+◌, ◌<◌, ◌≤◌, List, [], ◌∷◌, ◌++◌, length, take, get_or, sym, ap, ◌∙◌, arith}
+use Rattle.std.proofs.lemmas.List.{take_more}
 use Rattle.gg_lex.specs.declared.token.Tok.{Tok}
 use Rattle.gg_lex.specs.declared.token.Tok.TheVariants.{Word, Number, Text, Symbol}
 use Rattle.gg_lex.specs.declared.token.Symbol.TheVariants as mark
-use Rattle.gg_read.specs.Text.{opened, closed, first_outside, outside_text}
+use Rattle.gg_read.specs.Text.{opened, closed}
 
 pub opened-cons : (t : Tok) (ts : List Tok) → opened (t ∷ ts) ≡ opened (t ∷ []) + opened ts
 opened-cons (Word w) ts = omega arith

@@ -27,17 +27,17 @@ use Rattle.gg_row.specs.Reading.{row_at}
 use Rattle.gg_row.proofs.RowLaws.{row_at-spelt, spelt-row_at}
 
 -- a line with these tokens is this row
-record IsRow (row : Row) (ts : List Tok) : Type 0 where
+pub record IsRow (row : Row) (ts : List Tok) : Type 0 where
   pub spelt : SpellsRow row ts
 
 -- from the reader of rows, which finds exactly the row that is spelt
-read : {row : Row} {ts : List Tok} → row_at ts ≡ Some row → IsRow row ts
+pub read : {row : Row} {ts : List Tok} → row_at ts ≡ Some row → IsRow row ts
 read {row} {ts} found = record { spelt = row_at-spelt ts row found }
 
 sole : {row other : Row} {ts : List Tok} → row_at ts ≡ Some row → IsRow other ts → row ≡ other
 sole {row} {other} {ts} found is = same_Some row other (sym found ∙ spelt-row_at ts other is.spelt)
 
-none : {row : Row} {ts : List Tok} → row_at ts ≡ None → IsRow row ts → ⊥
+pub none : {row : Row} {ts : List Tok} → row_at ts ≡ None → IsRow row ts → ⊥
 none {row} {ts} nothing is =
     let found = spelt-row_at ts row is.spelt in
     cc

@@ -1,21 +1,18 @@
 -- Sets of keys, and the lists of references that contracts see in their place.
-use Rattle.std.proofs.Common.{◌≡◌, ℕ, ◌+◌, ◌<◌, ◌≤◌, Bool, true, false, true≢false, ◌&&◌, ◌||◌, List, [], ◌∷◌, ◌++◌, length, map, take, get_or, Some, None, refl, sym, ap, subst, ◌∙◌, if◌then◌else◌}
+use Rattle.std.proofs.Common.{◌≡◌, ℕ, ◌+◌, ◌<◌, Bool, true, false, true≢false, ◌&&◌, ◌||◌, List, [], ◌∷◌, ◌++◌, length, map, take, get_or, Some, None, refl, sym, ap, subst, ◌∙◌, if◌then◌else◌}
 use Rattle.std.specs.List.{list_any}
 use Rattle.std.specs.Str.{bytes_eq}
 use Rattle.std.proofs.lemmas.List.Folds.{list_any-append}
-use Rattle.std.proofs.lemmas.List.{map-append, take_more, take_all}
+use Rattle.std.proofs.lemmas.List.{map-append, take_more}
 use Rattle.std.proofs.lemmas.Slice.Eq.{bytes_eq-Decides}
 use Rattle.std.proofs.Math.Bool.{or-false, or-true}
 use Rattle.indexmap.specs.IndexSet.{insert_key}
 use Rattle.gg_ast.specs.declared.expression.Reference.{Reference}
 use Rattle.gg_ast.specs.declared.expression.Reference.TheVariants as references
 use Rattle.gg_ast.specs.declared.statement.Stmt.{Stmt}
-use Rattle.gg_names.specs.declared.role.Role.{Role}
-use Rattle.gg_names.specs.Namespace.{connected_by, connects, is_reference_to, is_sink, meaning_of}
-use Rattle.gg_names.specs.Scope.{same_reference, written}
-use Rattle.gg_shape.specs.declared.fault.Fault.TheVariants.{SecondConnection}
-use Rattle.gg_shape.specs.Faults.{fault_if}
-use Rattle.gg_shape.specs.Shape.{is_connected, second_to}
+use Rattle.gg_names.specs.Namespace.{connected_by, connects, is_reference_to}
+use Rattle.gg_names.specs.Scope.{same_reference}
+use Rattle.gg_shape.specs.Shape.{is_connected}
 use Rattle.gg_shape.specs.declared.connected.Key.{Key}
 use Rattle.gg_shape.specs.contracts.connected.KeyPartialEq.TheImpl.{eq-value}
 use Rattle.gg_shape.specs.declared.connected.Key.TheVariants.{Local, PortOf, FieldOf}

@@ -1,7 +1,7 @@
 -- Faults one after another: of two checks, along a list, and of each element of a list.
-use Rattle.std.proofs.Common.{◌≡◌, ℕ, ◌+◌, ◌<◌, ◌≤◌, List, [], ◌++◌, length, get_or, take, drop, Result, refl, sym, ap, subst, ◌∙◌}
+use Rattle.std.proofs.Common.{◌≡◌, ℕ, ◌+◌, ◌<◌, List, [], ◌++◌, length, get_or, take, drop, Result, refl, sym, ap, subst, ◌∙◌}
 use Rattle.std.specs.List.{flat_map}
-use Rattle.std.proofs.lemmas.List.{drop_more, drop_all}
+use Rattle.std.proofs.lemmas.List.{drop_more}
 use Rattle.gg_ast.specs.Tree.{ModuleTree, empty_module}
 use Rattle.gg_names.specs.Modules.{module_at}
 use Rattle.gg_names.proofs.AlongLemmas.{first-front, left, left-from}

@@ -1,6 +1,6 @@
 -- The part of a header whose names were read.
-use Rattle.std.proofs.Common.{◌≡◌, ◌≢◌, ℕ, ◌+◌, ◌<◌, ◌≤◌, zero, suc, Bool, true, false, List, [], ◌∷◌, ◌++◌, length, get_or, set, drop, replicate, codes, ◌⊎◌, inl, inr, refl, sym, ap, ◌∙◌, subst, arith, add-one, length-drop}
-use Rattle.std.proofs.lemmas.List.{get_or_append_left, get_or_at, length_push, get_or-set_same, get_or-set_other, length-set, length-replicate}
+use Rattle.std.proofs.Common.{◌≡◌, ◌≢◌, ℕ, ◌+◌, ◌<◌, ◌≤◌, zero, suc, Bool, true, false, List, [], ◌∷◌, ◌++◌, length, get_or, set, drop, codes, ◌⊎◌, inl, inr, refl, sym, ap, ◌∙◌, subst, arith, add-one, length-drop}
+use Rattle.std.proofs.lemmas.List.{get_or_append_left, get_or_at, length_push, get_or-set_same, get_or-set_other, length-set}
 use Rattle.std.proofs.lemmas.Bool.{false≢true, cases_eq}
 use Rattle.gg_trace.proofs.ListLaws.{next_item}
 use Rattle.gg_flat.specs.declared.ports.Port.{Port}

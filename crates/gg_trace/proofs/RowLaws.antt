@@ -1,5 +1,5 @@
 -- The values of a row, cell by cell.
-use Rattle.std.proofs.Common.{◌≡◌, ℕ, ◌+◌, ◌^◌, ◌<◌, ◌≤◌, List, [], ◌∷◌, length, get_or, set, drop, ◌⊎◌, inl, inr, refl, sym, ap, ◌∙◌, subst, arith, length-drop, decimal}
+use Rattle.std.proofs.Common.{◌≡◌, ℕ, ◌+◌, ◌^◌, ◌<◌, ◌≤◌, List, [], ◌∷◌, length, get_or, set, drop, ◌⊎◌, inl, inr, sym, ap, ◌∙◌, subst, arith, length-drop, decimal}
 use Rattle.std.proofs.lemmas.List.{get_or-set_same, get_or-set_other, length-set}
 use Rattle.std.proofs.lemmas.Bool.{cases_eq}
 use Rattle.gg_flat.specs.declared.ports.Port.{Port}

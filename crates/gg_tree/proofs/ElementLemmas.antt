@@ -1,6 +1,6 @@
 -- Elements of lists, and what an option holds.
-use Rattle.std.proofs.Common.{◌≡◌, ◌≢◌, ℕ, zero, suc, ◌<◌, List, [], ◌∷◌, length, get_or, Bool, true, false, Option, Some, None, refl, ap, ◌∙◌, arith}
-use Rattle.std.specs.Prelude.{Contains, filter, if◌then◌else◌}
+use Rattle.std.proofs.Common.{◌≡◌, ◌≢◌, ℕ, zero, suc, ◌<◌, List, [], ◌∷◌, length, get_or, Option, Some, None, refl, arith}
+use Rattle.std.specs.Prelude.{Contains}
 
 pub some-of : {A : Type 0} (o : Option A) → o ≢ None → (x : A) × (o ≡ Some x)
 some-of None h = absurd (h refl)

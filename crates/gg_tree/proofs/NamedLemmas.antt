@@ -1,6 +1,6 @@
 -- How the signals of a circuit's tree are named: just below their instance, or as a field of a memory; and no memory has the path of an
 -- instance.
-use Rattle.std.proofs.Common.{◌≡◌, ◌≢◌, ◌⊎◌, inl, inr, ℕ, zero, suc, ◌+◌, ◌<◌, ◌≤◌, List, Some, length, get_or, map, sym, ap, ap₂, ◌∙◌, subst, arith, take_all, unwrap_or}
+use Rattle.std.proofs.Common.{◌≡◌, ◌≢◌, ◌⊎◌, inl, inr, ℕ, zero, suc, ◌+◌, ◌<◌, ◌≤◌, List, Some, length, get_or, map, sym, ap, ap₂, ◌∙◌, subst, arith, take_all}
 use Rattle.std.specs.Prelude.{flat_map, Contains}
 use Rattle.std.proofs.lemmas.Bool.{cases_lt}
 use Rattle.std.proofs.lemmas.List.{length-map, get_or-map}
@@ -12,7 +12,7 @@ use Rattle.gg_flat.specs.Tree.{InstanceTree, IsInnermost, IsJustBelow, memory_at
 use Rattle.gg_flat.specs.Scoped.{IsMemoryField, memory_fields}
 use Rattle.gg_count.specs.Sites.{Site, site_below, module_at, held_at, sites_of, top_site}
 use Rattle.gg_digest.specs.Flat.{flat_memory, memories_at}
-use Rattle.gg_digest.specs.IsFlat.{IsFlat, number_of}
+use Rattle.gg_digest.specs.IsFlat.{IsFlat}
 use Rattle.gg_tree.specs.IsTreeOf.{IsTreeOf, held_memory, held_memories, signal_paths, site_paths}
 use Rattle.gg_digest.specs.Signals.{Own, OwnBank, memory_signals}
 use Rattle.gg_tree.proofs.JoinLemmas.{joined-once, joined-some}

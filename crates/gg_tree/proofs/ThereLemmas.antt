@@ -1,9 +1,6 @@
 -- The paths that an instance is made from are among the circuit's: what holds it, the signals of its ports, and its memories.
-use Rattle.std.proofs.Common.{◌≡◌, ◌⊎◌, inl, inr, ℕ, zero, suc, true, false, List, Option, Some, None, is_some, is_none, length, map, refl, sym, ap, ◌∙◌, subst, arith}
-use Rattle.std.specs.Prelude.{Contains, All, IfSome, flat_map, option_map}
-use Rattle.gg_bits.specs.Shape.{Shape, shape}
-use Rattle.gg_bits.specs.declared.types.Ty.{Ty}
-use Rattle.gg_ast.specs.declared.module.GroundType.{GroundType}
+use Rattle.std.proofs.Common.{◌≡◌, ◌⊎◌, inl, inr, ℕ, zero, suc, List, Option, Some, None, length, map, refl, sym, ap, ◌∙◌, subst, arith}
+use Rattle.std.specs.Prelude.{Contains, All, IfSome, flat_map}
 use Rattle.gg_ast.specs.declared.module.Port.{Port}
 use Rattle.gg_ast.specs.Places.{place_of}
 use Rattle.gg_ast.specs.Tree.{ModuleTree, CircuitTree, module_names}
@@ -17,7 +14,6 @@ use Rattle.gg_digest.specs.declared.sites.Place.{Place}
 use Rattle.gg_digest.specs.Flat.{FlatSignal, flat_signal, signals_at, flat_signals, FlatMemory, flat_memory, memories_at}
 use Rattle.gg_digest.specs.IsFlat.{memory_paths}
 use Rattle.gg_digest.specs.Known.{types_of}
-use Rattle.gg_digest.specs.Memories.{type_shape}
 use Rattle.gg_digest.specs.Signals.{Own, OwnBank}
 use Rattle.gg_digest.specs.Views.{IsDigest, outer_of, own_bank_of, site_of}
 use Rattle.gg_digest.proofs.AmongLemmas.{from-map, in-flat_map, from-flat_map}

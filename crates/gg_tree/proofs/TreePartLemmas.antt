@@ -1,7 +1,6 @@
 -- The parts of a tree while it is made.
-use Rattle.std.proofs.Common.{◌≡◌, ℕ, ◌+◌, ◌<◌, ◌≤◌, ◌⊎◌, inl, inr, Bool, List, [], ◌∷◌, ◌++◌, Option, Some, None, length, take, get_or, map, filter, refl, sym, ap, ◌∙◌, subst, arith, length-append, slice_index}
+use Rattle.std.proofs.Common.{◌≡◌, ℕ, ◌+◌, ◌<◌, ◌≤◌, Bool, List, [], ◌∷◌, ◌++◌, Option, Some, None, length, take, get_or, map, filter, sym, ap, ◌∙◌, subst, arith, length-append, slice_index}
 use Rattle.std.specs.Prelude.{flat_map}
-use Rattle.std.proofs.lemmas.Bool.{cases_lt}
 use Rattle.std.proofs.lemmas.List.{take_more, length-map, take-map, get_or-map, map-append}
 use Rattle.std.proofs.lemmas.List.Elements.{filter-append}
 use Rattle.gg_ast.specs.Places.{place_of}
@@ -17,15 +16,14 @@ use Rattle.gg_digest.specs.declared.sites.Place.{Place}
 use Rattle.gg_tree.specs.IsTreeOf.{Pairwise, IsAt, IsParent, IsPortFor, IsMemoryAt, IsInstanceFor, AreInstances, held_memory, held_memories, site_paths, signal_paths, memories_of}
 use Rattle.gg_digest.specs.Known.{types_of}
 use Rattle.gg_tree.specs.TreeParts.{signals_to, IsHolder, IsPortAt, IsNumberAt, signals_among, IsInstanceAt, IsMemoryPart, IsHeldFor, held_at_place}
-use Rattle.gg_digest.specs.Views.{own_of, own_bank_of, outer_of, site_of, IsDigest}
-use Rattle.gg_digest.specs.Flat.{FlatMemory, flat_memory, flat_signal, signals_at, flat_signals, flat_memories}
-use Rattle.gg_digest.proofs.FlatLemmas.{signals-more, memories-more, map-twice, memories-kept, one_more}
+use Rattle.gg_digest.specs.Views.{own_bank_of, outer_of, site_of, IsDigest}
+use Rattle.gg_digest.specs.Flat.{FlatMemory, flat_memory, signals_at, flat_memories}
+use Rattle.gg_digest.proofs.FlatLemmas.{memories-more, map-twice, memories-kept, one_more}
 use Rattle.gg_digest.specs.IsFlat.{memory_paths}
 use Rattle.gg_tree.proofs.PlaceLemmas.{within, Placed}
 use Rattle.gg_tree.proofs.RangeLemmas.{count_to, placed-at, placed-count}
 use Rattle.gg_tree.proofs.InstanceLemmas.{signals_in, stands}
 use Rattle.gg_tree.proofs.EndLemmas.{ends-at}
-use Rattle.gg_tree.proofs.OwnLemmas.{front}
 use Rattle.gg_tree.proofs.PairwiseLemmas.{Pairwise-push, Pairwise-append}
 
 -- the relation holds with the next element on each side

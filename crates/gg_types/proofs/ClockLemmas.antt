@@ -116,17 +116,14 @@ follow-tells ways before s next tells = go (driven_by s.kind) refl
 
 -- ---- steps
 
+pub at-map : (n : ℕ) (first second : List ℕ) → ArePlaces n first → (k : ℕ) → k < n → slice_index (map (slice_index second) first) k ≡ slice_index second (slice_index first k)
+at-map n first second f k lt = get_or-map (slice_index second) first k 0 0 (omega (arith, f.length_is))
+
 pub map-places : (n : ℕ) (first second : List ℕ) → ArePlaces n first → ArePlaces n second → ArePlaces n (map (slice_index second) first)
 map-places n first second f s = record {
   length_is = length-map first (slice_index second) ∙ f.length_is;
   within = λ k lt. subst (λ j. j < n) (sym (at-map n first second f k lt)) (s.within (slice_index first k) (f.within k lt));
 }
-  where
-    at-map : (n : ℕ) (first second : List ℕ) → ArePlaces n first → (k : ℕ) → k < n → slice_index (map (slice_index second) first) k ≡ slice_index second (slice_index first k)
-    at-map n first second f k lt = get_or-map (slice_index second) first k 0 0 (omega (arith, f.length_is))
-
-pub at-map : (n : ℕ) (first second : List ℕ) → ArePlaces n first → (k : ℕ) → k < n → slice_index (map (slice_index second) first) k ≡ slice_index second (slice_index first k)
-at-map n first second f k lt = get_or-map (slice_index second) first k 0 0 (omega (arith, f.length_is))
 
 -- m + m steps are m double steps
 halved : (n : ℕ) (jump : List ℕ) → ArePlaces n jump → (m x : ℕ) → x < n → iterate (m + m) jump x ≡ iterate m (map (slice_index jump) jump) x

@@ -15,7 +15,7 @@ use Rattle.gg_bits.specs.declared.types.Kind.TheVariants.{UInt, SInt}
 use Rattle.gg_bits.specs.Value.{number_of, pattern_of}
 use Rattle.gg_bits.specs.Shape.{of_kind}
 use Rattle.gg_ast.specs.declared.expression.Literal.{Literal}
-use Rattle.gg_types.specs.Literal.{digit, digits_number, signed_number, is_number_of, literal_number, literal_value, literal_fits}
+use Rattle.gg_types.specs.Literal.{digit, digits_number, signed_number, is_number_of, literal_number, literal_fits}
 use Rattle.gg_types.specs.Types.{is_width, literal_shape}
 
 -- ---- digits

@@ -3,7 +3,7 @@ use Rattle.std.proofs.Common.{◌≡◌, ◌≢◌, ℕ, zero, suc, ◌<◌, Lis
 use Rattle.std.specs.Prelude.{Contains, AllPairs, sum_by}
 use Rattle.std.proofs.lemmas.Bool.{cases_lt}
 use Rattle.std.proofs.lemmas.List.{get_or-set_same, get_or-set_other, get_or_append_left, get_or_push, get_or_default, get_or_past, take-append-le, take_all}
-use Rattle.std.proofs.lemmas.List.Elements.{Contains-append_left, Contains-append_right}
+use Rattle.std.proofs.lemmas.List.Elements.{Contains-push_cases}
 use Rattle.std.proofs.lemmas.List.Sums.{sum_by-set}
 use Rattle.gg_walk.specs.Graph.{node_at}
 use Rattle.gg_walk.specs.Walk.{stage_at, weight, StandsAfter}
@@ -53,18 +53,8 @@ weight-smaller stages s x y lt at less =
 
 -- ---- a list with one more node
 
-pub contains_old : (xs : List ℕ) (y s : ℕ) → Contains xs s → Contains (xs ++ y ∷ []) s
-contains_old xs y s h = Contains-append_left xs (y ∷ []) s h
-
-pub contains_new : (xs : List ℕ) (y : ℕ) → Contains (xs ++ y ∷ []) y
-contains_new xs y = Contains-append_right xs (y ∷ []) y (0, omega arith, refl)
-
 pub contains_cases : (xs : List ℕ) (y s : ℕ) → Contains (xs ++ y ∷ []) s → Contains xs s ⊎ (s ≡ y)
-contains_cases xs y s h =
-    elim (cases_lt h.0 (length xs)) [
-      | inl lt ↦ inl (h.0, lt, sym (get_or_append_left xs (y ∷ []) s h.0 lt) ∙ h.2)
-      | inr ge ↦ inr (sym h.2 ∙ get_or_push xs y s h.0 (omega (arith, ge, h.1, length-append xs (y ∷ []))))
-    ]
+contains_cases xs y s h = elim (Contains-push_cases xs y s h) [ inl old ↦ inl old | inr new ↦ inr (sym new) ]
 
 pub contains_at : (xs : List ℕ) (i : ℕ) → i < length xs → Contains xs (node_at xs i)
 contains_at xs i lt = (i, lt, get_or_default xs i (node_at xs i) 0 lt)

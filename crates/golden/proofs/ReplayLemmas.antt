@@ -1,19 +1,18 @@
 -- How `replay` ends: from the network of a plan to the setting of its design, and from there to the order of refusals.
-use Rattle.std.proofs.Common.{◌≡◌, ℕ, zero, suc, ◌+◌, ◌<◌, ◌≤◌, List, [], ◌∷◌, ◌++◌, length, map, refl, sym, ap, ◌∙◌, subst, inr, arith}
+use Rattle.std.proofs.Common.{◌≡◌, ℕ, suc, ◌+◌, ◌<◌, ◌≤◌, List, [], ◌∷◌, length, map, refl, sym, ap, ◌∙◌, subst, inr, arith}
 use Rattle.std.specs.Prelude.{Option, None, Result, Ok, Err, flat_map, slice_index_or, take}
 use Rattle.std.specs.List.{range_with_len}
 use Rattle.std.proofs.lemmas.List.{get_or-map}
 use Rattle.gg_bits.specs.Shape.{Shape}
-use Rattle.gg_flat.specs.Circuit.{FlatCircuit, signal_shapes}
+use Rattle.gg_flat.specs.Circuit.{signal_shapes}
 use Rattle.gg_flat.specs.Line.{shape_at}
 use Rattle.gg_flat.specs.Order.{IsOrder}
-use Rattle.gg_flat.specs.Ports.{in_ports}
 use Rattle.gg_flat.specs.Along.{rows_along}
-use Rattle.gg_flat.specs.Run.{IsColumns, IsRun, column}
+use Rattle.gg_flat.specs.Run.{IsColumns, column}
 use Rattle.gg_flat.proofs.AlongLemmas.{IsRun-along}
 use Rattle.gg_flat.specs.Tree.{path_at}
 use Rattle.gg_flat.proofs.ListLemmas.{some-item}
-use Rattle.gg_front.specs.Meaning.{Means, MeansDesign}
+use Rattle.gg_front.specs.Meaning.{MeansDesign}
 use Rattle.gg_io.specs.Told.{Told}
 use Rattle.gg_order.specs.Design.{IsDesign, Ordered}
 use Rattle.gg_partfile.specs.declared.request.Request.{Request}
@@ -62,6 +61,7 @@ use Rattle.golden.proofs.EndingLemmas.{printed-ends, refused-ends}
 use Rattle.golden.proofs.PartitionLemmas.{DesignsAgree}
 use Rattle.golden.proofs.ReadingLemmas.{IfRefused-map}
 use Rattle.golden.proofs.SettingLemmas.{designs-alike, layouts-same, leads-same, ok-same, requests-same, rows-same, texts-same}
+use Rattle.golden.proofs.TextLemmas.{InsAgree, RunsAgree, OneRun}
 
 -- ---- lists by number
 
@@ -213,10 +213,7 @@ module _ (design : Ordered) (request : Request) (default : ℕ) (plan : Plan) (c
 -- ---- the order of refusals
 
 module _ (agree : DesignsAgree)
-    (ins : (bytes : List ℕ) (one other : FlatCircuit) → Means bytes one → Means bytes other → in_ports one ≡ in_ports other)
-    (runs : (bytes : List ℕ) (one other : FlatCircuit) (columns : List (List ℕ)) (n : ℕ) (rows : List (List ℕ)) → Means bytes one → Means bytes other → IsRun one columns n rows → IsRun other columns n rows)
-    (once : (circuit : FlatCircuit) (order : List ℕ) (columns : List (List ℕ)) (n : ℕ) (rows others : List (List ℕ)) → IsOrder circuit order → IsRun circuit columns n rows → IsRun circuit columns n others → rows ≡ others)
-    (circuit partition trace : List ℕ) (capacity : ℕ) (design : Ordered) (request : Request) (n : ℕ) (columns : List (List ℕ))
+    (ins : InsAgree) (runs : RunsAgree) (once : OneRun) (circuit partition trace : List ℕ) (capacity : ℕ) (design : Ordered) (request : Request) (n : ℕ) (columns : List (List ℕ))
     (ordered : IsOrder design.circuit design.order) (means : MeansDesign circuit design) (cuts : Cuts design partition request) (feeds : FeedsOnly design.circuit trace n columns) where
   own-setting : (rows : List (List ℕ)) (layout : Layout) → AreSet design request capacity n columns rows layout → IsSetting circuit partition trace capacity (setting_of design request n columns rows layout)
   own-setting rows layout are = record { means = means; cuts = cuts; feeds = feeds.feeds; run = are.run; laid = are.laid }
