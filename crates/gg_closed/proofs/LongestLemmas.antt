@@ -67,7 +67,6 @@ pub record ArePaths (tree : InstanceTree) (listed : Listed) (paths : List (List 
   pub memory : (i : ℕ) → i < length listed.memories → path_at paths (length listed.units + i) ≡ path_at tree.memory_paths (value_at listed.memories i)
 
 module _ (circuit : FlatCircuit) (tree : InstanceTree) (listed : Listed) (fits : IsTree circuit tree) (scoped : IsScoped circuit tree) (apart : AreApart tree listed) (paths : List (List ℕ)) (are : ArePaths tree listed paths) where
-
   memory-in : (j : ℕ) → j < length listed.memories → value_at listed.memories j < length tree.memories
   memory-in j lt = apart.memories j 0 lt
 

@@ -87,7 +87,6 @@ module _ (circuit : CircuitTree) (tree : InstanceTree) (top : ℕ) (known_top : 
       offset = let same : memories_to m.holder ≡ memories_to k = ap memories_to holder in omega (arith, m.counted, same)
 
 module _ (circuit : CircuitTree) (flat : FlatCircuit) (tree : InstanceTree) (top : ℕ) (known_top : place_of circuit.name (module_names circuit) ≡ Some top) (is_flat : IsFlat circuit flat) (is_tree : IsTreeOf circuit tree) (distinct : HasDistinctPaths circuit) (plain : HasPlainNames circuit) (names : HasApartNames circuit) where
-
   -- an own signal that is a field of one of the site's memories is a field of a memory in the tree
   field-here : (k : ℕ) (x : Site) → Placed (length circuit.modules) circuit.modules (sites_of circuit) k x → (o : ℕ) → o < length (own_in circuit x) → FieldPlace (module_at circuit.modules x.number).statements (get_or (own_in circuit x) o no_own) → IsMemoryField flat tree k (count_to (signals_in circuit) (sites_of circuit) k + o)
   field-here k x p o lt f = record {

@@ -1,5 +1,5 @@
 -- The stages of nodes, and lists that grow by one node.
-use Rattle.std.proofs.Common.{◌≡◌, ◌≢◌, ℕ, zero, suc, ◌<◌, List, [], ◌∷◌, ◌++◌, length, set, take, replicate, refl, sym, ap, ◌∙◌, subst, inl, inr, ◌⊎◌, arith, below_more, length-append}
+use Rattle.std.proofs.Common.{◌≡◌, ◌≢◌, ℕ, ◌<◌, List, [], ◌∷◌, ◌++◌, length, set, take, refl, sym, ap, ◌∙◌, subst, inl, inr, ◌⊎◌, arith, below_more, length-append}
 use Rattle.std.specs.Prelude.{Contains, AllPairs, sum_by}
 use Rattle.std.proofs.lemmas.Bool.{cases_lt}
 use Rattle.std.proofs.lemmas.List.{get_or-set_same, get_or-set_other, get_or_append_left, get_or_push, get_or_default, get_or_past, take-append-le, take_all}
@@ -35,16 +35,6 @@ stage_set-cases stages s t x z lt is =
         | inr le ↦ let same : s ≡ t = omega (arith, ge, le) in inl (same, sym (stage_set-same stages t x lt) ∙ ap (stage_at (set stages t x)) (sym same) ∙ is)
       ]
     ]
-
-pub stage_replicate : (n s : ℕ) → stage_at (replicate n New) s ≡ New
-stage_replicate zero s = refl
-stage_replicate (suc n) zero = refl
-stage_replicate (suc n) (suc s) = stage_replicate n s
-
-pub place_replicate : (n s : ℕ) → node_at (replicate n 0) s ≡ 0
-place_replicate zero s = refl
-place_replicate (suc n) zero = refl
-place_replicate (suc n) (suc s) = place_replicate n s
 
 -- a node that goes on to a later stage leaves less to do
 pub weight-smaller : (stages : List Stage) (s : ℕ) (x y : Stage) → s < length stages → stage_at stages s ≡ y → weight x < weight y → sum_by weight (set stages s x) < sum_by weight stages
