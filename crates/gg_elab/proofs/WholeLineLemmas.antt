@@ -1,10 +1,11 @@
 -- A whole line: as it is, cut for a sink or a condition, and a line of 0.
-use Rattle.std.proofs.Common.{◌≡◌, ℕ, ◌+◌, ◌-◌, ◌≤◌, ◌^◌, List, [], ◌∷◌, ◌++◌, length, refl, sym, ap, ◌∙◌, subst, arith, inl, inr, Bool, true, false, ◌&&◌, if◌then◌else◌}
+use Rattle.std.proofs.Common.{◌≡◌, ℕ, ◌+◌, ◌-◌, ◌≤◌, ◌^◌, List, [], ◌∷◌, ◌++◌, length, refl, sym, ap, ◌∙◌, subst, arith, inl, inr, Bool, true, false, if◌then◌else◌}
 use Rattle.std.specs.Prelude.{nat_le, nat_lt, ◌==◌, pos, ◌-ℤ◌}
 use Rattle.std.proofs.lemmas.List.{append-nil}
 use Rattle.std.proofs.lemmas.Nat.{pow_pos}
 use Rattle.std.proofs.lemmas.Bool.Decides.{nat_tests}
 use Rattle.std.proofs.Math.Nat.{zero-mod}
+use Rattle.std.proofs.Math.Bool.{and-eq-true_iff}
 use Rattle.gg_bits.specs.declared.types.Kind.{Kind}
 use Rattle.gg_bits.specs.declared.types.Kind.TheVariants.{UInt, SInt}
 use Rattle.gg_bits.specs.Shape.{Shape, uint, of_kind}
@@ -115,24 +116,16 @@ module _ (w : Where) (nodes : List Node) (e : Term) (k : ℕ) (h : Added w [] no
   same-kind SInt UInt e = absurd (cc)
   same-kind SInt SInt e = refl
 
-  and-left : (a b : Bool) → (a && b) ≡ true → a ≡ true
-  and-left true b e = refl
-  and-left false b e = e
-
-  and-right : (a b : Bool) → (a && b) ≡ true → b ≡ true
-  and-right true b e = e
-  and-right false b e = absurd (cc)
-
   pub cut_fits : (sink : Shape) (new : List Node) → IsCut (takes sink (shape_of w e)) nodes sink new → IsSource (HasType w.signals.shapes) sink new
   cut_fits sink new c = go (takes sink (shape_of w e)) refl c
     where
       go : (b : Bool) → takes sink (shape_of w e) ≡ b → IsCut b nodes sink new → IsSource (HasType w.signals.shapes) sink new
       go true t c =
-          let narrow : nat_le (shape_of w e).width sink.width ≡ true = and-right (same_kind sink.kind (shape_of w e).kind) (nat_le (shape_of w e).width sink.width) t in
+          let narrow : nat_le (shape_of w e).width sink.width ≡ true = ((and-eq-true_iff (same_kind sink.kind (shape_of w e).kind) (nat_le (shape_of w e).width sink.width)).0 t).1 in
           let le : (shape_of w e).width ≤ sink.width = grind (arith, nat_tests) in
           subst (λ (l : List Node). IsSource (HasType w.signals.shapes) sink l) (sym c) (record {
             line = whole_line;
-            kind = ap (λ (s : Shape). s.kind) whole_shape ∙ same-kind sink.kind (shape_of w e).kind (and-left (same_kind sink.kind (shape_of w e).kind) (nat_le (shape_of w e).width sink.width) t);
+            kind = ap (λ (s : Shape). s.kind) whole_shape ∙ same-kind sink.kind (shape_of w e).kind ((and-eq-true_iff (same_kind sink.kind (shape_of w e).kind) (nat_le (shape_of w e).width sink.width)).0 t).0;
             width = omega (arith, ap (λ (s : Shape). s.width) whole_shape, le);
           })
       go false t c = record {
@@ -167,8 +160,8 @@ module _ (w : Where) (nodes : List Node) (e : Term) (k : ℕ) (h : Added w [] no
     where
       go : (b : Bool) → is_condition (shape_of w e) ≡ b → IsCut b nodes (uint 1) new → IsCondition (HasType w.signals.shapes) new
       go true t c =
-          let kind : (shape_of w e).kind ≡ UInt = uint_only (shape_of w e).kind (and-left (is_uint (shape_of w e).kind) ((shape_of w e).width == 1) t) in
-          let narrow : ((shape_of w e).width == 1) ≡ true = and-right (is_uint (shape_of w e).kind) ((shape_of w e).width == 1) t in
+          let kind : (shape_of w e).kind ≡ UInt = uint_only (shape_of w e).kind ((and-eq-true_iff (is_uint (shape_of w e).kind) ((shape_of w e).width == 1)).0 t).0 in
+          let narrow : ((shape_of w e).width == 1) ≡ true = ((and-eq-true_iff (is_uint (shape_of w e).kind) ((shape_of w e).width == 1)).0 t).1 in
           let one : (shape_of w e).width ≡ 1 = grind (arith, nat_tests) in
           subst (λ (l : List Node). IsCondition (HasType w.signals.shapes) l) (sym c) (record {
             line = whole_line;

@@ -6,6 +6,7 @@ use Rattle.std.proofs.lemmas.Bool.Decides.{Decides-eqb}
 use Rattle.std.proofs.lemmas.List.{get_or-map, get_or-set_other, get_or_default, length-map}
 use Rattle.std.proofs.lemmas.List.Kept.{AllPairs-cons}
 use Rattle.std.proofs.lemmas.Slice.Eq.{bytes_eq-Decides}
+use Rattle.std.proofs.Math.Bool.{and-eq-true_iff}
 use Rattle.gg_flat.specs.declared.line.Node.{Node}
 use Rattle.gg_flat.specs.declared.line.Op.{Op}
 use Rattle.gg_flat.specs.declared.line.Op.TheVariants.{Ref, Literal, One, Two, Fix, Mux}
@@ -43,14 +44,10 @@ abbrev pub all_below : (ℕ → Bool) → ℕ → Bool
 all_below test zero = true
 all_below test (suc n) = test 0 && all_below (λ k. test (suc k)) n
 
-both-true : (a b : Bool) → (a && b) ≡ true → (a ≡ true) × (b ≡ true)
-both-true true b is = (refl, is)
-both-true false b is = cc
-
 pub test-below : (test : ℕ → Bool) (n : ℕ) → all_below test n ≡ true → (k : ℕ) → k < n → test k ≡ true
 test-below test zero is k lt = absurd (omega arith)
-test-below test (suc n) is zero lt = (both-true (test 0) (all_below (λ k. test (suc k)) n) is).0
-test-below test (suc n) is (suc k) lt = test-below (λ i. test (suc i)) n (both-true (test 0) (all_below (λ k. test (suc k)) n) is).1 k (omega arith)
+test-below test (suc n) is zero lt = ((and-eq-true_iff (test 0) (all_below (λ k. test (suc k)) n)).0 is).0
+test-below test (suc n) is (suc k) lt = test-below (λ i. test (suc i)) n ((and-eq-true_iff (test 0) (all_below (λ k. test (suc k)) n)).0 is).1 k (omega arith)
 
 -- the number is in the list
 abbrev pub has : List ℕ → ℕ → Bool
@@ -84,8 +81,8 @@ contains-has (x ∷ xs) s (suc k, lt, is) = or-right (x == s) (has xs s) (contai
 -- a test that holds of a whole list holds of each number in it
 pub test-of : (test : ℕ → Bool) (xs : List ℕ) → list_all test xs ≡ true → (s : ℕ) → Contains xs s → test s ≡ true
 test-of test [] is s (k, lt, at) = absurd (omega arith)
-test-of test (x ∷ xs) is s (zero, lt, at) = subst (λ (y : ℕ). test y ≡ true) at (both-true (test x) (list_all test xs) is).0
-test-of test (x ∷ xs) is s (suc k, lt, at) = test-of test xs (both-true (test x) (list_all test xs) is).1 s (k, omega arith, at)
+test-of test (x ∷ xs) is s (zero, lt, at) = subst (λ (y : ℕ). test y ≡ true) at ((and-eq-true_iff (test x) (list_all test xs)).0 is).0
+test-of test (x ∷ xs) is s (suc k, lt, at) = test-of test xs ((and-eq-true_iff (test x) (list_all test xs)).0 is).1 s (k, omega arith, at)
 
 -- the test holds of each number and each later one
 abbrev pub all_pairs : (ℕ → ℕ → Bool) → List ℕ → Bool
@@ -95,7 +92,7 @@ all_pairs test (x ∷ xs) = list_all (test x) xs && all_pairs test xs
 pub pairs-test : (test : ℕ → ℕ → Bool) (R : ℕ → ℕ → Type 0) → ((a b : ℕ) → test a b ≡ true → R a b) → (xs : List ℕ) → all_pairs test xs ≡ true → AllPairs R xs
 pairs-test test R shows [] is = λ i j d lt within. absurd (omega arith)
 pairs-test test R shows (x ∷ xs) is =
-    let parts = both-true (list_all (test x) xs) (all_pairs test xs) is in
+    let parts = (and-eq-true_iff (list_all (test x) xs) (all_pairs test xs)).0 is in
     AllPairs-cons R x xs (λ i d lt. shows x (get_or xs i d) (test-of (test x) xs parts.0 (get_or xs i d) (i, lt, get_or_default xs i (get_or xs i d) d lt))) (pairs-test test R shows xs parts.1)
 
 not-true : (b : Bool) → not b ≡ true → b ≡ false
@@ -259,7 +256,7 @@ closed-step circuit marks all x y at reads =
 -- what is reached is marked
 pub cone-all : (circuit : FlatCircuit) (out s : ℕ) → is_closed circuit out ≡ true → Reaches circuit out s → is_marked (cone circuit out) s ≡ true
 cone-all circuit out s is to =
-    let parts = both-true (is_marked (cone circuit out) out) (all_below (hands_on circuit (cone circuit out)) (length circuit.signals)) is in
+    let parts = (and-eq-true_iff (is_marked (cone circuit out) out) (all_below (hands_on circuit (cone circuit out)) (length circuit.signals))).0 is in
     along-reaches circuit (λ x. is_marked (cone circuit out) x ≡ true) (closed-step circuit (cone circuit out) parts.1) out s parts.0 to
 
 -- ---- needs
@@ -332,7 +329,7 @@ has_needs part channels s needs = all_below (λ out. if value_at part.globals ou
 pub has-needs : (part : Part) (channels : List ℕ) (s : ℕ) (needs : List ℕ) → has_needs part channels s needs ≡ true → (out : ℕ) → out < length part.globals → value_at part.globals out ≡ s → AreNeedsOf part channels out needs
 has-needs part channels s needs test out lt is =
     let here = test-below (λ o. if value_at part.globals o == s then is_closed part.piece o && bytes_eq needs (needed part channels o) else true) (length part.globals) test out lt in
-    let parts = both-true (is_closed part.piece out) (bytes_eq needs (needed part channels out)) (subst (λ (b : Bool). (if b then is_closed part.piece out && bytes_eq needs (needed part channels out) else true) ≡ true) ((Decides-eqb (value_at part.globals out) s).1 is) here) in
+    let parts = (and-eq-true_iff (is_closed part.piece out) (bytes_eq needs (needed part channels out))).0 (subst (λ (b : Bool). (if b then is_closed part.piece out && bytes_eq needs (needed part channels out) else true) ≡ true) ((Decides-eqb (value_at part.globals out) s).1 is) here) in
     subst (AreNeedsOf part channels out) (sym ((bytes_eq-Decides needs (needed part channels out)).0 parts.1)) (needs-needed part channels out parts.0)
 
 -- a channel that is needed and isn't listed
@@ -384,19 +381,15 @@ makes-shows : (circuit : FlatCircuit) (tree : InstanceTree) (listed : Listed) (w
 makes-shows circuit tree listed wires m s known is =
     elim (or-cases ((owner_of circuit tree listed s == m) && not (has (map (λ w. w.signal) wires) s)) (has (signals_of wires (channels_from wires m)) s) is) [
       | inl own ↦
-          let parts = both-true (owner_of circuit tree listed s == m) (not (has (map (λ w. w.signal) wires) s)) own in
+          let parts = (and-eq-true_iff (owner_of circuit tree listed s == m) (not (has (map (λ w. w.signal) wires) s))).0 own in
           inl (known, (Decides-eqb (owner_of circuit tree listed s) m).0 parts.0, inner-test wires s (not-true (has (map (λ w. w.signal) wires) s) parts.1))
       | inr given ↦ inr (has-contains (signals_of wires (channels_from wires m)) s given)
     ]
 
-and-true : (a b : Bool) → a ≡ true → b ≡ true → (a && b) ≡ true
-and-true true b at is = is
-and-true false b at is = cc
-
 shows-makes : (circuit : FlatCircuit) (tree : InstanceTree) (listed : Listed) (wires : List Wire) (m s : ℕ) → Makes circuit tree listed wires m s → makes circuit tree listed wires m s ≡ true
 shows-makes circuit tree listed wires m s (inl (known, owner, inner)) =
     or-left ((owner_of circuit tree listed s == m) && not (has (map (λ w. w.signal) wires) s)) (has (signals_of wires (channels_from wires m)) s)
-    (and-true (owner_of circuit tree listed s == m) (not (has (map (λ w. w.signal) wires) s)) ((Decides-eqb (owner_of circuit tree listed s) m).1 owner) (ap not (test-inner wires s inner)))
+    ((and-eq-true_iff (owner_of circuit tree listed s == m) (not (has (map (λ w. w.signal) wires) s))).1 ((Decides-eqb (owner_of circuit tree listed s) m).1 owner, ap not (test-inner wires s inner)))
 shows-makes circuit tree listed wires m s (inr given) =
     or-right ((owner_of circuit tree listed s == m) && not (has (map (λ w. w.signal) wires) s)) (has (signals_of wires (channels_from wires m)) s)
     (contains-has (signals_of wires (channels_from wires m)) s given)

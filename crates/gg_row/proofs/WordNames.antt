@@ -7,16 +7,13 @@ use Rattle.std.proofs.lemmas.List.{append-nil}
 use Rattle.std.proofs.lemmas.List.Folds.{list_all-append}
 use Rattle.std.proofs.lemmas.List.Sums.{AllPass-from_list_all, list_all-from_AllPass}
 use Rattle.std.proofs.lemmas.Bool.{eqb-true}
+use Rattle.std.proofs.Math.Bool.{and-eq-true_iff}
 use Rattle.gg_lex.specs.Bytes.{is_word_byte, is_tail_byte}
 use Rattle.gg_lex.specs.Tokens.{IsWord}
 use Rattle.gg_ast.specs.Names.{IsName, begins_name, is_name_byte}
 
 abbrev is_dash : ℕ → Bool
 is_dash b = b == 45
-
-both : (a b : Bool) → (a && b) ≡ true → (a ≡ true) × (b ≡ true)
-both true b h = (refl, h)
-both false b h = absurd (cc)
 
 together : (a b : Bool) → a ≡ true → b ≡ true → (a && b) ≡ true
 together true b h k = k
@@ -37,7 +34,7 @@ letter false false false false underscore dollar h n = absurd (cc)
 tail-bytes : (bs : List ℕ) → list_all is_tail_byte bs ≡ true → list_any is_dash bs ≡ false → list_all is_name_byte bs ≡ true
 tail-bytes [] h n = refl
 tail-bytes (b ∷ bs) h n =
-    let p = both (is_tail_byte b) (list_all is_tail_byte bs) h in
+    let p = (and-eq-true_iff (is_tail_byte b) (list_all is_tail_byte bs)).0 h in
     let q = neither (is_dash b) (list_any is_dash bs) n in
     together (is_name_byte b) (list_all is_name_byte bs) (letter (is_in_range 48 57 b) (is_in_range 65 90 b) (is_in_range 97 122 b) (is_dash b) (b == 95) (b == 36) p.0 q.0) (tail-bytes bs p.1 q.1)
 
@@ -62,13 +59,13 @@ no_dash_byte p b true e n h = let same : b ≡ 45 = eqb-true b 45 e in absurd (c
 no_dash : (bs : List ℕ) → list_all is_name_byte bs ≡ true → list_any is_dash bs ≡ false
 no_dash [] h = refl
 no_dash (b ∷ bs) h =
-    let p = both (is_name_byte b) (list_all is_name_byte bs) h in
+    let p = (and-eq-true_iff (is_name_byte b) (list_all is_name_byte bs)).0 h in
     ap (λ v. v || list_any is_dash bs) (no_dash_byte is_name_byte b (is_dash b) refl refl p.0) ∙ no_dash bs p.1
 
 word : (text : List ℕ) → IsName text → IsWord text × (list_any is_dash text ≡ false)
 word [] h = absurd (cc)
 word (b ∷ bs) h =
-    let p = both (begins_name b) (list_all is_name_byte bs) h in (
+    let p = (and-eq-true_iff (begins_name b) (list_all is_name_byte bs)).0 h in (
       (b, bs, [], ap (λ l. b ∷ l) (sym (append-nil bs)), p.0, AllPass-from_list_all is_word_byte bs p.1, AllPass-from_list_all is_tail_byte [] refl),
       ap (λ v. v || list_any is_dash bs) (no_dash_byte begins_name b (is_dash b) refl refl p.0) ∙ no_dash bs p.1,
     )

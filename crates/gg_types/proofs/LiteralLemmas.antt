@@ -10,6 +10,7 @@ use Rattle.std.proofs.lemmas.Int.{ints}
 use Rattle.std.proofs.lemmas.Nat.{pow_pos}
 use Rattle.std.proofs.lemmas.Grind.{one_shifted}
 use Rattle.std.proofs.Common.{pow-suc}
+use Rattle.std.proofs.Math.Bool.{and-eq-true_iff}
 use Rattle.gg_bits.specs.declared.types.Kind.{Kind}
 use Rattle.gg_bits.specs.declared.types.Kind.TheVariants.{UInt, SInt}
 use Rattle.gg_bits.specs.Value.{number_of, pattern_of}
@@ -46,19 +47,11 @@ abbrev below : (p : ℕ → Bool) (n : ℕ) → Bool
 below p zero = true
 below p (suc n) = p n && below p n
 
-and_left : (a b : Bool) → (a && b) ≡ true → a ≡ true
-and_left true b h = refl
-and_left false b h = absurd (true≢false (sym h))
-
-and_right : (a b : Bool) → (a && b) ≡ true → b ≡ true
-and_right true b h = h
-and_right false b h = absurd (true≢false (sym h))
-
 of_below : (p : ℕ → Bool) (n c : ℕ) → below p n ≡ true → c < n → p c ≡ true
 of_below p zero c h lt = absurd (omega arith)
 of_below p (suc n) c h lt = ⊎_elim
-    (λ (l : c < n). of_below p n c (and_right (p n) (below p n) h) l)
-    (λ (l : n ≤ c). let e : n ≡ c = omega arith in subst (λ k. p k ≡ true) e (and_left (p n) (below p n) h))
+    (λ (l : c < n). of_below p n c ((and-eq-true_iff (p n) (below p n)).0 h).1 l)
+    (λ (l : n ≤ c). let e : n ≡ c = omega arith in subst (λ k. p k ≡ true) e ((and-eq-true_iff (p n) (below p n)).0 h).0)
     (cases_lt c n)
 
 -- the value of a digit by the library's `digit_value`, and 16 for any other byte
