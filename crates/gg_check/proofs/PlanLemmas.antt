@@ -9,7 +9,7 @@ use Rattle.gg_flat.specs.declared.piece.Driver.{Driver}
 use Rattle.gg_flat.specs.Line.{value_at}
 use Rattle.gg_flat.specs.Circuit.{FlatCircuit, driver_at}
 use Rattle.gg_flat.specs.Reads.{IsPath}
-use Rattle.gg_flat.proofs.ListLemmas.{Contains-map, Contains-filter, filter-cases, in-range, range-below, one-place}
+use Rattle.gg_flat.proofs.ListLemmas.{Contains-map, Contains-filter, filter-cases, in-range, range-below, once-apart}
 use Rattle.gg_order.specs.Design.{Ordered}
 use Rattle.gg_part.specs.Part.{IsPart, IsFrom}
 use Rattle.gg_part.specs.declared.part.Part.{Part}
@@ -68,7 +68,7 @@ piece-gets whole piece globals held memories taken is ins = record {
   input = λ a lt has.
       let found = made-of (value_at globals) piece.ins (value_at globals a) (subst (λ l. Contains l (value_at globals a)) (sym ins) has) in
       let at = is.ins found.place found.within in
-      (found.place, subst (λ x. driver_at piece x ≡ Input found.place) (one-place globals (value_at piece.ins found.place) a is.once at.0 lt found.is) at.1);
+      (found.place, subst (λ x. driver_at piece x ≡ Input found.place) (once-apart globals 0 is.once (value_at piece.ins found.place) a at.0 lt found.is) at.1);
 }
 
 module _ (design : Ordered) (listed : Listed) (wires : List Wire) (m : ℕ) (part : Part) (cut : IsCutPart design listed wires m part) where
@@ -130,7 +130,7 @@ module _ (design : Ordered) (listed : Listed) (wires : List Wire) (m : ℕ) (par
       let back = path-back design.circuit part.piece part.globals part.held part.memories (signals_of wires (channels_to wires m)) cut.is gets out (wire_at wires c).signal (wire_at wires d).signal needs.path lt is reads in
       let ends : value_at part.globals back.place ≡ value_at part.globals (value_at part.piece.ins has.0) =
       back.same ∙ ap (λ x. (wire_at wires x).signal) (sym at) ∙ sym (in-signal has.0 within) in
-      let place : back.place ≡ value_at part.piece.ins has.0 = one-place part.globals back.place (value_at part.piece.ins has.0) cut.is.once back.within (cut.is.ins has.0 within).0 ends in
+      let place : back.place ≡ value_at part.piece.ins has.0 = once-apart part.globals 0 cut.is.once back.place (value_at part.piece.ins has.0) back.within (cut.is.ins has.0 within).0 ends in
       record {
         place = has.0;
         known = within;

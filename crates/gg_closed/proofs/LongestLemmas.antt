@@ -7,9 +7,10 @@ use Rattle.gg_flat.specs.Line.{value_at}
 use Rattle.gg_flat.specs.Circuit.{FlatCircuit}
 use Rattle.gg_flat.specs.Tree.{InstanceTree, IsTree, IsInnermost, path_at, memory_at}
 use Rattle.gg_flat.specs.Scoped.{IsScoped, IsFieldOf, memory_fields}
+use Rattle.gg_flat.proofs.ListLemmas.{once-apart}
 use Rattle.gg_cut.specs.declared.listed.Listed.{Listed}
 use Rattle.gg_cut.specs.Listed.{lies, first_place, unit_or_hub, owner_of_instance, owner_of, has_signal, has_field, memory_or}
-use Rattle.gg_cut.proofs.PathLemmas.{IsPlace, first_place-Some, first_place-None, one-place}
+use Rattle.gg_cut.proofs.PathLemmas.{IsPlace, first_place-Some, first_place-None}
 use Rattle.gg_cut.specs.Plan.{memory_owner}
 use Rattle.gg_closed.specs.Apart.{AreApart}
 use Rattle.gg_closed.specs.Longest.{HoldsPath, Covers, IsLongest, IsOfLongest}
@@ -244,7 +245,7 @@ module _ (circuit : FlatCircuit) (tree : InstanceTree) (listed : Listed) (fits :
     memory-same i li h = by (subst (λ p. Covers p (path_at tree.memory_paths j)) (are.memory i li) h)
       where
         by : Covers (path_at tree.memory_paths (value_at listed.memories i)) (path_at tree.memory_paths j) → value_at listed.memories i ≡ j
-        by (inl same) = one-place tree.memory_paths (value_at listed.memories i) j fits.memory_distinct (let known = memory-in i li in omega (arith, known, fits.memory_named)) (omega (arith, lj, fits.memory_named)) same
+        by (inl same) = once-apart tree.memory_paths [] fits.memory_distinct (value_at listed.memories i) j (let known = memory-in i li in omega (arith, known, fits.memory_named)) (omega (arith, lj, fits.memory_named)) same
         by (inr up) = absurd (memory-no-memory circuit tree fits scoped (value_at listed.memories i) j (memory-in i li) lj up)
 
     -- a unit's path that covers the memory's path holds it

@@ -5,8 +5,7 @@ use Rattle.std.proofs.lemmas.List.{append_cancel_left}
 use Rattle.gg_flat.specs.Circuit.{FlatCircuit}
 use Rattle.gg_flat.specs.Tree.{InstanceTree, IsTree, joined, path_at, memory_at}
 use Rattle.gg_flat.specs.Scoped.{IsScoped, IsPort, IsFieldOf}
-use Rattle.gg_flat.proofs.ListLemmas.{further}
-use Rattle.gg_cut.proofs.PathLemmas.{one-place as path-one}
+use Rattle.gg_flat.proofs.ListLemmas.{further, once-apart}
 use Rattle.gg_closed.proofs.TreeLemmas.{innermost-one}
 
 -- ---- paths
@@ -95,4 +94,4 @@ module _ (circuit : FlatCircuit) (tree : InstanceTree) (fits : IsTree circuit tr
       one i j paths li lj
     where
       one : (i j : ℕ) → path_at tree.memory_paths i ≡ path_at tree.memory_paths j → i < length tree.memories → j < length tree.memories → i ≡ j
-      one i j e li lj = path-one tree.memory_paths i j fits.memory_distinct (omega (arith, li, fits.memory_named)) (omega (arith, lj, fits.memory_named)) e
+      one i j e li lj = once-apart tree.memory_paths [] fits.memory_distinct i j (omega (arith, li, fits.memory_named)) (omega (arith, lj, fits.memory_named)) e

@@ -10,7 +10,7 @@ use Rattle.gg_flat.specs.Line.{value_at}
 use Rattle.gg_flat.specs.Circuit.{FlatCircuit}
 use Rattle.gg_flat.specs.Tree.{InstanceTree, IsTree, instance_at, memory_at}
 use Rattle.gg_flat.specs.Scoped.{IsScoped, IsPort, IsFieldOf, memory_fields}
-use Rattle.gg_flat.proofs.ListLemmas.{filter-cases, one-place}
+use Rattle.gg_flat.proofs.ListLemmas.{filter-cases, once-apart}
 use Rattle.gg_cut.specs.declared.wires.Wire.{Wire}
 use Rattle.gg_cut.specs.declared.listed.Listed.{Listed}
 use Rattle.gg_cut.specs.Listed.{lies}
@@ -210,5 +210,5 @@ module _ (circuit : FlatCircuit) (tree : InstanceTree) (listed : Listed) (fits :
       let all = wires_of circuit tree listed in
       let count = length-map all (λ (w : Wire). w.signal) in
       let at = λ (i : ℕ) (x : Wire) (lt : i < length all) (is : get_or all i x ≡ x). get_or-map (λ (w : Wire). w.signal) all i x 0 lt ∙ ap (λ (w : Wire). w.signal) is in
-      let place = one-place (map (λ (w : Wire). w.signal) all) a.0 b.0 wires-once (omega (arith, a.1, count)) (omega (arith, b.1, count)) (at a.0 v a.1 a.2 ∙ same ∙ sym (at b.0 w b.1 b.2)) in
+      let place = once-apart (map (λ (w : Wire). w.signal) all) 0 wires-once a.0 b.0 (omega (arith, a.1, count)) (omega (arith, b.1, count)) (at a.0 v a.1 a.2 ∙ same ∙ sym (at b.0 w b.1 b.2)) in
       sym a.2 ∙ get_or_default all a.0 v w a.1 ∙ ap (λ i. get_or all i w) place ∙ b.2

@@ -8,11 +8,12 @@ use Rattle.gg_flat.specs.declared.tree.InstancePort.{InstancePort}
 use Rattle.gg_flat.specs.Circuit.{FlatCircuit, readers_at}
 use Rattle.gg_flat.specs.Tree.{InstanceTree, path_at, instance_at, memory_at, parent_place}
 use Rattle.gg_flat.specs.Scoped.{reader_fields, writer_fields, writers_at, memory_fields}
+use Rattle.gg_flat.proofs.ListLemmas.{once-apart}
 use Rattle.gg_cut.specs.declared.wires.Wire.{Wire}
 use Rattle.gg_cut.specs.declared.listed.Listed.{Listed}
 use Rattle.gg_cut.specs.Listed.{owner_of_instance, is_among, AreMarks}
 use Rattle.gg_cut.specs.Channels.{wire, numbered, flattened, first_memory, first_source, first_tray, port_wire, port_wires, reader_wires, writer_wires, field_wires, source_wires, tray_wires, wires_of, port_signals, channel_signals}
-use Rattle.gg_cut.proofs.PathLemmas.{HoldsPath, holds-path, one-place}
+use Rattle.gg_cut.proofs.PathLemmas.{HoldsPath, holds-path}
 
 abbrev signal_of : Wire → ℕ
 signal_of w = w.signal
@@ -87,7 +88,7 @@ named-channel paths name k (s ∷ signals) once found known =
     by false e false f = refl
     by true e false f = absurd (true≢false (sym ((bytes_eq-Decides name (path_at paths s)).1 (sym holds.is ∙ ap (path_at paths) (true-eqb k s (sym e)))) ∙ f))
     by false e true f =
-        let same : k ≡ s = one-place paths k s once holds.within (known 0 0 (omega arith)) (holds.is ∙ (bytes_eq-Decides name (path_at paths s)).0 f) in
+        let same : k ≡ s = once-apart paths [] once k s holds.within (known 0 0 (omega arith)) (holds.is ∙ (bytes_eq-Decides name (path_at paths s)).0 f) in
         absurd (true≢false (sym (eq-eqb k s same) ∙ e))
 
 -- a name that no signal has is the name of no channel

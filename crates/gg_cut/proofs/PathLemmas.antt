@@ -6,6 +6,7 @@ use Rattle.std.proofs.lemmas.Bool.{cases_lt}
 use Rattle.std.proofs.lemmas.List.Folds.{list_any_at}
 use Rattle.std.proofs.lemmas.Slice.Eq.{bytes_eq-Decides}
 use Rattle.gg_flat.proofs.PathLemmas.{found-path}
+use Rattle.gg_flat.proofs.ListLemmas.{once-apart}
 use Rattle.gg_cut.specs.Listed.{first_place, place_of, is_among}
 
 -- the test holds at place i
@@ -42,15 +43,6 @@ holds-path (p ∷ ps) zero path found = record { within = omega arith; is = same
     same e = cc
 holds-path (p ∷ ps) (suc k) path found = let rest = holds-path ps k path found in record { within = omega (arith, rest.within); is = rest.is }
 
--- two places of the same path are the same place
-pub one-place : (paths : List (List ℕ)) (i j : ℕ) → AllPairs (λ a b. a ≢ b) paths → i < length paths → j < length paths → get_or paths i [] ≡ get_or paths j [] → i ≡ j
-one-place paths i j once li lj same = by (cases_lt i j) (cases_lt j i)
-  where
-    by : (i < j) ⊎ (j ≤ i) → (j < i) ⊎ (i ≤ j) → i ≡ j
-    by (inl lt) q = absurd (once i j [] lt lj same)
-    by (inr le) (inl lt) = absurd (once j i [] lt li (sym same))
-    by (inr le) (inr ge) = omega arith
-
 -- what a look-up finds is the first place of the path
 pub look-up : (paths : List (List ℕ)) (path : List ℕ) (result : Option ℕ) → AllPairs (λ a b. a ≢ b) paths → IfSome result (λ k. slice_get paths k ≡ Some path) → IfNone result (¬ Contains paths path) → result ≡ place_of paths path
 look-up paths path result once found missing = by result found missing (place_of paths path) refl
@@ -67,7 +59,7 @@ look-up paths path result once found missing = by result found missing (place_of
     by (Some k) found missing (Some j) e =
         let holds = holds-path paths k path found in
         let at = first_place-Some (bytes_eq path) paths j e in
-        ap Some (one-place paths k j once holds.within at.within (holds.is ∙ (bytes_eq-Decides path (get_or paths j [])).0 (at.passes [])))
+        ap Some (once-apart paths [] once k j holds.within at.within (holds.is ∙ (bytes_eq-Decides path (get_or paths j [])).0 (at.passes [])))
 
 -- a path that a look-up finds is in the set, and one that it doesn't find isn't
 pub among-found : (paths : List (List ℕ)) (path : List ℕ) (k : ℕ) → slice_get paths k ≡ Some path → is_among paths path ≡ true

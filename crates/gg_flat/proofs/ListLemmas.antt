@@ -82,11 +82,11 @@ numbers-up test n = AllPairs-filter (λ a b. a < b) test (range_with_len 0 n)
     let high : j < n = omega (arith, inside, length-range_with_len 0 n) in
     omega (arith, lt, get_or-range_with_len 0 n i d (omega (arith, lt, high)), get_or-range_with_len 0 n j d high))
 
--- in a list of distinct numbers each stands at one place
-pub one-place : (xs : List ℕ) (i j : ℕ) → AllPairs (λ a b. a ≢ b) xs → i < length xs → j < length xs → get_or xs i 0 ≡ get_or xs j 0 → i ≡ j
-one-place xs i j once li lj same = by (cases_lt i j) (cases_lt j i)
+-- in a list of distinct items, equal items stand at the same place
+pub once-apart : {X : Type 0} (xs : List X) (d : X) → AllPairs (λ a b. a ≢ b) xs → (i j : ℕ) → i < length xs → j < length xs → get_or xs i d ≡ get_or xs j d → i ≡ j
+once-apart xs d once i j li lj same = by (cases_lt i j) (cases_lt j i)
   where
     by : (i < j) ⊎ (j ≤ i) → (j < i) ⊎ (i ≤ j) → i ≡ j
-    by (inl lt) q = absurd (once i j 0 lt lj same)
-    by (inr le) (inl lt) = absurd (once j i 0 lt li (sym same))
+    by (inl lt) q = absurd (once i j d lt lj same)
+    by (inr le) (inl lt) = absurd (once j i d lt li (sym same))
     by (inr le) (inr ge) = omega (arith, le, ge)

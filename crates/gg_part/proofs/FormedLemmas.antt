@@ -21,19 +21,10 @@ use Rattle.gg_flat.specs.Circuit.{FlatCircuit, signal_shapes, driver_at, readers
 use Rattle.gg_flat.specs.Reads.{Names, ResetNames, NextNames}
 use Rattle.gg_flat.specs.Tree.{path_at}
 use Rattle.gg_flat.specs.WellFormed.{IsDataOf, MayDrive, IsReset, IsRegister, IsReader, IsWriter, IsMemory, IsWellFormed, reader_driver}
-use Rattle.gg_flat.proofs.ListLemmas.{some-item}
+use Rattle.gg_flat.proofs.ListLemmas.{some-item, once-apart}
 use Rattle.gg_part.specs.Part.{IsPart, IsFrom, renamed_op, renamed_line, renamed_next, renamed_reset, renamed_register, renamed_reader, renamed_writer, renamed_memory, NamesBelow, ReadsAmong}
 use Rattle.gg_part.proofs.RenameLemmas.{shapes_of-renamed, length-renamed, line_shape-renamed}
 use Rattle.gg_part.proofs.RunLemmas.{shape-part, length-shapes}
-
--- in a list of distinct items, equal items stand at the same place
-pub once-apart : {X : Type 0} (xs : List X) (d : X) → AllPairs (λ a b. a ≢ b) xs → (i j : ℕ) → i < length xs → j < length xs → get_or xs i d ≡ get_or xs j d → i ≡ j
-once-apart xs d once i j li lj same = by (cases_lt i j) (cases_lt j i)
-  where
-    by : (i < j) ⊎ (j ≤ i) → (j < i) ⊎ (i ≤ j) → i ≡ j
-    by (inl lt) q = absurd (once i j d lt lj same)
-    by (inr le) (inl lt) = absurd (once j i d lt li (sym same))
-    by (inr le) (inr ge) = omega arith
 
 module _ (whole part : FlatCircuit) (globals held memories : List ℕ) (is : IsPart whole part globals held memories) where
   type-part : (s : ℕ) (to : Shape) → s < length globals → HasType (signal_shapes whole) (value_at globals s) to → HasType (signal_shapes part) s to

@@ -11,11 +11,10 @@ use Rattle.gg_flat.specs.Line.{value_at, shape_at}
 use Rattle.gg_flat.specs.Circuit.{FlatCircuit, signal_shapes, driver_at, readers_at, reader_at}
 use Rattle.gg_flat.specs.Tree.{path_at}
 use Rattle.gg_flat.specs.WellFormed.{IsWellFormed}
-use Rattle.gg_flat.proofs.ListLemmas.{some-item}
+use Rattle.gg_flat.proofs.ListLemmas.{some-item, once-apart}
 use Rattle.gg_part.specs.Part.{IsPart, IsFrom, renamed_reader, renamed_memory}
 use Rattle.gg_part.specs.Choice.{IsChoice}
 use Rattle.gg_part.specs.Building.{AreHeld, AreSignals, AreRegisters, AreMemories}
-use Rattle.gg_part.proofs.FormedLemmas.{once-apart}
 use Rattle.gg_part.proofs.FrameLemmas.{held-within}
 
 -- a choice is one without its out-signals too, and with equal lists in place of its own

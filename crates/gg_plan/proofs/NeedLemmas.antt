@@ -6,7 +6,7 @@ use Rattle.std.proofs.lemmas.List.{get_or-map, get_or_default, length-map}
 use Rattle.std.proofs.lemmas.List.Elements.{Contains-get_or}
 use Rattle.std.proofs.lemmas.List.FromFn.{length-range_with_len, get_or-range_with_len}
 use Rattle.gg_flat.specs.Line.{value_at}
-use Rattle.gg_flat.proofs.ListLemmas.{Contains-filter, filter-cases, one-place, numbers-up}
+use Rattle.gg_flat.proofs.ListLemmas.{Contains-filter, filter-cases, numbers-up, once-apart}
 use Rattle.gg_needs.specs.Needs.{AreNeeds}
 use Rattle.gg_needs.specs.Needs.{AreNeedsOfOuts}
 use Rattle.gg_part.specs.declared.part.Part.{Part}
@@ -78,7 +78,7 @@ part-told wires part ins outs m lists before table served taken given all put c 
     record {
       ascending = subst (λ (l : List ℕ). AllPairs (λ a b. a < b) l) (sym told) (map-ascending ins places (taken-ascending wires m ins taken) needs.ascending (places-within wires part ins outs lists served all i has.1));
       needs = λ out lt same.
-          let joined : own ≡ out = one-place part.globals own out served.once (served.known i inside) lt (signal ∙ sym same) in
+          let joined : own ≡ out = once-apart part.globals 0 served.once own out (served.known i inside) lt (signal ∙ sym same) in
           subst (λ (l : List ℕ). AreNeedsOf part ins out l) (sym told)
           (subst (λ (o : ℕ). AreNeedsOf part ins o (map (value_at ins) places)) joined (needs-at own places needs));
     }

@@ -8,7 +8,7 @@ use Rattle.std.proofs.lemmas.List.FromFn.{length-range_with_len, get_or-range_wi
 use Rattle.std.proofs.lemmas.List.Kept.{AllPairs-filter}
 use Rattle.std.proofs.lemmas.List.Folds.{list_any_at}
 use Rattle.gg_flat.specs.Line.{value_at}
-use Rattle.gg_flat.proofs.ListLemmas.{here, Contains-filter, filter-cases, one-place}
+use Rattle.gg_flat.proofs.ListLemmas.{here, Contains-filter, filter-cases, once-apart}
 use Rattle.gg_cut.specs.Listed.{first_place}
 use Rattle.gg_cut.proofs.PathLemmas.{first_place-Some, first_place-None}
 use Rattle.gg_sound.specs.Built.{place_in}
@@ -36,7 +36,7 @@ placed numbers c has = by (first_place (λ d. d == c) numbers) refl
 pub place-back : (numbers : List ℕ) (i : ℕ) → AllPairs (λ a b. a ≢ b) numbers → i < length numbers → place_in numbers (value_at numbers i) ≡ i
 place-back numbers i once lt =
     let at = placed numbers (value_at numbers i) (Contains-get_or numbers i 0 lt) in
-    one-place numbers (place_in numbers (value_at numbers i)) i once at.within lt at.is
+    once-apart numbers 0 once (place_in numbers (value_at numbers i)) i at.within lt at.is
 
 -- ---- numbers below n that pass a test
 
