@@ -1,11 +1,11 @@
 -- Which instances hold a signal: the innermost that does, and those that it lies in.
-use Rattle.std.proofs.Common.{◌≡◌, ◌≢◌, ℕ, zero, suc, ◌<◌, ◌≤◌, length, Bool, true, false, refl, sym, ◌∙◌, ap, subst, Some, None, inl, inr, ◌⊎◌, true-eqb, arith}
-use Rattle.std.specs.Prelude.{Option, ◌||◌, ◌==◌}
+use Rattle.std.proofs.Common.{◌≡◌, ◌≢◌, ℕ, zero, suc, ◌<◌, ◌≤◌, length, true, refl, sym, ◌∙◌, ap, subst, Some, None, inl, inr, ◌⊎◌, true-eqb, arith}
+use Rattle.std.specs.Prelude.{Option, ◌==◌}
 use Rattle.std.proofs.lemmas.Bool.{cases_lt, cases_eq, or_cases}
 use Rattle.gg_flat.specs.Circuit.{FlatCircuit}
 use Rattle.gg_flat.specs.Tree.{InstanceTree, IsTree, IsInnermost, Holds, instance_at, parent_place}
 use Rattle.gg_cut.specs.Listed.{lies, ParentsBefore}
-use Rattle.gg_cut.proofs.ChainLemmas.{lies-parent, lies-alone, lies-self}
+use Rattle.gg_cut.proofs.ChainLemmas.{lies-parent, lies-alone, lies-self, or-right}
 use Rattle.gg_cut.proofs.KnownLemmas.{parents-before}
 
 module _ (circuit : FlatCircuit) (tree : InstanceTree) (fits : IsTree circuit tree) where
@@ -13,10 +13,6 @@ module _ (circuit : FlatCircuit) (tree : InstanceTree) (fits : IsTree circuit tr
   parents = parents-before circuit tree fits
 
   -- ---- what an instance lies in
-
-  or-right : (a b : Bool) → b ≡ true → (a || b) ≡ true
-  or-right true b e = refl
-  or-right false b e = e
 
   -- instance k has a parent, which stands before it and lies in instance i
   pub record Climbs (k i : ℕ) : Type 0 where

@@ -12,7 +12,15 @@ use Rattle.gg_cut.specs.Listed.{lies_within, lies, of_parent, ParentsBefore, Are
 use Rattle.gg_cut.specs.Fault.{overlap, overlapping, first_clash}
 use Rattle.gg_cut.proofs.FindLemmas.{rest-at}
 
--- ---- tests on lists
+-- ---- tests
+
+pub or-left : (a b : Bool) → a ≡ true → (a || b) ≡ true
+or-left true b e = refl
+or-left false b e = absurd (cc)
+
+pub or-right : (a b : Bool) → b ≡ true → (a || b) ≡ true
+or-right true b e = refl
+or-right false b e = e
 
 pub any-or : {A : Type 0} (p q : A → Bool) (xs : List A) → list_any (λ x. p x || q x) xs ≡ (list_any p xs || list_any q xs)
 any-or p q [] = refl
@@ -83,14 +91,6 @@ module _ (tree : InstanceTree) (before : ParentsBefore tree) where
       any-weaker [] e = absurd (cc)
       any-weaker (x ∷ xs) e = by (node == x) refl e (any-weaker xs)
         where
-          or-left : (a b : Bool) → a ≡ true → (a || b) ≡ true
-          or-left true b e = refl
-          or-left false b e = absurd (cc)
-
-          or-right : (a b : Bool) → b ≡ true → (a || b) ≡ true
-          or-right true b e = refl
-          or-right false b e = e
-
           by : (b : Bool) → (node == x) ≡ b → (b || list_any (λ unit. node == unit) xs) ≡ true → (list_any (λ unit. node == unit) xs ≡ true → list_any (lies tree node) xs ≡ true) → (lies tree node x || list_any (lies tree node) xs) ≡ true
           by true same e rest = or-left (lies tree node x) (list_any (lies tree node) xs) (subst (λ y. lies tree node y ≡ true) (true-eqb node x (sym same)) (lies-self node lt))
           by false same e rest = or-right (lies tree node x) (list_any (lies tree node) xs) (rest e)

@@ -4,6 +4,7 @@ use Rattle.std.specs.Prelude.{filter, cond, ◌==◌}
 use Rattle.std.specs.List.{range_with_len}
 use Rattle.std.proofs.lemmas.List.{get_or-map, length-map}
 use Rattle.std.proofs.lemmas.Grind.{same_number_lists}
+use Rattle.std.proofs.lemmas.Simd.{map-map}
 use Rattle.gg_flat.specs.Line.{value_at, shape_at}
 use Rattle.gg_flat.specs.Circuit.{FlatCircuit, signal_shapes}
 use Rattle.gg_flat.specs.Settled.{driver_value}
@@ -28,10 +29,6 @@ use Rattle.gg_cut.specs.Channels.{wires_of, first_source}
 use Rattle.gg_cut.specs.Plan.{wire_at, channels_to, channels_from, signals_of, IsCutPart, IsBody, IsPlan}
 use Rattle.gg_cut.specs.Solves.{GivesColumns, Answers, lists_of, Solves, columns_of}
 use Rattle.gg_cut.proofs.WireLemmas.{source-gives, tray-gives}
-
-map-map : {A B C : Type 0} (g : B → C) (f : A → B) (xs : List A) → map g (map f xs) ≡ map (λ x. g (f x)) xs
-map-map g f [] = refl
-map-map g f (x ∷ xs) = ap (λ l. g (f x) ∷ l) (map-map g f xs)
 
 -- two functions that agree on the items of a list make the same list of it
 map-agree : {B : Type 0} (f g : ℕ → B) (xs : List ℕ) → ((i : ℕ) → i < length xs → f (value_at xs i) ≡ g (value_at xs i)) → map f xs ≡ map g xs

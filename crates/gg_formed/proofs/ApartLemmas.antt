@@ -3,11 +3,11 @@ use Rattle.std.proofs.Common.{◌≡◌, ◌≢◌, ℕ, zero, suc, List, [], �
 use Rattle.std.specs.Prelude.{Contains, flat_map}
 use Rattle.std.proofs.lemmas.List.{map-append}
 use Rattle.std.proofs.lemmas.Grind.{flat_map-append}
+use Rattle.std.proofs.lemmas.Simd.{map-map}
 use Rattle.gg_ast.specs.Tree.{ModuleTree}
 use Rattle.gg_flat.specs.Tree.{joined}
 use Rattle.gg_flat.proofs.ListLemmas.{further, Contains-map, map-same}
 use Rattle.gg_count.specs.Sites.{Held, Site, site_below, sites, held_at}
-use Rattle.gg_digest.proofs.FlatLemmas.{map-twice}
 use Rattle.gg_digest.proofs.NameLemmas.{Differ, Differ-tail}
 use Rattle.gg_tree.proofs.DeclaredLemmas.{Differ-head}
 use Rattle.gg_tree.proofs.JoinLemmas.{joined-twice}
@@ -76,7 +76,7 @@ module _ (modules : List ModuleTree) (own : ℕ → List (List ℕ)) (are : AreA
       ∙ ap₂ (λ a b. a ++ b)
       (below (site_below x h)
       ∙ map-same (joined (joined x.path h.name)) (λ r. joined x.path (behind h r)) (names_below n h.number) (λ r. sym (joined-twice x.path h.name r (some h (0, omega arith, refl))))
-      ∙ sym (map-twice (joined x.path) (behind h) (names_below n h.number)))
+      ∙ sym (map-map (joined x.path) (behind h) (names_below n h.number)))
       (along-paths n x below hs (λ y c. some y (further h hs y c)))
       ∙ sym (map-append (joined x.path) (map (behind h) (names_below n h.number)) (flat_map (λ h. map (behind h) (names_below n h.number)) hs))
 

@@ -26,6 +26,7 @@ use Rattle.gg_cut.specs.declared.listed.Listed.{Listed}
 use Rattle.gg_cut.specs.declared.wires.Wire.{Wire}
 use Rattle.gg_cut.specs.Listed.{owner_of}
 use Rattle.gg_cut.specs.Plan.{channels_to, channels_from, signals_of, IsInner, Makes, Takes, HasMemory, IsCutPart, IsNeed, AreNeedsOf}
+use Rattle.gg_cut.proofs.ChainLemmas.{or-left, or-right}
 
 -- ---- numbers and lists
 
@@ -57,14 +58,6 @@ has (x ∷ xs) s = (x == s) || has xs s
 or-cases : (a b : Bool) → (a || b) ≡ true → (a ≡ true) ⊎ (b ≡ true)
 or-cases true b is = inl refl
 or-cases false b is = inr is
-
-or-right : (a b : Bool) → b ≡ true → (a || b) ≡ true
-or-right true b is = refl
-or-right false b is = is
-
-or-left : (a b : Bool) → a ≡ true → (a || b) ≡ true
-or-left true b is = refl
-or-left false b is = cc
 
 pub has-contains : (xs : List ℕ) (s : ℕ) → has xs s ≡ true → Contains xs s
 has-contains [] s is = cc

@@ -10,7 +10,8 @@ use Rattle.gg_lex.proofs.EveryLine.{every_line}
 use Rattle.gg_ast.specs.Row.{Row}
 use Rattle.gg_ast.specs.Tree.{CircuitTree}
 use Rattle.gg_row.specs.Reading.{row_at}
-use Rattle.gg_row.proofs.RowLaws.{row_at-spelt, spelt-row_at}
+use Rattle.gg_row.proofs.RowLaws.{spelt-row_at}
+use Rattle.gg_row.proofs.RowsSpelt.{row-spells}
 use Rattle.gg_read.specs.declared.stage.Stage.{Stage}
 use Rattle.gg_read.specs.declared.stage.Stage.TheVariants.{Start, Version, Header, Ports, Statements, Fields, Open}
 use Rattle.gg_read.specs.Stages.{stage_place, HasRead}
@@ -70,7 +71,7 @@ bad-judged place ts x = Faulty (inr (blank, form))
     form row next h = let none : Some x ≡ None = h.whole in cc
 
 placed-judged : (place : LinePlace) (t : Tok) (ts : List Tok) (row : Row) (o : Option LinePlace) → (IsTooDeep (t ∷ ts) → ⊥) → row_at (t ∷ ts) ≡ Some row → place_after place row ≡ o → Judged place (holding (t ∷ ts) None)
-placed-judged place t ts row (Some next) shallow found there = Formed row next (record { whole = refl; spelt = row_at-spelt (t ∷ ts) row found; there = there }) shallow
+placed-judged place t ts row (Some next) shallow found there = Formed row next (record { whole = refl; spelt = row-spells (t ∷ ts) row found; there = there }) shallow
 placed-judged place t ts row None shallow found there = Faulty (inr (blank, form))
   where
     blank : IsBlank (holding (t ∷ ts) None) → ⊥
@@ -78,7 +79,7 @@ placed-judged place t ts row None shallow found there = Faulty (inr (blank, form
 
     form : (r : Row) (next : LinePlace) → IsForm place (holding (t ∷ ts) None) r next → ⊥
     form r next h =
-        let same : row ≡ r = same_row (t ∷ ts) row r (row_at-spelt (t ∷ ts) row found) h.spelt in
+        let same : row ≡ r = same_row (t ∷ ts) row r (row-spells (t ∷ ts) row found) h.spelt in
         let here : place_after place row ≡ Some next = ap (λ (x : Row). place_after place x) same ∙ h.there in
         cc
 

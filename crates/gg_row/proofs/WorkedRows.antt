@@ -24,7 +24,8 @@ use Rattle.gg_ast.specs.declared.statement.Argument.{Argument}
 use Rattle.gg_ast.specs.declared.statement.Argument.TheVariants as given
 use Rattle.gg_row.specs.Forms.{SpellsRow}
 use Rattle.gg_row.specs.Reading.{row_at}
-use Rattle.gg_row.proofs.RowLaws.{row_at-spelt, spelt-row_at}
+use Rattle.gg_row.proofs.RowLaws.{spelt-row_at}
+use Rattle.gg_row.proofs.RowsSpelt.{row-spells}
 
 -- a line with these tokens is this row
 pub record IsRow (row : Row) (ts : List Tok) : Type 0 where
@@ -32,7 +33,7 @@ pub record IsRow (row : Row) (ts : List Tok) : Type 0 where
 
 -- from the reader of rows, which finds exactly the row that is spelt
 pub read : {row : Row} {ts : List Tok} → row_at ts ≡ Some row → IsRow row ts
-read {row} {ts} found = record { spelt = row_at-spelt ts row found }
+read {row} {ts} found = record { spelt = row-spells ts row found }
 
 sole : {row other : Row} {ts : List Tok} → row_at ts ≡ Some row → IsRow other ts → row ≡ other
 sole {row} {other} {ts} found is = same_Some row other (sym found ∙ spelt-row_at ts other is.spelt)

@@ -1,6 +1,6 @@
 -- From the lists to what each machine has.
-use Rattle.std.proofs.Common.{◌≡◌, ◌≢◌, ℕ, ◌+◌, ◌<◌, List, [], length, get_or, Bool, true, false, refl, sym, ◌∙◌, ap, subst, Some, None, inl, inr, ◌⊎◌, eq-eqb, true-eqb, arith}
-use Rattle.std.specs.Prelude.{Option, ◌||◌, ◌==◌, filter, slice_index_or, Contains, AllPairs}
+use Rattle.std.proofs.Common.{◌≡◌, ◌≢◌, ℕ, ◌+◌, ◌<◌, List, [], length, get_or, true, sym, ◌∙◌, ap, subst, Some, None, inl, inr, ◌⊎◌, eq-eqb, true-eqb, arith}
+use Rattle.std.specs.Prelude.{Option, ◌==◌, filter, slice_index_or, Contains, AllPairs}
 use Rattle.std.specs.List.{range_with_len}
 use Rattle.std.proofs.lemmas.Bool.{or_cases}
 use Rattle.std.proofs.lemmas.List.{get_or_default}
@@ -21,6 +21,7 @@ use Rattle.gg_cut.specs.Listed.{owner_of, first_place, has_signal, unit_or_hub}
 use Rattle.gg_part.specs.Choice.{IsChoice}
 use Rattle.gg_cut.specs.Channels.{wires_of}
 use Rattle.gg_cut.specs.Plan.{wire_at, channels_to, channels_from, signals_of, HasMemory, memory_owner}
+use Rattle.gg_cut.proofs.ChainLemmas.{or-left, or-right}
 use Rattle.gg_closed.specs.Apart.{AreApart}
 use Rattle.gg_split.specs.Share.{IsShareOf}
 use Rattle.gg_split.specs.Spread.{AreChannels, IsChannelBelow, has_by, has, signals_among, memories_below, AreSignals, AreMemories}
@@ -66,14 +67,6 @@ module _ (circuit : FlatCircuit) (tree : InstanceTree) (order : List ℕ) (liste
         by : (((wire_at (wires_of circuit tree listed) c).producer == m) ≡ true) ⊎ (((wire_at (wires_of circuit tree listed) c).consumer == m) ≡ true) → Gets circuit tree listed fits scoped apart m s
         by (inl p) = inl (inr (subst (λ t. Contains (signals_of (wires_of circuit tree listed) (channels_from (wires_of circuit tree listed) m)) t) at.1 (chosen-in (wires_of circuit tree listed) (λ w. w.producer == m) (wire_at (wires_of circuit tree listed) c) (wire-among (wires_of circuit tree listed) c at.0) p)))
         by (inr p) = inr (subst (λ t. Contains (signals_of (wires_of circuit tree listed) (channels_to (wires_of circuit tree listed) m)) t) at.1 (chosen-in (wires_of circuit tree listed) (λ w. w.consumer == m) (wire_at (wires_of circuit tree listed) c) (wire-among (wires_of circuit tree listed) c at.0) p))
-
-    or-left : (a b : Bool) → a ≡ true → (a || b) ≡ true
-    or-left true b e = refl
-    or-left false b e = absurd (cc)
-
-    or-right : (a b : Bool) → b ≡ true → (a || b) ≡ true
-    or-right true b e = refl
-    or-right false b e = e
 
     same-wire : (s c : ℕ) (w : Wire) → c < length (wires_of circuit tree listed) → (wire_at (wires_of circuit tree listed) c).signal ≡ s → Contains (wires_of circuit tree listed) w → w.signal ≡ s → w ≡ wire_at (wires_of circuit tree listed) c
     same-wire s c w lt is among of = channel-one circuit tree listed fits scoped apart w (wire_at (wires_of circuit tree listed) c) among (wire-among (wires_of circuit tree listed) c lt) (of ∙ sym is)

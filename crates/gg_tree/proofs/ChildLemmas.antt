@@ -3,7 +3,6 @@ use Rattle.std.proofs.Common.{◌≡◌, ◌⊎◌, inl, inr, ℕ, zero, suc, �
 use Rattle.std.specs.Prelude.{flat_map, Contains, option_map}
 use Rattle.std.specs.Str.{bytes_eq}
 use Rattle.std.proofs.lemmas.List.Elements.{Contains-append_cases}
-use Rattle.std.proofs.lemmas.Slice.Eq.{bytes_eq-Decides}
 use Rattle.std.proofs.lemmas.Option.{same_Some}
 use Rattle.std.proofs.Math.Bool.{and-eq-true_iff}
 use Rattle.gg_ast.specs.declared.expression.Reference.{Reference}
@@ -27,6 +26,7 @@ use Rattle.gg_types.specs.declared.sort.Own.{Own}
 use Rattle.gg_types.specs.Named.{find_named}
 use Rattle.gg_types.specs.Owned.{typed, known_sort, sort_of_reference}
 use Rattle.gg_types.specs.Types.{known_in}
+use Rattle.gg_types.proofs.PlaceLemmas.{same_bytes}
 use Rattle.gg_count.specs.Sites.{Held, held, held_by, held_by_kind, module_at}
 use Rattle.gg_digest.specs.Known.{types_of, value_shape}
 use Rattle.gg_digest.proofs.NameLemmas.{Differ}
@@ -101,9 +101,6 @@ pub record MakesChild (modules : List ModuleTree) (kind : StmtKind) (a b : List 
   pub listed : Contains child.ports port
   pub port_name : port.name ≡ b
 
-equal : (a x : List ℕ) → bytes_eq a x ≡ true → a ≡ x
-equal a x h = (bytes_eq-Decides a x).0 h
-
 not-local : (a b name : List ℕ) (e : Reference × Role) → e.0 ≡ Local name → same_reference (PortOf a b) e.0 ≡ true → ⊥
 not-local a b name e is same = true≢false (sym same ∙ ap (same_reference (PortOf a b)) is)
 
@@ -115,7 +112,7 @@ child-port : (instance : List ℕ) (ports : List Port) (a b : List ℕ) (e : Ref
 child-port instance [] a b e c same = absurd (omega (arith, c.1))
 child-port instance (p ∷ ps) a b e (zero, lt, is) same =
     let parts = (and-eq-true_iff (bytes_eq a instance) (bytes_eq b p.name)).0 (ap (λ (x : Reference × Role). same_reference (PortOf a b) x.0) is ∙ same) in
-    (equal a instance parts.0, p, (0, omega arith, refl), sym (equal b p.name parts.1))
+    (same_bytes a instance parts.0, p, (0, omega arith, refl), sym (same_bytes b p.name parts.1))
 child-port instance (p ∷ ps) a b e (suc k, lt, is) same =
     let r = child-port instance ps a b e (k, omega (arith, lt), is) same in
     (r.0, r.1, (suc r.2.0, omega (arith, r.2.1), r.2.2), r.3)
@@ -199,7 +196,7 @@ no-child instance (p ∷ ps) a b c e (suc k, lt, is) same = no-child instance ps
 one-field : (memory port : List ℕ) (kind : PortKind) (fields : List PortField) (a b c : List ℕ) (e : Reference × Role) → Contains (map (port_field memory port kind) fields) e → same_reference (FieldOf a b c) e.0 ≡ true → a ≡ memory
 one-field memory port kind [] a b c e at same = absurd (omega (arith, at.1))
 one-field memory port kind (f ∷ fs) a b c e (zero, lt, is) same =
-    equal a memory ((and-eq-true_iff (bytes_eq a memory) (bytes_eq b port && bytes_eq c (field_name f))).0 (ap (λ (x : Reference × Role). same_reference (FieldOf a b c) x.0) is ∙ same)).0
+    same_bytes a memory ((and-eq-true_iff (bytes_eq a memory) (bytes_eq b port && bytes_eq c (field_name f))).0 (ap (λ (x : Reference × Role). same_reference (FieldOf a b c) x.0) is ∙ same)).0
 one-field memory port kind (f ∷ fs) a b c e (suc k, lt, is) same = one-field memory port kind fs a b c e (k, omega (arith, lt), is) same
 
 of-memory : (memory : List ℕ) (ports : List (List ℕ × PortKind)) (a b c : List ℕ) (e : Reference × Role) → Contains (flat_map (port_entries memory) ports) e → same_reference (FieldOf a b c) e.0 ≡ true → a ≡ memory

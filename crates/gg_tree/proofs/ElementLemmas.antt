@@ -11,12 +11,6 @@ abbrev pub value_or : {A : Type 0} → A → Option A → A
 value_or x None = x
 value_or x (Some y) = y
 
--- the element at a place
-pub element-at : {A : Type 0} (l : List A) (j : ℕ) → j < length l → A
-element-at [] j lt = absurd (omega (arith, lt))
-element-at (y ∷ ys) zero lt = y
-element-at (y ∷ ys) (suc j) lt = element-at ys j (omega (arith, lt))
-
 -- an element that stands at a place is one that the list contains
 pub element : {A : Type 0} (l : List A) (j : ℕ) → j < length l → (y : A) × Contains l y × ((d : A) → get_or l j d ≡ y)
 element [] j lt = absurd (omega (arith, lt))

@@ -15,14 +15,13 @@ use Rattle.gg_flat.specs.declared.memory.Memory.{Memory}
 use Rattle.gg_flat.specs.declared.tree.InstancePort.{InstancePort}
 use Rattle.gg_flat.specs.Tree.{InstanceTree, IsInnermost, IsWithin, IsJustBelow, instance_at, memory_at, path_at, joined}
 use Rattle.gg_flat.specs.Scoped.{IsPort, IsOwnPort, IsOwnField, IsFieldOf, input_signals, output_signals, reader_fields, writer_fields, writers_at, memory_fields}
-use Rattle.gg_flat.proofs.ListLemmas.{filter-cases}
+use Rattle.gg_flat.proofs.ListLemmas.{filter-cases, some-item}
 use Rattle.gg_count.specs.Sites.{Held, Site, module_at, held_at, sites_of, top_site}
 use Rattle.gg_digest.specs.IsFlat.{IsFlat, number_of, reader_of, writer_of, port_names, top_ports}
 use Rattle.gg_tree.specs.IsTreeOf.{IsTreeOf, IsPortFor, signal_paths, signal_ports, is_input, Pairwise}
 use Rattle.gg_digest.specs.Known.{types_of}
 use Rattle.gg_digest.specs.Memories.{type_shape}
 use Rattle.gg_digest.specs.Signals.{Own, own_of_port, OwnBank, memory_signals}
-use Rattle.gg_tree.proofs.ElementLemmas.{element-at}
 use Rattle.gg_tree.proofs.PairwiseLemmas.{Pairwise-length}
 use Rattle.gg_tree.proofs.PlaceLemmas.{Placed}
 use Rattle.gg_tree.proofs.RangeLemmas.{count_to, own-innermost}
@@ -206,7 +205,7 @@ module _ (circuit : CircuitTree) (flat : FlatCircuit) (tree : InstanceTree) (top
       there = omega (arith, lt, flat-memory-count circuit flat tree top known_top is_flat is_tree distinct plain)
 
       memory : Memory
-      memory = element-at flat.memories j there
+      memory = some-item flat.memories j there
 
       readers : readers_at flat j ≡ map (reader_of (signal_paths circuit) (joined p.site.path p.own.name)) p.own.bank.readers
       readers = get_or-map (λ (m : Memory). m.readers) flat.memories j memory [] there ∙ (memory-is circuit flat tree top known_top is_flat is_tree distinct plain j lt p memory).readers

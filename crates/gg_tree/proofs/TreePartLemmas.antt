@@ -3,6 +3,7 @@ use Rattle.std.proofs.Common.{◌≡◌, ℕ, ◌+◌, ◌<◌, ◌≤◌, Bool,
 use Rattle.std.specs.Prelude.{flat_map}
 use Rattle.std.proofs.lemmas.List.{take_more, length-map, take-map, get_or-map, map-append}
 use Rattle.std.proofs.lemmas.List.Elements.{filter-append}
+use Rattle.std.proofs.lemmas.Simd.{map-map}
 use Rattle.gg_ast.specs.Places.{place_of}
 use Rattle.gg_ast.specs.Tree.{CircuitTree, module_names}
 use Rattle.gg_flat.specs.declared.tree.Instance.{Instance}
@@ -18,7 +19,7 @@ use Rattle.gg_digest.specs.Known.{types_of}
 use Rattle.gg_tree.specs.TreeParts.{signals_to, IsHolder, IsPortAt, IsNumberAt, signals_among, IsInstanceAt, IsMemoryPart, IsHeldFor, held_at_place}
 use Rattle.gg_digest.specs.Views.{own_bank_of, outer_of, site_of, IsDigest}
 use Rattle.gg_digest.specs.Flat.{FlatMemory, flat_memory, signals_at, flat_memories}
-use Rattle.gg_digest.proofs.FlatLemmas.{memories-more, map-twice, memories-kept, one_more}
+use Rattle.gg_digest.proofs.FlatLemmas.{memories-more, memories-kept, one_more}
 use Rattle.gg_digest.specs.IsFlat.{memory_paths}
 use Rattle.gg_tree.proofs.PlaceLemmas.{within, Placed}
 use Rattle.gg_tree.proofs.RangeLemmas.{count_to, placed-at, placed-count}
@@ -73,7 +74,7 @@ holder-parent circuit paths (Some around) (Some p) same h = subst (λ l. IsAt l 
 
 module _ (circuit : CircuitTree) (top : ℕ) (known_top : place_of circuit.name (module_names circuit) ≡ Some top) (places : List Place) (sites : map site_of places ≡ sites_of circuit) where
   pub paths-same : map (λ (p : Place). p.path) places ≡ site_paths circuit
-  paths-same = sym (map-twice (λ (s : Site). s.path) site_of places) ∙ ap (map (λ (s : Site). s.path)) sites
+  paths-same = sym (map-map (λ (s : Site). s.path) site_of places) ∙ ap (map (λ (s : Site). s.path)) sites
 
   pub count-same : (k : ℕ) → signals_to circuit places k ≡ count_to (signals_in circuit) (sites_of circuit) k
   count-same k = ap (λ (l : List Site). length (flat_map (signals_in circuit) l)) (sym (take-map site_of k places) ∙ ap (take k) sites)
@@ -91,7 +92,7 @@ module _ (circuit : CircuitTree) (top : ℕ) (known_top : place_of circuit.name 
 
   depth-is : (i : ℕ) (d : Site) → i < length (sites_of circuit) → slice_index (map (λ (p : Place). p.depth) places) i ≡ (get_or (sites_of circuit) i d).depth
   depth-is i d lt =
-      ap (λ (l : List ℕ). get_or l i 0) (sym (map-twice (λ (s : Site). s.depth) site_of places) ∙ ap (map (λ (s : Site). s.depth)) sites)
+      ap (λ (l : List ℕ). get_or l i 0) (sym (map-map (λ (s : Site). s.depth) site_of places) ∙ ap (map (λ (s : Site). s.depth)) sites)
       ∙ get_or-map (λ (s : Site). s.depth) (sites_of circuit) i d 0 lt
 
   -- the instance that is made is the instance of the site
@@ -135,12 +136,12 @@ memory-is-for circuit paths memories place own made p q h = record {
 -- the memories of the sites up to the next one
 pub held-more : (circuit : CircuitTree) (places : List Place) (i : ℕ) (p : Place) (digest : Digest) → i < length places → p ≡ get_or places i p → IsDigest (types_of circuit) circuit.modules p.number digest → flat_map (held_memories circuit.modules) (map site_of (take i places)) ++ map (held_at_place p) digest.memories.items ≡ flat_map (held_memories circuit.modules) (map site_of (take (i + 1) places))
 held-more circuit places i p digest lt is d =
-    ap (λ l. flat_map (held_memories circuit.modules) (map site_of (take i places)) ++ l) (sym (map-twice (held_memory (site_of p)) (λ m. flat_memory (site_of p) (own_bank_of m)) digest.memories.items) ∙ ap (map (held_memory (site_of p))) (sym (memories-kept (types_of circuit) circuit.modules p digest d)))
+    ap (λ l. flat_map (held_memories circuit.modules) (map site_of (take i places)) ++ l) (sym (map-map (held_memory (site_of p)) (λ m. flat_memory (site_of p) (own_bank_of m)) digest.memories.items) ∙ ap (map (held_memory (site_of p))) (sym (memories-kept (types_of circuit) circuit.modules p digest d)))
     ∙ sym (one_more (held_memories circuit.modules) places i p lt is)
 
 pub held-paths : (places : List Place) (i : ℕ) (circuit : CircuitTree) (p : Place) (digest : Digest) → i < length places → p ≡ get_or places i p → IsDigest (types_of circuit) circuit.modules p.number digest → memory_paths (flat_memories circuit.modules (map site_of (take i places))) ++ map (λ m. joined p.path m.name.now) digest.memories.items ≡ memory_paths (flat_memories circuit.modules (map site_of (take (i + 1) places)))
 held-paths places i circuit p digest lt is d =
-    ap (λ l. memory_paths (flat_memories circuit.modules (map site_of (take i places))) ++ l) (sym (map-twice (λ (m : FlatMemory). m.path) (λ m. flat_memory (site_of p) (own_bank_of m)) digest.memories.items))
+    ap (λ l. memory_paths (flat_memories circuit.modules (map site_of (take i places))) ++ l) (sym (map-map (λ (m : FlatMemory). m.path) (λ m. flat_memory (site_of p) (own_bank_of m)) digest.memories.items))
     ∙ sym (map-append (λ (m : FlatMemory). m.path) (flat_memories circuit.modules (map site_of (take i places))) (map (λ m. flat_memory (site_of p) (own_bank_of m)) digest.memories.items))
     ∙ ap memory_paths (sym (memories-more (types_of circuit) circuit.modules places i p digest lt is d))
 

@@ -3,6 +3,7 @@ use Rattle.std.proofs.Common.{◌≡◌, ℕ, zero, suc, ◌+◌, ◌≤◌, ◌
 use Rattle.std.proofs.lemmas.Bool.Decides.{nat_tests}
 use Rattle.std.specs.List.{flat_map}
 use Rattle.std.specs.Str.{bytes_eq}
+use Rattle.std.proofs.lemmas.List.{get_or_default}
 use Rattle.gg_bits.specs.declared.types.Bad.{Bad}
 use Rattle.gg_bits.specs.Shape.{Shape, of_kind}
 use Rattle.gg_bits.specs.ResultType.{answer, type1, type2, type_const, type_mux, shape1, shape2, shape_const, shape_mux, kinds2, params_const, is_condition, same_kind}
@@ -410,18 +411,13 @@ pub looked_up : (rs : List (Reference × Role)) (known : List (List ℕ × Optio
 looked_up rs known r None h = ap known_sort h
 looked_up rs known r (Some s) h = ap known_sort h
 
-any-default : {A : Type 0} (xs : List A) (i : ℕ) (d e : A) → i < length xs → get_or xs i d ≡ get_or xs i e
-any-default [] i d e lt = absurd (omega arith)
-any-default (x ∷ xs) zero d e lt = refl
-any-default (x ∷ xs) (suc i) d e lt = any-default xs i d e (omega arith)
-
 -- a type that a look-up finds in a typed circuit has a width of 1 to 128, or is a Clock
 pub typing-wide : (circuit : CircuitTree) (order : List ℕ) (lists : List (List Own)) (k : ℕ) (r : Reference) (list : List Own) (found : Option Sort) (s : Sort) → IsTyped circuit order lists → k < length circuit.modules → list ≡ get_or lists k list → option_map (λ x. Some x) found ≡ known_entry (scope_of circuit.modules (module_at circuit.modules k)) (owned (names_in (module_at circuit.modules k)) list) r → found ≡ Some s → IsWide s
 typing-wide circuit order lists k r list found s typed lt is looked there =
     let m = module_at circuit.modules k in
     let rs = scope_of circuit.modules m in
     let within : k < length lists = omega (arith, lt, typed.tells.count) in
-    let list-is : list ≡ get_or lists k [] = is ∙ any-default lists k list [] within in
+    let list-is : list ≡ get_or lists k [] = is ∙ get_or_default lists k list [] within in
     let e : found ≡ sort_named circuit.modules m r =
     looked_up rs (owned (names_in m) list) r found looked
     ∙ ap (λ l. sort_of_reference rs l r) (ap (owned (names_in m)) list-is ∙ (typed.tells.each k lt).told) in
