@@ -171,6 +171,3 @@ module _ (w : Where) (nodes : List Node) (e : Term) (k : ℕ) (h : Added w [] no
         line = record { some = omega (arith, ap (λ (l : List Node). length l) c.added, length-push nodes c.node); typed = zero_typed nodes new (uint 1) c w whole_typed };
         bit = zero_shape nodes new (uint 1) c;
       }
-
-pub no_names : (new : List Node) (sink : Shape) → IsZeroOf [] new sink → (s : ℕ) → Names new s → ⊥
-no_names new sink z s n = let h = zero_names [] new sink z s n in omega (arith, h.1)

@@ -35,9 +35,6 @@ pub names_first : (xs ys : List Repetition) (r : NamesFault) → Names xs r → 
 names_first xs ys (Repeated x) h = first-front xs ys x h
 names_first xs ys NoMemory h = tt
 
-pub names_next : (xs ys : List Repetition) (r : NamesFault) → xs ≡ [] → Names ys r → Names (xs ++ ys) r
-names_next xs ys r none h = rw none h
-
 -- if the i-th element is the first with a repetition, or memory ran out there, this is the answer for the whole list
 pub left-refused : {A : Type 0} (at : List A → A → List Repetition) (xs : List A) (i : ℕ) (x : A) (r : NamesFault) → i < length xs → x ≡ get_or xs i x → along at xs ≡ left at xs i → Names (at (take i xs) x) r → Names (along at xs) r
 left-refused at xs i x r lt is h refused =

@@ -118,10 +118,6 @@ writers-more fs f names readers writers new is more have =
     (λ q. ap (list_any (bytes_eq q)) (sym (ap (λ k. readers ++ readers_in k) is ∙ append-nil readers)))
     (λ q. more q ∙ ap (λ k. list_any (bytes_eq q) (writers ++ writers_in k)) (sym is))
 
--- without fields there are no ports
-pub no-ports : HavePorts [] [] []
-no-ports = record { reads = λ q. refl; writes = λ q. refl }
-
 -- the first i fields and the next one are the first i + 1
 pub have-next : (fs : List Field) (i : ℕ) (f : Field) (readers writers : List (List ℕ)) → i < length fs → f ≡ get_or fs i f → HavePorts (take i fs ++ f ∷ []) readers writers → HavePorts (take (i + 1) fs) readers writers
 have-next fs i f readers writers lt is have =

@@ -1,5 +1,5 @@
 -- Tables and sets of names, and the lists that contracts see in their place.
-use Rattle.std.proofs.Common.{◌≡◌, ℕ, zero, suc, ◌+◌, ◌<◌, ◌≤◌, Bool, true, false, cond, ◌||◌, List, [], ◌∷◌, ◌++◌, length, map, take, position, nat_lt, Option, None, Some, is_some, refl, sym, ap, ◌∙◌, if◌then◌else◌, true≢false, ltb-true, lt-ltb, le-ltb, arith}
+use Rattle.std.proofs.Common.{◌≡◌, ℕ, zero, suc, ◌+◌, ◌≤◌, Bool, true, false, cond, ◌||◌, List, [], ◌∷◌, ◌++◌, length, map, take, position, nat_lt, Option, None, Some, is_some, refl, sym, ap, ◌∙◌, if◌then◌else◌, true≢false, ltb-true, lt-ltb, le-ltb, arith}
 use Rattle.std.specs.List.{position_or_len, list_any}
 use Rattle.std.specs.Option.{option_map}
 use Rattle.std.specs.Map.{lookup, keys_of}
@@ -103,24 +103,6 @@ position-seen {V} q (e ∷ es) = go (bytes_eq q e.0.now) refl (position-seen q e
         position_next (is_text q) e.0 (keys_of es) t
         ∙ ap (option_map (λ k. k + 1)) rest
         ∙ sym (ap (λ b. if b then Some 0 else option_map (λ k. k + 1) (place_of q (names_seen es))) t)
-
--- a place is below the number of names
-pub place-within : (name : List ℕ) (names : List (List ℕ)) (k : ℕ) → place_of name names ≡ Some k → k < length names
-place-within name [] k h = cc
-place-within name (n ∷ ns) k h = go (bytes_eq name n) refl (place_of name ns) refl (place-within name ns)
-  where
-    go : (b : Bool) → bytes_eq name n ≡ b → (o : Option ℕ) → place_of name ns ≡ o → ((j : ℕ) → place_of name ns ≡ Some j → j < length ns) → k < suc (length ns)
-    go true t o u rest =
-        let e : Some 0 ≡ Some k = sym (ap (λ b. if b then Some 0 else option_map (λ k. k + 1) (place_of name ns)) t) ∙ h in
-        let z : 0 ≡ k = cc in omega arith
-    go false t None u rest =
-        let e : None ≡ Some k = sym (ap (λ b. if b then Some 0 else option_map (λ k. k + 1) (place_of name ns)) t ∙ ap (option_map (λ k. k + 1)) u) ∙ h in
-        cc
-    go false t (Some j) u rest =
-        let e : Some (j + 1) ≡ Some k = sym (ap (λ b. if b then Some 0 else option_map (λ k. k + 1) (place_of name ns)) t ∙ ap (option_map (λ k. k + 1)) u) ∙ h in
-        let z : j + 1 ≡ k = cc in
-        let below = rest j u in
-        omega arith
 
 -- a value that is there if its place is below n
 abbrev pub if_before : {V : Type 0} → Option ℕ → ℕ → Option V → Option V

@@ -1,5 +1,5 @@
 -- Sets of keys, and the lists of references that contracts see in their place.
-use Rattle.std.proofs.Common.{◌≡◌, ℕ, ◌+◌, ◌<◌, Bool, true, false, true≢false, ◌&&◌, ◌||◌, List, [], ◌∷◌, ◌++◌, length, map, take, get_or, Some, None, refl, sym, ap, subst, ◌∙◌, if◌then◌else◌}
+use Rattle.std.proofs.Common.{◌≡◌, ℕ, ◌+◌, ◌<◌, Bool, true, false, true≢false, ◌&&◌, ◌||◌, List, [], ◌∷◌, ◌++◌, length, map, take, get_or, Some, refl, sym, ap, subst, ◌∙◌, if◌then◌else◌}
 use Rattle.std.specs.List.{list_any}
 use Rattle.std.specs.Str.{bytes_eq}
 use Rattle.std.proofs.lemmas.List.Folds.{list_any-append}
@@ -91,11 +91,6 @@ told-more before s q refs new is grown told = λ r.
     grown r ∙ among-push r q refs ∙ ap (λ b. b || same_reference r q) (told r)
     ∙ ap (λ o. is_connected before r || is_reference_to r o) (sym is)
     ∙ sym (connected-push before s r)
-
--- after a statement that connects nothing, the same list tells what the statements connect
-pub told-same : (before : List Stmt) (s : Stmt) (refs : List Reference) → connected_by s ≡ None → TellsConnected before refs → TellsConnected (before ++ s ∷ []) refs
-told-same before s refs is told = λ r.
-    told r ∙ sym (or-false (is_connected before r)) ∙ ap (λ o. is_connected before r || is_reference_to r o) (sym is) ∙ sym (connected-push before s r)
 
 -- the first i statements and the next one are the first i + 1
 pub told-next : (statements : List Stmt) (i : ℕ) (s : Stmt) (refs : List Reference) → i < length statements → s ≡ get_or statements i s → TellsConnected (take i statements ++ s ∷ []) refs → TellsConnected (take (i + 1) statements) refs
