@@ -2,6 +2,7 @@
 use Rattle.std.proofs.Common.{◌≡◌, ◌≢◌, ℕ, zero, suc, ◌+◌, ◌<◌, List, length, Bool, true, false, not, refl, sym, ◌∙◌, ap, subst, Some, inl, inr, ◌⊎◌, true-eqb, arith}
 use Rattle.std.specs.Prelude.{◌==◌, if◌then◌else◌, filter, map, Contains, All}
 use Rattle.std.proofs.lemmas.List.{get_or_default}
+use Rattle.std.proofs.lemmas.Bool.{not-true}
 use Rattle.gg_flat.specs.declared.tree.InstancePort.{InstancePort}
 use Rattle.gg_flat.specs.Line.{value_at}
 use Rattle.gg_flat.specs.Circuit.{FlatCircuit, readers_at, reader_at}
@@ -212,13 +213,9 @@ module _ (circuit : FlatCircuit) (tree : InstanceTree) (listed : Listed) (fits :
       let port = top-port circuit tree listed fits scoped apart s (λ port. not port.is_input) o in
       record {
         place = 0;
-        written = inl (record { own = (scoped.ports 0 s port).own; inner = output-inner 0 s o.port fits.top.there o.among o.is (flip o.port.is_input o.passes) });
+        written = inl (record { own = (scoped.ports 0 s port).own; inner = output-inner 0 s o.port fits.top.there o.among o.is (not-true o.port.is_input o.passes) });
         owner = owner-top circuit tree listed fits apart;
       }
-    where
-      flip : (b : Bool) → not b ≡ true → b ≡ false
-      flip true e = absurd (cc)
-      flip false e = refl
 
   -- what a machine before the sources makes
   pub made : (m s : ℕ) → m < first_source listed → Makes circuit tree listed (wires_of circuit tree listed) m s → IsWrittenIn tree listed m s ⊎ IsWord circuit tree listed m s

@@ -1,26 +1,19 @@
 -- What an instance lies in, step by step; and units that lie in one another.
-use Rattle.std.proofs.Common.{◌≡◌, ◌≢◌, ℕ, zero, suc, ◌+◌, ◌<◌, ◌≤◌, List, [], ◌∷◌, ◌++◌, length, map, set, get_or, take, drop, Bool, true, false, true-eqb, eq-eqb, refl, sym, ◌∙◌, ap, ap₂, subst, Some, None, nat_eq, arith}
+use Rattle.std.proofs.Common.{◌≡◌, ◌≢◌, ℕ, zero, suc, ◌+◌, ◌<◌, ◌≤◌, List, [], ◌∷◌, ◌++◌, length, map, set, get_or, take, drop, Bool, true, false, true-eqb, eq-eqb, refl, sym, ◌∙◌, ap, ap₂, subst, Some, None, nat_eq, arith, true≢false}
 use Rattle.std.specs.Prelude.{Option, ◌||◌, ◌==◌, if◌then◌else◌}
 use Rattle.std.specs.List.{list_any}
 use Rattle.std.proofs.lemmas.Bool.Decides.{Decides-eqb}
 use Rattle.std.proofs.lemmas.List.{take_more, get_or-set_same, get_or-set_other, length-set, map-append}
 use Rattle.std.proofs.lemmas.List.Folds.{list_any-append}
 use Rattle.std.proofs.Math.Bool.{or-false, or_assoc, or-true}
+use Rattle.std.proofs.lemmas.Bool.{or_left, or_right, ne_eqb}
 use Rattle.gg_flat.specs.Tree.{InstanceTree, instance_at}
 use Rattle.gg_order.specs.Marks.{is_marked}
 use Rattle.gg_cut.specs.Listed.{lies_within, lies, of_parent, ParentsBefore, AreMarks, instance_of}
 use Rattle.gg_cut.specs.Fault.{overlap, overlapping, first_clash}
 use Rattle.gg_cut.proofs.FindLemmas.{rest-at}
 
--- ---- tests
-
-pub or-left : (a b : Bool) → a ≡ true → (a || b) ≡ true
-or-left true b e = refl
-or-left false b e = absurd (cc)
-
-pub or-right : (a b : Bool) → b ≡ true → (a || b) ≡ true
-or-right true b e = refl
-or-right false b e = e
+-- ---- tests on lists
 
 pub any-or : {A : Type 0} (p q : A → Bool) (xs : List A) → list_any (λ x. p x || q x) xs ≡ (list_any p xs || list_any q xs)
 any-or p q [] = refl
@@ -92,8 +85,8 @@ module _ (tree : InstanceTree) (before : ParentsBefore tree) where
       any-weaker (x ∷ xs) e = by (node == x) refl e (any-weaker xs)
         where
           by : (b : Bool) → (node == x) ≡ b → (b || list_any (λ unit. node == unit) xs) ≡ true → (list_any (λ unit. node == unit) xs ≡ true → list_any (lies tree node) xs ≡ true) → (lies tree node x || list_any (lies tree node) xs) ≡ true
-          by true same e rest = or-left (lies tree node x) (list_any (lies tree node) xs) (subst (λ y. lies tree node y ≡ true) (true-eqb node x (sym same)) (lies-self node lt))
-          by false same e rest = or-right (lies tree node x) (list_any (lies tree node) xs) (rest e)
+          by true same e rest = or_left (lies tree node x) (list_any (lies tree node) xs) (subst (λ y. lies tree node y ≡ true) (true-eqb node x (sym same)) (lies-self node lt))
+          by false same e rest = or_right (lies tree node x) (list_any (lies tree node) xs) (rest e)
 
   pub unmarked-up : (units : List ℕ) (marks : List Bool) (node p : ℕ) → AreMarks units marks → node < length tree.instances → is_marked marks node ≡ false → (instance_at tree node).parent ≡ Some p → list_any (lies tree node) units ≡ list_any (lies tree p) units
   unmarked-up units marks node p are lt unmarked parent =
@@ -114,18 +107,8 @@ marked-more marks node k lt = by (nat_eq k node) refl
         let same : k ≡ node = (Decides-eqb k node).0 e in
         ap (is_marked (set marks node true)) same ∙ get_or-set_same marks node true false lt ∙ sym (or-true (is_marked marks k)) ∙ ap (λ b. is_marked marks k || b) (sym (eq-eqb node k (sym same)))
     by false e =
-        let other : k ≢ node = λ same. absurd (falsehood (sym e ∙ (Decides-eqb k node).1 same)) in
-        get_or-set_other marks node k true false other ∙ sym (or-false (is_marked marks k)) ∙ ap (λ b. is_marked marks k || b) (sym (unequal (λ same. other (sym same))))
-      where
-        falsehood : {A : Type 0} → false ≡ true → A
-        falsehood e = absurd (cc)
-
-        unequal : node ≢ k → (node == k) ≡ false
-        unequal ne = test (node == k) refl
-          where
-            test : (b : Bool) → (node == k) ≡ b → b ≡ false
-            test true e = absurd (ne (true-eqb node k (sym e)))
-            test false e = refl
+        let other : k ≢ node = λ same. true≢false (sym ((Decides-eqb k node).1 same) ∙ e) in
+        get_or-set_other marks node k true false other ∙ sym (or-false (is_marked marks k)) ∙ ap (λ b. is_marked marks k || b) (sym (ne_eqb node k (λ same. other (sym same))))
 
 -- ---- what is marked above
 
@@ -180,14 +163,8 @@ module _ (tree : InstanceTree) (units : List (List ℕ)) (i : ℕ) (own above : 
       by : (p : Bool) → (a == b) ≡ p → (q : Bool) → (b == a) ≡ q → p ≡ q
       by true e true f = refl
       by false e false f = refl
-      by true e false f = eq-eqb-clash (sym (eq-eqb b a (sym (true-eqb a b (sym e)))) ∙ f)
-        where
-          eq-eqb-clash : {A : Type 0} → true ≡ false → A
-          eq-eqb-clash e = absurd (cc)
-      by false e true f = eq-eqb-clash (sym (eq-eqb a b (sym (true-eqb b a (sym f)))) ∙ e)
-        where
-          eq-eqb-clash : {A : Type 0} → true ≡ false → A
-          eq-eqb-clash e = absurd (cc)
+      by true e false f = absurd (true≢false (sym (eq-eqb b a (sym (true-eqb a b (sym e)))) ∙ f))
+      by false e true f = absurd (true≢false (sym (eq-eqb a b (sym (true-eqb b a (sym f)))) ∙ e))
 
   pub Apart-more : (higher : List Bool) → instance_of tree path < length tree.instances → (list_any (lies tree (instance_of tree path)) (map (instance_of tree) (take i units)) || is_marked above (instance_of tree path)) ≡ false → ((k : ℕ) → is_marked higher k ≡ (is_marked above k || lies tree (instance_of tree path) k)) → length higher ≡ length above → Apart tree units (i + 1) (set own (instance_of tree path) true) higher
   Apart-more higher within none marked count =

@@ -5,7 +5,7 @@ use Rattle.std.proofs.lemmas.List.{append-nil}
 use Rattle.std.proofs.lemmas.Nat.{pow_pos}
 use Rattle.std.proofs.lemmas.Bool.Decides.{nat_tests}
 use Rattle.std.proofs.Math.Nat.{zero-mod}
-use Rattle.std.proofs.Math.Bool.{and-eq-true_iff}
+use Rattle.std.proofs.lemmas.Bool.{and_parts}
 use Rattle.gg_bits.specs.declared.types.Kind.{Kind}
 use Rattle.gg_bits.specs.declared.types.Kind.TheVariants.{UInt, SInt}
 use Rattle.gg_bits.specs.Shape.{Shape, uint, of_kind}
@@ -121,11 +121,11 @@ module _ (w : Where) (nodes : List Node) (e : Term) (k : ℕ) (h : Added w [] no
     where
       go : (b : Bool) → takes sink (shape_of w e) ≡ b → IsCut b nodes sink new → IsSource (HasType w.signals.shapes) sink new
       go true t c =
-          let narrow : nat_le (shape_of w e).width sink.width ≡ true = ((and-eq-true_iff (same_kind sink.kind (shape_of w e).kind) (nat_le (shape_of w e).width sink.width)).0 t).1 in
+          let narrow : nat_le (shape_of w e).width sink.width ≡ true = (and_parts (same_kind sink.kind (shape_of w e).kind) (nat_le (shape_of w e).width sink.width) t).1 in
           let le : (shape_of w e).width ≤ sink.width = grind (arith, nat_tests) in
           subst (λ (l : List Node). IsSource (HasType w.signals.shapes) sink l) (sym c) (record {
             line = whole_line;
-            kind = ap (λ (s : Shape). s.kind) whole_shape ∙ same-kind sink.kind (shape_of w e).kind ((and-eq-true_iff (same_kind sink.kind (shape_of w e).kind) (nat_le (shape_of w e).width sink.width)).0 t).0;
+            kind = ap (λ (s : Shape). s.kind) whole_shape ∙ same-kind sink.kind (shape_of w e).kind (and_parts (same_kind sink.kind (shape_of w e).kind) (nat_le (shape_of w e).width sink.width) t).0;
             width = omega (arith, ap (λ (s : Shape). s.width) whole_shape, le);
           })
       go false t c = record {
@@ -160,8 +160,8 @@ module _ (w : Where) (nodes : List Node) (e : Term) (k : ℕ) (h : Added w [] no
     where
       go : (b : Bool) → is_condition (shape_of w e) ≡ b → IsCut b nodes (uint 1) new → IsCondition (HasType w.signals.shapes) new
       go true t c =
-          let kind : (shape_of w e).kind ≡ UInt = uint_only (shape_of w e).kind ((and-eq-true_iff (is_uint (shape_of w e).kind) ((shape_of w e).width == 1)).0 t).0 in
-          let narrow : ((shape_of w e).width == 1) ≡ true = ((and-eq-true_iff (is_uint (shape_of w e).kind) ((shape_of w e).width == 1)).0 t).1 in
+          let kind : (shape_of w e).kind ≡ UInt = uint_only (shape_of w e).kind (and_parts (is_uint (shape_of w e).kind) ((shape_of w e).width == 1) t).0 in
+          let narrow : ((shape_of w e).width == 1) ≡ true = (and_parts (is_uint (shape_of w e).kind) ((shape_of w e).width == 1) t).1 in
           let one : (shape_of w e).width ≡ 1 = grind (arith, nat_tests) in
           subst (λ (l : List Node). IsCondition (HasType w.signals.shapes) l) (sym c) (record {
             line = whole_line;

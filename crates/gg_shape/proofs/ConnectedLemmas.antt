@@ -5,7 +5,8 @@ use Rattle.std.specs.Str.{bytes_eq}
 use Rattle.std.proofs.lemmas.List.Folds.{list_any-append}
 use Rattle.std.proofs.lemmas.List.{map-append, take_more}
 use Rattle.std.proofs.lemmas.Slice.Eq.{bytes_eq-Decides}
-use Rattle.std.proofs.Math.Bool.{or-false, or-true, and-eq-true_iff}
+use Rattle.std.proofs.Math.Bool.{or-false, or-true}
+use Rattle.std.proofs.lemmas.Bool.{and_parts}
 use Rattle.indexmap.specs.IndexSet.{insert_key}
 use Rattle.gg_ast.specs.declared.expression.Reference.{Reference}
 use Rattle.gg_ast.specs.declared.expression.Reference.TheVariants as references
@@ -42,14 +43,14 @@ same-is (references.Local a) (references.PortOf x y) h = absurd (true≢false (s
 same-is (references.Local a) (references.FieldOf x y z) h = absurd (true≢false (sym h))
 same-is (references.PortOf a b) (references.Local x) h = absurd (true≢false (sym h))
 same-is (references.PortOf a b) (references.PortOf x y) h =
-    let p = (and-eq-true_iff (bytes_eq a x) (bytes_eq b y)).0 h in
+    let p = and_parts (bytes_eq a x) (bytes_eq b y) h in
     ap (λ l. references.PortOf l b) ((bytes_eq-Decides a x).0 p.0) ∙ ap (references.PortOf x) ((bytes_eq-Decides b y).0 p.1)
 same-is (references.PortOf a b) (references.FieldOf x y z) h = absurd (true≢false (sym h))
 same-is (references.FieldOf a b c) (references.Local x) h = absurd (true≢false (sym h))
 same-is (references.FieldOf a b c) (references.PortOf x y) h = absurd (true≢false (sym h))
 same-is (references.FieldOf a b c) (references.FieldOf x y z) h =
-    let p = (and-eq-true_iff (bytes_eq a x) (bytes_eq b y && bytes_eq c z)).0 h in
-    let q = (and-eq-true_iff (bytes_eq b y) (bytes_eq c z)).0 p.1 in
+    let p = and_parts (bytes_eq a x) (bytes_eq b y && bytes_eq c z) h in
+    let q = and_parts (bytes_eq b y) (bytes_eq c z) p.1 in
     ap (λ l. references.FieldOf l b c) ((bytes_eq-Decides a x).0 p.0)
     ∙ ap (λ l. references.FieldOf x l c) ((bytes_eq-Decides b y).0 q.0)
     ∙ ap (references.FieldOf x y) ((bytes_eq-Decides c z).0 q.1)

@@ -2,7 +2,7 @@
 use Rattle.std.proofs.Common.{◌≡◌, ◌≢◌, ℕ, ◌+◌, ◌<◌, List, [], length, get_or, true, sym, ◌∙◌, ap, subst, Some, None, inl, inr, ◌⊎◌, eq-eqb, true-eqb, arith}
 use Rattle.std.specs.Prelude.{Option, ◌==◌, filter, slice_index_or, Contains, AllPairs}
 use Rattle.std.specs.List.{range_with_len}
-use Rattle.std.proofs.lemmas.Bool.{or_cases}
+use Rattle.std.proofs.lemmas.Bool.{or_cases, or_left, or_right}
 use Rattle.std.proofs.lemmas.List.{get_or_default}
 use Rattle.std.proofs.lemmas.List.Elements.{Contains-get_or}
 use Rattle.std.proofs.lemmas.List.Kept.{AllPairs-filter}
@@ -21,7 +21,6 @@ use Rattle.gg_cut.specs.Listed.{owner_of, first_place, has_signal, unit_or_hub}
 use Rattle.gg_part.specs.Choice.{IsChoice}
 use Rattle.gg_cut.specs.Channels.{wires_of}
 use Rattle.gg_cut.specs.Plan.{wire_at, channels_to, channels_from, signals_of, HasMemory, memory_owner}
-use Rattle.gg_cut.proofs.ChainLemmas.{or-left, or-right}
 use Rattle.gg_closed.specs.Apart.{AreApart}
 use Rattle.gg_split.specs.Share.{IsShareOf}
 use Rattle.gg_split.specs.Spread.{AreChannels, IsChannelBelow, has_by, has, signals_among, memories_below, AreSignals, AreMemories}
@@ -81,10 +80,10 @@ module _ (circuit : FlatCircuit) (tree : InstanceTree) (order : List ℕ) (liste
     gets-spread s lt (Some c) at (inl (inl own)) = absurd (own.2 c at.0 at.1)
     gets-spread s lt (Some c) at (inl (inr h)) =
         let w = chosen-out (wires_of circuit tree listed) (λ (v : Wire). v.producer == m) s h in
-        or-left ((wire_at (wires_of circuit tree listed) c).producer == m) ((wire_at (wires_of circuit tree listed) c).consumer == m) (ap (λ (v : Wire). v.producer == m) (sym (same-wire s c w.wire at.0 at.1 w.among w.is)) ∙ w.passes)
+        or_left ((wire_at (wires_of circuit tree listed) c).producer == m) ((wire_at (wires_of circuit tree listed) c).consumer == m) (ap (λ (v : Wire). v.producer == m) (sym (same-wire s c w.wire at.0 at.1 w.among w.is)) ∙ w.passes)
     gets-spread s lt (Some c) at (inr h) =
         let w = chosen-out (wires_of circuit tree listed) (λ (v : Wire). v.consumer == m) s h in
-        or-right ((wire_at (wires_of circuit tree listed) c).producer == m) ((wire_at (wires_of circuit tree listed) c).consumer == m) (ap (λ (v : Wire). v.consumer == m) (sym (same-wire s c w.wire at.0 at.1 w.among w.is)) ∙ w.passes)
+        or_right ((wire_at (wires_of circuit tree listed) c).producer == m) ((wire_at (wires_of circuit tree listed) c).consumer == m) (ap (λ (v : Wire). v.consumer == m) (sym (same-wire s c w.wire at.0 at.1 w.among w.is)) ∙ w.passes)
 
     pub signals-are : AreSignals circuit tree order listed m (signals_among (wires_of circuit tree listed) owners channels order m)
     signals-are =

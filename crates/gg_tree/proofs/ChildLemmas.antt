@@ -4,7 +4,7 @@ use Rattle.std.specs.Prelude.{flat_map, Contains, option_map}
 use Rattle.std.specs.Str.{bytes_eq}
 use Rattle.std.proofs.lemmas.List.Elements.{Contains-append_cases}
 use Rattle.std.proofs.lemmas.Option.{same_Some}
-use Rattle.std.proofs.Math.Bool.{and-eq-true_iff}
+use Rattle.std.proofs.lemmas.Bool.{and_parts}
 use Rattle.gg_ast.specs.declared.expression.Reference.{Reference}
 use Rattle.gg_ast.specs.declared.expression.Reference.TheVariants.{Local, PortOf, FieldOf}
 use Rattle.gg_ast.specs.declared.module.Port.{Port}
@@ -111,7 +111,7 @@ alone a b name role e (suc k, lt, is) same = absurd (omega (arith, lt))
 child-port : (instance : List ℕ) (ports : List Port) (a b : List ℕ) (e : Reference × Role) → Contains (map (instance_port instance) ports) e → same_reference (PortOf a b) e.0 ≡ true → (a ≡ instance) × (p : Port) × Contains ports p × (p.name ≡ b)
 child-port instance [] a b e c same = absurd (omega (arith, c.1))
 child-port instance (p ∷ ps) a b e (zero, lt, is) same =
-    let parts = (and-eq-true_iff (bytes_eq a instance) (bytes_eq b p.name)).0 (ap (λ (x : Reference × Role). same_reference (PortOf a b) x.0) is ∙ same) in
+    let parts = and_parts (bytes_eq a instance) (bytes_eq b p.name) (ap (λ (x : Reference × Role). same_reference (PortOf a b) x.0) is ∙ same) in
     (same_bytes a instance parts.0, p, (0, omega arith, refl), sym (same_bytes b p.name parts.1))
 child-port instance (p ∷ ps) a b e (suc k, lt, is) same =
     let r = child-port instance ps a b e (k, omega (arith, lt), is) same in
@@ -196,7 +196,7 @@ no-child instance (p ∷ ps) a b c e (suc k, lt, is) same = no-child instance ps
 one-field : (memory port : List ℕ) (kind : PortKind) (fields : List PortField) (a b c : List ℕ) (e : Reference × Role) → Contains (map (port_field memory port kind) fields) e → same_reference (FieldOf a b c) e.0 ≡ true → a ≡ memory
 one-field memory port kind [] a b c e at same = absurd (omega (arith, at.1))
 one-field memory port kind (f ∷ fs) a b c e (zero, lt, is) same =
-    same_bytes a memory ((and-eq-true_iff (bytes_eq a memory) (bytes_eq b port && bytes_eq c (field_name f))).0 (ap (λ (x : Reference × Role). same_reference (FieldOf a b c) x.0) is ∙ same)).0
+    same_bytes a memory (and_parts (bytes_eq a memory) (bytes_eq b port && bytes_eq c (field_name f)) (ap (λ (x : Reference × Role). same_reference (FieldOf a b c) x.0) is ∙ same)).0
 one-field memory port kind (f ∷ fs) a b c e (suc k, lt, is) same = one-field memory port kind fs a b c e (k, omega (arith, lt), is) same
 
 of-memory : (memory : List ℕ) (ports : List (List ℕ × PortKind)) (a b c : List ℕ) (e : Reference × Role) → Contains (flat_map (port_entries memory) ports) e → same_reference (FieldOf a b c) e.0 ≡ true → a ≡ memory

@@ -5,12 +5,11 @@ use Rattle.std.specs.Bool.{one_answer}
 use Rattle.std.specs.Cmp.{signed_Decides}
 use Rattle.std.specs.Char.{digit_value}
 use Rattle.std.proofs.Math.Nat.{mul-le-mul_left, mod-lt, mod-eq_of_lt}
-use Rattle.std.proofs.lemmas.Bool.{cases_lt, lt-leb, le-leb, ltb-true, ltb-false, leb-true, eqb-true}
+use Rattle.std.proofs.lemmas.Bool.{cases_lt, lt-leb, le-leb, ltb-true, ltb-false, leb-true, eqb-true, and_parts}
 use Rattle.std.proofs.lemmas.Int.{ints}
 use Rattle.std.proofs.lemmas.Nat.{pow_pos}
 use Rattle.std.proofs.lemmas.Grind.{one_shifted}
 use Rattle.std.proofs.Common.{pow-suc}
-use Rattle.std.proofs.Math.Bool.{and-eq-true_iff}
 use Rattle.gg_bits.specs.declared.types.Kind.{Kind}
 use Rattle.gg_bits.specs.declared.types.Kind.TheVariants.{UInt, SInt}
 use Rattle.gg_bits.specs.Value.{number_of, pattern_of}
@@ -50,8 +49,8 @@ below p (suc n) = p n && below p n
 of_below : (p : ℕ → Bool) (n c : ℕ) → below p n ≡ true → c < n → p c ≡ true
 of_below p zero c h lt = absurd (omega arith)
 of_below p (suc n) c h lt = ⊎_elim
-    (λ (l : c < n). of_below p n c ((and-eq-true_iff (p n) (below p n)).0 h).1 l)
-    (λ (l : n ≤ c). let e : n ≡ c = omega arith in subst (λ k. p k ≡ true) e ((and-eq-true_iff (p n) (below p n)).0 h).0)
+    (λ (l : c < n). of_below p n c (and_parts (p n) (below p n) h).1 l)
+    (λ (l : n ≤ c). let e : n ≡ c = omega arith in subst (λ k. p k ≡ true) e (and_parts (p n) (below p n) h).0)
     (cases_lt c n)
 
 -- the value of a digit by the library's `digit_value`, and 16 for any other byte
