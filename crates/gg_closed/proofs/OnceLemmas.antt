@@ -1,7 +1,7 @@
 -- Each signal has at most one channel.
 use Rattle.std.proofs.Common.{◌≡◌, ◌≢◌, ℕ, ◌<◌, ◌≤◌, List, ◌++◌, length, map, get_or, Bool, true, false, not, sym, ◌∙◌, ap, subst, inl, inr, ◌⊎◌, arith}
 use Rattle.std.specs.Prelude.{filter, Contains, AllPairs}
-use Rattle.std.proofs.lemmas.Bool.{cases_lt}
+use Rattle.std.proofs.lemmas.Bool.{cases_lt, both_ways}
 use Rattle.std.proofs.lemmas.List.{get_or-map, length-map, get_or_default}
 use Rattle.std.proofs.lemmas.List.Elements.{Contains-get_or, Contains-append_cases}
 use Rattle.std.proofs.lemmas.List.Kept.{AllPairs-filter}
@@ -86,11 +86,8 @@ module _ (circuit : FlatCircuit) (tree : InstanceTree) (listed : Listed) (fits :
       (λ i j d less lt a b x y same. cross i j d less lt a b x y same)
     where
       distinct : (i j d : ℕ) → i < j → j < length listed.units → get_or listed.units i d ≡ get_or listed.units j d → ⊥
-      distinct i j d less lt same = differ (apart.apart i j d less lt).0 (self (get_or listed.units i d) (apart.known i d (omega (arith, less, lt))) same)
+      distinct i j d less lt same = both_ways (lies tree (get_or listed.units i d) (get_or listed.units j d)) (apart.apart i j d less lt).0 (self (get_or listed.units i d) (apart.known i d (omega (arith, less, lt))) same)
         where
-          differ : {b : Bool} → b ≡ false → b ≡ true → ⊥
-          differ e f = absurd (cc)
-
           self : (k : ℕ) → k < length tree.instances → k ≡ get_or listed.units j d → lies tree k (get_or listed.units j d) ≡ true
           self k known same = subst (λ u. lies tree k u ≡ true) same (lies-self tree (parents-before circuit tree fits) k known)
 

@@ -1,12 +1,12 @@
 -- One pass over the modules, and what is known of their values on the way.
-use Rattle.std.proofs.Common.{◌≡◌, ◌≢◌, ℕ, zero, suc, ◌+◌, ◌<◌, ◌≤◌, List, [], ◌∷◌, length, get_or, take, set, map, refl, sym, ap, ◌∙◌, subst, inl, inr, eqb, arith, true, false}
+use Rattle.std.proofs.Common.{◌≡◌, ◌≢◌, ℕ, zero, suc, ◌+◌, ◌<◌, ◌≤◌, List, [], ◌∷◌, length, get_or, take, set, map, refl, sym, ap, ◌∙◌, subst, inl, inr, eqb, arith}
 use Rattle.std.specs.Prelude.{Contains, AllPairs}
-use Rattle.std.proofs.lemmas.Bool.Decides.{nat_tests}
 use Rattle.std.proofs.lemmas.List.{get_or-take, length-take, get_or_default, get_or-set_same, get_or-set_other}
 use Rattle.std.proofs.Math.ListN.{length-set}
 use Rattle.std.proofs.lemmas.Map.Steps.{length-le_from_distinct_below}
 use Rattle.std.proofs.lemmas.Map.Keys.{IsDistinct-from_apart}
 use Rattle.std.proofs.lemmas.Map.Views.{Contains-from_any}
+use Rattle.std.proofs.lemmas.Bool.{ne_eqb, eqb-true}
 use Rattle.gg_ast.specs.declared.statement.Stmt.{Stmt}
 use Rattle.gg_ast.specs.Tree.{ModuleTree}
 use Rattle.gg_walk.specs.Graph.{IsOrderOf}
@@ -96,15 +96,9 @@ gathered-more how modules own order i values all o lt h =
 order_length : (modules : List ModuleTree) (order : List ℕ) → IsOrderOf (HoldsModule modules) (length modules) order → length order ≤ length modules
 order_length modules order o =
     length-le_from_distinct_below order (length modules)
-    (IsDistinct-from_apart eqb order (λ i j d lt within. apart (get_or order i d) (get_or order j d) (o.once i j d lt within)))
-    (λ q any. below q (Contains-from_any (λ x y. same x y) q order any))
+    (IsDistinct-from_apart eqb order (λ i j d lt within. ne_eqb (get_or order i d) (get_or order j d) (o.once i j d lt within)))
+    (λ q any. below q (Contains-from_any eqb-true q order any))
   where
-    apart : (a b : ℕ) → a ≢ b → eqb a b ≡ false
-    apart a b h = grind (arith, nat_tests)
-
-    same : (x y : ℕ) → eqb x y ≡ true → x ≡ y
-    same x y h = grind (arith, nat_tests)
-
     below : (q : ℕ) → Contains order q → q < length modules
     below q (k, lt, is) = subst (λ (m : ℕ). m < length modules) (get_or_default order k 0 q lt ∙ is) (o.nodes k lt)
 

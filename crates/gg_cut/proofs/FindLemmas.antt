@@ -4,7 +4,7 @@ use Rattle.std.specs.Prelude.{Option, find, cond, option_map, not, if◌then◌e
 use Rattle.std.specs.List.{list_any}
 use Rattle.gg_cut.specs.declared.fault.CutFault.{CutFault}
 use Rattle.gg_cut.specs.declared.fault.CutFault.TheVariants.{Doubled}
-use Rattle.std.proofs.lemmas.List.{length-append}
+use Rattle.std.proofs.lemmas.List.{length-append, append-nil}
 use Rattle.gg_cut.specs.Listed.{is_among}
 use Rattle.gg_cut.specs.Fault.{or_else, first_clash, same_path, repeated, entries, unshared, IsTold}
 
@@ -16,10 +16,6 @@ rest-at xs i x lt read = drop-cons xs i x lt ∙ ap₂ (λ y l. y ∷ l) (sym re
 
 pub first_clash-append : (clash : List ℕ → List ℕ → Bool) (earlier xs ys : List (List ℕ)) → first_clash clash earlier (xs ++ ys) ≡ or_else (first_clash clash earlier xs) (first_clash clash (earlier ++ xs) ys)
 first_clash-append clash earlier [] ys = ap (λ l. first_clash clash l ys) (sym (append-nil earlier))
-  where
-    append-nil : {A : Type 0} (l : List A) → l ++ [] ≡ l
-    append-nil [] = refl
-    append-nil (x ∷ l) = ap (λ m. x ∷ m) (append-nil l)
 first_clash-append clash earlier (x ∷ xs) ys =
     by (list_any (clash x) earlier) (first_clash-append clash (earlier ++ x ∷ []) xs ys ∙ ap (λ l. or_else (first_clash clash (earlier ++ x ∷ []) xs) (first_clash clash l ys)) (append_assoc earlier (x ∷ []) xs))
   where

@@ -4,6 +4,7 @@ use Rattle.std.specs.Prelude.{Option, IfSome, IfNone, MatchOption, option_map, C
 use Rattle.std.specs.List.{list_any}
 use Rattle.std.proofs.lemmas.List.Folds.{list_any_at}
 use Rattle.std.proofs.lemmas.Slice.Eq.{bytes_eq-Decides}
+use Rattle.std.proofs.lemmas.Option.{same_Some}
 use Rattle.gg_flat.proofs.PathLemmas.{found-path}
 use Rattle.gg_flat.proofs.ListLemmas.{once-apart}
 use Rattle.gg_cut.specs.Listed.{first_place, place_of, is_among}
@@ -36,10 +37,7 @@ pub record HoldsPath (paths : List (List ℕ)) (k : ℕ) (path : List ℕ) : Typ
 
 pub holds-path : (paths : List (List ℕ)) (k : ℕ) (path : List ℕ) → slice_get paths k ≡ Some path → HoldsPath paths k path
 holds-path [] k path found = absurd (cc)
-holds-path (p ∷ ps) zero path found = record { within = omega arith; is = same found }
-  where
-    same : {p path : List ℕ} → Some p ≡ Some path → p ≡ path
-    same e = cc
+holds-path (p ∷ ps) zero path found = record { within = omega arith; is = same_Some p path found }
 holds-path (p ∷ ps) (suc k) path found = let rest = holds-path ps k path found in record { within = omega (arith, rest.within); is = rest.is }
 
 -- what a look-up finds is the first place of the path

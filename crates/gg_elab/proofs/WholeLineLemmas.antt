@@ -1,7 +1,7 @@
 -- A whole line: as it is, cut for a sink or a condition, and a line of 0.
 use Rattle.std.proofs.Common.{◌≡◌, ℕ, ◌+◌, ◌-◌, ◌≤◌, ◌^◌, List, [], ◌∷◌, ◌++◌, length, refl, sym, ap, ◌∙◌, subst, arith, inl, inr, Bool, true, false, if◌then◌else◌}
 use Rattle.std.specs.Prelude.{nat_le, nat_lt, ◌==◌, pos, ◌-ℤ◌}
-use Rattle.std.proofs.lemmas.List.{append-nil}
+use Rattle.std.proofs.lemmas.List.{append-nil, length_push}
 use Rattle.std.proofs.lemmas.Nat.{pow_pos}
 use Rattle.std.proofs.lemmas.Bool.Decides.{nat_tests}
 use Rattle.std.proofs.Math.Nat.{zero-mod}
@@ -21,7 +21,7 @@ use Rattle.gg_elab.specs.Growing.{Where, shape_of, value_of, NamesIn, HaveShapes
 use Rattle.gg_digest.specs.IsFlat.{IsLineOf, IsConditionOf}
 use Rattle.gg_digest.specs.Meaning.{takes}
 use Rattle.gg_flat.proofs.NameLemmas.{Names-push, Names-push_cases}
-use Rattle.gg_elab.proofs.LineLemmas.{length-push, shape_at-last, value_at-last, HaveShapes-push}
+use Rattle.gg_elab.proofs.LineLemmas.{shape_at-last, value_at-last, HaveShapes-push}
 
 last_node : (n k : ℕ) → n ≡ k + 1 → n - 1 ≡ k
 last_node n k e = omega arith
@@ -45,13 +45,13 @@ module _ (old new : List Node) (sink : Shape) (z : IsZeroOf old new sink) where
   pub zero_shape : line_shape new ≡ sink
   zero_shape =
       ap (λ (l : List Node). line_shape l) z.added
-      ∙ ap (λ k. shape_at (shapes_of (old ++ z.node ∷ [])) k) (last_node (length (old ++ z.node ∷ [])) (length old) (length-push old z.node))
+      ∙ ap (λ k. shape_at (shapes_of (old ++ z.node ∷ [])) k) (last_node (length (old ++ z.node ∷ [])) (length old) (length_push old z.node))
       ∙ shape_at-last old z.node ∙ z.typed
 
   pub zero_value : (values : List ℕ) → line_value values new ≡ 0
   zero_value values =
       ap (λ (l : List Node). line_value values l) z.added
-      ∙ ap (λ k. value_at (node_values values (shapes_of (old ++ z.node ∷ [])) (old ++ z.node ∷ [])) k) (last_node (length (old ++ z.node ∷ [])) (length old) (length-push old z.node))
+      ∙ ap (λ k. value_at (node_values values (shapes_of (old ++ z.node ∷ [])) (old ++ z.node ∷ [])) k) (last_node (length (old ++ z.node ∷ [])) (length old) (length_push old z.node))
       ∙ value_at-last values (shapes_of (old ++ z.node ∷ [])) old z.node
       ∙ rw z.zero refl
 
@@ -129,7 +129,7 @@ module _ (w : Where) (nodes : List Node) (e : Term) (k : ℕ) (h : Added w [] no
             width = omega (arith, ap (λ (s : Shape). s.width) whole_shape, le);
           })
       go false t c = record {
-        line = record { some = omega (arith, ap (λ (l : List Node). length l) c.added, length-push nodes c.node); typed = zero_typed nodes new sink c w whole_typed };
+        line = record { some = omega (arith, ap (λ (l : List Node). length l) c.added, length_push nodes c.node); typed = zero_typed nodes new sink c w whole_typed };
         kind = ap (λ (s : Shape). s.kind) (zero_shape nodes new sink c);
         width = omega (arith, ap (λ (s : Shape). s.width) (zero_shape nodes new sink c));
       }
@@ -168,6 +168,6 @@ module _ (w : Where) (nodes : List Node) (e : Term) (k : ℕ) (h : Added w [] no
             bit = whole_shape ∙ ap (λ (k : Kind). of_kind k (shape_of w e).width) kind ∙ ap (of_kind UInt) one;
           })
       go false t c = record {
-        line = record { some = omega (arith, ap (λ (l : List Node). length l) c.added, length-push nodes c.node); typed = zero_typed nodes new (uint 1) c w whole_typed };
+        line = record { some = omega (arith, ap (λ (l : List Node). length l) c.added, length_push nodes c.node); typed = zero_typed nodes new (uint 1) c w whole_typed };
         bit = zero_shape nodes new (uint 1) c;
       }

@@ -1,6 +1,7 @@
 -- A circuit has only one tree, and all its flat circuits have the same memories.
-use Rattle.std.proofs.Common.{◌≡◌, ℕ, suc, ◌+◌, ◌<◌, List, [], ◌∷◌, Option, None, Some, Bool, length, refl, sym, ap, ◌∙◌, arith}
-use Rattle.std.specs.Prelude.{flat_map, slice_index_or}
+use Rattle.std.proofs.Common.{◌≡◌, ℕ, ◌+◌, ◌<◌, List, [], ◌∷◌, Option, None, Some, Bool, length, refl, sym, ap, ◌∙◌, arith}
+use Rattle.std.specs.Prelude.{flat_map}
+use Rattle.std.proofs.lemmas.List.{same_lists}
 use Rattle.gg_ast.specs.declared.module.Port.{Port}
 use Rattle.gg_ast.specs.Tree.{CircuitTree}
 use Rattle.gg_flat.specs.Circuit.{FlatCircuit}
@@ -122,15 +123,6 @@ tree-same circuit a b p q =
 
 -- ---- memories of flat circuits
 
--- lists that agree at each place are the same
-places-same : {A : Type 0} (xs ys : List A) → length xs ≡ length ys → ((m : ℕ) (any : A) → m < length xs → slice_index_or xs m any ≡ slice_index_or ys m any) → xs ≡ ys
-places-same [] [] e h = refl
-places-same [] (y ∷ ys) e h = absurd (omega (arith, e))
-places-same (x ∷ xs) [] e h = absurd (omega (arith, e))
-places-same (x ∷ xs) (y ∷ ys) e h =
-    let head : x ≡ y = h 0 x (omega arith) in
-    let rest : xs ≡ ys = places-same xs ys (omega (arith, e)) (λ m any lt. h (suc m) any (omega (arith, lt))) in cc
-
 abbrev bank_made : Ty → ℕ → Latency → List Reader → List Writer → Memory
 bank_made word depth latency readers writers = record { word = word; depth = depth; latency = latency; readers = readers; writers = writers }
 
@@ -145,6 +137,6 @@ bank-same paths said a b p q =
 
 pub banks-same : (circuit : CircuitTree) (one other : FlatCircuit) → IsFlat circuit one → IsFlat circuit other → one.memories ≡ other.memories
 banks-same circuit one other p q =
-    places-same one.memories other.memories (p.memory_count ∙ sym q.memory_count)
+    same_lists one.memories other.memories (p.memory_count ∙ sym q.memory_count)
     (λ m any lt. let below : m < length (memories_of circuit) = omega (arith, lt, p.memory_count) in let said = some-item (memories_of circuit) m below in
     bank-same _ _ _ _ (p.memories m said any below) (q.memories m said any below))

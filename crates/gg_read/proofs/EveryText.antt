@@ -4,6 +4,7 @@ use Rattle.std.proofs.lemmas.List.{append-nil}
 use Rattle.std.specs.Prelude.{slice_get}
 use Rattle.std.specs.Str.{IsUtf8}
 use Rattle.std.specs.Str.Lines.{lines}
+use Rattle.std.proofs.lemmas.Bool.{cases_lt}
 use Rattle.gg_lex.specs.declared.token.Tok.{Tok}
 use Rattle.gg_lex.specs.Lines.{Lexes}
 use Rattle.gg_lex.proofs.EveryLine.{every_line}
@@ -27,11 +28,8 @@ use Rattle.gg_read.proofs.TokenCounts.{opened-cons, closed-cons}
 abbrev DeepBehind : ℕ → ℕ → List Tok → Type 0
 DeepBehind o c ts = (k : ℕ) × (256 + (c + closed (take k ts)) < o + opened (take k ts))
 
-less_or_not : (x y : ℕ) → (x < y) ⊎ (y ≤ x)
-less_or_not x y = grind arith
-
 deep_or_not : (ts : List Tok) (o c : ℕ) → DeepBehind o c ts ⊎ (DeepBehind o c ts → ⊥)
-deep_or_not [] o c = by (less_or_not (256 + c) o)
+deep_or_not [] o c = by (cases_lt (256 + c) o)
   where
     none : o ≤ 256 + c → DeepBehind o c [] → ⊥
     none le (zero, deep) = omega (arith, le, deep)
@@ -40,7 +38,7 @@ deep_or_not [] o c = by (less_or_not (256 + c) o)
     by : (256 + c < o) ⊎ (o ≤ 256 + c) → DeepBehind o c [] ⊎ (DeepBehind o c [] → ⊥)
     by (inl less) = inl (zero, omega (arith, less))
     by (inr le) = inr (none le)
-deep_or_not (t ∷ ts) o c = by (less_or_not (256 + c) o) (deep_or_not ts (o + opened (t ∷ [])) (c + closed (t ∷ [])))
+deep_or_not (t ∷ ts) o c = by (cases_lt (256 + c) o) (deep_or_not ts (o + opened (t ∷ [])) (c + closed (t ∷ [])))
   where
     none : o ≤ 256 + c → (DeepBehind (o + opened (t ∷ [])) (c + closed (t ∷ [])) ts → ⊥) → DeepBehind o c (t ∷ ts) → ⊥
     none le shallow (zero, deep) = omega (arith, le, deep)

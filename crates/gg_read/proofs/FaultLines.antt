@@ -2,7 +2,7 @@
 use Rattle.std.proofs.Common.{◌≡◌, ℕ, zero, suc, ◌+◌, ◌<◌, ◌≤◌, ◌⊎◌, inl, inr, List, [], ◌∷◌, length, take, Option, Some, None, refl, sym, ap, ◌∙◌, subst, arith}
 use Rattle.std.specs.Prelude.{slice_get}
 use Rattle.std.specs.Str.Lines.{lines}
-use Rattle.std.proofs.lemmas.Option.{same_Some}
+use Rattle.std.proofs.lemmas.Option.{same_Some, slice_get_within}
 use Rattle.gg_lex.specs.declared.token.Tok.{Tok}
 use Rattle.gg_lex.specs.Lines.{Lexes}
 use Rattle.gg_lex.proofs.Readings.{Lexes-same}
@@ -104,12 +104,6 @@ within ls [] tokens = omega arith
 within [] (t ∷ ts) tokens = absurd tokens
 within (l ∷ ls) (t ∷ ts) tokens = omega (arith, within ls ts tokens.1)
 
--- a place that has a line is below the number of lines
-inside : (ls : List (List ℕ)) (i : ℕ) (l : List ℕ) → slice_get ls i ≡ Some l → i < length ls
-inside [] i l there = absurd (cc)
-inside (k ∷ ks) zero l there = omega arith
-inside (k ∷ ks) (suc i) l there = omega (arith, inside ks i l there)
-
 -- no fault line comes before another
 no_earlier : (text : List ℕ) (n m : ℕ) (line other : LineTokens) (a : IsFaultLine text n line) (b : IsFaultLine text m other) → length a.before < length b.before → ⊥
 no_earlier text n m line other a b less = by_fault a.fault
@@ -142,9 +136,9 @@ one_fault_line-law text n m line other a b = (omega (arith, a.number, b.number, 
         let same : l ≡ k = same_Some l k (sym there ∙ ap (λ (i : ℕ). slice_get (lines text) i) size ∙ here) in
         same_line k line other (subst (λ (x : List ℕ). Lexes x line.tokens line.bad) same lexed) again
     by_faults (inl (l, there, lexed, none)) (inr (end, empty, incomplete)) =
-        absurd (omega (arith, end, size, inside (lines text) (length a.before) l there))
+        absurd (omega (arith, end, size, slice_get_within (lines text) (length a.before) l there))
     by_faults (inr (end, empty, incomplete)) (inl (k, here, again, none)) =
-        absurd (omega (arith, end, size, inside (lines text) (length b.before) k here))
+        absurd (omega (arith, end, size, slice_get_within (lines text) (length b.before) k here))
     by_faults (inr (end, empty, incomplete)) (inr (end_too, empty_too, incomplete_too)) = empty ∙ sym empty_too
 
 lines_held : (ls : List (List ℕ)) (held : List LineTokens) → AreLineTokens ls held → (length ls ≡ length held) × AreLineTokens (take (length held) ls) held
@@ -171,7 +165,7 @@ deep_there text n line held rows last a tokens read end_place = by_fault a.fault
         ⊎ ((length (lines text) ≡ length a.before) × (line ≡ record { tokens = []; bad = None }) × (IsEndPlace a.place → ⊥)) → IsDeepThere text (length a.before) line
     by_fault (inl (l, there, lexed, inl deep)) = record { deep = deep; l = l; there = there; lexed = lexed }
     by_fault (inl (l, there, lexed, inr none)) =
-        absurd (among_rows AtStart 1 (lines text) a.before held a.rows rows a.place last l line a.tokens whole.1 (omega (arith, whole.0, inside (lines text) (length a.before) l there)) a.read read there lexed none)
+        absurd (among_rows AtStart 1 (lines text) a.before held a.rows rows a.place last l line a.tokens whole.1 (omega (arith, whole.0, slice_get_within (lines text) (length a.before) l there)) a.read read there lexed none)
     by_fault (inr (end, empty, incomplete)) =
         let size : length a.before ≡ length held = sym end ∙ whole.0 in
         let same : a.before ≡ held = AreLineTokens-same (take (length held) (lines text)) a.before held (subst (λ (i : ℕ). AreLineTokens (take i (lines text)) a.before) size a.tokens) whole.1 in
@@ -189,7 +183,7 @@ pub no_fault_line : (text : List ℕ) (held : List LineTokens) (rows : List Numb
 no_fault_line text held rows last tokens read end_place shallow = λ n line a.
     let whole = lines_held (lines text) held tokens in
     let found = deep_there text n line held rows last a tokens read end_place in
-    deep_among (lines text) held (length a.before) found.l line whole.1 shallow (omega (arith, whole.0, inside (lines text) (length a.before) found.l found.there)) found.there found.lexed found.deep
+    deep_among (lines text) held (length a.before) found.l line whole.1 shallow (omega (arith, whole.0, slice_get_within (lines text) (length a.before) found.l found.there)) found.there found.lexed found.deep
 
 -- a text spells one circuit at most
 pub one_circuit-law : (text : List ℕ) (c d : CircuitTree) → Spells text c → Spells text d → c ≡ d

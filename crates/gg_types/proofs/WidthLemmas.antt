@@ -3,7 +3,7 @@ use Rattle.std.proofs.Common.{◌≡◌, ℕ, zero, suc, ◌+◌, ◌≤◌, ◌
 use Rattle.std.proofs.lemmas.Bool.Decides.{nat_tests}
 use Rattle.std.specs.List.{flat_map}
 use Rattle.std.specs.Str.{bytes_eq}
-use Rattle.std.proofs.lemmas.List.{get_or_default}
+use Rattle.std.proofs.lemmas.List.{get_or_default, append-nil}
 use Rattle.gg_bits.specs.declared.types.Bad.{Bad}
 use Rattle.gg_bits.specs.Shape.{Shape, of_kind}
 use Rattle.gg_bits.specs.ResultType.{answer, type1, type2, type_const, type_mux, shape1, shape2, shape_const, shape_mux, kinds2, params_const, is_condition, same_kind}
@@ -345,10 +345,6 @@ module _ (rs : List (Reference × Role)) (scope : ScopeWide rs) (traced : List �
 
   after-wide : (start : List (List ℕ × Option Own)) (before rest : List Stmt) → KnownWide (known_after rs traced start before) → along_from (faults_of rs traced start) before rest ≡ [] → KnownWide (known_after rs traced start (before ++ rest))
   after-wide start before [] g h = subst (λ l. KnownWide (known_after rs traced start l)) (sym (append-nil before)) g
-    where
-      append-nil : (xs : List Stmt) → xs ++ [] ≡ xs
-      append-nil [] = refl
-      append-nil (x ∷ xs) = ap (λ l. x ∷ l) (append-nil xs)
   after-wide start before (s ∷ rest) g h =
       let here = own-wide (known_after rs traced start before) g s.line s.kind (none-front (faults_of rs traced start before s) (along_from (faults_of rs traced start) (before ++ s ∷ []) rest) h) in
       let grown = subst KnownWide (sym (known_after-push rs traced start before s)) (known-append (known_after rs traced start before) (own_by rs traced (known_after rs traced start before) s.kind) g here) in
