@@ -142,10 +142,6 @@ pub names_of-if : (f : ModuleTree → ModuleTree) (ms new : List ModuleTree) (b 
 names_of-if f ms new true keeps e = rw e (names_of-on_last f ms keeps)
 names_of-if f ms new false keeps e = rw e refl
 
-pub length-if : (f : ModuleTree → ModuleTree) (ms new : List ModuleTree) (b : Bool) → new ≡ (if b then on_last f ms else ms) → length new ≡ length ms
-length-if f ms new true e = rw e (length-on_last f ms)
-length-if f ms new false e = rw e refl
-
 pub value-if : (f : ModuleTree → ModuleTree) (t : CircuitTree) (new : List ModuleTree) (b : Bool) → new ≡ (if b then on_last f t.modules else t.modules) → record t { modules = new } ≡ (if b then record t { modules = on_last f t.modules } else t)
 value-if f t new true e = ap (λ l. record t { modules = l }) e
 value-if f t new false e = ap (λ l. record t { modules = l }) e

@@ -7,7 +7,7 @@ use Rattle.gg_flat.specs.Circuit.{FlatCircuit}
 use Rattle.gg_flat.specs.Run.{IsColumns}
 use Rattle.gg_flat.specs.Tree.{path_at}
 use Rattle.gg_flat.specs.WellFormed.{IsWellFormed}
-use Rattle.gg_flat.proofs.WorkedForms.{apart}
+use Rattle.gg_flat.proofs.WorkedForms.{apart, letter, both}
 use Rattle.gg_order.specs.Design.{Ordered, IsDesign}
 use Rattle.gg_order.proofs.TopLemmas.{IsLone}
 use Rattle.gg_partfile.specs.declared.request.Request.{Request}
@@ -21,16 +21,6 @@ use Rattle.gg_build.specs.Fixture.{IsFixture, IsOneColumn}
 
 abbrev pub top : Instance
 top = record { parent = None; «module» = 0; first = 0; end = 2; ports = record { signal = 0; is_input = true } ∷ record { signal = 1; is_input = false } ∷ []; memories = [] }
-
--- a name of one letter has no dot
-no-dot : (byte : ℕ) → byte ≢ 46 → ¬ Contains (byte ∷ []) 46
-no-dot byte other (zero, lt, is) = other is
-no-dot byte other (suc k, lt, is) = absurd (omega arith)
-
-at-two : (P : ℕ → Type 0) → P 0 → P 1 → (k : ℕ) → k < 2 → P k
-at-two P p q zero lt = p
-at-two P p q (suc zero) lt = q
-at-two P p q (suc (suc k)) lt = absurd (omega arith)
 
 two-once : AllPairs (λ a b. a.signal ≢ b.signal) top.ports
 two-once zero zero d lt within = absurd (omega arith)
@@ -48,13 +38,13 @@ IsLone-fixture circuit f formed = record {
   first = refl;
   all = sym f.count;
   memories = refl;
-  ports = λ i d lt. at-two (λ k. (slice_index_or top.ports k d).signal < length circuit.signals) (omega (arith, f.count)) (omega (arith, f.count)) i lt;
+  ports = λ i d lt. both (λ k. (slice_index_or top.ports k d).signal < length circuit.signals) (omega (arith, f.count)) (omega (arith, f.count)) i lt;
   ins = sym f.ins;
   outs = sym f.outs;
   once = two-once;
-  plain = λ s lt. at-two (λ k. ¬ Contains (path_at circuit.paths k) 46)
-      (subst (λ (l : List (List ℕ)). ¬ Contains (path_at l 0) 46) (sym f.named) (no-dot 105 (apart 105 46 refl)))
-      (subst (λ (l : List (List ℕ)). ¬ Contains (path_at l 1) 46) (sym f.named) (no-dot 111 (apart 111 46 refl)))
+  plain = λ s lt. both (λ k. ¬ Contains (path_at circuit.paths k) 46)
+      (subst (λ (l : List (List ℕ)). ¬ Contains (path_at l 0) 46) (sym f.named) (letter 105 (apart 105 46 refl)))
+      (subst (λ (l : List (List ℕ)). ¬ Contains (path_at l 1) 46) (sym f.named) (letter 111 (apart 111 46 refl)))
       s (omega (arith, f.count, lt));
 }
 

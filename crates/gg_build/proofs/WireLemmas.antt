@@ -3,6 +3,7 @@ use Rattle.std.proofs.Common.{◌≡◌, ℕ, ◌+◌, ◌^◌, ◌<◌, ◌≤�
 use Rattle.std.specs.Prelude.{All, Contains, ◌==◌}
 use Rattle.std.proofs.lemmas.List.{get_or-map, length-map, get_or_default, ext_get_or}
 use Rattle.gg_flat.specs.Line.{value_at}
+use Rattle.gg_flat.proofs.ListLemmas.{some-item}
 use Rattle.gg_cut.specs.declared.plan.Plan.{Plan}
 use Rattle.gg_cut.specs.declared.plan.Machine as planned
 use Rattle.gg_cut.specs.declared.plan.Channel.{Channel}
@@ -15,7 +16,7 @@ use Rattle.gg_closed.proofs.FaultlessLemmas.{faultless-few}
 use Rattle.gg_net.specs.declared.shape.Wire.{Wire}
 use Rattle.gg_net.specs.Network.{wire_at}
 use Rattle.gg_sound.specs.Built.{nameless, wire_of, wires_of_plan}
-use Rattle.gg_sound.proofs.LinkLemmas.{AreLinks, length-from, wire-from, some-channel}
+use Rattle.gg_sound.proofs.LinkLemmas.{AreLinks, length-from, wire-from}
 use Rattle.gg_sound.proofs.ListedLemmas.{given-at, given-in, taken-at, taken-in, at-in, at-out}
 use Rattle.gg_sound.proofs.GivenLemmas.{links-of}
 use Rattle.gg_build.specs.Build.{IsFaultless}
@@ -101,7 +102,7 @@ module _ (plan : Plan) (links : List Link) (are : AreLinks plan links) where
 
   wire-is : (outs ins : List ℕ) (wires : List Wire) → ArePlaces (outs_of plan.machines) (length plan.channels) outs → ArePlaces (ins_of plan.machines) (length plan.channels) ins → AreWires plan.channels outs ins (length plan.channels) wires → (c : ℕ) → c < length plan.channels → wire_at wires c ≡ wire_at (wires_of_plan plan) c
   wire-is outs ins wires placed_outs placed_ins at c lt =
-      let any = some-channel plan.channels c lt in
+      let any = some-item plan.channels c lt in
       let channel = get_or plan.channels c any in
       let is : wire_at (wires_of_plan plan) c ≡ wire_of plan c channel = wire-from plan 0 plan.channels c any lt ∙ ap (λ k. wire_of plan k channel) (let same : 0 + c ≡ c = omega arith in same) in
       let out : value_at outs c ≡ (wire_of plan c channel).out = sym (out-is c (value_at outs c) (placed_outs.each c lt)) ∙ ap (λ (w : Wire). w.out) is in

@@ -39,10 +39,6 @@ record IsNamedAs (globals : List ℕ) (driver : Driver) (t : ℕ) : Type 0 where
   pub is : value_at globals place ≡ t
   pub named : NamesSignal driver place
 
-word-named : (m r addr en m' r' addr' en' t : ℕ) → MemoryWord m r addr en ≡ MemoryWord m' r' addr' en' → (addr ≡ t) ⊎ (en ≡ t) → (addr' ≡ t) ⊎ (en' ≡ t)
-word-named m r addr en m' r' addr' en' t e (inl is) = inl (cc)
-word-named m r addr en m' r' addr' en' t e (inr is) = inr (cc)
-
 -- the driver isn't an in-signal's
 abbrev NotInput : Driver → Type 0
 NotInput driver = (place : ℕ) → driver ≡ Input place → ⊥

@@ -1,15 +1,15 @@
 -- The needs of a plan's channels are their needs in the circuit.
-use Rattle.std.proofs.Common.{◌≡◌, ℕ, zero, suc, ◌+◌, ◌<◌, ◌≤◌, List, [], ◌∷◌, length, map, filter, get_or, Bool, true, false, cond, ◌==◌, eq-eqb, true-eqb, refl, sym, ◌∙◌, ap, subst, inl, inr, ◌⊎◌, arith}
-use Rattle.std.specs.Prelude.{◌↔◌, Contains, AllPairs, slice_index_or}
+use Rattle.std.proofs.Common.{◌≡◌, ℕ, ◌<◌, ◌≤◌, List, [], length, map, get_or, ◌==◌, eq-eqb, true-eqb, refl, sym, ◌∙◌, ap, subst, inl, inr, ◌⊎◌, arith}
+use Rattle.std.specs.Prelude.{◌↔◌, Contains, slice_index_or}
 use Rattle.std.specs.List.{range_with_len}
-use Rattle.std.proofs.lemmas.Bool.{cases_lt, cases_order}
+use Rattle.std.proofs.lemmas.Bool.{cases_lt}
 use Rattle.std.proofs.lemmas.List.{get_or-map, get_or_default, get_or_past, length-map}
-use Rattle.std.proofs.lemmas.List.FromFn.{get_or-range_with_len, length-range_with_len}
 use Rattle.gg_flat.specs.declared.piece.Driver.TheVariants.{Input}
 use Rattle.gg_flat.specs.declared.piece.Driver.{Driver}
 use Rattle.gg_flat.specs.Line.{value_at}
 use Rattle.gg_flat.specs.Circuit.{FlatCircuit, driver_at}
 use Rattle.gg_flat.specs.Reads.{IsPath}
+use Rattle.gg_flat.proofs.ListLemmas.{Contains-map, Contains-filter, filter-cases, in-range, range-below, once-apart}
 use Rattle.gg_order.specs.Design.{Ordered}
 use Rattle.gg_part.specs.Part.{IsPart, IsFrom}
 use Rattle.gg_part.specs.declared.part.Part.{Part}
@@ -27,50 +27,7 @@ use Rattle.gg_cut.specs.declared.wires.Wire.{Wire}
 use Rattle.gg_check.specs.CheckText.{AreChannelNeeds, IsPathInside, NeedsChannel}
 use Rattle.gg_check.proofs.NeedLemmas.{Gets, path-back, path-out}
 
--- ---- what a filter leaves
-
-there : {A : Type 0} (x y : A) (xs : List A) → Contains xs x → Contains (y ∷ xs) x
-there x y xs (k, lt, is) = (suc k, omega (arith, lt), is)
-
--- the item is in the list and passes the test
-record IsPicked {A : Type 0} (test : A → Bool) (xs : List A) (x : A) : Type 0 where
-  pub listed : Contains xs x
-  pub passes : test x ≡ true
-
-picked-more : {A : Type 0} (test : A → Bool) (y : A) (ys : List A) (x : A) → IsPicked test ys x → IsPicked test (y ∷ ys) x
-picked-more test y ys x p = record { listed = there x y ys p.listed; passes = p.passes }
-
-picked-by : {A : Type 0} (test : A → Bool) (y : A) (ys : List A) (x : A) (b : Bool) → test y ≡ b → (Contains (filter test ys) x → IsPicked test ys x)
-    → Contains (cond b (y ∷ filter test ys) (filter test ys)) x → IsPicked test (y ∷ ys) x
-picked-by test y ys x true e more (zero, lt, is) = record { listed = (zero, omega arith, is); passes = ap test (sym is) ∙ e }
-picked-by test y ys x true e more (suc k, lt, is) = picked-more test y ys x (more (k, omega (arith, lt), is))
-picked-by test y ys x false e more h = picked-more test y ys x (more h)
-
-picked : {A : Type 0} (test : A → Bool) (xs : List A) (x : A) → Contains (filter test xs) x → IsPicked test xs x
-picked test [] x (k, lt, is) = absurd (omega (arith, lt))
-picked test (y ∷ ys) x h = picked-by test y ys x (test y) refl (picked test ys x) h
-
-kept-by : {A : Type 0} (test : A → Bool) (y : A) (ys : List A) (x : A) (b : Bool) → test y ≡ b → test x ≡ true → (Contains ys x → Contains (filter test ys) x)
-    → Contains (y ∷ ys) x → Contains (cond b (y ∷ filter test ys) (filter test ys)) x
-kept-by test y ys x true e p more (zero, lt, is) = (zero, omega arith, is)
-kept-by test y ys x true e p more (suc k, lt, is) = there x y (filter test ys) (more (k, omega (arith, lt), is))
-kept-by test y ys x false e p more (zero, lt, is) = let h : false ≡ true = sym e ∙ ap test is ∙ p in absurd (cc)
-kept-by test y ys x false e p more (suc k, lt, is) = more (k, omega (arith, lt), is)
-
-kept : {A : Type 0} (test : A → Bool) (xs : List A) (x : A) → Contains xs x → test x ≡ true → Contains (filter test xs) x
-kept test [] x (k, lt, is) p = absurd (omega (arith, lt))
-kept test (y ∷ ys) x h p = kept-by test y ys x (test y) refl p (λ g. kept test ys x g p) h
-
 -- ---- channels by machine
-
-range-below : (n d : ℕ) → Contains (range_with_len 0 n) d → d < n
-range-below n d (k, lt, is) =
-    let below : k < n = omega (arith, lt, length-range_with_len 0 n) in
-    let same : 0 + k ≡ d = sym (get_or-range_with_len 0 n k d below) ∙ is in omega arith
-
-below-range : (n d : ℕ) → d < n → Contains (range_with_len 0 n) d
-below-range n d lt =
-    (d, omega (arith, lt, length-range_with_len 0 n), get_or-range_with_len 0 n d d lt ∙ (let same : 0 + d ≡ d = omega arith in same))
 
 module _ (wires : List Wire) (m : ℕ) where
   -- a channel that the machine takes
@@ -80,19 +37,14 @@ module _ (wires : List Wire) (m : ℕ) where
 
   taken : (d : ℕ) → Contains (channels_to wires m) d → IsTaken d
   taken d h =
-      let p = picked (λ c. (wire_at wires c).consumer == m) (range_with_len 0 (length wires)) d h in
-      record { known = range-below (length wires) d p.listed; consumer = true-eqb (wire_at wires d).consumer m (sym p.passes) }
+      let p = filter-cases (λ c. (wire_at wires c).consumer == m) (range_with_len 0 (length wires)) d h in
+      record { known = range-below (length wires) d p.among; consumer = true-eqb (wire_at wires d).consumer m (sym p.passes) }
 
   takes : (d : ℕ) → d < length wires → (wire_at wires d).consumer ≡ m → Contains (channels_to wires m) d
-  takes d lt e = kept (λ c. (wire_at wires c).consumer == m) (range_with_len 0 (length wires)) d (below-range (length wires) d lt) (eq-eqb (wire_at wires d).consumer m e)
+  takes d lt e = Contains-filter (λ c. (wire_at wires c).consumer == m) (range_with_len 0 (length wires)) d (in-range (length wires) d lt) (eq-eqb (wire_at wires d).consumer m e)
 
   gives : (c : ℕ) → c < length wires → (wire_at wires c).producer ≡ m → Contains (channels_from wires m) c
-  gives c lt e = kept (λ k. (wire_at wires k).producer == m) (range_with_len 0 (length wires)) c (below-range (length wires) c lt) (eq-eqb (wire_at wires c).producer m e)
-
--- what f makes of an element is among what f makes of the list
-mapped-has : {A : Type 0} (f : A → ℕ) (xs : List A) (x : A) → Contains xs x → Contains (map f xs) (f x)
-mapped-has f xs x (k, lt, is) =
-    (k, omega (arith, lt, length-map xs f), get_or_default (map f xs) k (f x) (f x) (omega (arith, lt, length-map xs f)) ∙ get_or-map f xs k x (f x) lt ∙ ap f is)
+  gives c lt e = Contains-filter (λ k. (wire_at wires k).producer == m) (range_with_len 0 (length wires)) c (in-range (length wires) c lt) (eq-eqb (wire_at wires c).producer m e)
 
 -- y is what f makes of an element of the list
 record IsMadeOf (f : ℕ → ℕ) (xs : List ℕ) (y : ℕ) : Type 0 where
@@ -107,25 +59,16 @@ made-of f xs y (k, lt, is) =
 
 -- ---- a machine's piece
 
--- a signal of the whole has only one number in a part
-one-number : (globals : List ℕ) (a b : ℕ) → AllPairs (λ x y. ¬ (x ≡ y)) globals → a < length globals → b < length globals → value_at globals a ≡ value_at globals b → a ≡ b
-one-number globals a b once la lb e = by (cases_order a b)
-  where
-    by : (a ≡ b) ⊎ ((a < b) ⊎ (b < a)) → a ≡ b
-    by (inl is) = is
-    by (inr (inl lt)) = absurd (once a b 0 lt lb e)
-    by (inr (inr lt)) = absurd (once b a 0 lt la (sym e))
-
 -- the in-signals of a piece are what it gets from outside
 piece-gets : (whole piece : FlatCircuit) (globals held memories taken : List ℕ) → IsPart whole piece globals held memories → map (value_at globals) piece.ins ≡ taken → Gets piece globals taken
 piece-gets whole piece globals held memories taken is ins = record {
   not_taken = λ a place lt free e.
       let from = subst (λ (d : Driver). IsFrom piece.ins globals held memories a (driver_at whole (value_at globals a)) d) e (is.drivers a lt) in
-      free (subst (λ l. Contains l (value_at globals a)) ins (mapped-has (value_at globals) piece.ins a (place, from.0, get_or_default piece.ins place a 0 from.0 ∙ from.1)));
+      free (subst (λ l. Contains l (value_at globals a)) ins (Contains-map (value_at globals) piece.ins a (place, from.0, get_or_default piece.ins place a 0 from.0 ∙ from.1)));
   input = λ a lt has.
       let found = made-of (value_at globals) piece.ins (value_at globals a) (subst (λ l. Contains l (value_at globals a)) (sym ins) has) in
       let at = is.ins found.place found.within in
-      (found.place, subst (λ x. driver_at piece x ≡ Input found.place) (one-number globals (value_at piece.ins found.place) a is.once at.0 lt found.is) at.1);
+      (found.place, subst (λ x. driver_at piece x ≡ Input found.place) (once-apart globals 0 is.once (value_at piece.ins found.place) a at.0 lt found.is) at.1);
 }
 
 module _ (design : Ordered) (listed : Listed) (wires : List Wire) (m : ℕ) (part : Part) (cut : IsCutPart design listed wires m part) where
@@ -149,7 +92,7 @@ module _ (design : Ordered) (listed : Listed) (wires : List Wire) (m : ℕ) (par
 
   out-of : (c : ℕ) → c < length wires → (wire_at wires c).producer ≡ m → IsOut (wire_at wires c).signal
   out-of c lt e =
-      let has = mapped-has (λ k. (wire_at wires k).signal) (channels_from wires m) c (gives wires m c lt e) in
+      let has = Contains-map (λ k. (wire_at wires k).signal) (channels_from wires m) c (gives wires m c lt e) in
       let found = made-of (value_at part.globals) part.piece.outs (wire_at wires c).signal (subst (λ l. Contains l (wire_at wires c).signal) (sym cut.outs) has) in
       record { out = value_at part.piece.outs found.place; within = cut.is.outs found.place found.within; same = found.is }
 
@@ -187,7 +130,7 @@ module _ (design : Ordered) (listed : Listed) (wires : List Wire) (m : ℕ) (par
       let back = path-back design.circuit part.piece part.globals part.held part.memories (signals_of wires (channels_to wires m)) cut.is gets out (wire_at wires c).signal (wire_at wires d).signal needs.path lt is reads in
       let ends : value_at part.globals back.place ≡ value_at part.globals (value_at part.piece.ins has.0) =
       back.same ∙ ap (λ x. (wire_at wires x).signal) (sym at) ∙ sym (in-signal has.0 within) in
-      let place : back.place ≡ value_at part.piece.ins has.0 = one-number part.globals back.place (value_at part.piece.ins has.0) cut.is.once back.within (cut.is.ins has.0 within).0 ends in
+      let place : back.place ≡ value_at part.piece.ins has.0 = once-apart part.globals 0 cut.is.once back.place (value_at part.piece.ins has.0) back.within (cut.is.ins has.0 within).0 ends in
       record {
         place = has.0;
         known = within;

@@ -7,6 +7,7 @@ use Rattle.gg_bits.specs.Shape.{Shape, shape}
 use Rattle.gg_flat.specs.Circuit.{signal_shapes}
 use Rattle.gg_flat.specs.Line.{shape_at}
 use Rattle.gg_flat.specs.Tree.{path_at}
+use Rattle.gg_flat.proofs.ListLemmas.{some-item}
 use Rattle.gg_order.specs.Design.{Ordered}
 use Rattle.gg_partfile.specs.declared.request.Request.{Request}
 use Rattle.gg_cut.specs.Channels.{capacity_of, machine_count, wires_of}
@@ -46,10 +47,6 @@ map-on f g [] h = refl
 map-on f g (x ∷ xs) h =
     let head : f x ≡ g x = h x (0, omega arith, refl) in
     let rest : map f xs ≡ map g xs = map-on f g xs (λ d has. h d (suc has.0, omega (arith, has.1), has.2)) in cc
-
-some-item : {A : Type 0} (xs : List A) (k : ℕ) → k < length xs → A
-some-item [] k lt = absurd (omega (arith, lt))
-some-item (x ∷ xs) k lt = x
 
 module _ (design : Ordered) (request : Request) (default : ℕ) (plan : Plan) (is : IsPlan design request default plan) where
   abbrev pub the_listed : Listed

@@ -11,6 +11,7 @@ use Rattle.gg_flat.specs.Tree.{InstanceTree, memory_at, path_at}
 use Rattle.gg_flat.specs.declared.memory.Memory.{Memory}
 use Rattle.gg_flat.specs.declared.memory.Reader.{Reader}
 use Rattle.gg_flat.specs.declared.memory.Writer.{Writer}
+use Rattle.gg_flat.proofs.ListLemmas.{Contains-cases}
 use Rattle.gg_order.specs.Design.{Ordered}
 use Rattle.gg_partfile.specs.declared.request.Request.{Request}
 use Rattle.gg_cut.specs.Channels.{capacity_of, field_wires, first_memory, first_source, first_tray, flattened, machine_count, numbered, port_wires, reader_wires, source_wires, tray_wires, wires_of, writer_wires}
@@ -32,14 +33,9 @@ head-least x xs d up (k, lt, is) = subst (λ y. x < y) is (up 0 (suc k) d (omega
 tail-up : (x : ℕ) (xs : List ℕ) → AllPairs (λ a b. a < b) (x ∷ xs) → AllPairs (λ a b. a < b) xs
 tail-up x xs up i j d lt within = up (suc i) (suc j) d (omega (arith, lt)) (omega (arith, within))
 
--- an element is the first, or one of the others
-head-or : (x : ℕ) (xs : List ℕ) (d : ℕ) → Contains (x ∷ xs) d → (x ≡ d) ⊎ Contains xs d
-head-or x xs d (zero, lt, is) = inl is
-head-or x xs d (suc k, lt, is) = inr (k, omega (arith, lt), is)
-
 -- if a list has all of an ascending list and both begin with the same number, this holds of the rests too
 others : (x y : ℕ) (xs ys : List ℕ) → x ≡ y → AllPairs (λ a b. a < b) (x ∷ xs) → ((d : ℕ) → Contains (x ∷ xs) d → Contains (y ∷ ys) d) → (d : ℕ) → Contains xs d → Contains ys d
-others x y xs ys e up into d has = by (head-or y ys d (into d (suc has.0, omega (arith, has.1), has.2)))
+others x y xs ys e up into d has = by (Contains-cases y d ys (into d (suc has.0, omega (arith, has.1), has.2)))
   where
     by : (y ≡ d) ⊎ Contains ys d → Contains ys d
     by (inl same) = let less = head-least x xs d up has in absurd (omega (arith, less, e, same))
@@ -55,7 +51,7 @@ ascending-same [] [] up up' into back = refl
 ascending-same [] (y ∷ ys) up up' into back = let h = back y (0, omega arith, refl) in absurd (omega (arith, h.1))
 ascending-same (x ∷ xs) [] up up' into back = let h = into x (0, omega arith, refl) in absurd (omega (arith, h.1))
 ascending-same (x ∷ xs) (y ∷ ys) up up' into back =
-    let e : x ≡ y = heads-same x y xs ys up up' (head-or y ys x (into x (0, omega arith, refl))) (head-or x xs y (back y (0, omega arith, refl))) in
+    let e : x ≡ y = heads-same x y xs ys up up' (Contains-cases y x ys (into x (0, omega arith, refl))) (Contains-cases x y xs (back y (0, omega arith, refl))) in
     let es : xs ≡ ys = ascending-same xs ys (tail-up x xs up) (tail-up y ys up') (others x y xs ys e up into) (others y x ys xs (sym e) up' back) in cc
 
 pub needs-same : (circuit : FlatCircuit) (listed : Listed) (wires : List Wire) (c : ℕ) (one other : List ℕ) → AreChannelNeeds circuit listed wires c one → AreChannelNeeds circuit listed wires c other → one ≡ other
@@ -65,7 +61,7 @@ needs-same circuit listed wires c one other a b =
 -- ---- a cut of a design has one text
 
 -- f and g make the same of the numbers from a on if they agree on them
-lines-same : (f g : ℕ → List ℕ) (a n : ℕ) → ((k : ℕ) → a ≤ k → k < a + n → f k ≡ g k) → flat_map f (range_with_len a n) ≡ flat_map g (range_with_len a n)
+pub lines-same : (f g : ℕ → List ℕ) (a n : ℕ) → ((k : ℕ) → a ≤ k → k < a + n → f k ≡ g k) → flat_map f (range_with_len a n) ≡ flat_map g (range_with_len a n)
 lines-same f g a zero h = refl
 lines-same f g a (suc n) h =
     ap (λ l. l ++ flat_map f (range_with_len (a + 1) n)) (h a (omega arith) (omega arith)) ∙ ap (λ l. g a ++ l) (lines-same f g (a + 1) n (λ k le lt. h k (omega (arith, le)) (omega (arith, lt))))

@@ -3,10 +3,10 @@ use Rattle.std.proofs.Common.{◌≡◌, ◌≢◌, ℕ, zero, suc, ◌<◌, ◌
 use Rattle.gg_flat.specs.Circuit.{FlatCircuit}
 use Rattle.gg_flat.specs.Tree.{InstanceTree, IsTree, IsInnermost, IsJustBelow, path_at, instance_at, memory_at, parent_place}
 use Rattle.gg_flat.specs.Scoped.{IsScoped, IsFieldOf, IsMemoryField}
+use Rattle.gg_flat.proofs.ListLemmas.{once-apart}
 use Rattle.gg_cut.specs.Listed.{lies, ParentsBefore}
 use Rattle.gg_cut.proofs.ChainLemmas.{lies-self}
 use Rattle.gg_cut.proofs.KnownLemmas.{parents-before}
-use Rattle.gg_cut.proofs.PathLemmas.{one-place}
 use Rattle.gg_closed.specs.Longest.{HoldsPath, Covers}
 use Rattle.gg_closed.proofs.TreeLemmas.{climbs, Climbs, lies-up, above}
 use Rattle.gg_closed.proofs.NameLemmas.{named}
@@ -17,7 +17,7 @@ module _ (circuit : FlatCircuit) (tree : InstanceTree) (fits : IsTree circuit tr
   parents = parents-before circuit tree fits
 
   pub instance-one : (i j : ℕ) → i < length tree.instances → j < length tree.instances → path_at tree.paths i ≡ path_at tree.paths j → i ≡ j
-  instance-one i j li lj e = one-place tree.paths i j fits.distinct (omega (arith, li, fits.named)) (omega (arith, lj, fits.named)) e
+  instance-one i j li lj e = once-apart tree.paths [] fits.distinct i j (omega (arith, li, fits.named)) (omega (arith, lj, fits.named)) e
 
   -- an instance below the top has a path
   pub lower-some : (i : ℕ) → 0 < i → i < length tree.instances → path_at tree.paths i ≢ []
@@ -122,7 +122,7 @@ module _ (circuit : FlatCircuit) (tree : InstanceTree) (fits : IsTree circuit tr
           where
             at : Fronts (path_at tree.memory_paths j) (path_at tree.memory_paths m.place) → IsFieldOf circuit tree j s
             at (Equal same) =
-                let one : m.place ≡ j = one-place tree.memory_paths m.place j fits.memory_distinct (omega (arith, m.known, fits.memory_named)) (omega (arith, lj, fits.memory_named)) (sym same) in
+                let one : m.place ≡ j = once-apart tree.memory_paths [] fits.memory_distinct m.place j (omega (arith, m.known, fits.memory_named)) (omega (arith, lj, fits.memory_named)) (sym same) in
                 subst (λ i. IsFieldOf circuit tree i s) one m.field
             at (Outer o) = absurd (memory-no-memory j m.place lj m.known o)
             at (Inner o) = absurd (memory-no-memory m.place j m.known lj o)

@@ -13,6 +13,7 @@ use Rattle.gg_flat.specs.Circuit.{FlatCircuit, driver_at}
 use Rattle.gg_flat.specs.WellFormed.{IsWellFormed, IsDataOf, MayDrive}
 use Rattle.gg_flat.specs.Tree.{InstanceTree, IsTree, memory_at}
 use Rattle.gg_flat.specs.Scoped.{IsScoped, IsFieldOf, memory_fields}
+use Rattle.gg_flat.proofs.ListLemmas.{Contains-map}
 use Rattle.gg_part.specs.Choice.{IsChoice, NamesMemory}
 use Rattle.gg_cut.specs.declared.wires.Wire.{Wire}
 use Rattle.gg_cut.specs.declared.listed.Listed.{Listed}
@@ -21,7 +22,7 @@ use Rattle.gg_cut.specs.Plan.{wire_at, channels_to, channels_from, signals_of, M
 use Rattle.gg_cut.proofs.ChannelLemmas.{wires-signals}
 use Rattle.gg_cut.proofs.KnownLemmas.{signals-known, memory-known}
 use Rattle.gg_closed.specs.Apart.{AreApart}
-use Rattle.gg_closed.proofs.ListLemmas.{Somewhere, Contains-map, map-cases, AllPairs-map}
+use Rattle.gg_closed.proofs.ListLemmas.{Somewhere, map-cases, AllPairs-map}
 use Rattle.gg_closed.proofs.TreeLemmas.{innermost-known}
 use Rattle.gg_closed.proofs.OnceLemmas.{wires-once}
 use Rattle.gg_closed.proofs.MakerLemmas.{Gets, chosen-out}

@@ -4,7 +4,7 @@ use Rattle.std.specs.Prelude.{◌==◌, filter, cond, Contains, All, AllPairs}
 use Rattle.std.proofs.lemmas.Bool.{cases_lt, cases_Bool, ne_eqb}
 use Rattle.std.proofs.lemmas.List.Elements.{All-contains, Contains-get_or}
 use Rattle.std.proofs.lemmas.List.Kept.{AllPairs-filter, AllPairs-cons}
-use Rattle.gg_closed.proofs.ListLemmas.{filter-cases}
+use Rattle.gg_flat.proofs.ListLemmas.{filter-cases}
 use Rattle.gg_closed.proofs.MakerLemmas.{find-number}
 
 abbrev other_than : ℕ → ℕ → Bool

@@ -1,8 +1,8 @@
 -- What a request without a fault lists is apart: no unit lies in another (AreApart).
-use Rattle.std.proofs.Common.{◌≡◌, ℕ, zero, suc, ◌+◌, ◌<◌, ◌≤◌, List, [], ◌∷◌, ◌++◌, length, map, get_or, Bool, true, false, not, refl, sym, ◌∙◌, ap, Some, None, inl, inr, ◌⊎◌, arith}
+use Rattle.std.proofs.Common.{◌≡◌, ℕ, zero, suc, ◌+◌, ◌<◌, ◌≤◌, List, [], ◌∷◌, ◌++◌, length, get_or, Bool, true, false, not, refl, sym, ◌∙◌, ap, Some, None, inl, inr, ◌⊎◌, arith}
 use Rattle.std.specs.Prelude.{Option, ◌||◌, find, cond, if◌then◌else◌, option_map, unwrap_or, nat_lt, All, AllPairs}
 use Rattle.std.specs.List.{list_any, range_with_len}
-use Rattle.std.proofs.lemmas.Bool.{cases_Bool, cases_lt, lt-ltb}
+use Rattle.std.proofs.lemmas.Bool.{cases_Bool, cases_lt, lt-ltb, or_parts}
 use Rattle.std.proofs.lemmas.List.{length-map}
 use Rattle.std.proofs.lemmas.List.Folds.{list_any-append}
 use Rattle.std.proofs.lemmas.List.Kept.{AllPairs-filter, AllPairs-cons}
@@ -20,24 +20,22 @@ use Rattle.gg_cut.specs.Channels.{channel_names}
 use Rattle.gg_cut.proofs.ChannelLemmas.{wires-signals}
 use Rattle.gg_cut.proofs.PathLemmas.{first_place-Some}
 use Rattle.gg_cut.proofs.RangeLemmas.{filter-below}
+use Rattle.gg_cut.proofs.FindLemmas.{none-map}
 use Rattle.gg_closed.specs.Apart.{AreApart}
 use Rattle.gg_closed.specs.Apart.{AreFew}
 use Rattle.gg_closed.proofs.ListLemmas.{AllPairs-map}
 use Rattle.std.specs.Prelude.{bytes_eq}
+use Rattle.std.proofs.lemmas.List.Elements.{All-map}
 
 -- ---- neither of two has a fault
 
-none-first : {A : Type 0} (a b : Option A) → or_else a b ≡ None → a ≡ None
+pub none-first : {A : Type 0} (a b : Option A) → or_else a b ≡ None → a ≡ None
 none-first None b e = refl
 none-first (Some x) b e = absurd (cc)
 
-none-second : {A : Type 0} (a b : Option A) → or_else a b ≡ None → b ≡ None
+pub none-second : {A : Type 0} (a b : Option A) → or_else a b ≡ None → b ≡ None
 none-second None b e = e
 none-second (Some x) b e = absurd (cc)
-
-none-map : {A B : Type 0} (f : A → B) (a : Option A) → option_map f a ≡ None → a ≡ None
-none-map f None e = refl
-none-map f (Some x) e = absurd (cc)
 
 -- ---- nothing is found
 
@@ -124,15 +122,6 @@ module _ (tree : InstanceTree) where
           let at = first_place-Some (bytes_eq path) tree.paths (suc k) f in
           (omega (arith, is), omega (arith, is, at.within))
 
-  All-mapped : {A : Type 0} (P : ℕ → Type 0) (f : A → ℕ) (xs : List A) → All (λ x. P (f x)) xs → All P (map f xs)
-  All-mapped P f [] all k d lt = absurd (omega (arith, lt))
-  All-mapped P f (x ∷ xs) all zero d lt = all 0 x (omega arith)
-  All-mapped P f (x ∷ xs) all (suc k) d lt = All-mapped P f xs (λ j e inside. all (suc j) e (omega (arith, inside))) k d (omega (arith, lt))
-
-  or-false : (a b : Bool) → (a || b) ≡ false → (a ≡ false) × (b ≡ false)
-  or-false true b e = absurd (cc)
-  or-false false b e = (refl, e)
-
   range-ascending : (n : ℕ) → AllPairs (λ a b. a < b) (range_with_len 0 n)
   range-ascending n i j d less lt =
       let inside : j < n = omega (arith, lt, length-range_with_len 0 n) in
@@ -141,9 +130,9 @@ module _ (tree : InstanceTree) where
   pub apart-from : (request : Request) → length tree.paths ≡ length tree.instances → unknown_unit tree request.units ≡ None → overlapping tree request.units ≡ None → AreApart tree (listed_of tree request)
   apart-from request named known apart =
       record {
-        lower = All-mapped (λ k. 0 < k) (instance_of tree) request.units (λ k d lt. (places k d lt).0);
-        known = All-mapped (λ k. k < length tree.instances) (instance_of tree) request.units (λ k d lt. let p = places k d lt in omega (arith, p.1, named));
-        apart = AllPairs-map (λ a b. (lies tree a b ≡ false) × (lies tree b a ≡ false)) (instance_of tree) request.units (λ i j d less lt. flip (or-false (lies tree (instance_of tree (get_or request.units j d)) (instance_of tree (get_or request.units i d))) (lies tree (instance_of tree (get_or request.units i d)) (instance_of tree (get_or request.units j d))) (clear.among i j d less lt)));
+        lower = All-map (λ k. 0 < k) (instance_of tree) request.units (λ k d lt. (places k d lt).0);
+        known = All-map (λ k. k < length tree.instances) (instance_of tree) request.units (λ k d lt. let p = places k d lt in omega (arith, p.1, named));
+        apart = AllPairs-map (λ a b. (lies tree a b ≡ false) × (lies tree b a ≡ false)) (instance_of tree) request.units (λ i j d less lt. flip (or_parts (lies tree (instance_of tree (get_or request.units j d)) (instance_of tree (get_or request.units i d))) (lies tree (instance_of tree (get_or request.units i d)) (instance_of tree (get_or request.units j d))) (clear.among i j d less lt)));
         memories = λ k d lt. (let below = filter-below (λ j. is_among request.memories (path_at tree.memory_paths j)) 0 (length tree.memories) (listed_of tree request).memories refl k d lt in omega (arith, below));
         ascending = AllPairs-filter (λ a b. a < b) (λ j. is_among request.memories (path_at tree.memory_paths j)) (range_with_len 0 (length tree.memories)) (range-ascending (length tree.memories));
       }

@@ -10,11 +10,12 @@ use Rattle.gg_flat.specs.Line.{value_at}
 use Rattle.gg_flat.specs.Circuit.{FlatCircuit, readers_at, reader_at}
 use Rattle.gg_flat.specs.Tree.{InstanceTree, instance_at, memory_at, parent_place}
 use Rattle.gg_flat.specs.Scoped.{reader_fields, writer_fields, writers_at, memory_fields}
+use Rattle.gg_flat.proofs.ListLemmas.{Contains-map}
 use Rattle.gg_cut.specs.declared.wires.Wire.{Wire}
 use Rattle.gg_cut.specs.declared.listed.Listed.{Listed}
 use Rattle.gg_cut.specs.Listed.{owner_of_instance}
 use Rattle.gg_cut.specs.Channels.{wire, numbered, flattened, first_memory, first_source, first_tray, port_wire, port_wires, reader_wires, writer_wires, field_wires, source_wires, tray_wires, wires_of}
-use Rattle.gg_closed.proofs.ListLemmas.{Somewhere, Contains-map, map-cases, flattened-in, flattened-cases, flat_map-is, numbered-in, numbered-cases}
+use Rattle.gg_closed.proofs.ListLemmas.{Somewhere, map-cases, flattened-in, flattened-cases, flat_map-is, numbered-in, numbered-cases}
 
 -- ---- fields
 

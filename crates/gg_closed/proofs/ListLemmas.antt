@@ -1,22 +1,12 @@
 -- What a list contains that is made from other lists; and pairs of its items.
-use Rattle.std.proofs.Common.{◌≡◌, ◌≢◌, ℕ, zero, suc, ◌+◌, ◌<◌, ◌≤◌, List, [], ◌∷◌, ◌++◌, length, map, get_or, Bool, true, false, refl, sym, ◌∙◌, ap, subst, inl, inr, ◌⊎◌, arith}
-use Rattle.std.specs.Prelude.{filter, cond, flat_map, Contains, All, AllPairs}
-use Rattle.std.proofs.lemmas.Bool.{cases_lt, cases_Bool}
+use Rattle.std.proofs.Common.{◌≡◌, ℕ, zero, suc, ◌+◌, ◌<◌, List, [], ◌∷◌, ◌++◌, length, map, get_or, refl, ap, subst, inl, inr, ◌⊎◌, arith}
+use Rattle.std.specs.Prelude.{flat_map, Contains, All, AllPairs}
 use Rattle.std.proofs.lemmas.List.Elements.{Contains-append_left, Contains-append_right, Contains-append_cases, Contains-get_or}
 use Rattle.std.proofs.lemmas.List.Kept.{AllPairs-cons}
 use Rattle.gg_cut.specs.Channels.{flattened, numbered}
+use Rattle.gg_flat.proofs.ListLemmas.{here, further, Contains-cases}
 
 -- ---- what a list contains
-
-pub here : {A : Type 0} (x : A) (xs : List A) → Contains (x ∷ xs) x
-here x xs = (0, omega arith, refl)
-
-pub there : {A : Type 0} (x y : A) (xs : List A) → Contains xs y → Contains (x ∷ xs) y
-there x y xs h = (suc h.0, omega (arith, h.1), h.2)
-
-pub Contains-cases : {A : Type 0} (x y : A) (xs : List A) → Contains (x ∷ xs) y → (x ≡ y) ⊎ Contains xs y
-Contains-cases x y xs (zero, lt, is) = inl is
-Contains-cases x y xs (suc k, lt, is) = inr (k, omega (arith, lt), is)
 
 -- the item at a place of a list has a property
 pub record Somewhere {A : Type 0} (P : A → Type 0) (xs : List A) : Type 0 where
@@ -27,11 +17,6 @@ pub record Somewhere {A : Type 0} (P : A → Type 0) (xs : List A) : Type 0 wher
 pub Somewhere-later : {A : Type 0} (P : A → Type 0) (x : A) (xs : List A) → Somewhere P xs → Somewhere P (x ∷ xs)
 Somewhere-later P x xs s = record { place = suc s.place; within = omega (arith, s.within); holds = s.holds }
 
-pub Contains-map : {A B : Type 0} (f : A → B) (xs : List A) (x : A) → Contains xs x → Contains (map f xs) (f x)
-Contains-map f [] x h = absurd (omega (arith, h.1))
-Contains-map f (y ∷ ys) x (zero, lt, is) = (0, omega arith, ap f is)
-Contains-map f (y ∷ ys) x (suc k, lt, is) = there (f y) (f x) (map f ys) (Contains-map f ys x (k, omega (arith, lt), is))
-
 pub map-cases : {A B : Type 0} (f : A → B) (xs : List A) (y : B) → Contains (map f xs) y → Somewhere (λ x. f x ≡ y) xs
 map-cases f [] y h = absurd (omega (arith, h.1))
 map-cases f (x ∷ xs) y h = by (Contains-cases (f x) y (map f xs) h) (λ r. map-cases f xs y r)
@@ -39,39 +24,6 @@ map-cases f (x ∷ xs) y h = by (Contains-cases (f x) y (map f xs) h) (λ r. map
     by : (f x ≡ y) ⊎ Contains (map f xs) y → (Contains (map f xs) y → Somewhere (λ x. f x ≡ y) xs) → Somewhere (λ x. f x ≡ y) (x ∷ xs)
     by (inl e) rest = record { place = 0; within = omega arith; holds = λ d. e }
     by (inr r) rest = Somewhere-later (λ x. f x ≡ y) x xs (rest r)
-
-pub Contains-filter : {A : Type 0} (test : A → Bool) (xs : List A) (x : A) → Contains xs x → test x ≡ true → Contains (filter test xs) x
-Contains-filter test [] x h e = absurd (omega (arith, h.1))
-Contains-filter test (y ∷ ys) x h e = by (Contains-cases y x ys h) (λ r. Contains-filter test ys x r e) (cases_Bool (test y))
-  where
-    by : (y ≡ x) ⊎ Contains ys x → (Contains ys x → Contains (filter test ys) x) → (test y ≡ true) ⊎ (test y ≡ false) → Contains (filter test (y ∷ ys)) x
-    by (inl same) rest (inl t) = subst (λ b. Contains (cond b (y ∷ filter test ys) (filter test ys)) x) (sym t) (0, omega arith, same)
-    by (inl same) rest (inr t) = absurd (clash (sym e ∙ ap test (sym same) ∙ t))
-      where
-        clash : true ≡ false → ⊥
-        clash e = absurd (cc)
-    by (inr r) rest (inl t) = subst (λ b. Contains (cond b (y ∷ filter test ys) (filter test ys)) x) (sym t) (there y x (filter test ys) (rest r))
-    by (inr r) rest (inr t) = subst (λ b. Contains (cond b (y ∷ filter test ys) (filter test ys)) x) (sym t) (rest r)
-
--- the item is in the list and passes the test
-pub record IsKept {A : Type 0} (test : A → Bool) (xs : List A) (x : A) : Type 0 where
-  pub among : Contains xs x
-  pub passes : test x ≡ true
-
-pub filter-cases : {A : Type 0} (test : A → Bool) (xs : List A) (x : A) → Contains (filter test xs) x → IsKept test xs x
-filter-cases test [] x h = absurd (omega (arith, h.1))
-filter-cases test (y ∷ ys) x h = by (cases_Bool (test y)) (λ r. filter-cases test ys x r)
-  where
-    later : IsKept test ys x → IsKept test (y ∷ ys) x
-    later k = record { among = there y x ys k.among; passes = k.passes }
-
-    by : (test y ≡ true) ⊎ (test y ≡ false) → (Contains (filter test ys) x → IsKept test ys x) → IsKept test (y ∷ ys) x
-    by (inl t) rest = at (Contains-cases y x (filter test ys) (subst (λ b. Contains (cond b (y ∷ filter test ys) (filter test ys)) x) t h))
-      where
-        at : (y ≡ x) ⊎ Contains (filter test ys) x → IsKept test (y ∷ ys) x
-        at (inl same) = record { among = (0, omega arith, same); passes = ap test (sym same) ∙ t }
-        at (inr r) = later (rest r)
-    by (inr t) rest = later (rest (subst (λ b. Contains (cond b (y ∷ filter test ys) (filter test ys)) x) t h))
 
 -- ---- lists of lists
 
@@ -129,7 +81,7 @@ pub AllPairs-append : {A : Type 0} (R : A → A → Type 0) (xs ys : List A) →
 AllPairs-append R [] ys a b cross = b
 AllPairs-append R (x ∷ xs) ys a b cross =
     AllPairs-cons R x (xs ++ ys) first
-    (AllPairs-append R xs ys (λ i j d less lt. a (suc i) (suc j) d (omega (arith, less)) (omega (arith, lt))) b (λ u v p q. cross u v (there x u xs p) q))
+    (AllPairs-append R xs ys (λ i j d less lt. a (suc i) (suc j) d (omega (arith, less)) (omega (arith, lt))) b (λ u v p q. cross u v (further x xs u p) q))
   where
     first : All (R x) (xs ++ ys)
     first k d lt = by (Contains-append_cases xs ys (get_or (xs ++ ys) k d) (Contains-get_or (xs ++ ys) k d lt))
@@ -157,12 +109,3 @@ AllPairs-map {A = A} R f (x ∷ xs) pairs =
     each [] all k d lt = absurd (omega (arith, lt))
     each (y ∷ ys) all zero d lt = all 0 y (omega arith)
     each (y ∷ ys) all (suc k) d lt = each ys (λ j e inside. all (suc j) e (omega (arith, inside))) k d (omega (arith, lt))
-
--- in a list of distinct numbers each stands at one place
-pub one-place : (xs : List ℕ) (i j : ℕ) → AllPairs (λ a b. a ≢ b) xs → i < length xs → j < length xs → get_or xs i 0 ≡ get_or xs j 0 → i ≡ j
-one-place xs i j once li lj same = by (cases_lt i j) (cases_lt j i)
-  where
-    by : (i < j) ⊎ (j ≤ i) → (j < i) ⊎ (i ≤ j) → i ≡ j
-    by (inl lt) q = absurd (once i j 0 lt lj same)
-    by (inr le) (inl lt) = absurd (once j i 0 lt li (sym same))
-    by (inr le) (inr ge) = omega (arith, le, ge)

@@ -2,13 +2,15 @@
 use Rattle.std.proofs.Common.{◌≡◌, ◌≢◌, ℕ, zero, suc, ◌+◌, ◌-◌, ◌<◌, ◌≤◌, List, length, get_or, true, true≢false, refl, sym, ◌∙◌, ap, subst, Some, None, inl, inr, ◌⊎◌, eq-eqb, true-eqb, arith}
 use Rattle.std.specs.Prelude.{Option, ◌==◌}
 use Rattle.std.proofs.lemmas.Bool.{cases_lt, cases_eq}
+use Rattle.std.proofs.lemmas.List.Folds.{list_any_at}
 use Rattle.gg_flat.specs.Line.{value_at}
 use Rattle.gg_flat.specs.Circuit.{FlatCircuit}
 use Rattle.gg_flat.specs.Tree.{InstanceTree, IsTree, IsInnermost, path_at, memory_at}
 use Rattle.gg_flat.specs.Scoped.{IsScoped, IsFieldOf, memory_fields}
+use Rattle.gg_flat.proofs.ListLemmas.{once-apart}
 use Rattle.gg_cut.specs.declared.listed.Listed.{Listed}
 use Rattle.gg_cut.specs.Listed.{lies, first_place, unit_or_hub, owner_of_instance, owner_of, has_signal, has_field, memory_or}
-use Rattle.gg_cut.proofs.PathLemmas.{IsPlace, first_place-Some, first_place-None, any-at, one-place}
+use Rattle.gg_cut.proofs.PathLemmas.{IsPlace, first_place-Some, first_place-None}
 use Rattle.gg_cut.specs.Plan.{memory_owner}
 use Rattle.gg_closed.specs.Apart.{AreApart}
 use Rattle.gg_closed.specs.Longest.{HoldsPath, Covers, IsLongest, IsOfLongest}
@@ -66,9 +68,6 @@ pub record ArePaths (tree : InstanceTree) (listed : Listed) (paths : List (List 
   pub memory : (i : ℕ) → i < length listed.memories → path_at paths (length listed.units + i) ≡ path_at tree.memory_paths (value_at listed.memories i)
 
 module _ (circuit : FlatCircuit) (tree : InstanceTree) (listed : Listed) (fits : IsTree circuit tree) (scoped : IsScoped circuit tree) (apart : AreApart tree listed) (paths : List (List ℕ)) (are : ArePaths tree listed paths) where
-  unit-at : (i : ℕ) → i < length listed.units → value_at listed.units i < length tree.instances
-  unit-at i lt = apart.known i 0 lt
-
   memory-in : (j : ℕ) → j < length listed.memories → value_at listed.memories j < length tree.memories
   memory-in j lt = apart.memories j 0 lt
 
@@ -83,9 +82,9 @@ module _ (circuit : FlatCircuit) (tree : InstanceTree) (listed : Listed) (fits :
 
   -- two units are the same if their paths are equal or one holds the other
   fronts-one : (i j : ℕ) → i < length listed.units → j < length listed.units → Fronts (path_at tree.paths (value_at listed.units i)) (path_at tree.paths (value_at listed.units j)) → i ≡ j
-  fronts-one i j li lj (Equal same) = lies-one i j li lj (covers-lies circuit tree fits (value_at listed.units j) (value_at listed.units i) (unit-at j lj) (unit-at i li) (inl (sym same)))
-  fronts-one i j li lj (Outer h) = sym (lies-one j i lj li (covers-lies circuit tree fits (value_at listed.units i) (value_at listed.units j) (unit-at i li) (unit-at j lj) (inr h)))
-  fronts-one i j li lj (Inner h) = lies-one i j li lj (covers-lies circuit tree fits (value_at listed.units j) (value_at listed.units i) (unit-at j lj) (unit-at i li) (inr h))
+  fronts-one i j li lj (Equal same) = lies-one i j li lj (covers-lies circuit tree fits (value_at listed.units j) (value_at listed.units i) (apart.known j 0 lj) (apart.known i 0 li) (inl (sym same)))
+  fronts-one i j li lj (Outer h) = sym (lies-one j i lj li (covers-lies circuit tree fits (value_at listed.units i) (value_at listed.units j) (apart.known i 0 li) (apart.known j 0 lj) (inr h)))
+  fronts-one i j li lj (Inner h) = lies-one i j li lj (covers-lies circuit tree fits (value_at listed.units j) (value_at listed.units i) (apart.known j 0 lj) (apart.known i 0 li) (inr h))
 
   place-of : (i : ℕ) → i < length paths → Among (length listed.units) (length listed.memories) i
   place-of i lt = among (length listed.units) (length listed.memories) i (omega (arith, lt, are.count))
@@ -108,7 +107,7 @@ module _ (circuit : FlatCircuit) (tree : InstanceTree) (listed : Listed) (fits :
   covering k i lk lt h = by (place-of i lt)
     where
       by : Among (length listed.units) (length listed.memories) i → (i < length listed.units) × (lies tree k (value_at listed.units i) ≡ true)
-      by (First less) = (less, covers-lies circuit tree fits (value_at listed.units i) k (unit-at i less) lk (unit-covers i k less h))
+      by (First less) = (less, covers-lies circuit tree fits (value_at listed.units i) k (apart.known i 0 less) lk (unit-covers i k less h))
       by (Behind j lj e) = absurd (memory-covers-none j k lj lk (subst (λ n. Covers (path_at paths n) (path_at tree.paths k)) e h))
 
   pub instance-longest : (k : ℕ) → k < length tree.instances → IsOfLongest (λ path. Covers path (path_at tree.paths k)) paths (owner_of_instance tree listed.units k)
@@ -120,7 +119,7 @@ module _ (circuit : FlatCircuit) (tree : InstanceTree) (listed : Listed) (fits :
           none : IsOfLongest (λ path. Covers path (path_at tree.paths k)) paths 0
           none i lt h =
               let at = covering k i lk lt h in
-              true≢false (sym (any-at (λ unit. lies tree k unit) listed.units i 0 at.0 at.1) ∙ first_place-None (λ unit. lies tree k unit) listed.units e)
+              true≢false (sym (list_any_at (λ unit. lies tree k unit) listed.units i 0 at.0 at.1) ∙ first_place-None (λ unit. lies tree k unit) listed.units e)
       by (Some u) e = subst (IsOfLongest (λ path. Covers path (path_at tree.paths k)) paths) (ap unit_or_hub (sym e)) some
         where
           at : IsPlace (λ unit. lies tree k unit) listed.units u
@@ -161,7 +160,7 @@ module _ (circuit : FlatCircuit) (tree : InstanceTree) (listed : Listed) (fits :
         to i lt h =
             let at = covering k i inner.known lt h in
             subst (λ p. HoldsPath p (path_at circuit.paths s)) (sym (are.unit i at.0))
-            (covers-held circuit tree fits scoped (value_at listed.units i) k s inner (apart.lower i 0 at.0) (unit-at i at.0) (unit-covers i k at.0 h))
+            (covers-held circuit tree fits scoped (value_at listed.units i) k s inner (apart.lower i 0 at.0) (apart.known i 0 at.0) (unit-covers i k at.0 h))
 
         back : (i : ℕ) → i < length paths → HoldsPath (path_at paths i) (path_at circuit.paths s) → Covers (path_at paths i) (path_at tree.paths k)
         back i lt h = by (place-of i lt)
@@ -169,7 +168,7 @@ module _ (circuit : FlatCircuit) (tree : InstanceTree) (listed : Listed) (fits :
             by : Among (length listed.units) (length listed.memories) i → Covers (path_at paths i) (path_at tree.paths k)
             by (First less) =
                 subst (λ p. Covers p (path_at tree.paths k)) (sym (are.unit i less))
-                (held-covers circuit tree fits scoped (value_at listed.units i) k s inner (unit-at i less) (unit-holds i less h))
+                (held-covers circuit tree fits scoped (value_at listed.units i) k s inner (apart.known i 0 less) (unit-holds i less h))
             by (Behind j lj e) = absurd (none j 0 lj (memory-holds j lj (subst (λ n. HoldsPath (path_at paths n) (path_at circuit.paths s)) e h)))
 
     -- the longest path that holds the path of a field of a listed memory is the memory's
@@ -188,11 +187,11 @@ module _ (circuit : FlatCircuit) (tree : InstanceTree) (listed : Listed) (fits :
         holds = field-held circuit tree fits scoped (value_at listed.memories j) s (memory-in j lj) field
 
         shorter : (i : ℕ) → i < length listed.units → Fronts (path_at tree.paths (value_at listed.units i)) (path_at tree.memory_paths (value_at listed.memories j)) → length (path_at paths i) < length (path_at paths (length listed.units + j))
-        shorter i li (Equal same) = absurd (scoped.apart (value_at listed.units i) (value_at listed.memories j) (unit-at i li) (memory-in j lj) same)
+        shorter i li (Equal same) = absurd (scoped.apart (value_at listed.units i) (value_at listed.memories j) (apart.known i 0 li) (memory-in j lj) same)
         shorter i li (Outer h) =
             let less = holds-shorter (path_at tree.paths (value_at listed.units i)) (path_at tree.memory_paths (value_at listed.memories j)) h in
             omega (arith, less, ap length (are.unit i li), ap length (are.memory j lj))
-        shorter i li (Inner h) = absurd (memory-no-instance circuit tree fits scoped (value_at listed.memories j) (value_at listed.units i) (memory-in j lj) (unit-at i li) h)
+        shorter i li (Inner h) = absurd (memory-no-instance circuit tree fits scoped (value_at listed.memories j) (value_at listed.units i) (memory-in j lj) (apart.known i 0 li) h)
 
         same-memory : (i : ℕ) → i < length listed.memories → IsFieldOf circuit tree (value_at listed.memories i) s → i ≡ j
         same-memory i li other =
@@ -222,8 +221,8 @@ module _ (circuit : FlatCircuit) (tree : InstanceTree) (listed : Listed) (fits :
             none : IsNoField circuit tree listed s
             none i d lt field =
                 let has : has_field circuit tree s (get_or listed.memories i d) ≡ true =
-                any-at (λ t. t == s) (memory_fields circuit (memory_at tree (get_or listed.memories i d)).memory) field.0 s field.1 (eq-eqb (get_or (memory_fields circuit (memory_at tree (get_or listed.memories i d)).memory) field.0 s) s field.2) in
-                true≢false (sym (any-at (has_field circuit tree s) listed.memories i d lt has) ∙ first_place-None (has_field circuit tree s) listed.memories e)
+                list_any_at (λ t. t == s) (memory_fields circuit (memory_at tree (get_or listed.memories i d)).memory) field.0 s field.1 (eq-eqb (get_or (memory_fields circuit (memory_at tree (get_or listed.memories i d)).memory) field.0 s) s field.2) in
+                true≢false (sym (list_any_at (has_field circuit tree s) listed.memories i d lt has) ∙ first_place-None (has_field circuit tree s) listed.memories e)
         by (Some j) e = subst (IsOfLongest (λ path. HoldsPath path (path_at circuit.paths s)) paths) (sym number) (field-longest j at.within field)
           where
             other : ℕ
@@ -246,7 +245,7 @@ module _ (circuit : FlatCircuit) (tree : InstanceTree) (listed : Listed) (fits :
     memory-same i li h = by (subst (λ p. Covers p (path_at tree.memory_paths j)) (are.memory i li) h)
       where
         by : Covers (path_at tree.memory_paths (value_at listed.memories i)) (path_at tree.memory_paths j) → value_at listed.memories i ≡ j
-        by (inl same) = one-place tree.memory_paths (value_at listed.memories i) j fits.memory_distinct (let known = memory-in i li in omega (arith, known, fits.memory_named)) (omega (arith, lj, fits.memory_named)) same
+        by (inl same) = once-apart tree.memory_paths [] fits.memory_distinct (value_at listed.memories i) j (let known = memory-in i li in omega (arith, known, fits.memory_named)) (omega (arith, lj, fits.memory_named)) same
         by (inr up) = absurd (memory-no-memory circuit tree fits scoped (value_at listed.memories i) j (memory-in i li) lj up)
 
     -- a unit's path that covers the memory's path holds it
@@ -254,7 +253,7 @@ module _ (circuit : FlatCircuit) (tree : InstanceTree) (listed : Listed) (fits :
     unit-memory i li h = by (subst (λ p. Covers p (path_at tree.memory_paths j)) (are.unit i li) h)
       where
         by : Covers (path_at tree.paths (value_at listed.units i)) (path_at tree.memory_paths j) → HoldsPath (path_at tree.paths (value_at listed.units i)) (path_at tree.memory_paths j)
-        by (inl same) = absurd (scoped.apart (value_at listed.units i) j (unit-at i li) lj same)
+        by (inl same) = absurd (scoped.apart (value_at listed.units i) j (apart.known i 0 li) lj same)
         by (inr up) = up
 
     -- where the memory is listed, its own path is the longest
@@ -295,7 +294,7 @@ module _ (circuit : FlatCircuit) (tree : InstanceTree) (listed : Listed) (fits :
         to i lt h =
             let at = covering (memory_at tree j).instance i (fits.held j lj).instance lt h in
             inr (subst (λ p. HoldsPath p (path_at tree.memory_paths j)) (sym (are.unit i at.0))
-            (covers-memory circuit tree fits scoped (value_at listed.units i) j (apart.lower i 0 at.0) (unit-at i at.0) lj (unit-covers i (memory_at tree j).instance at.0 h)))
+            (covers-memory circuit tree fits scoped (value_at listed.units i) j (apart.lower i 0 at.0) (apart.known i 0 at.0) lj (unit-covers i (memory_at tree j).instance at.0 h)))
 
         back : (i : ℕ) → i < length paths → Covers (path_at paths i) (path_at tree.memory_paths j) → Covers (path_at paths i) (path_at tree.paths (memory_at tree j).instance)
         back i lt h = by (place-of i lt)
@@ -313,7 +312,7 @@ module _ (circuit : FlatCircuit) (tree : InstanceTree) (listed : Listed) (fits :
         by None e = subst (IsOfLongest (λ path. Covers path (path_at tree.memory_paths j)) paths) (sym (ap (memory_or (length listed.units) (owner_of_instance tree listed.units (memory_at tree j).instance)) e)) (held-longest none)
           where
             none : (i : ℕ) → i < length listed.memories → value_at listed.memories i ≢ j
-            none i li same = true≢false (sym (any-at (λ t. t == j) listed.memories i 0 li (eq-eqb (value_at listed.memories i) j same)) ∙ first_place-None (λ t. t == j) listed.memories e)
+            none i li same = true≢false (sym (list_any_at (λ t. t == j) listed.memories i 0 li (eq-eqb (value_at listed.memories i) j same)) ∙ first_place-None (λ t. t == j) listed.memories e)
         by (Some u) e = subst (IsOfLongest (λ path. Covers path (path_at tree.memory_paths j)) paths) (sym number) (own-longest u at.within (true-eqb (value_at listed.memories u) j (sym (at.passes 0))))
           where
             number : memory_owner tree listed j ≡ suc (length listed.units + u)

@@ -5,19 +5,19 @@ use Rattle.std.specs.List.{range_with_len, list_any}
 use Rattle.std.proofs.lemmas.Bool.{cases_eq}
 use Rattle.std.proofs.lemmas.List.{get_or_default}
 use Rattle.std.proofs.lemmas.List.Elements.{Contains-get_or}
-use Rattle.std.proofs.lemmas.List.FromFn.{get_or-range_with_len, length-range_with_len}
 use Rattle.gg_flat.specs.declared.tree.InstancePort.{InstancePort}
 use Rattle.gg_flat.specs.Line.{value_at}
 use Rattle.gg_flat.specs.Circuit.{FlatCircuit, readers_at}
 use Rattle.gg_flat.specs.Tree.{InstanceTree, IsTree, IsInnermost, instance_at, memory_at, parent_place}
 use Rattle.gg_flat.specs.Scoped.{IsScoped, IsPort, IsFieldOf, IsVisible, memory_fields}
+use Rattle.gg_flat.proofs.ListLemmas.{in-range, range-below, Contains-map, Contains-filter, filter-cases}
 use Rattle.gg_cut.specs.declared.wires.Wire.{Wire}
 use Rattle.gg_cut.specs.declared.listed.Listed.{Listed}
 use Rattle.gg_cut.specs.Listed.{first_place, owner_of_instance, owner_of, has_field, has_signal, memory_or, unit_or_hub}
 use Rattle.gg_cut.specs.Channels.{wire, wires_of, port_wire, first_memory, first_source, first_tray}
 use Rattle.gg_cut.specs.Plan.{wire_at, signals_of, IsInner, Makes, Takes}
 use Rattle.gg_closed.specs.Apart.{AreApart}
-use Rattle.gg_closed.proofs.ListLemmas.{Somewhere, Contains-map, map-cases, Contains-filter, filter-cases}
+use Rattle.gg_closed.proofs.ListLemmas.{Somewhere, map-cases}
 use Rattle.gg_closed.proofs.TreeLemmas.{innermost-one, innermost-known}
 use Rattle.gg_closed.proofs.PlaceLemmas.{IsNoUnit, place-none, owner-unit, owner-inner, owner-top, place-signal}
 use Rattle.gg_closed.proofs.KindLemmas.{IsPortWire, IsFieldWire, IsInto, IsWordWire, Kind, OfSource, OfPort, OfField, OfTray, outside_unit, outside_memory, kind-of, source-wire, unit-wire, memory-wire, tray-wire, word-field}
@@ -39,16 +39,6 @@ pub record IsChannel (wires : List Wire) (w : Wire) : Type 0 where
 
 pub channel-of : (wires : List Wire) (w : Wire) → Contains wires w → IsChannel wires w
 channel-of wires w h = record { number = h.0; known = h.1; is = get_or_default wires h.0 any-wire w h.1 ∙ h.2 }
-
-pub in-range : (n c : ℕ) → c < n → Contains (range_with_len 0 n) c
-in-range n c lt =
-    (c, omega (arith, lt, length-range_with_len 0 n), get_or-range_with_len 0 n c c lt ∙ (let same : 0 + c ≡ c = omega arith in same))
-
-pub range-below : (n c : ℕ) → Contains (range_with_len 0 n) c → c < n
-range-below n c h =
-    let lt : h.0 < n = omega (arith, h.1, length-range_with_len 0 n) in
-    let is = sym (get_or-range_with_len 0 n h.0 c lt) ∙ h.2 in
-    omega (arith, lt, is)
 
 -- the signal of a channel that passes a test is among the signals of all that pass
 pub chosen-in : (wires : List Wire) (test : Wire → Bool) (w : Wire) → Contains wires w → test w ≡ true → Contains (signals_of wires (filter (λ c. test (wire_at wires c)) (range_with_len 0 (length wires)))) w.signal

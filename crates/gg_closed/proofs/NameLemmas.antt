@@ -5,15 +5,14 @@ use Rattle.std.proofs.lemmas.List.{append_cancel_left}
 use Rattle.gg_flat.specs.Circuit.{FlatCircuit}
 use Rattle.gg_flat.specs.Tree.{InstanceTree, IsTree, joined, path_at, memory_at}
 use Rattle.gg_flat.specs.Scoped.{IsScoped, IsPort, IsFieldOf}
-use Rattle.gg_cut.proofs.PathLemmas.{one-place as path-one}
-use Rattle.gg_closed.proofs.ListLemmas.{there}
+use Rattle.gg_flat.proofs.ListLemmas.{further, once-apart}
 use Rattle.gg_closed.proofs.TreeLemmas.{innermost-one}
 
 -- ---- paths
 
 pub dot-in : (q m : List ℕ) → Contains (q ++ 46 ∷ m) 46
 dot-in [] m = (0, omega arith, refl)
-dot-in (b ∷ q) m = there b 46 (q ++ 46 ∷ m) (dot-in q m)
+dot-in (b ∷ q) m = further b (q ++ 46 ∷ m) 46 (dot-in q m)
 
 pub same-head : {a b : ℕ} {xs ys : List ℕ} → a ∷ xs ≡ b ∷ ys → a ≡ b
 same-head e = cc
@@ -27,7 +26,7 @@ first-dot [] [] r q a b e = refl
 first-dot [] (y ∷ m) r q a b e = absurd (b (0, omega arith, sym (same-head e)))
 first-dot (x ∷ n) [] r q a b e = absurd (a (0, omega arith, same-head e))
 first-dot (x ∷ n) (y ∷ m) r q a b e =
-    by (same-head e) (first-dot n m r q (λ h. a (there x 46 n h)) (λ h. b (there y 46 m h)) (same-tail e))
+    by (same-head e) (first-dot n m r q (λ h. a (further x n 46 h)) (λ h. b (further y m 46 h)) (same-tail e))
   where
     by : x ≡ y → n ≡ m → x ∷ n ≡ y ∷ m
     by e f = cc
@@ -95,4 +94,4 @@ module _ (circuit : FlatCircuit) (tree : InstanceTree) (fits : IsTree circuit tr
       one i j paths li lj
     where
       one : (i j : ℕ) → path_at tree.memory_paths i ≡ path_at tree.memory_paths j → i < length tree.memories → j < length tree.memories → i ≡ j
-      one i j e li lj = path-one tree.memory_paths i j fits.memory_distinct (omega (arith, li, fits.memory_named)) (omega (arith, lj, fits.memory_named)) e
+      one i j e li lj = once-apart tree.memory_paths [] fits.memory_distinct i j (omega (arith, li, fits.memory_named)) (omega (arith, lj, fits.memory_named)) e

@@ -1,7 +1,7 @@
 -- Each signal has at most one channel.
 use Rattle.std.proofs.Common.{◌≡◌, ◌≢◌, ℕ, ◌<◌, ◌≤◌, List, ◌++◌, length, map, get_or, Bool, true, false, not, sym, ◌∙◌, ap, subst, inl, inr, ◌⊎◌, arith}
 use Rattle.std.specs.Prelude.{filter, Contains, AllPairs}
-use Rattle.std.proofs.lemmas.Bool.{cases_lt}
+use Rattle.std.proofs.lemmas.Bool.{cases_lt, both_ways}
 use Rattle.std.proofs.lemmas.List.{get_or-map, length-map, get_or_default}
 use Rattle.std.proofs.lemmas.List.Elements.{Contains-get_or, Contains-append_cases}
 use Rattle.std.proofs.lemmas.List.Kept.{AllPairs-filter}
@@ -10,6 +10,7 @@ use Rattle.gg_flat.specs.Line.{value_at}
 use Rattle.gg_flat.specs.Circuit.{FlatCircuit}
 use Rattle.gg_flat.specs.Tree.{InstanceTree, IsTree, instance_at, memory_at}
 use Rattle.gg_flat.specs.Scoped.{IsScoped, IsPort, IsFieldOf, memory_fields}
+use Rattle.gg_flat.proofs.ListLemmas.{filter-cases, once-apart}
 use Rattle.gg_cut.specs.declared.wires.Wire.{Wire}
 use Rattle.gg_cut.specs.declared.listed.Listed.{Listed}
 use Rattle.gg_cut.specs.Listed.{lies}
@@ -18,7 +19,7 @@ use Rattle.gg_cut.proofs.KnownLemmas.{parents-before}
 use Rattle.gg_cut.specs.Channels.{wires_of, port_signals, channel_signals, flattened}
 use Rattle.gg_cut.proofs.ChannelLemmas.{wires-signals}
 use Rattle.gg_closed.specs.Apart.{AreApart}
-use Rattle.gg_closed.proofs.ListLemmas.{Somewhere, map-cases, filter-cases, flattened-cases, AllPairs-append, AllPairs-flattened, AllPairs-map, one-place}
+use Rattle.gg_closed.proofs.ListLemmas.{Somewhere, map-cases, flattened-cases, AllPairs-append, AllPairs-flattened, AllPairs-map}
 use Rattle.gg_closed.proofs.TreeLemmas.{innermost-one}
 use Rattle.gg_closed.proofs.NameLemmas.{port-no-field, field-one}
 
@@ -85,11 +86,8 @@ module _ (circuit : FlatCircuit) (tree : InstanceTree) (listed : Listed) (fits :
       (λ i j d less lt a b x y same. cross i j d less lt a b x y same)
     where
       distinct : (i j d : ℕ) → i < j → j < length listed.units → get_or listed.units i d ≡ get_or listed.units j d → ⊥
-      distinct i j d less lt same = differ (apart.apart i j d less lt).0 (self (get_or listed.units i d) (apart.known i d (omega (arith, less, lt))) same)
+      distinct i j d less lt same = both_ways (lies tree (get_or listed.units i d) (get_or listed.units j d)) (apart.apart i j d less lt).0 (self (get_or listed.units i d) (apart.known i d (omega (arith, less, lt))) same)
         where
-          differ : {b : Bool} → b ≡ false → b ≡ true → ⊥
-          differ e f = absurd (cc)
-
           self : (k : ℕ) → k < length tree.instances → k ≡ get_or listed.units j d → lies tree k (get_or listed.units j d) ≡ true
           self k known same = subst (λ u. lies tree k u ≡ true) same (lies-self tree (parents-before circuit tree fits) k known)
 
@@ -209,5 +207,5 @@ module _ (circuit : FlatCircuit) (tree : InstanceTree) (listed : Listed) (fits :
       let all = wires_of circuit tree listed in
       let count = length-map all (λ (w : Wire). w.signal) in
       let at = λ (i : ℕ) (x : Wire) (lt : i < length all) (is : get_or all i x ≡ x). get_or-map (λ (w : Wire). w.signal) all i x 0 lt ∙ ap (λ (w : Wire). w.signal) is in
-      let place = one-place (map (λ (w : Wire). w.signal) all) a.0 b.0 wires-once (omega (arith, a.1, count)) (omega (arith, b.1, count)) (at a.0 v a.1 a.2 ∙ same ∙ sym (at b.0 w b.1 b.2)) in
+      let place = once-apart (map (λ (w : Wire). w.signal) all) 0 wires-once a.0 b.0 (omega (arith, a.1, count)) (omega (arith, b.1, count)) (at a.0 v a.1 a.2 ∙ same ∙ sym (at b.0 w b.1 b.2)) in
       sym a.2 ∙ get_or_default all a.0 v w a.1 ∙ ap (λ i. get_or all i w) place ∙ b.2

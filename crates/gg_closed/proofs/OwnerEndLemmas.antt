@@ -3,6 +3,7 @@ use Rattle.std.proofs.Common.{◌≡◌, ℕ, suc, ◌+◌, ◌<◌, length, get
 use Rattle.std.specs.Prelude.{◌==◌, if◌then◌else◌, not, All, Contains}
 use Rattle.std.proofs.lemmas.List.{get_or_default}
 use Rattle.std.proofs.lemmas.List.Elements.{Contains-get_or}
+use Rattle.std.proofs.lemmas.List.Folds.{list_any_at}
 use Rattle.gg_flat.specs.Line.{value_at}
 use Rattle.gg_flat.specs.Circuit.{FlatCircuit, readers_at}
 use Rattle.gg_flat.specs.Tree.{InstanceTree, IsTree, memory_at}
@@ -11,7 +12,6 @@ use Rattle.gg_cut.specs.declared.wires.Wire.{Wire}
 use Rattle.gg_cut.specs.declared.listed.Listed.{Listed}
 use Rattle.gg_cut.specs.Listed.{first_place, unit_or_hub, owner_of_instance, owner_of, has_signal, has_field, memory_or}
 use Rattle.gg_cut.specs.Channels.{wire, wires_of, first_memory}
-use Rattle.gg_cut.proofs.PathLemmas.{any-at}
 use Rattle.gg_closed.specs.Apart.{AreApart, IsOwnerAtEnd}
 use Rattle.gg_closed.proofs.PlaceLemmas.{place-is, owner-unit, owner-top}
 use Rattle.gg_closed.proofs.KindLemmas.{IsInto, IsWordWire, Kind, OfSource, OfPort, OfField, OfTray, outside_unit, outside_memory, kind-of}
@@ -40,7 +40,7 @@ module _ (circuit : FlatCircuit) (tree : InstanceTree) (listed : Listed) (fits :
       here j same =
           let fields = memory_fields circuit (memory_at tree j).memory in
           let among : Contains fields s = subst (λ n. IsFieldOf circuit tree n s) (sym same) field in
-          any-at (λ t. t == s) fields among.0 s among.1 (eq-eqb (get_or fields among.0 s) s among.2)
+          list_any_at (λ t. t == s) fields among.0 s among.1 (eq-eqb (get_or fields among.0 s) s among.2)
 
       earlier : (j d : ℕ) → j < i → (b : Bool) → has_field circuit tree s (get_or listed.memories j d) ≡ b → b ≡ false
       earlier j d less true e =

@@ -48,15 +48,12 @@ module _ (circuit : FlatCircuit) (tree : InstanceTree) (listed : Listed) (fits :
   abbrev pub IsNoUnit : ℕ → Type 0
   IsNoUnit k = All (λ unit. k ≢ unit) listed.units
 
-  pub unit-known : (i : ℕ) → i < length listed.units → value_at listed.units i < length tree.instances
-  unit-known i lt = apart.known i 0 lt
-
   -- a unit is its own machine
   pub owner-unit : (i : ℕ) → i < length listed.units → owner_of_instance tree listed.units (value_at listed.units i) ≡ suc i
   owner-unit i lt =
       ap unit_or_hub
       (place-is (λ unit. lies tree (value_at listed.units i) unit) listed.units i lt
-      (λ d. subst (λ unit. lies tree (value_at listed.units i) unit ≡ true) (same d) (lies-self tree before (value_at listed.units i) (unit-known i lt)))
+      (λ d. subst (λ unit. lies tree (value_at listed.units i) unit ≡ true) (same d) (lies-self tree before (value_at listed.units i) (apart.known i 0 lt)))
       (λ j d less. subst (λ unit. lies tree unit (get_or listed.units j d) ≡ false) (sym (same d)) (apart.apart j i d less lt).1))
     where
       same : (d : ℕ) → value_at listed.units i ≡ get_or listed.units i d
@@ -107,7 +104,7 @@ module _ (circuit : FlatCircuit) (tree : InstanceTree) (listed : Listed) (fits :
   -- the parent of a unit doesn't belong to the unit
   pub owner-outside : (i p : ℕ) → i < length listed.units → (instance_at tree (value_at listed.units i)).parent ≡ Some p → owner_of_instance tree listed.units p ≢ suc i
   owner-outside i p lt parent e =
-      let lower = before (value_at listed.units i) p (unit-known i lt) parent in
+      let lower = before (value_at listed.units i) p (apart.known i 0 lt) parent in
       let inside = owner-within p i e in
-      let up = above circuit tree fits p (value_at listed.units i) (omega (arith, lower, unit-known i lt)) inside.1 in
+      let up = above circuit tree fits p (value_at listed.units i) (omega (arith, lower, apart.known i 0 lt)) inside.1 in
       absurd (omega (arith, up.low, lower))

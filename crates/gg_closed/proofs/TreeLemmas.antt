@@ -1,7 +1,7 @@
 -- Which instances hold a signal: the innermost that does, and those that it lies in.
-use Rattle.std.proofs.Common.{◌≡◌, ◌≢◌, ℕ, zero, suc, ◌<◌, ◌≤◌, length, Bool, true, false, refl, sym, ◌∙◌, ap, subst, Some, None, inl, inr, ◌⊎◌, true-eqb, arith}
-use Rattle.std.specs.Prelude.{Option, ◌||◌, ◌==◌}
-use Rattle.std.proofs.lemmas.Bool.{cases_lt, cases_eq, or_cases}
+use Rattle.std.proofs.Common.{◌≡◌, ◌≢◌, ℕ, zero, suc, ◌<◌, ◌≤◌, length, true, refl, sym, ◌∙◌, ap, subst, Some, None, inl, inr, ◌⊎◌, true-eqb, arith}
+use Rattle.std.specs.Prelude.{Option, ◌==◌}
+use Rattle.std.proofs.lemmas.Bool.{cases_lt, cases_eq, or_cases, or_right}
 use Rattle.gg_flat.specs.Circuit.{FlatCircuit}
 use Rattle.gg_flat.specs.Tree.{InstanceTree, IsTree, IsInnermost, Holds, instance_at, parent_place}
 use Rattle.gg_cut.specs.Listed.{lies, ParentsBefore}
@@ -13,10 +13,6 @@ module _ (circuit : FlatCircuit) (tree : InstanceTree) (fits : IsTree circuit tr
   parents = parents-before circuit tree fits
 
   -- ---- what an instance lies in
-
-  or-right : (a b : Bool) → b ≡ true → (a || b) ≡ true
-  or-right true b e = refl
-  or-right false b e = e
 
   -- instance k has a parent, which stands before it and lies in instance i
   pub record Climbs (k i : ℕ) : Type 0 where
@@ -37,7 +33,7 @@ module _ (circuit : FlatCircuit) (tree : InstanceTree) (fits : IsTree circuit tr
           or (inr up) = inr (record { parent = q; is = p; before = parents k q lt p; lies = up })
 
   pub lies-up : (k q i : ℕ) → k < length tree.instances → (instance_at tree k).parent ≡ Some q → lies tree q i ≡ true → lies tree k i ≡ true
-  lies-up k q i lt p e = lies-parent tree parents k q i lt p ∙ or-right (k == i) (lies tree q i) e
+  lies-up k q i lt p e = lies-parent tree parents k q i lt p ∙ or_right (k == i) (lies tree q i) e
 
   -- instance i stands no later than instance k, and holds all signals that k holds
   pub record Above (k i : ℕ) : Type 0 where

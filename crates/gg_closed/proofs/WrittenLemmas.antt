@@ -2,18 +2,20 @@
 use Rattle.std.proofs.Common.{◌≡◌, ◌≢◌, ℕ, zero, suc, ◌+◌, ◌<◌, List, length, Bool, true, false, not, refl, sym, ◌∙◌, ap, subst, Some, inl, inr, ◌⊎◌, true-eqb, arith}
 use Rattle.std.specs.Prelude.{◌==◌, if◌then◌else◌, filter, map, Contains, All}
 use Rattle.std.proofs.lemmas.List.{get_or_default}
+use Rattle.std.proofs.lemmas.Bool.{not-true}
 use Rattle.gg_flat.specs.declared.tree.InstancePort.{InstancePort}
 use Rattle.gg_flat.specs.Line.{value_at}
 use Rattle.gg_flat.specs.Circuit.{FlatCircuit, readers_at, reader_at}
 use Rattle.gg_flat.specs.Tree.{InstanceTree, IsTree, IsInnermost, instance_at, memory_at, parent_place}
 use Rattle.gg_flat.specs.Scoped.{IsScoped, IsInputOf, IsFieldOf, IsWritten, memory_fields}
+use Rattle.gg_flat.proofs.ListLemmas.{Contains-map, Contains-filter}
 use Rattle.gg_cut.specs.declared.wires.Wire.{Wire}
 use Rattle.gg_cut.specs.declared.listed.Listed.{Listed}
 use Rattle.gg_cut.specs.Listed.{owner_of_instance, owner_of}
 use Rattle.gg_cut.specs.Channels.{wire, wires_of, first_memory, first_source}
 use Rattle.gg_cut.specs.Plan.{IsInner, Makes}
 use Rattle.gg_closed.specs.Apart.{AreApart}
-use Rattle.gg_closed.proofs.ListLemmas.{Somewhere, Contains-map, Contains-filter}
+use Rattle.gg_closed.proofs.ListLemmas.{Somewhere}
 use Rattle.gg_closed.proofs.TreeLemmas.{Innermost, innermost}
 use Rattle.gg_closed.proofs.PlaceLemmas.{owner-unit, owner-inner, owner-top}
 use Rattle.gg_closed.proofs.KindLemmas.{IsPortWire, IsFieldWire, IsInto, IsWordWire, Kind, OfSource, OfPort, OfField, OfTray, outside_unit, outside_memory, kind-of, source-wire, unit-wire, memory-wire}
@@ -211,13 +213,9 @@ module _ (circuit : FlatCircuit) (tree : InstanceTree) (listed : Listed) (fits :
       let port = top-port circuit tree listed fits scoped apart s (λ port. not port.is_input) o in
       record {
         place = 0;
-        written = inl (record { own = (scoped.ports 0 s port).own; inner = output-inner 0 s o.port fits.top.there o.among o.is (flip o.port.is_input o.passes) });
+        written = inl (record { own = (scoped.ports 0 s port).own; inner = output-inner 0 s o.port fits.top.there o.among o.is (not-true o.port.is_input o.passes) });
         owner = owner-top circuit tree listed fits apart;
       }
-    where
-      flip : (b : Bool) → not b ≡ true → b ≡ false
-      flip true e = absurd (cc)
-      flip false e = refl
 
   -- what a machine before the sources makes
   pub made : (m s : ℕ) → m < first_source listed → Makes circuit tree listed (wires_of circuit tree listed) m s → IsWrittenIn tree listed m s ⊎ IsWord circuit tree listed m s

@@ -1,10 +1,10 @@
 -- What is counted along the graph of modules is what is counted over the sites.
-use Rattle.std.proofs.Common.{◌≡◌, ◌≢◌, ℕ, zero, suc, ◌+◌, ◌-◌, ◌<◌, ◌≤◌, ◌^◌, min, max, List, [], ◌∷◌, ◌++◌, length, get_or, drop, map, Option, Some, None, refl, sym, ap, ◌∙◌, subst, arith, true, false, true≢false, Bool, if◌then◌else◌, ◌||◌, inl, inr, ◌⊎◌, eq-eqb, replicate}
+use Rattle.std.proofs.Common.{◌≡◌, ◌≢◌, ℕ, zero, suc, ◌+◌, ◌-◌, ◌<◌, ◌≤◌, ◌^◌, min, max, List, [], ◌∷◌, length, get_or, drop, map, Option, Some, None, refl, sym, ap, ◌∙◌, subst, arith, true, false, true≢false, Bool, if◌then◌else◌, ◌||◌, inl, inr, ◌⊎◌, eq-eqb, replicate}
 use Rattle.std.specs.Prelude.{fold, sum_by, Contains, nat_eq, nat_lt, is_some, option_map}
 use Rattle.std.specs.List.{flat_map, cons_option}
 use Rattle.std.proofs.lemmas.List.{length-map, length-drop, get_or-map, get_or-replicate}
 use Rattle.std.proofs.lemmas.List.Sums.{sum_by-append, sum_by-cons, fold-append}
-use Rattle.std.proofs.lemmas.Bool.{cases_lt}
+use Rattle.std.proofs.lemmas.Bool.{cases_lt, or_right}
 use Rattle.std.proofs.lemmas.Bool.Decides.{nat_tests}
 use Rattle.std.proofs.Math.Seq.{drop-cons}
 use Rattle.gg_ast.specs.declared.statement.Stmt.{Stmt}
@@ -16,7 +16,7 @@ use Rattle.gg_ast.proofs.NamePlaces.{place_of-below}
 use Rattle.gg_count.specs.declared.pass.Gathering.{Gathering}
 use Rattle.gg_count.specs.declared.pass.Gathering.TheVariants.{Sum, Height, Least}
 use Rattle.gg_count.specs.Counts.{capped, deepest, words_in, deep_in, deep_or, deep_from, deep_place, deep_places, deep_at, is_reached}
-use Rattle.gg_count.specs.Graph.{gathered, gathered_over, value_below}
+use Rattle.gg_count.specs.Graph.{gathered_over, value_below}
 use Rattle.gg_count.specs.Sites.{Site, Held, held, held_by, held_by_kind, held_at, module_at, site_below, sites, top_site, all_sites}
 use Rattle.gg_count.proofs.PassLemmas.{numbers_of, gathered_over-same}
 
@@ -193,15 +193,11 @@ least-attained own acc (s ∷ all) =
         | inl lt ↦ inl (start ∙ omega arith)
         | inr ge ↦ inr (record { place = s.number; reaches = here s.number (is_reached all s.number); is = start ∙ omega arith })
       ]
-      | inr a ↦ inr (record { place = a.place; reaches = there (nat_eq s.number a.place) (is_reached all a.place) a.reaches; is = a.is })
+      | inr a ↦ inr (record { place = a.place; reaches = or_right (nat_eq s.number a.place) (is_reached all a.place) a.reaches; is = a.is })
     ]
   where
     here : (n : ℕ) (b : Bool) → (nat_eq n n || b) ≡ true
     here n b = ap (λ x. x || b) (eq-eqb n n refl)
-
-    there : (a b : Bool) → b ≡ true → (a || b) ≡ true
-    there true b h = refl
-    there false b h = h
 
 -- the place of a module if it has a memory that is too deep, else a number that isn't a place
 abbrev deep_number : List ModuleTree → ℕ → ℕ

@@ -1,45 +1,36 @@
 -- One pass over the modules, and what is known of their values on the way.
-use Rattle.std.proofs.Common.{◌≡◌, ◌≢◌, ℕ, zero, suc, ◌+◌, ◌<◌, ◌≤◌, List, [], ◌∷◌, ◌++◌, length, get_or, take, drop, set, map, Option, Some, None, option_to_list, refl, sym, ap, ◌∙◌, subst, inl, inr, ◌⊎◌, eqb, eq-eqb, arith, true, false}
-use Rattle.std.specs.Prelude.{Contains, AllPairs, fold}
-use Rattle.std.specs.List.{IsDistinct, list_any, filter_map, cons_option}
-use Rattle.std.proofs.lemmas.Bool.Decides.{nat_tests}
-use Rattle.std.proofs.lemmas.List.{get_or-take, length-take, get_or_default, get_or-set_same, get_or-set_other, take_all}
-use Rattle.std.proofs.Math.Seq.{drop-cons}
+use Rattle.std.proofs.Common.{◌≡◌, ◌≢◌, ℕ, zero, suc, ◌+◌, ◌<◌, ◌≤◌, List, [], ◌∷◌, length, get_or, take, set, map, refl, sym, ap, ◌∙◌, subst, inl, inr, eqb, arith}
+use Rattle.std.specs.Prelude.{Contains, AllPairs}
+use Rattle.std.proofs.lemmas.List.{get_or-take, length-take, get_or_default, get_or-set_same, get_or-set_other}
 use Rattle.std.proofs.Math.ListN.{length-set}
 use Rattle.std.proofs.lemmas.Map.Steps.{length-le_from_distinct_below}
 use Rattle.std.proofs.lemmas.Map.Keys.{IsDistinct-from_apart}
 use Rattle.std.proofs.lemmas.Map.Views.{Contains-from_any}
+use Rattle.std.proofs.lemmas.Bool.{ne_eqb, eqb-true}
 use Rattle.gg_ast.specs.declared.statement.Stmt.{Stmt}
 use Rattle.gg_ast.specs.Tree.{ModuleTree}
-use Rattle.gg_walk.specs.Graph.{node_at, IsOrderOf}
+use Rattle.gg_walk.specs.Graph.{IsOrderOf}
 use Rattle.gg_walk.proofs.ListLemmas.{below-more, below-all}
+use Rattle.gg_flat.proofs.ListLemmas.{further}
 use Rattle.gg_count.specs.declared.pass.Gathering.{Gathering}
-use Rattle.gg_count.specs.Sites.{Held, held_by, held_by_kind, held_at, module_at, HoldsModule}
+use Rattle.gg_count.specs.Sites.{Held, held_by, held_at, module_at, HoldsModule}
 use Rattle.gg_count.specs.Graph.{gathered, gathered_over, value_below}
 
 -- the places of the modules of these instances
 abbrev pub numbers_of : List Held → List ℕ
 numbers_of hs = map (λ h. h.number) hs
 
--- gathering the first instance, if there is one, and then the rest is gathering them all
-pub gathered_over-cons : (how : Gathering) (value : ℕ → ℕ) (own : ℕ) (first : Option Held) (rest : List Held) → gathered_over how value (gathered_over how value own (option_to_list first)) rest ≡ gathered_over how value own (cons_option first rest)
-gathered_over-cons how value own None rest = refl
-gathered_over-cons how value own (Some h) rest = refl
-
 -- without instances, what is gathered is what the module has of its own
 pub gathered_over-none : (how : Gathering) (value : ℕ → ℕ) (own : ℕ) (hs : List Held) → ((t : ℕ) → ¬ Contains (numbers_of hs) t) → gathered_over how value own hs ≡ own
 gathered_over-none how value own [] none = refl
 gathered_over-none how value own (h ∷ hs) none = absurd (none h.number (0, omega arith, refl))
-
-there : (t n : ℕ) (ns : List ℕ) → Contains ns t → Contains (n ∷ ns) t
-there t n ns (k, lt, is) = (suc k, omega (arith, lt), is)
 
 -- what is gathered is the same if the values of all modules that are held are the same
 pub gathered_over-same : (how : Gathering) (f g : ℕ → ℕ) (own : ℕ) (hs : List Held) → ((t : ℕ) → Contains (numbers_of hs) t → f t ≡ g t) → gathered_over how f own hs ≡ gathered_over how g own hs
 gathered_over-same how f g own [] same = refl
 gathered_over-same how f g own (h ∷ hs) same =
     let here : f h.number ≡ g h.number = same h.number (0, omega arith, refl) in
-    gathered_over-same how f g (gathered how own (f h.number)) hs (λ t later. same t (there t h.number (numbers_of hs) later))
+    gathered_over-same how f g (gathered how own (f h.number)) hs (λ t later. same t (further h.number (numbers_of hs) t later))
     ∙ ap (λ v. gathered_over how g (gathered how own v) hs) here
 
 -- The first i modules of the order have their values, with all below them down to i - 1 levels or more; the others have what
@@ -48,13 +39,6 @@ pub record IsGathered (how : Gathering) (modules : List ModuleTree) (own order :
   pub count : length values ≡ length own
   pub done : (k levels : ℕ) → Contains (take i order) k → i ≤ suc levels → get_or values k 0 ≡ value_below how modules (λ j. get_or own j 0) levels k
   pub left : (k : ℕ) → ¬ Contains (take i order) k → get_or values k 0 ≡ get_or own k 0
-
-pub gathered-begun : (how : Gathering) (modules : List ModuleTree) (own order : List ℕ) → IsGathered how modules own order 0 own
-gathered-begun how modules own order = record {
-  count = refl;
-  done = λ k levels h le. absurd (omega (arith, h.1));
-  left = λ k h. refl;
-}
 
 -- the next module of an order isn't among those before it
 once : (order : List ℕ) (i : ℕ) → AllPairs (λ a b. a ≢ b) order → i < length order → ¬ Contains (take i order) (get_or order i 0)
@@ -112,15 +96,9 @@ gathered-more how modules own order i values all o lt h =
 order_length : (modules : List ModuleTree) (order : List ℕ) → IsOrderOf (HoldsModule modules) (length modules) order → length order ≤ length modules
 order_length modules order o =
     length-le_from_distinct_below order (length modules)
-    (IsDistinct-from_apart eqb order (λ i j d lt within. apart (get_or order i d) (get_or order j d) (o.once i j d lt within)))
-    (λ q any. below q (Contains-from_any (λ x y. same x y) q order any))
+    (IsDistinct-from_apart eqb order (λ i j d lt within. ne_eqb (get_or order i d) (get_or order j d) (o.once i j d lt within)))
+    (λ q any. below q (Contains-from_any eqb-true q order any))
   where
-    apart : (a b : ℕ) → a ≢ b → eqb a b ≡ false
-    apart a b h = grind (arith, nat_tests)
-
-    same : (x y : ℕ) → eqb x y ≡ true → x ≡ y
-    same x y h = grind (arith, nat_tests)
-
     below : (q : ℕ) → Contains order q → q < length modules
     below q (k, lt, is) = subst (λ (m : ℕ). m < length modules) (get_or_default order k 0 q lt ∙ is) (o.nodes k lt)
 

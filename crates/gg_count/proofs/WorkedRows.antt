@@ -15,7 +15,7 @@
 --     13    module U :
 --     14      mem u :
 --     15        depth => 70000
-use Rattle.std.proofs.Common.{◌≡◌, ◌≢◌, ℕ, List, [], ◌∷◌, Some, None, codes, refl, ap, arith}
+use Rattle.std.proofs.Common.{◌≡◌, ◌≢◌, ℕ, List, [], ◌∷◌, Some, None, codes, refl, arith}
 use Rattle.std.specs.Prelude.{map, length}
 use Rattle.gg_ast.specs.declared.statement.Field.{Field}
 use Rattle.gg_ast.specs.declared.statement.MemoryField.TheVariants as field
@@ -25,7 +25,7 @@ use Rattle.gg_ast.specs.declared.statement.StmtKind.TheVariants as says
 use Rattle.gg_ast.specs.Tree.{ModuleTree, CircuitTree}
 use Rattle.gg_count.specs.declared.counts.Counts.{Counts}
 use Rattle.gg_count.specs.declared.counts.Measure.TheVariants.{Depth, Signals, Memory, Words, Instances}
-use Rattle.gg_count.specs.Sites.{Site, sites_of, all_sites}
+use Rattle.gg_count.specs.Sites.{Site, sites_of}
 use Rattle.gg_count.specs.Counts.{counts_of, first_excess, excess_of}
 
 abbrev on : ℕ → StmtKind → Stmt

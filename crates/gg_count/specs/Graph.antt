@@ -1,7 +1,7 @@
 -- The same counts along the graph of modules, where each module's count is made from those of the modules that it
 -- holds.
 -- Source: Knuth, The Art of Computer Programming, volume 1, section 2.3.2 (functions of the nodes of a tree).
-use Rattle.std.specs.Prelude.{ℕ, zero, suc, ◌+◌, min, max, List, length, fold}
+use Rattle.std.specs.Prelude.{ℕ, zero, suc, ◌+◌, min, max, List, fold}
 use Rattle.gg_ast.specs.Tree.{ModuleTree}
 use Rattle.gg_count.specs.declared.pass.Gathering.{Gathering}
 use Rattle.gg_count.specs.declared.pass.Gathering.TheVariants.{Sum, Height, Least}

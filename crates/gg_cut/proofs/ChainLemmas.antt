@@ -1,10 +1,12 @@
 -- What an instance lies in, step by step; and units that lie in one another.
-use Rattle.std.proofs.Common.{◌≡◌, ◌≢◌, ℕ, zero, suc, ◌+◌, ◌<◌, ◌≤◌, List, [], ◌∷◌, ◌++◌, length, map, set, get_or, take, drop, Bool, true, false, true-eqb, eq-eqb, refl, sym, ◌∙◌, ap, ap₂, subst, Some, None, nat_eq, arith}
+use Rattle.std.proofs.Common.{◌≡◌, ◌≢◌, ℕ, zero, suc, ◌+◌, ◌<◌, ◌≤◌, List, [], ◌∷◌, ◌++◌, length, map, set, get_or, take, drop, Bool, true, false, true-eqb, eq-eqb, refl, sym, ◌∙◌, ap, ap₂, subst, Some, None, nat_eq, arith, true≢false}
 use Rattle.std.specs.Prelude.{Option, ◌||◌, ◌==◌, if◌then◌else◌}
 use Rattle.std.specs.List.{list_any}
 use Rattle.std.proofs.lemmas.Bool.Decides.{Decides-eqb}
 use Rattle.std.proofs.lemmas.List.{take_more, get_or-set_same, get_or-set_other, length-set, map-append}
 use Rattle.std.proofs.lemmas.List.Folds.{list_any-append}
+use Rattle.std.proofs.Math.Bool.{or-false, or_assoc, or-true}
+use Rattle.std.proofs.lemmas.Bool.{or_left, or_right, ne_eqb}
 use Rattle.gg_flat.specs.Tree.{InstanceTree, instance_at}
 use Rattle.gg_order.specs.Marks.{is_marked}
 use Rattle.gg_cut.specs.Listed.{lies_within, lies, of_parent, ParentsBefore, AreMarks, instance_of}
@@ -39,20 +41,12 @@ module _ (tree : InstanceTree) (before : ParentsBefore tree) where
   fuel-same zero (suc g) k i lf lg lt = sym (by-none (instance_at tree k).parent refl)
     where
       by-none : (p : Option ℕ) → (instance_at tree k).parent ≡ p → ((k == i) || of_parent (λ parent. lies_within tree g parent i) p) ≡ (k == i)
-      by-none None e = or-none (k == i)
-        where
-          or-none : (b : Bool) → (b || false) ≡ b
-          or-none true = refl
-          or-none false = refl
+      by-none None e = or-false (k == i)
       by-none (Some p) e = absurd (omega (arith, before k p lt e, lf))
   fuel-same (suc f) zero k i lf lg lt = by-none (instance_at tree k).parent refl
     where
       by-none : (p : Option ℕ) → (instance_at tree k).parent ≡ p → ((k == i) || of_parent (λ parent. lies_within tree f parent i) p) ≡ (k == i)
-      by-none None e = or-none (k == i)
-        where
-          or-none : (b : Bool) → (b || false) ≡ b
-          or-none true = refl
-          or-none false = refl
+      by-none None e = or-false (k == i)
       by-none (Some p) e = absurd (omega (arith, before k p lt e, lg))
   fuel-same (suc f) (suc g) k i lf lg lt = by (instance_at tree k).parent refl (λ p q r s. fuel-same f g p i q r s)
     where
@@ -73,11 +67,7 @@ module _ (tree : InstanceTree) (before : ParentsBefore tree) where
   lies-alone k i lt parent =
       fuel-same k (suc k) k i (omega arith) (omega arith) lt
       ∙ ap (λ above. (k == i) || of_parent (λ parent. lies_within tree k parent i) above) parent
-      ∙ or-none (k == i)
-    where
-      or-none : (b : Bool) → (b || false) ≡ b
-      or-none true = refl
-      or-none false = refl
+      ∙ or-false (k == i)
 
   pub lies-self : (k : ℕ) → k < length tree.instances → lies tree k k ≡ true
   lies-self k lt =
@@ -94,17 +84,9 @@ module _ (tree : InstanceTree) (before : ParentsBefore tree) where
       any-weaker [] e = absurd (cc)
       any-weaker (x ∷ xs) e = by (node == x) refl e (any-weaker xs)
         where
-          or-left : (a b : Bool) → a ≡ true → (a || b) ≡ true
-          or-left true b e = refl
-          or-left false b e = absurd (cc)
-
-          or-right : (a b : Bool) → b ≡ true → (a || b) ≡ true
-          or-right true b e = refl
-          or-right false b e = e
-
           by : (b : Bool) → (node == x) ≡ b → (b || list_any (λ unit. node == unit) xs) ≡ true → (list_any (λ unit. node == unit) xs ≡ true → list_any (lies tree node) xs ≡ true) → (lies tree node x || list_any (lies tree node) xs) ≡ true
-          by true same e rest = or-left (lies tree node x) (list_any (lies tree node) xs) (subst (λ y. lies tree node y ≡ true) (true-eqb node x (sym same)) (lies-self node lt))
-          by false same e rest = or-right (lies tree node x) (list_any (lies tree node) xs) (rest e)
+          by true same e rest = or_left (lies tree node x) (list_any (lies tree node) xs) (subst (λ y. lies tree node y ≡ true) (true-eqb node x (sym same)) (lies-self node lt))
+          by false same e rest = or_right (lies tree node x) (list_any (lies tree node) xs) (rest e)
 
   pub unmarked-up : (units : List ℕ) (marks : List Bool) (node p : ℕ) → AreMarks units marks → node < length tree.instances → is_marked marks node ≡ false → (instance_at tree node).parent ≡ Some p → list_any (lies tree node) units ≡ list_any (lies tree p) units
   unmarked-up units marks node p are lt unmarked parent =
@@ -120,43 +102,21 @@ module _ (tree : InstanceTree) (before : ParentsBefore tree) where
 pub marked-more : (marks : List Bool) (node k : ℕ) → node < length marks → is_marked (set marks node true) k ≡ (is_marked marks k || (node == k))
 marked-more marks node k lt = by (nat_eq k node) refl
   where
-    or-true : (a : Bool) → true ≡ (a || true)
-    or-true true = refl
-    or-true false = refl
-
-    or-none : (a : Bool) → a ≡ (a || false)
-    or-none true = refl
-    or-none false = refl
-
     by : (b : Bool) → nat_eq k node ≡ b → is_marked (set marks node true) k ≡ (is_marked marks k || (node == k))
     by true e =
         let same : k ≡ node = (Decides-eqb k node).0 e in
-        ap (is_marked (set marks node true)) same ∙ get_or-set_same marks node true false lt ∙ or-true (is_marked marks k) ∙ ap (λ b. is_marked marks k || b) (sym (eq-eqb node k (sym same)))
+        ap (is_marked (set marks node true)) same ∙ get_or-set_same marks node true false lt ∙ sym (or-true (is_marked marks k)) ∙ ap (λ b. is_marked marks k || b) (sym (eq-eqb node k (sym same)))
     by false e =
-        let other : k ≢ node = λ same. absurd (falsehood (sym e ∙ (Decides-eqb k node).1 same)) in
-        get_or-set_other marks node k true false other ∙ or-none (is_marked marks k) ∙ ap (λ b. is_marked marks k || b) (sym (unequal (λ same. other (sym same))))
-      where
-        falsehood : {A : Type 0} → false ≡ true → A
-        falsehood e = absurd (cc)
-
-        unequal : node ≢ k → (node == k) ≡ false
-        unequal ne = test (node == k) refl
-          where
-            test : (b : Bool) → (node == k) ≡ b → b ≡ false
-            test true e = absurd (ne (true-eqb node k (sym e)))
-            test false e = refl
+        let other : k ≢ node = λ same. true≢false (sym ((Decides-eqb k node).1 same) ∙ e) in
+        get_or-set_other marks node k true false other ∙ sym (or-false (is_marked marks k)) ∙ ap (λ b. is_marked marks k || b) (sym (ne_eqb node k (λ same. other (sym same))))
 
 -- ---- what is marked above
-
-or-move : (a b c : Bool) → ((a || b) || c) ≡ (a || (b || c))
-or-move true b c = refl
-or-move false b c = refl
 
 -- setting an instance's mark, and then those of all that its parent lies in, marks all that the instance lies in
 pub above-more : (tree : InstanceTree) → ParentsBefore tree → (marks : List Bool) (node p k : ℕ) → node < length tree.instances → node < length marks → (instance_at tree node).parent ≡ Some p → (is_marked (set marks node true) k || lies tree p k) ≡ (is_marked marks k || lies tree node k)
 above-more tree before marks node p k lt room parent =
     ap (λ b. b || lies tree p k) (marked-more marks node k room)
-    ∙ or-move (is_marked marks k) (node == k) (lies tree p k)
+    ∙ or_assoc (is_marked marks k) (node == k) (lies tree p k)
     ∙ ap (λ b. is_marked marks k || b) (sym (lies-parent tree before node p k lt parent))
 
 -- where there is no parent, setting the mark is enough
@@ -173,9 +133,6 @@ pub record Apart (tree : InstanceTree) (units : List (List ℕ)) (i : ℕ) (own 
   pub higher : (k : ℕ) → is_marked above k ≡ list_any (λ unit. lies tree unit k) (map (instance_of tree) (take i units))
   pub own_count : length own ≡ length tree.instances
   pub above_count : length above ≡ length tree.instances
-
-pub Apart-none : (tree : InstanceTree) (units : List (List ℕ)) (own above : List Bool) → ((k : ℕ) → is_marked own k ≡ false) → ((k : ℕ) → is_marked above k ≡ false) → length own ≡ length tree.instances → length above ≡ length tree.instances → Apart tree units 0 own above
-Apart-none tree units own above none empty count many = record { clash = refl; marks = none; higher = empty; own_count = count; above_count = many }
 
 module _ (tree : InstanceTree) (units : List (List ℕ)) (i : ℕ) (own above : List Bool) (path : List ℕ) (lt : i < length units) (read : path ≡ get_or units i path) (apart : Apart tree units i own above) where
   -- a unit overlaps an earlier one exactly if it lies in one, or one lies in it
@@ -198,11 +155,7 @@ module _ (tree : InstanceTree) (units : List (List ℕ)) (i : ℕ) (own above : 
   units-are = ap (map (instance_of tree)) now-is ∙ map-append (instance_of tree) (take i units) (path ∷ [])
 
   any-push : (test : ℕ → Bool) (xs : List ℕ) (x : ℕ) → list_any test (xs ++ x ∷ []) ≡ (list_any test xs || test x)
-  any-push test xs x = list_any-append test xs (x ∷ []) ∙ ap (λ b. list_any test xs || b) (or-none (test x))
-    where
-      or-none : (b : Bool) → (b || false) ≡ b
-      or-none true = refl
-      or-none false = refl
+  any-push test xs x = list_any-append test xs (x ∷ []) ∙ ap (λ b. list_any test xs || b) (or-false (test x))
 
   flip : (a b : ℕ) → (a == b) ≡ (b == a)
   flip a b = by (a == b) refl (b == a) refl
@@ -210,14 +163,8 @@ module _ (tree : InstanceTree) (units : List (List ℕ)) (i : ℕ) (own above : 
       by : (p : Bool) → (a == b) ≡ p → (q : Bool) → (b == a) ≡ q → p ≡ q
       by true e true f = refl
       by false e false f = refl
-      by true e false f = eq-eqb-clash (sym (eq-eqb b a (sym (true-eqb a b (sym e)))) ∙ f)
-        where
-          eq-eqb-clash : {A : Type 0} → true ≡ false → A
-          eq-eqb-clash e = absurd (cc)
-      by false e true f = eq-eqb-clash (sym (eq-eqb a b (sym (true-eqb b a (sym f)))) ∙ e)
-        where
-          eq-eqb-clash : {A : Type 0} → true ≡ false → A
-          eq-eqb-clash e = absurd (cc)
+      by true e false f = absurd (true≢false (sym (eq-eqb b a (sym (true-eqb a b (sym e)))) ∙ f))
+      by false e true f = absurd (true≢false (sym (eq-eqb a b (sym (true-eqb b a (sym f)))) ∙ e))
 
   pub Apart-more : (higher : List Bool) → instance_of tree path < length tree.instances → (list_any (lies tree (instance_of tree path)) (map (instance_of tree) (take i units)) || is_marked above (instance_of tree path)) ≡ false → ((k : ℕ) → is_marked higher k ≡ (is_marked above k || lies tree (instance_of tree path) k)) → length higher ≡ length above → Apart tree units (i + 1) (set own (instance_of tree path) true) higher
   Apart-more higher within none marked count =

@@ -1,20 +1,19 @@
 -- The signals of the channels: those of the wires; all in the circuit; and how channels are found by name.
-use Rattle.std.proofs.Common.{◌≡◌, ◌≢◌, ℕ, suc, ◌+◌, ◌<◌, List, [], ◌∷◌, ◌++◌, length, map, set, get_or, take, slice_get, Bool, true, false, true≢false, true-eqb, eq-eqb, refl, sym, ◌∙◌, ap, ap₂, Some, arith}
+use Rattle.std.proofs.Common.{◌≡◌, ◌≢◌, ℕ, suc, ◌+◌, ◌<◌, List, [], ◌∷◌, ◌++◌, length, map, take, slice_get, Bool, true, false, true≢false, true-eqb, eq-eqb, refl, sym, ◌∙◌, ap, ap₂, Some, arith}
 use Rattle.std.specs.Prelude.{Contains, All, AllPairs, bytes_eq, ◌||◌, ◌==◌, if◌then◌else◌, flat_map}
 use Rattle.std.specs.List.{list_any}
-use Rattle.std.proofs.lemmas.List.{map-append, take_more, length-set, get_or_default}
-use Rattle.std.proofs.lemmas.List.Folds.{list_any-append}
+use Rattle.std.proofs.lemmas.List.{map-append, get_or_default}
 use Rattle.std.proofs.lemmas.Slice.Eq.{bytes_eq-Decides}
 use Rattle.gg_flat.specs.declared.tree.InstancePort.{InstancePort}
 use Rattle.gg_flat.specs.Circuit.{FlatCircuit, readers_at}
 use Rattle.gg_flat.specs.Tree.{InstanceTree, path_at, instance_at, memory_at, parent_place}
 use Rattle.gg_flat.specs.Scoped.{reader_fields, writer_fields, writers_at, memory_fields}
+use Rattle.gg_flat.proofs.ListLemmas.{once-apart}
 use Rattle.gg_cut.specs.declared.wires.Wire.{Wire}
 use Rattle.gg_cut.specs.declared.listed.Listed.{Listed}
 use Rattle.gg_cut.specs.Listed.{owner_of_instance, is_among, AreMarks}
 use Rattle.gg_cut.specs.Channels.{wire, numbered, flattened, first_memory, first_source, first_tray, port_wire, port_wires, reader_wires, writer_wires, field_wires, source_wires, tray_wires, wires_of, port_signals, channel_signals}
-use Rattle.gg_cut.proofs.PathLemmas.{HoldsPath, holds-path, one-place}
-use Rattle.gg_cut.proofs.ChainLemmas.{marked-more}
+use Rattle.gg_cut.proofs.PathLemmas.{HoldsPath, holds-path}
 
 abbrev signal_of : Wire → ℕ
 signal_of w = w.signal
@@ -72,34 +71,6 @@ pub record MarkedTo (signals : List ℕ) (i : ℕ) (old marks : List Bool) : Typ
   pub count : length marks ≡ length old
   pub marked : AreMarks (take i signals) marks
 
-pub MarkedTo-more : (signals : List ℕ) (i : ℕ) (old marks : List Bool) → i < length signals → get_or signals i 0 < length old → MarkedTo signals i old marks → MarkedTo signals (i + 1) old (set marks (get_or signals i 0) true)
-MarkedTo-more signals i old marks lt within before =
-    let s = get_or signals i 0 in
-    record {
-      count = length-set marks s true ∙ before.count;
-      marked = λ k.
-          marked-more marks s k (omega (arith, within, before.count))
-          ∙ ap₂ (λ a b. a || b) (before.marked k) (flip s k)
-          ∙ sym (push (λ t. k == t) (take i signals) s)
-          ∙ ap (list_any (λ t. k == t)) (sym (take_more signals i 0 lt));
-    }
-  where
-    push : (test : ℕ → Bool) (xs : List ℕ) (x : ℕ) → list_any test (xs ++ x ∷ []) ≡ (list_any test xs || test x)
-    push test xs x = list_any-append test xs (x ∷ []) ∙ ap (λ b. list_any test xs || b) (or-none (test x))
-      where
-        or-none : (b : Bool) → (b || false) ≡ b
-        or-none true = refl
-        or-none false = refl
-
-    flip : (a b : ℕ) → (a == b) ≡ (b == a)
-    flip a b = by (a == b) refl (b == a) refl
-      where
-        by : (p : Bool) → (a == b) ≡ p → (q : Bool) → (b == a) ≡ q → p ≡ q
-        by true e true f = refl
-        by false e false f = refl
-        by true e false f = absurd (true≢false (sym (eq-eqb b a (sym (true-eqb a b (sym e)))) ∙ f))
-        by false e true f = absurd (true≢false (sym (eq-eqb a b (sym (true-eqb b a (sym f)))) ∙ e))
-
 -- ---- channels by name
 
 -- the name of signal k is the name of a channel exactly if k is the signal of one
@@ -117,7 +88,7 @@ named-channel paths name k (s ∷ signals) once found known =
     by false e false f = refl
     by true e false f = absurd (true≢false (sym ((bytes_eq-Decides name (path_at paths s)).1 (sym holds.is ∙ ap (path_at paths) (true-eqb k s (sym e)))) ∙ f))
     by false e true f =
-        let same : k ≡ s = one-place paths k s once holds.within (known 0 0 (omega arith)) (holds.is ∙ (bytes_eq-Decides name (path_at paths s)).0 f) in
+        let same : k ≡ s = once-apart paths [] once k s holds.within (known 0 0 (omega arith)) (holds.is ∙ (bytes_eq-Decides name (path_at paths s)).0 f) in
         absurd (true≢false (sym (eq-eqb k s same) ∙ e))
 
 -- a name that no signal has is the name of no channel

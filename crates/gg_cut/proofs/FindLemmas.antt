@@ -4,7 +4,7 @@ use Rattle.std.specs.Prelude.{Option, find, cond, option_map, not, if◌then◌e
 use Rattle.std.specs.List.{list_any}
 use Rattle.gg_cut.specs.declared.fault.CutFault.{CutFault}
 use Rattle.gg_cut.specs.declared.fault.CutFault.TheVariants.{Doubled}
-use Rattle.std.proofs.lemmas.List.{length-append}
+use Rattle.std.proofs.lemmas.List.{length-append, append-nil}
 use Rattle.gg_cut.specs.Listed.{is_among}
 use Rattle.gg_cut.specs.Fault.{or_else, first_clash, same_path, repeated, entries, unshared, IsTold}
 
@@ -12,26 +12,10 @@ use Rattle.gg_cut.specs.Fault.{or_else, first_clash, same_path, repeated, entrie
 pub rest-at : {A : Type 0} (xs : List A) (i : ℕ) (x : A) → i < length xs → x ≡ get_or xs i x → drop i xs ≡ x ∷ drop (i + 1) xs
 rest-at xs i x lt read = drop-cons xs i x lt ∙ ap₂ (λ y l. y ∷ l) (sym read) (ap (λ n. drop n xs) (sym (add-one i)))
 
-pub find-here : {A : Type 0} (test : A → Bool) (x : A) (xs : List A) → test x ≡ true → find test (x ∷ xs) ≡ Some x
-find-here test x xs passes = ap (λ b. cond b (Some x) (find test xs)) passes
-
-pub find-next : {A : Type 0} (test : A → Bool) (x : A) (xs : List A) → test x ≡ false → find test (x ∷ xs) ≡ find test xs
-find-next test x xs fails = ap (λ b. cond b (Some x) (find test xs)) fails
-
-pub find-stop : {A : Type 0} (test : A → Bool) (xs : List A) (i : ℕ) (x : A) → i < length xs → x ≡ get_or xs i x → test x ≡ true → find test xs ≡ find test (drop i xs) → find test xs ≡ Some x
-find-stop test xs i x lt read passes so_far = so_far ∙ ap (find test) (rest-at xs i x lt read) ∙ find-here test x (drop (i + 1) xs) passes
-
-pub find-more : {A : Type 0} (test : A → Bool) (xs : List A) (i : ℕ) (x : A) → i < length xs → x ≡ get_or xs i x → test x ≡ false → find test xs ≡ find test (drop i xs) → find test xs ≡ find test (drop (i + 1) xs)
-find-more test xs i x lt read fails so_far = so_far ∙ ap (find test) (rest-at xs i x lt read) ∙ find-next test x (drop (i + 1) xs) fails
-
 -- ---- clashes
 
 pub first_clash-append : (clash : List ℕ → List ℕ → Bool) (earlier xs ys : List (List ℕ)) → first_clash clash earlier (xs ++ ys) ≡ or_else (first_clash clash earlier xs) (first_clash clash (earlier ++ xs) ys)
 first_clash-append clash earlier [] ys = ap (λ l. first_clash clash l ys) (sym (append-nil earlier))
-  where
-    append-nil : {A : Type 0} (l : List A) → l ++ [] ≡ l
-    append-nil [] = refl
-    append-nil (x ∷ l) = ap (λ m. x ∷ m) (append-nil l)
 first_clash-append clash earlier (x ∷ xs) ys =
     by (list_any (clash x) earlier) (first_clash-append clash (earlier ++ x ∷ []) xs ys ∙ ap (λ l. or_else (first_clash clash (earlier ++ x ∷ []) xs) (first_clash clash l ys)) (append_assoc earlier (x ∷ []) xs))
   where
@@ -50,9 +34,6 @@ or_else-map f (Some x) b = refl
 pub told-first : (a b : Option CutFault) (cause : CutFault) → IsTold a cause → IsTold (or_else a b) cause
 told-first a b cause (inl memory) = inl memory
 told-first a b cause (inr is) = inr (ap (λ f. or_else f b) is)
-
-pub told-second : (a b : Option CutFault) → a ≡ None → or_else a b ≡ b
-told-second a b none = ap (λ f. or_else f b) none
 
 -- a fault reported of one is reported of an equal one
 pub told-same : (a b : Option CutFault) (cause : CutFault) → a ≡ b → IsTold a cause → IsTold b cause
@@ -84,9 +65,9 @@ clash-stop share i group seen cause lt read so_far told =
     (sym (or_else-map Doubled (first_clash same_path seen group) rest) ∙ ap (option_map Doubled) (sym (clash-at share i group seen lt read so_far)))
     (told-first (option_map Doubled (first_clash same_path seen group)) (option_map Doubled rest) cause told)
 
-no-map : {A B : Type 0} (f : A → B) (a : Option A) → option_map f a ≡ None → a ≡ None
-no-map f None e = refl
-no-map f (Some x) e = absurd (cc)
+pub none-map : {A B : Type 0} (f : A → B) (a : Option A) → option_map f a ≡ None → a ≡ None
+none-map f None e = refl
+none-map f (Some x) e = absurd (cc)
 
 -- the groups before place i have no clash, and their entries stand in `seen`
 pub record SeenGroups (share : List (List (List ℕ))) (i : ℕ) (seen : List (List ℕ)) : Type 0 where
@@ -96,7 +77,7 @@ pub record SeenGroups (share : List (List (List ℕ))) (i : ℕ) (seen : List (L
 pub SeenGroups-more : (share : List (List (List ℕ))) (i : ℕ) (group seen new : List (List ℕ)) → i < length share → group ≡ get_or share i group → SeenGroups share i seen → option_map (λ path. Doubled path) (first_clash same_path seen group) ≡ None → new ≡ seen ++ group → SeenGroups share (i + 1) new
 SeenGroups-more share i group seen new lt read before none is =
     record {
-      clash = clash-at share i group seen lt read before.clash ∙ ap (λ f. or_else f (first_clash same_path (seen ++ group) (entries (drop (i + 1) share)))) (no-map (λ path. Doubled path) (first_clash same_path seen group) none)
+      clash = clash-at share i group seen lt read before.clash ∙ ap (λ f. or_else f (first_clash same_path (seen ++ group) (entries (drop (i + 1) share)))) (none-map (λ path. Doubled path) (first_clash same_path seen group) none)
           ∙ ap (λ l. first_clash same_path l (entries (drop (i + 1) share))) (sym is);
       total = omega (arith, before.total, ap length is, length-append seen group, ap length (entries-at share i group lt read), length-append group (entries (drop (i + 1) share)));
     }

@@ -11,7 +11,7 @@ use Rattle.gg_flat.specs.Circuit.{FlatCircuit, signal_shapes, readers_at}
 use Rattle.gg_flat.specs.WellFormed.{IsWellFormed}
 use Rattle.gg_flat.specs.Tree.{InstanceTree, IsTree, instance_at, memory_at, parent_place}
 use Rattle.gg_flat.specs.Scoped.{reader_fields, writer_fields, writers_at, memory_fields}
-use Rattle.gg_flat.proofs.TypedLemmas.{some-memory}
+use Rattle.gg_flat.proofs.ListLemmas.{some-item}
 use Rattle.gg_cut.specs.declared.listed.Listed.{Listed}
 use Rattle.gg_cut.specs.Listed.{ParentsBefore}
 use Rattle.gg_partfile.specs.declared.request.Request.{Request}
@@ -78,7 +78,7 @@ module _ (circuit : FlatCircuit) (tree : InstanceTree) (formed : IsWellFormed ci
   fields-below : (m : ℕ) → m < length circuit.memories → AllBelow (length circuit.signals) (memory_fields circuit m)
   fields-below m lt =
       let n = length circuit.signals in
-      let some = some-memory circuit.memories m lt in
+      let some = some-item circuit.memories m lt in
       let memory = get_or circuit.memories m some in
       let typed = formed.memories m some lt in
       let readers : readers_at circuit m ≡ memory.readers = get_or-map (λ (k : Memory). k.readers) circuit.memories m some [] lt in

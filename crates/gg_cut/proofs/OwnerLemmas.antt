@@ -9,9 +9,6 @@ use Rattle.gg_cut.specs.Listed.{lies, ParentsBefore, first_place, unit_or_hub, o
 use Rattle.gg_cut.specs.Owners.{earlier, above_by, above}
 use Rattle.gg_cut.proofs.ChainLemmas.{lies-parent, lies-alone}
 
-true-lt : (a b : ℕ) → nat_lt a b ≡ true → a < b
-true-lt a b e = ltb-true a b e
-
 lt-suc : (a b : ℕ) → nat_lt (suc a) (suc b) ≡ nat_lt a b
 lt-suc a b = by (cases_lt a b)
   where
@@ -64,7 +61,7 @@ first-of-two p q (x ∷ xs) = by (p x) (q x) (first_place (λ x. p x || q x) xs)
           where
             least : (t : Bool) → nat_lt (suc n) 0 ≡ t → (if t then suc (suc n) else 1) ≡ 1
             least false e = refl
-            least true e = let lt : suc n < 0 = true-lt (suc n) 0 e in absurd (omega (arith, lt))
+            least true e = let lt : suc n < 0 = ltb-true (suc n) 0 e in absurd (omega (arith, lt))
     by false false o l r e = next o l r e
 
 pub place-same : {A : Type 0} (p q : A → Bool) (xs : List A) → ((x : A) → p x ≡ q x) → first_place p xs ≡ first_place q xs

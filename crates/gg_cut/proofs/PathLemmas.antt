@@ -1,12 +1,12 @@
 -- Places of paths, and sets of paths.
-use Rattle.std.proofs.Common.{◌≡◌, ◌≢◌, ℕ, zero, suc, ◌+◌, ◌<◌, ◌≤◌, List, [], ◌∷◌, ◌++◌, length, get_or, take, Bool, true, false, true≢false, refl, sym, ◌∙◌, ap, ap₂, subst, inl, inr, ◌⊎◌, Some, None, slice_get, arith}
+use Rattle.std.proofs.Common.{◌≡◌, ◌≢◌, ℕ, zero, suc, ◌<◌, ◌≤◌, List, [], ◌∷◌, length, get_or, take, Bool, true, false, true≢false, refl, sym, ◌∙◌, ap, subst, Some, None, slice_get, arith}
 use Rattle.std.specs.Prelude.{Option, IfSome, IfNone, MatchOption, option_map, Contains, AllPairs, bytes_eq, ◌||◌, if◌then◌else◌}
 use Rattle.std.specs.List.{list_any}
-use Rattle.std.proofs.lemmas.Bool.{cases_lt}
-use Rattle.std.proofs.lemmas.List.{take_more}
-use Rattle.std.proofs.lemmas.List.Folds.{list_any-append}
+use Rattle.std.proofs.lemmas.List.Folds.{list_any_at}
 use Rattle.std.proofs.lemmas.Slice.Eq.{bytes_eq-Decides}
+use Rattle.std.proofs.lemmas.Option.{same_Some}
 use Rattle.gg_flat.proofs.PathLemmas.{found-path}
+use Rattle.gg_flat.proofs.ListLemmas.{once-apart}
 use Rattle.gg_cut.specs.Listed.{first_place, place_of, is_among}
 
 -- the test holds at place i
@@ -30,15 +30,6 @@ module _ {A : Type 0} (test : A → Bool) where
   pub first_place-None : (xs : List A) → first_place test xs ≡ None → list_any test xs ≡ false
   first_place-None xs none = subst (λ r. MatchOption r (list_any test xs ≡ false) (IsPlace test xs)) none (place-tells xs)
 
-  pub any-at : (xs : List A) (i : ℕ) (d : A) → i < length xs → test (get_or xs i d) ≡ true → list_any test xs ≡ true
-  any-at [] i d lt passes = absurd (omega arith)
-  any-at (x ∷ xs) zero d lt passes = ap (λ t. t || list_any test xs) passes
-  any-at (x ∷ xs) (suc i) d lt passes = or-true (test x) (list_any test xs) (any-at xs i d (omega arith) passes)
-    where
-      or-true : (a b : Bool) → b ≡ true → (a || b) ≡ true
-      or-true true b e = refl
-      or-true false b e = e
-
 -- the list has this path at place k
 pub record HoldsPath (paths : List (List ℕ)) (k : ℕ) (path : List ℕ) : Type 0 where
   pub within : k < length paths
@@ -46,20 +37,8 @@ pub record HoldsPath (paths : List (List ℕ)) (k : ℕ) (path : List ℕ) : Typ
 
 pub holds-path : (paths : List (List ℕ)) (k : ℕ) (path : List ℕ) → slice_get paths k ≡ Some path → HoldsPath paths k path
 holds-path [] k path found = absurd (cc)
-holds-path (p ∷ ps) zero path found = record { within = omega arith; is = same found }
-  where
-    same : {p path : List ℕ} → Some p ≡ Some path → p ≡ path
-    same e = cc
+holds-path (p ∷ ps) zero path found = record { within = omega arith; is = same_Some p path found }
 holds-path (p ∷ ps) (suc k) path found = let rest = holds-path ps k path found in record { within = omega (arith, rest.within); is = rest.is }
-
--- two places of the same path are the same place
-pub one-place : (paths : List (List ℕ)) (i j : ℕ) → AllPairs (λ a b. a ≢ b) paths → i < length paths → j < length paths → get_or paths i [] ≡ get_or paths j [] → i ≡ j
-one-place paths i j once li lj same = by (cases_lt i j) (cases_lt j i)
-  where
-    by : (i < j) ⊎ (j ≤ i) → (j < i) ⊎ (i ≤ j) → i ≡ j
-    by (inl lt) q = absurd (once i j [] lt lj same)
-    by (inr le) (inl lt) = absurd (once j i [] lt li (sym same))
-    by (inr le) (inr ge) = omega arith
 
 -- what a look-up finds is the first place of the path
 pub look-up : (paths : List (List ℕ)) (path : List ℕ) (result : Option ℕ) → AllPairs (λ a b. a ≢ b) paths → IfSome result (λ k. slice_get paths k ≡ Some path) → IfNone result (¬ Contains paths path) → result ≡ place_of paths path
@@ -72,18 +51,18 @@ look-up paths path result once found missing = by result found missing (place_of
         absurd (missing (j, at.within, sym ((bytes_eq-Decides path (get_or paths j path)).0 (at.passes path))))
     by (Some k) found missing None e =
         let holds = holds-path paths k path found in
-        let any : list_any (bytes_eq path) paths ≡ true = any-at (bytes_eq path) paths k [] holds.within ((bytes_eq-Decides path (get_or paths k [])).1 (sym holds.is)) in
+        let any : list_any (bytes_eq path) paths ≡ true = list_any_at (bytes_eq path) paths k [] holds.within ((bytes_eq-Decides path (get_or paths k [])).1 (sym holds.is)) in
         absurd (true≢false (sym any ∙ first_place-None (bytes_eq path) paths e))
     by (Some k) found missing (Some j) e =
         let holds = holds-path paths k path found in
         let at = first_place-Some (bytes_eq path) paths j e in
-        ap Some (one-place paths k j once holds.within at.within (holds.is ∙ (bytes_eq-Decides path (get_or paths j [])).0 (at.passes [])))
+        ap Some (once-apart paths [] once k j holds.within at.within (holds.is ∙ (bytes_eq-Decides path (get_or paths j [])).0 (at.passes [])))
 
 -- a path that a look-up finds is in the set, and one that it doesn't find isn't
 pub among-found : (paths : List (List ℕ)) (path : List ℕ) (k : ℕ) → slice_get paths k ≡ Some path → is_among paths path ≡ true
 among-found paths path k found =
     let holds = holds-path paths k path found in
-    any-at (bytes_eq path) paths k [] holds.within ((bytes_eq-Decides path (get_or paths k [])).1 (sym holds.is))
+    list_any_at (bytes_eq path) paths k [] holds.within ((bytes_eq-Decides path (get_or paths k [])).1 (sym holds.is))
 
 pub among-missing : (paths : List (List ℕ)) (path : List ℕ) → ¬ Contains paths path → is_among paths path ≡ false
 among-missing paths path missing = by (is_among paths path) refl
@@ -97,21 +76,5 @@ pub record Includes (paths : List (List ℕ)) (i : ℕ) (set : List (List ℕ)) 
   pub same : (path : List ℕ) → is_among set path ≡ is_among (take i paths) path
   pub few : length set ≤ i
 
-pub Includes-more : (paths : List (List ℕ)) (i : ℕ) (set new : List (List ℕ)) (x : List ℕ) → i < length paths → x ≡ get_or paths i x → Includes paths i set → ((path : List ℕ) → is_among new path ≡ (is_among set path || bytes_eq path x)) → length new ≤ length set + 1 → Includes paths (i + 1) new
-Includes-more paths i set new x lt read before same few =
-    record {
-      same = λ path.
-          same path
-          ∙ ap₂ (λ a b. a || b) (before.same path) (sym (or-none (bytes_eq path x)))
-          ∙ sym (list_any-append (bytes_eq path) (take i paths) (x ∷ []))
-          ∙ ap (λ y. is_among (take i paths ++ y ∷ []) path) read
-          ∙ ap (λ l. is_among l path) (sym (take_more paths i x lt));
-      few = omega (arith, few, before.few);
-    }
-  where
-    or-none : (b : Bool) → (b || false) ≡ b
-    or-none true = refl
-    or-none false = refl
-
 pub among-contains : (paths : List (List ℕ)) (path : List ℕ) → Contains paths path → is_among paths path ≡ true
-among-contains paths path (k, lt, is) = any-at (bytes_eq path) paths k path lt ((bytes_eq-Decides path (get_or paths k path)).1 (sym is))
+among-contains paths path (k, lt, is) = list_any_at (bytes_eq path) paths k path lt ((bytes_eq-Decides path (get_or paths k path)).1 (sym is))

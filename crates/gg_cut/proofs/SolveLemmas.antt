@@ -4,11 +4,13 @@ use Rattle.std.specs.Prelude.{filter, cond, ◌==◌}
 use Rattle.std.specs.List.{range_with_len}
 use Rattle.std.proofs.lemmas.List.{get_or-map, length-map}
 use Rattle.std.proofs.lemmas.Grind.{same_number_lists}
+use Rattle.std.proofs.lemmas.Simd.{map-map}
 use Rattle.gg_flat.specs.Line.{value_at, shape_at}
 use Rattle.gg_flat.specs.Circuit.{FlatCircuit, signal_shapes}
 use Rattle.gg_flat.specs.Settled.{driver_value}
 use Rattle.gg_flat.specs.Run.{opening_start, IsRun, IsColumns, state_at, row_at, inputs_at, column}
 use Rattle.gg_flat.proofs.UniqueLemmas.{IsRunFrom-once}
+use Rattle.gg_flat.proofs.ListLemmas.{some-item, map-same}
 use Rattle.gg_order.specs.Design.{Ordered, IsDesign}
 use Rattle.gg_part.specs.PartRun.{part_row, part_rows, part_columns}
 use Rattle.gg_part.specs.declared.part.Part.{Part}
@@ -18,7 +20,6 @@ use Rattle.gg_part.proofs.AlongLemmas.{IsOrder-numbers}
 use Rattle.gg_partfile.specs.declared.request.Request.{Request}
 use Rattle.gg_cut.specs.declared.plan.Body.{Body}
 use Rattle.gg_cut.specs.declared.plan.Body.TheVariants.{Cut, Memory, Source, Tray}
-use Rattle.gg_cut.specs.declared.plan.Machine.{Machine}
 use Rattle.gg_cut.specs.declared.plan.Channel.{Channel}
 use Rattle.gg_cut.specs.declared.plan.Plan.{Plan}
 use Rattle.gg_cut.specs.declared.listed.Listed.{Listed}
@@ -29,24 +30,12 @@ use Rattle.gg_cut.specs.Plan.{wire_at, channels_to, channels_from, signals_of, I
 use Rattle.gg_cut.specs.Solves.{GivesColumns, Answers, lists_of, Solves, columns_of}
 use Rattle.gg_cut.proofs.WireLemmas.{source-gives, tray-gives}
 
-map-map : {A B C : Type 0} (g : B → C) (f : A → B) (xs : List A) → map g (map f xs) ≡ map (λ x. g (f x)) xs
-map-map g f [] = refl
-map-map g f (x ∷ xs) = ap (λ l. g (f x) ∷ l) (map-map g f xs)
-
 -- two functions that agree on the items of a list make the same list of it
 map-agree : {B : Type 0} (f g : ℕ → B) (xs : List ℕ) → ((i : ℕ) → i < length xs → f (value_at xs i) ≡ g (value_at xs i)) → map f xs ≡ map g xs
 map-agree f g [] same = refl
 map-agree f g (x ∷ xs) same = ap₂ (λ y l. y ∷ l) (same 0 (omega arith)) (map-agree f g xs (λ i lt. same (suc i) (omega arith)))
 
-map-same : {A B : Type 0} (f g : A → B) (xs : List A) → ((x : A) → f x ≡ g x) → map f xs ≡ map g xs
-map-same f g [] same = refl
-map-same f g (x ∷ xs) same = ap₂ (λ y l. y ∷ l) (same x) (map-same f g xs same)
-
 -- ---- the lists of channels
-
-some-channel : (channels : List Channel) (c : ℕ) → c < length channels → Channel
-some-channel [] c lt = absurd (omega arith)
-some-channel (channel ∷ channels) c lt = channel
 
 -- the lists of the channels that pass a test are the columns of their signals
 lists-signals : (lists rows : List (List ℕ)) (wires : List Wire) (test : ℕ → Bool) (a n : ℕ) → ((c : ℕ) → c < a + n → get_or lists c [] ≡ column rows (wire_at wires c).signal)
@@ -104,10 +93,6 @@ input-column design columns n rows i is given run lt =
 
 -- ---- all machines
 
-some-machine : (machines : List Machine) (m : ℕ) → m < length machines → Machine
-some-machine [] m lt = absurd (omega arith)
-some-machine (machine ∷ machines) m lt = machine
-
 module _ (design : Ordered) (request : Request) (columns : List (List ℕ)) (n : ℕ) (rows : List (List ℕ)) (is : IsDesign design) (given : IsColumns design.circuit n columns) (run : IsRun design.circuit columns n rows) where
   answers : (listed : Listed) (m : ℕ) (body : Body) → IsBody design listed (wires_of design.circuit design.tree listed) m body
       → Answers body n (get_or columns (m - first_source listed) []) (map (column rows) (signals_of (wires_of design.circuit design.tree listed) (channels_to (wires_of design.circuit design.tree listed) m))) (map (column rows) (signals_of (wires_of design.circuit design.tree listed) (channels_from (wires_of design.circuit design.tree listed) m)))
@@ -128,7 +113,7 @@ Solves-columns design request default plan columns n rows is planned given run =
     let lists = columns_of plan rows in
     let list-at : (c : ℕ) → c < 0 + length wires → get_or lists c [] ≡ column rows (wire_at wires c).signal = λ c lt.
     let known : c < length plan.channels = omega (arith, lt, planned.channel_total) in
-    let some = some-channel plan.channels c known in
+    let some = some-item plan.channels c known in
     get_or-map (λ (channel : Channel). column rows channel.signal) plan.channels c some [] known ∙ ap (column rows) (planned.channel c some known).signal in
     record {
       count = length-map plan.channels (λ channel. column rows channel.signal);

@@ -1,8 +1,9 @@
 -- The channels that a machine gives.
-use Rattle.std.proofs.Common.{◌≡◌, ℕ, zero, suc, ◌+◌, ◌<◌, ◌≤◌, List, [], ◌∷◌, ◌++◌, length, map, get_or, Bool, true, false, eq-eqb, true-eqb, refl, sym, ◌∙◌, ap, ap₂, arith}
+use Rattle.std.proofs.Common.{◌≡◌, ℕ, zero, suc, ◌+◌, ◌<◌, ◌≤◌, List, [], ◌∷◌, ◌++◌, length, map, get_or, Bool, true, false, eq-eqb, refl, sym, ◌∙◌, ap, ap₂, arith}
 use Rattle.std.specs.Prelude.{filter, cond, ◌==◌, if◌then◌else◌, Option, Some, None}
 use Rattle.std.specs.List.{range_with_len}
 use Rattle.std.proofs.lemmas.List.Elements.{filter-append}
+use Rattle.std.proofs.lemmas.Bool.{ne_eqb}
 use Rattle.gg_flat.specs.declared.tree.InstancePort.{InstancePort}
 use Rattle.gg_flat.specs.declared.memory.Reader.{Reader}
 use Rattle.gg_flat.specs.declared.memory.Writer.{Writer}
@@ -71,11 +72,7 @@ signals-from wires m =
 -- ---- who gives what
 
 other-number : (a b : ℕ) → a < b → (a == b) ≡ false
-other-number a b lt = by (a == b) refl
-  where
-    by : (t : Bool) → (a == b) ≡ t → t ≡ false
-    by true e = let same : a ≡ b = true-eqb a b (sym e) in absurd (omega (arith, same, lt))
-    by false e = refl
+other-number a b lt = ne_eqb a b (λ same. omega (arith, same, lt))
 
 abbrev Below : ℕ → Wire → Type 0
 Below n w = w.producer < n
@@ -134,15 +131,8 @@ module _ (circuit : FlatCircuit) (tree : InstanceTree) (listed : Listed) where
   number-other : (m : ℕ) (k : ℕ) (ins : List ℕ) → m < k → filter (λ w. w.producer == m) (numbered source_wires k ins) ≡ []
   number-other m k [] lt = refl
   number-other m k (s ∷ ins) lt =
-      ap (λ b. cond b (wire s k 0 ∷ filter (λ w. w.producer == m) (numbered source_wires (suc k) ins)) (filter (λ w. w.producer == m) (numbered source_wires (suc k) ins))) (unequal k m lt)
+      ap (λ b. cond b (wire s k 0 ∷ filter (λ w. w.producer == m) (numbered source_wires (suc k) ins)) (filter (λ w. w.producer == m) (numbered source_wires (suc k) ins))) (ne_eqb k m (λ same. omega (arith, same, lt)))
       ∙ number-other m (suc k) ins (omega arith)
-    where
-      unequal : (a b : ℕ) → b < a → (a == b) ≡ false
-      unequal a b lt = by (a == b) refl
-        where
-          by : (t : Bool) → (a == b) ≡ t → t ≡ false
-          by true e = let same : a ≡ b = true-eqb a b (sym e) in absurd (omega (arith, same, lt))
-          by false e = refl
 
   source-one : (k i : ℕ) (ins : List ℕ) → i < length ins → filter (λ w. w.producer == (k + i)) (numbered source_wires k ins) ≡ wire (get_or ins i 0) (k + i) 0 ∷ []
   source-one k i [] lt = absurd (omega arith)

@@ -2,11 +2,8 @@
 use Rattle.std.proofs.Common.{◌≡◌, ◌⊎◌, inl, inr, ℕ, zero, suc, ◌<◌, List, [], ◌∷◌, Option, Some, None, length, get_or, map, refl, sym, ap, ◌∙◌, subst, arith}
 use Rattle.std.specs.Prelude.{Contains, flat_map, filter_map}
 use Rattle.std.specs.List.{cons_option}
-use Rattle.std.proofs.lemmas.List.{length-map, get_or-map}
 use Rattle.std.proofs.lemmas.List.Elements.{Contains-append_left, Contains-append_right, Contains-append_cases}
-
-pub further : {A : Type 0} (x : A) (xs : List A) (y : A) → Contains xs y → Contains (x ∷ xs) y
-further x xs y c = (suc c.0, omega (arith, c.1), c.2)
+use Rattle.gg_flat.proofs.ListLemmas.{further}
 
 -- the element at a place, which `get_or` gives with any default
 pub record Element {A : Type 0} (xs : List A) (i : ℕ) : Type 0 where
@@ -18,9 +15,6 @@ pub element-at : {A : Type 0} (xs : List A) (i : ℕ) → i < length xs → Elem
 element-at [] i lt = absurd (omega (arith, lt))
 element-at (x ∷ xs) zero lt = record { element = x; among = (0, omega arith, refl); is = λ d. refl }
 element-at (x ∷ xs) (suc i) lt = let e = element-at xs i (omega (arith, lt)) in record { element = e.element; among = further x xs e.element e.among; is = e.is }
-
-pub in-map : {A B : Type 0} (f : A → B) (xs : List A) (x : A) → Contains xs x → Contains (map f xs) (f x)
-in-map f xs x c = (c.0, omega (arith, c.1, length-map xs f), get_or-map f xs c.0 x (f x) c.1 ∙ ap f c.2)
 
 -- An element of xs that y is made of.
 pub record MadeOf {A B : Type 0} (Made : A → B → Type 0) (xs : List A) (y : B) : Type 0 where

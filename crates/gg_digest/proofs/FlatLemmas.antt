@@ -1,8 +1,9 @@
 -- The signals and memories of the sites, with one more site.
-use Rattle.std.proofs.Common.{◌≡◌, ℕ, ◌+◌, ◌<◌, List, [], ◌∷◌, ◌++◌, length, map, take, get_or, refl, sym, ap, ◌∙◌, subst, append_assoc}
+use Rattle.std.proofs.Common.{◌≡◌, ℕ, ◌+◌, ◌<◌, List, [], ◌∷◌, ◌++◌, length, map, take, get_or, sym, ap, ◌∙◌, subst, append_assoc}
 use Rattle.std.specs.Prelude.{flat_map}
-use Rattle.std.proofs.lemmas.List.{map-append, take_more, append-nil, length-map}
+use Rattle.std.proofs.lemmas.List.{map-append, take_more, append-nil}
 use Rattle.std.proofs.lemmas.Grind.{flat_map-append}
+use Rattle.std.proofs.lemmas.Simd.{map-map}
 use Rattle.gg_bits.specs.declared.types.Ty.{Ty}
 use Rattle.gg_bits.specs.Shape.{shape}
 use Rattle.gg_ast.specs.Tree.{ModuleTree}
@@ -19,18 +20,14 @@ use Rattle.gg_digest.specs.IsFlat.{signals_of, memory_paths}
 use Rattle.gg_digest.specs.Meaning.{Signals}
 use Rattle.gg_digest.specs.Signals.{Types}
 
-pub map-twice : {A B C : Type 0} (f : B → C) (g : A → B) (xs : List A) → map f (map g xs) ≡ map (λ x. f (g x)) xs
-map-twice f g [] = refl
-map-twice f g (x ∷ xs) = ap (λ l. f (g x) ∷ l) (map-twice f g xs)
-
 -- the signals of a site are made from those that its module's digest keeps
 pub signals-kept : (types : Types) (modules : List ModuleTree) (place : Place) (digest : Digest) → IsDigest types modules place.number digest → signals_at types modules (site_of place) ≡ map (λ o. flat_signal modules (site_of place) (own_of o)) digest.signals.items
 signals-kept types modules place digest h =
-    ap (map (flat_signal modules (site_of place))) (sym h.signals) ∙ map-twice (flat_signal modules (site_of place)) own_of digest.signals.items
+    ap (map (flat_signal modules (site_of place))) (sym h.signals) ∙ map-map (flat_signal modules (site_of place)) own_of digest.signals.items
 
 pub memories-kept : (types : Types) (modules : List ModuleTree) (place : Place) (digest : Digest) → IsDigest types modules place.number digest → memories_at modules (site_of place) ≡ map (λ m. flat_memory (site_of place) (own_bank_of m)) digest.memories.items
 memories-kept types modules place digest h =
-    ap (map (flat_memory (site_of place))) (sym h.memories) ∙ map-twice (flat_memory (site_of place)) own_bank_of digest.memories.items
+    ap (map (flat_memory (site_of place))) (sym h.memories) ∙ map-map (flat_memory (site_of place)) own_bank_of digest.memories.items
 
 pub one_more : {B : Type 0} (f : Site → List B) (places : List Place) (i : ℕ) (p : Place) → i < length places → p ≡ get_or places i p → flat_map f (map site_of (take (i + 1) places)) ≡ flat_map f (map site_of (take i places)) ++ f (site_of p)
 one_more f places i p lt is =
@@ -61,11 +58,11 @@ table-more modules xs place items old new h paths shapes =
     let f = λ (o : OwnSignal). flat_signal modules (site_of place) (own_of o) in
     let a : new.paths ≡ map (λ (x : FlatSignal). x.path) (xs ++ map f items) =
     paths ∙ ap (λ (s : Signals). s.paths ++ map (λ (o : OwnSignal). joined place.path o.name) items) h
-    ∙ ap (λ l. map (λ (x : FlatSignal). x.path) xs ++ l) (sym (map-twice (λ (x : FlatSignal). x.path) f items))
+    ∙ ap (λ l. map (λ (x : FlatSignal). x.path) xs ++ l) (sym (map-map (λ (x : FlatSignal). x.path) f items))
     ∙ sym (map-append (λ (x : FlatSignal). x.path) xs (map f items)) in
     let b : map (λ (t : Ty). shape t) new.types.items ≡ map (λ (x : FlatSignal). x.shape) (xs ++ map f items) =
     shapes ∙ ap (λ (s : Signals). s.shapes ++ map (λ (o : OwnSignal). shape o.ty) items) h
-    ∙ ap (λ l. map (λ (x : FlatSignal). x.shape) xs ++ l) (sym (map-twice (λ (x : FlatSignal). x.shape) f items))
+    ∙ ap (λ l. map (λ (x : FlatSignal). x.shape) xs ++ l) (sym (map-map (λ (x : FlatSignal). x.shape) f items))
     ∙ sym (map-append (λ (x : FlatSignal). x.shape) xs (map f items)) in
     λ i. record { paths = a i; shapes = b i }
 
@@ -73,17 +70,8 @@ pub memory_paths-more : (banks : List FlatMemory) (place : Place) (items : List 
 memory_paths-more banks place items old new h more =
     let f = λ (m : OwnMemory). flat_memory (site_of place) (own_bank_of m) in
     more ∙ ap (λ (l : List (List ℕ)). l ++ map (λ (m : OwnMemory). joined place.path m.name.now) items) h
-    ∙ ap (λ l. memory_paths banks ++ l) (sym (map-twice (λ (x : FlatMemory). x.path) f items))
+    ∙ ap (λ l. memory_paths banks ++ l) (sym (map-map (λ (x : FlatMemory). x.path) f items))
     ∙ sym (map-append (λ (x : FlatMemory). x.path) banks (map f items))
-
--- there are as many types as paths
-pub table-even : (table : Table) (xs : List FlatSignal) → table_signals table ≡ signals_of xs → length table.types.items ≡ length table.paths
-table-even table xs h =
-    sym (length-map table.types.items (λ (t : Ty). shape t))
-    ∙ ap (λ (s : Signals). length s.shapes) h
-    ∙ length-map xs (λ (x : FlatSignal). x.shape)
-    ∙ sym (length-map xs (λ (x : FlatSignal). x.path))
-    ∙ sym (ap (λ (s : Signals). length s.paths) h)
 
 -- ---- one more signal of a site
 

@@ -38,7 +38,7 @@ use Rattle.gg_digest.specs.Flat.{Scope, FlatSignal, flat_signals}
 use Rattle.gg_digest.specs.IsFlat.{IsLineFor, IsLineOf, IsConditionOf, IsRegisterOf, IsDrivenBy, IsFlat, is_outside, is_register, drive_at, count_before, signals_of}
 use Rattle.gg_digest.specs.Known.{types_of}
 use Rattle.gg_digest.specs.Meaning.{Signals}
-use Rattle.gg_digest.proofs.WorkedParts.{on, port, ty_of, node, value, signal, AllBelow, each_below, names_one, gets_name}
+use Rattle.gg_digest.proofs.WorkedParts.{on, port, ty_of, node, value, signal, AllBelow, each_below, names_one, gets_name, zero_names}
 
 -- ---- the circuit
 
@@ -156,10 +156,6 @@ next_names : (s k : ℕ) → k < 2 → slice_index_or (does.Ref 3 ∷ does.Fix T
 next_names s zero lt e = cc
 next_names s (suc zero) lt e = absurd (cc)
 next_names s (suc (suc k)) lt e = absurd (omega arith)
-
-zero_names : (s k : ℕ) → k < 1 → slice_index_or (does.Literal (value 0) ∷ []) k (does.Ref s) ≡ does.Ref s → ⊥
-zero_names s zero lt e = cc
-zero_names s (suc k) lt e = omega arith
 
 sum_is : IsLineFor (types_of circuit) listed here (shape five) (Some (ConnectedTo sum)) sum_line
 unfolding types_of digit

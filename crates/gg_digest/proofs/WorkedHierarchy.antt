@@ -26,7 +26,7 @@ use Rattle.gg_digest.specs.IsFlat.{IsComputed, IsHeld, IsRegisterOf, IsDrivenBy,
 use Rattle.gg_digest.specs.Known.{types_of}
 use Rattle.gg_digest.specs.Meaning.{Signals, named, named_if, takes}
 use Rattle.gg_digest.specs.Memories.{Bank}
-use Rattle.gg_digest.proofs.WorkedParts.{ty_of, node, value, signal, follows, AllBelow, each_below, line_of_name, gets_name, named_other}
+use Rattle.gg_digest.proofs.WorkedParts.{ty_of, node, value, signal, follows, AllBelow, each_below, line_of_name, gets_name, named_other, zero_names}
 use Rattle.gg_digest.proofs.WorkedText.{m, k, circuit}
 
 -- ---- the flat circuit
@@ -162,10 +162,6 @@ gets : (scope : Scope) (ty sink : Ty) (r : Reference) (s : ℕ) → is_some (typ
 gets scope ty sink r s known is typed fits =
     gets_name (types_of circuit) listed scope (shape sink) r (node ty (does.Ref s)) s
     (record { does = refl; names = names scope r s known is; typed = typed; fits = fits })
-
-zero_names : (s k : ℕ) → k < 1 → slice_index_or (does.Literal (value 0) ∷ []) k (does.Ref s) ≡ does.Ref s → ⊥
-zero_names s zero lt e = cc
-zero_names s (suc k) lt e = omega arith
 
 gets_zero : (scope : Scope) → IsComputed (types_of circuit) listed scope (shape one) (Some Zeroed) (Computed (node one (does.Literal (value 0)) ∷ []))
 gets_zero scope = record {

@@ -17,7 +17,7 @@ use Rattle.gg_ast.specs.declared.statement.StmtKind.{StmtKind}
 use Rattle.gg_ast.specs.Term.{NamedTerm}
 use Rattle.gg_flat.specs.declared.line.Node.{Node}
 use Rattle.gg_flat.specs.declared.line.Op.{Op}
-use Rattle.gg_flat.specs.declared.line.Op.TheVariants.{Ref}
+use Rattle.gg_flat.specs.declared.line.Op.TheVariants.{Ref, Literal}
 use Rattle.gg_flat.specs.declared.piece.Driver.{Driver}
 use Rattle.gg_flat.specs.declared.piece.Driver.TheVariants.{Computed}
 use Rattle.gg_flat.specs.declared.piece.Signal.{Signal}
@@ -109,3 +109,8 @@ named_other types signals scope sink r n p q does names h =
     let found : named types signals scope r ≡ Some p =
     (h.stands.names p).0 (subst (λ (l : List Node). Names l p) same ((names_one n p p does).1 refl)) in
     cc
+
+-- a node of a literal refers to no signal
+pub zero_names : (s k : ℕ) → k < 1 → slice_index_or (Literal (value 0) ∷ []) k (Ref s) ≡ Ref s → ⊥
+zero_names s zero lt e = cc
+zero_names s (suc k) lt e = omega arith

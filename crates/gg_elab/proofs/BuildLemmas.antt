@@ -1,7 +1,7 @@
 -- A flat circuit that gets one more signal.
 use Rattle.std.proofs.Common.{◌≡◌, ℕ, ◌+◌, ◌<◌, ◌≤◌, List, [], ◌∷◌, ◌++◌, length, map, take, get_or, Option, Some, None, option_to_list, Bool, true, false, cond, if◌then◌else◌, refl, sym, ap, ◌∙◌, subst, arith, below_more}
 use Rattle.std.specs.Prelude.{count_by, All, MatchOption, ⊤}
-use Rattle.std.proofs.lemmas.List.Elements.{All-nil, All-push}
+use Rattle.std.proofs.lemmas.List.Elements.{All-push}
 use Rattle.gg_flat.specs.WellFormed.{IsRegister}
 use Rattle.gg_formed.specs.Fitting.{FitsDriver, IsFitting}
 use Rattle.std.proofs.lemmas.List.{map-append, length-append, length-map, get_or_append_left, get_or_push, take-append-le, take_all, append-nil}
@@ -13,7 +13,7 @@ use Rattle.gg_flat.specs.declared.piece.Driver.{Driver}
 use Rattle.gg_flat.specs.declared.piece.Driver.TheVariants.{Input}
 use Rattle.gg_flat.specs.declared.piece.Register.{Register}
 use Rattle.gg_flat.specs.declared.piece.Signal.{Signal}
-use Rattle.gg_flat.specs.Circuit.{FlatCircuit, driver_at, no_circuit}
+use Rattle.gg_flat.specs.Circuit.{FlatCircuit, driver_at}
 use Rattle.gg_flat.specs.Line.{shape_at, HasType}
 use Rattle.gg_digest.specs.Flat.{Drive, Outside, Gets, Holds, Answers, FlatSignal}
 use Rattle.gg_digest.specs.IsFlat.{IsRegisterOf, IsDrivenBy, is_outside, is_register, drive_at, count_before}
@@ -66,9 +66,6 @@ shape-last : (xs : List FlatSignal) (x : FlatSignal) → shape_at (shapes (xs ++
 shape-last xs x =
     ap (λ (l : List Shape). get_or l (length xs) (uint 0)) (map-append (λ (y : FlatSignal). y.shape) xs (x ∷ []))
     ∙ get_or_push (shapes xs) x.shape (uint 0) (length xs) (length-map xs (λ (y : FlatSignal). y.shape))
-
-drivers_of : List Signal → List Driver
-drivers_of signals = map (λ (x : Signal). x.driver) signals
 
 driver-push : (signals : List Signal) (n : Signal) (s : ℕ) → s < length signals → get_or (map (λ (x : Signal). x.driver) (signals ++ n ∷ [])) s (Input 0) ≡ get_or (map (λ (x : Signal). x.driver) signals) s (Input 0)
 driver-push signals n s lt =
@@ -136,20 +133,6 @@ module _ (types : Types) (signals : Signals) (memories : List (List ℕ)) where
   inputs_made i st sh (Answers memory place (latency.One under) addr en) r register h = ap is_input_driver h.0
 
   -- ---- the flat circuit so far
-
-  pub so_far-begun : IsSoFar types signals memories [] no_circuit 0
-  so_far-begun = record {
-    paths = refl;
-    shapes = refl;
-    drivers = λ s lt. absurd (omega (arith, lt));
-    register_count = refl;
-    input_count = refl;
-    fitting = λ s lt. absurd (omega (arith, lt));
-    registers_fit = All-nil (IsRegister (HasType signals.shapes));
-    no_memories = refl;
-    no_ins = refl;
-    no_outs = refl;
-  }
 
   pub so_far-more : (xs : List FlatSignal) (x : FlatSignal) (flat : FlatCircuit) (inputs more : ℕ) (path : List ℕ) (ty : Ty) (r : Driver) (register : Option Register) → IsSoFar types signals memories xs flat inputs → path ≡ x.path → shape ty ≡ x.shape → IsMade types signals memories inputs (length flat.registers) x.shape x.drive r register → IsFitting signals.shapes x.shape r register → more ≡ (if is_input_driver r then inputs + 1 else inputs) → IsSoFar types signals memories (xs ++ x ∷ []) (with_made flat path ty r register) more
   so_far-more xs x flat inputs more path ty r register h named shaped m fit counted = record {

@@ -1,7 +1,7 @@
 -- Laws of a line that gets one more node.
 use Rattle.std.proofs.Common.{◌≡◌, ℕ, ◌+◌, ◌<◌, ◌≤◌, List, [], ◌∷◌, ◌++◌, length, map, refl, sym, ap, ◌∙◌, subst, arith, inl, inr, ◌⊎◌, append_assoc, below_more, Result, Ok, Err, Some, None}
 use Rattle.std.specs.Prelude.{fold, slice_index_or}
-use Rattle.std.proofs.lemmas.List.{map-append, length-append, length-map, get_or_append_left}
+use Rattle.std.proofs.lemmas.List.{map-append, length-map, get_or_append_left, length_push}
 use Rattle.std.proofs.Math.Seq.{get_or-append_seam}
 use Rattle.std.proofs.lemmas.List.Sums.{fold-append}
 use Rattle.std.proofs.lemmas.Nat.{pow_pos}
@@ -36,9 +36,6 @@ shapes_of-push nodes n = map-append (λ (m : Node). shape m.ty) nodes (n ∷ [])
 length-shapes_of : (nodes : List Node) → length (shapes_of nodes) ≡ length nodes
 length-shapes_of nodes = length-map nodes (λ (m : Node). shape m.ty)
 
-pub length-push : {A : Type 0} (xs : List A) (x : A) → length (xs ++ x ∷ []) ≡ length xs + 1
-length-push xs x = omega (arith, length-append xs (x ∷ []))
-
 -- the shape of an old node is the same
 pub shape_at-push : (nodes : List Node) (n : Node) (k : ℕ) → k < length nodes → shape_at (shapes_of (nodes ++ n ∷ [])) k ≡ shape_at (shapes_of nodes) k
 shape_at-push nodes n k lt =
@@ -51,9 +48,6 @@ shape_at-last nodes n =
     ap (λ l. shape_at l (length nodes)) (shapes_of-push nodes n)
     ∙ ap (λ k. shape_at (shapes_of nodes ++ shape n.ty ∷ []) k) (sym (length-shapes_of nodes))
     ∙ get_or-append_seam (shapes_of nodes) (shape n.ty) [] (uint 0)
-
-ops_of : List Node → List Op
-ops_of nodes = map (λ (m : Node). m.op) nodes
 
 pub op_at-push : (nodes : List Node) (n : Node) (k : ℕ) → k < length nodes → op_at (nodes ++ n ∷ []) k ≡ op_at nodes k
 op_at-push nodes n k lt =
@@ -74,7 +68,7 @@ pub length-node_values : (v : List ℕ) (shapes : List Shape) (before : List ℕ
 length-node_values v shapes before [] = omega arith
 length-node_values v shapes before (n ∷ nodes) =
     let rest = length-node_values v shapes (with_node v shapes before n) nodes in
-    let one = length-push before (op_value v shapes before n.op) in
+    let one = length_push before (op_value v shapes before n.op) in
     omega arith
 
 node_values-push : (v : List ℕ) (shapes : List Shape) (nodes : List Node) (n : Node) → node_values v shapes (nodes ++ n ∷ []) ≡ node_values v shapes nodes ++ op_value v shapes (node_values v shapes nodes) n.op ∷ []
@@ -102,7 +96,7 @@ shapes_of-before nodes n more = ap (λ l. l ++ more) (shapes_of-push nodes n) �
 
 pub StandsFor-push : (w : Where) (nodes : List Node) (n : Node) (k : ℕ) (e : Term) → StandsFor w nodes k e → StandsFor w (nodes ++ n ∷ []) k e
 StandsFor-push w nodes n k e h = record {
-  within = omega (arith, h.within, length-push nodes n);
+  within = omega (arith, h.within, length_push nodes n);
   node = shape_at-push nodes n k h.within ∙ h.node;
   value = λ values more.
       ap (λ l. value_at (node_values values l (nodes ++ n ∷ [])) k) (shapes_of-before nodes n more)
@@ -132,7 +126,7 @@ HoldsAt w nodes k to op = HasShape (HasType w.signals.shapes) (shapes_of nodes) 
 
 -- with one more node of its shape, each node has its shape
 pub HaveShapes-push : (w : Where) (nodes : List Node) (n : Node) → HasShape (HasType w.signals.shapes) (shapes_of nodes) (length nodes) (shape n.ty) n.op → HaveShapes w nodes → HaveShapes w (nodes ++ n ∷ [])
-HaveShapes-push w nodes n own h = λ k lt. at k (omega (arith, lt, length-push nodes n))
+HaveShapes-push w nodes n own h = λ k lt. at k (omega (arith, lt, length_push nodes n))
   where
     old : (k : ℕ) → k < length nodes → HoldsAt w (nodes ++ n ∷ []) k (shape_at (shapes_of (nodes ++ n ∷ [])) k) (op_at (nodes ++ n ∷ []) k)
     old k lt =
@@ -160,7 +154,7 @@ pub record Fresh (w : Where) (nodes : List Node) (n : Node) (e : Term) : Type 0 
 
 StandsFor-new : (w : Where) (nodes : List Node) (n : Node) (e : Term) → Fresh w nodes n e → StandsFor w (nodes ++ n ∷ []) (length nodes) e
 StandsFor-new w nodes n e h = record {
-  within = omega (arith, length-push nodes n);
+  within = omega (arith, length_push nodes n);
   node = shape_at-last nodes n ∙ h.node;
   value = λ values more.
       ap (λ (l : List Shape). value_at (node_values values l (nodes ++ n ∷ [])) (length nodes)) (shapes_of-before nodes n more)
@@ -187,7 +181,7 @@ pub record Kept (w : Where) (old mid : List Node) (e : Term) : Type 0 where
 added_fresh : (w : Where) (old mid : List Node) (n : Node) (e : Term) → Kept w old mid e → Fresh w mid n e → ((s : ℕ) → n.op ≡ flat.Ref s → NamesIn w s e) → Added w old (mid ++ n ∷ []) e (length mid)
 added_fresh w old mid n e before fresh own = record {
   stands = StandsFor-new w mid n e fresh;
-  last = length-push mid n;
+  last = length_push mid n;
   kept = λ i f h. StandsFor-push w mid n i f (before.kept i f h);
   typed = λ h. HaveShapes-fresh w mid n e fresh (before.typed h);
   names = λ s h. elim (Names-push_cases mid n s h) [ inl g ↦ before.names s g | inr g ↦ inr (own s g) ];

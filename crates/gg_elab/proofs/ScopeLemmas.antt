@@ -22,10 +22,6 @@ pub is-known : (r : Option Ty) (o : Option Shape) → option_map (λ t. shape t)
 is-known (Some t) o e h = ap is_some (sym e)
 is-known None o e h = absurd (true≢false (sym h))
 
-pub is-unknown : (r : Option Ty) (o : Option Shape) → option_map (λ t. shape t) r ≡ o → is_some r ≡ false → is_some o ≡ false
-is-unknown (Some t) o e h = absurd (true≢false h)
-is-unknown None o e h = ap is_some (sym e)
-
 -- a signal that a reference names is one of the circuit's
 pub named-below : (types : Types) (signals : Signals) (scope : Scope) (r : Reference) (s : ℕ) → named types signals scope r ≡ Some s → s < length signals.paths
 named-below types signals scope r s e = go (is_some (types scope.number r)) e

@@ -5,6 +5,7 @@ use Rattle.std.proofs.lemmas.List.{get_or_append_left, get_or_push, length-appen
 use Rattle.std.proofs.Common.{below_more}
 use Rattle.gg_ast.specs.declared.module.Direction.TheVariants as direction
 use Rattle.std.proofs.lemmas.List.Elements.{filter_map-append}
+use Rattle.std.proofs.lemmas.Simd.{map-map}
 use Rattle.gg_ast.specs.declared.module.Direction.{Direction}
 use Rattle.gg_ast.specs.declared.module.Port.{Port}
 use Rattle.gg_ast.specs.Tree.{ModuleTree}
@@ -22,7 +23,6 @@ use Rattle.gg_elab.specs.Building.{IsSoFar, HasMemories}
 use Rattle.gg_digest.specs.Flat.{FlatSignal, FlatMemory, flat_signals, flat_memories}
 use Rattle.gg_digest.specs.IsFlat.{IsFlatOf, IsMemoryOf, signals_of, memory_paths, number_of, port_name, port_names, top_ports}
 use Rattle.gg_digest.specs.Meaning.{Signals}
-use Rattle.gg_digest.proofs.FlatLemmas.{map-twice}
 use Rattle.gg_digest.specs.Signals.{Types}
 
 pub whole : (types : Types) (all : List FlatSignal) (banks : List FlatMemory) (ports : List Port) (table : Signals) (memories : List (List ℕ)) (one two three : FlatCircuit) (inputs : ℕ) → table ≡ signals_of all → memories ≡ memory_paths banks → IsSoFar types table memories all one inputs → HasMemories table.paths banks one two → three.ins ≡ two.ins ++ map (number_of table.paths) (port_names direction.Input ports) → three.outs ≡ two.outs ++ map (number_of table.paths) (port_names direction.Output ports) → three ≡ record two { ins = three.ins; outs = three.outs } → IsFlatOf types all banks ports three
@@ -45,13 +45,6 @@ whole types all banks ports table memories one two three inputs same listed far 
     })
 
 -- ---- memories
-
-pub memories-begun : (paths : List (List ℕ)) (flat : FlatCircuit) → flat.memories ≡ [] → HasMemories paths [] flat flat
-memories-begun paths flat none = record {
-  rest = refl;
-  count = ap (λ (l : List Memory). length l) none;
-  each = λ m other any lt. absurd (omega (arith, lt));
-}
 
 -- the memories that were added to an old circuit are those of the new one
 pub memories-own : (paths : List (List ℕ)) (said : List FlatMemory) (old new : FlatCircuit) → HasMemories paths said old new → HasMemories paths said new new
@@ -113,7 +106,7 @@ names-more paths way before now after ports i p lt is so step =
 -- a list made from lent names is the list made from the names themselves
 pub ports-named : {A R : Type 0} (items lent : List A) (now : A → List ℕ) (of : List ℕ → List ℕ → R) (made : List R) (path other : List ℕ) → made ≡ map (λ a. of path (now a)) lent → lent ≡ items → path ≡ other → made ≡ map (of other) (map now items)
 ports-named items lent now of made path other is same at =
-    is ∙ ap (map (λ a. of path (now a))) same ∙ ap (λ p. map (λ a. of p (now a)) items) at ∙ sym (map-twice (of other) now items)
+    is ∙ ap (map (λ a. of path (now a))) same ∙ ap (λ p. map (λ a. of p (now a)) items) at ∙ sym (map-map (of other) now items)
 
 -- ---- what may be connected
 

@@ -1,10 +1,11 @@
 -- A whole line: as it is, cut for a sink or a condition, and a line of 0.
-use Rattle.std.proofs.Common.{◌≡◌, ℕ, ◌+◌, ◌-◌, ◌≤◌, ◌^◌, List, [], ◌∷◌, ◌++◌, length, refl, sym, ap, ◌∙◌, subst, arith, inl, inr, Bool, true, false, ◌&&◌, if◌then◌else◌}
+use Rattle.std.proofs.Common.{◌≡◌, ℕ, ◌+◌, ◌-◌, ◌≤◌, ◌^◌, List, [], ◌∷◌, ◌++◌, length, refl, sym, ap, ◌∙◌, subst, arith, inl, inr, Bool, true, false, if◌then◌else◌}
 use Rattle.std.specs.Prelude.{nat_le, nat_lt, ◌==◌, pos, ◌-ℤ◌}
-use Rattle.std.proofs.lemmas.List.{append-nil}
+use Rattle.std.proofs.lemmas.List.{append-nil, length_push}
 use Rattle.std.proofs.lemmas.Nat.{pow_pos}
 use Rattle.std.proofs.lemmas.Bool.Decides.{nat_tests}
 use Rattle.std.proofs.Math.Nat.{zero-mod}
+use Rattle.std.proofs.lemmas.Bool.{and_parts}
 use Rattle.gg_bits.specs.declared.types.Kind.{Kind}
 use Rattle.gg_bits.specs.declared.types.Kind.TheVariants.{UInt, SInt}
 use Rattle.gg_bits.specs.Shape.{Shape, uint, of_kind}
@@ -20,7 +21,7 @@ use Rattle.gg_elab.specs.Growing.{Where, shape_of, value_of, NamesIn, HaveShapes
 use Rattle.gg_digest.specs.IsFlat.{IsLineOf, IsConditionOf}
 use Rattle.gg_digest.specs.Meaning.{takes}
 use Rattle.gg_flat.proofs.NameLemmas.{Names-push, Names-push_cases}
-use Rattle.gg_elab.proofs.LineLemmas.{length-push, shape_at-last, value_at-last, HaveShapes-push}
+use Rattle.gg_elab.proofs.LineLemmas.{shape_at-last, value_at-last, HaveShapes-push}
 
 last_node : (n k : ℕ) → n ≡ k + 1 → n - 1 ≡ k
 last_node n k e = omega arith
@@ -44,13 +45,13 @@ module _ (old new : List Node) (sink : Shape) (z : IsZeroOf old new sink) where
   pub zero_shape : line_shape new ≡ sink
   zero_shape =
       ap (λ (l : List Node). line_shape l) z.added
-      ∙ ap (λ k. shape_at (shapes_of (old ++ z.node ∷ [])) k) (last_node (length (old ++ z.node ∷ [])) (length old) (length-push old z.node))
+      ∙ ap (λ k. shape_at (shapes_of (old ++ z.node ∷ [])) k) (last_node (length (old ++ z.node ∷ [])) (length old) (length_push old z.node))
       ∙ shape_at-last old z.node ∙ z.typed
 
   pub zero_value : (values : List ℕ) → line_value values new ≡ 0
   zero_value values =
       ap (λ (l : List Node). line_value values l) z.added
-      ∙ ap (λ k. value_at (node_values values (shapes_of (old ++ z.node ∷ [])) (old ++ z.node ∷ [])) k) (last_node (length (old ++ z.node ∷ [])) (length old) (length-push old z.node))
+      ∙ ap (λ k. value_at (node_values values (shapes_of (old ++ z.node ∷ [])) (old ++ z.node ∷ [])) k) (last_node (length (old ++ z.node ∷ [])) (length old) (length_push old z.node))
       ∙ value_at-last values (shapes_of (old ++ z.node ∷ [])) old z.node
       ∙ rw z.zero refl
 
@@ -115,28 +116,20 @@ module _ (w : Where) (nodes : List Node) (e : Term) (k : ℕ) (h : Added w [] no
   same-kind SInt UInt e = absurd (cc)
   same-kind SInt SInt e = refl
 
-  and-left : (a b : Bool) → (a && b) ≡ true → a ≡ true
-  and-left true b e = refl
-  and-left false b e = e
-
-  and-right : (a b : Bool) → (a && b) ≡ true → b ≡ true
-  and-right true b e = e
-  and-right false b e = absurd (cc)
-
   pub cut_fits : (sink : Shape) (new : List Node) → IsCut (takes sink (shape_of w e)) nodes sink new → IsSource (HasType w.signals.shapes) sink new
   cut_fits sink new c = go (takes sink (shape_of w e)) refl c
     where
       go : (b : Bool) → takes sink (shape_of w e) ≡ b → IsCut b nodes sink new → IsSource (HasType w.signals.shapes) sink new
       go true t c =
-          let narrow : nat_le (shape_of w e).width sink.width ≡ true = and-right (same_kind sink.kind (shape_of w e).kind) (nat_le (shape_of w e).width sink.width) t in
+          let narrow : nat_le (shape_of w e).width sink.width ≡ true = (and_parts (same_kind sink.kind (shape_of w e).kind) (nat_le (shape_of w e).width sink.width) t).1 in
           let le : (shape_of w e).width ≤ sink.width = grind (arith, nat_tests) in
           subst (λ (l : List Node). IsSource (HasType w.signals.shapes) sink l) (sym c) (record {
             line = whole_line;
-            kind = ap (λ (s : Shape). s.kind) whole_shape ∙ same-kind sink.kind (shape_of w e).kind (and-left (same_kind sink.kind (shape_of w e).kind) (nat_le (shape_of w e).width sink.width) t);
+            kind = ap (λ (s : Shape). s.kind) whole_shape ∙ same-kind sink.kind (shape_of w e).kind (and_parts (same_kind sink.kind (shape_of w e).kind) (nat_le (shape_of w e).width sink.width) t).0;
             width = omega (arith, ap (λ (s : Shape). s.width) whole_shape, le);
           })
       go false t c = record {
-        line = record { some = omega (arith, ap (λ (l : List Node). length l) c.added, length-push nodes c.node); typed = zero_typed nodes new sink c w whole_typed };
+        line = record { some = omega (arith, ap (λ (l : List Node). length l) c.added, length_push nodes c.node); typed = zero_typed nodes new sink c w whole_typed };
         kind = ap (λ (s : Shape). s.kind) (zero_shape nodes new sink c);
         width = omega (arith, ap (λ (s : Shape). s.width) (zero_shape nodes new sink c));
       }
@@ -167,25 +160,14 @@ module _ (w : Where) (nodes : List Node) (e : Term) (k : ℕ) (h : Added w [] no
     where
       go : (b : Bool) → is_condition (shape_of w e) ≡ b → IsCut b nodes (uint 1) new → IsCondition (HasType w.signals.shapes) new
       go true t c =
-          let kind : (shape_of w e).kind ≡ UInt = uint_only (shape_of w e).kind (and-left (is_uint (shape_of w e).kind) ((shape_of w e).width == 1) t) in
-          let narrow : ((shape_of w e).width == 1) ≡ true = and-right (is_uint (shape_of w e).kind) ((shape_of w e).width == 1) t in
+          let kind : (shape_of w e).kind ≡ UInt = uint_only (shape_of w e).kind (and_parts (is_uint (shape_of w e).kind) ((shape_of w e).width == 1) t).0 in
+          let narrow : ((shape_of w e).width == 1) ≡ true = (and_parts (is_uint (shape_of w e).kind) ((shape_of w e).width == 1) t).1 in
           let one : (shape_of w e).width ≡ 1 = grind (arith, nat_tests) in
           subst (λ (l : List Node). IsCondition (HasType w.signals.shapes) l) (sym c) (record {
             line = whole_line;
             bit = whole_shape ∙ ap (λ (k : Kind). of_kind k (shape_of w e).width) kind ∙ ap (of_kind UInt) one;
           })
       go false t c = record {
-        line = record { some = omega (arith, ap (λ (l : List Node). length l) c.added, length-push nodes c.node); typed = zero_typed nodes new (uint 1) c w whole_typed };
+        line = record { some = omega (arith, ap (λ (l : List Node). length l) c.added, length_push nodes c.node); typed = zero_typed nodes new (uint 1) c w whole_typed };
         bit = zero_shape nodes new (uint 1) c;
       }
-
--- a line of 0 alone may be connected to its sink
-pub IsLine-zero : (w : Where) (new : List Node) (sink : Shape) → IsZeroOf [] new sink → IsSource (HasType w.signals.shapes) sink new
-IsLine-zero w new sink z = record {
-  line = record { some = omega (arith, ap (λ (l : List Node). length l) z.added); typed = zero_typed [] new sink z w (λ k lt. absurd (omega arith)) };
-  kind = ap (λ (s : Shape). s.kind) (zero_shape [] new sink z);
-  width = omega (arith, ap (λ (s : Shape). s.width) (zero_shape [] new sink z));
-}
-
-pub no_names : (new : List Node) (sink : Shape) → IsZeroOf [] new sink → (s : ℕ) → Names new s → ⊥
-no_names new sink z s n = let h = zero_names [] new sink z s n in omega (arith, h.1)

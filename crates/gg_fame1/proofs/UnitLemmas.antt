@@ -3,13 +3,15 @@ use Rattle.std.proofs.Common.{◌≡◌, ◌↔◌, ◌⊎◌, ℕ, zero, suc, �
 use Rattle.std.specs.Prelude.{All, Contains, IsSome, slice_index_or, slice_set}
 use Rattle.std.proofs.lemmas.Bool.Decides.{Decides-eqb}
 use Rattle.std.proofs.lemmas.List.{get_or-set_same, get_or-set_other, length-map, length-replicate, length-set}
-use Rattle.gg_flat.specs.Line.{shape_at, value_at}
-use Rattle.gg_flat.specs.Circuit.{FlatCircuit, signal_shapes}
+use Rattle.std.proofs.lemmas.Option.{none-some}
+use Rattle.gg_flat.specs.Line.{value_at}
+use Rattle.gg_flat.specs.Circuit.{FlatCircuit}
 use Rattle.gg_flat.specs.WellFormed.{IsWellFormed}
 use Rattle.gg_flat.specs.State.{State, IsState, next_state}
-use Rattle.gg_flat.specs.Settled.{Settled, driver_value}
-use Rattle.gg_node.specs.Machine.{RunsPiece, latch_at, latched_value, latched_values, first_empty, empty_or, needs_at}
+use Rattle.gg_flat.specs.Settled.{Settled}
+use Rattle.gg_node.specs.Machine.{RunsPiece, latch_at, latched_value, latched_values, first_empty, needs_at}
 use Rattle.gg_node.specs.Token.{IsTokenOf, IsNextOf}
+use Rattle.gg_node.proofs.EmptyLemmas.{filled, empty-after}
 use Rattle.gg_program.specs.ConeValue.{IsConeValue}
 use Rattle.gg_needs.specs.Needs.{AreNeedsOfOuts}
 use Rattle.gg_program.specs.Programmed.{Programmed}
@@ -17,22 +19,16 @@ use Rattle.gg_program.specs.Slots.{Slotted, NoneDone, HasInput, HasNeeded, with_
 use Rattle.gg_program.specs.Right.{InCycle}
 use Rattle.gg_program.proofs.SearchLemmas.{mark-more, mark-cases}
 use Rattle.gg_program.proofs.RightLemmas.{ins-once}
+use Rattle.gg_program.proofs.ConeLemmas.{row-in}
 use Rattle.gg_fame1.specs.Unit.{unit_machine, HaveTokens, IsOfPiece}
 
 -- ---- latches
 
-none-is-no-some : (i : ℕ) → ◌≡◌ {A = Option ℕ} (Some i) None → ⊥
-none-is-no-some i is = cc
-
-there : (latch : Option ℕ) (i : ℕ) (rest : Option ℕ) → empty_or latch i rest ≡ None → (latch ≡ Some (latched_value latch)) × (rest ≡ None)
-there None i rest is = absurd (none-is-no-some i is)
-there (Some v) i rest is = (refl, is)
-
 -- if none of these ins is empty, each has its token
 pub has-token : (latches : List (Option ℕ)) (ins : List ℕ) → first_empty latches ins ≡ None → (k d : ℕ) → k < length ins → latch_at latches (slice_index_or ins k d) ≡ Some (latched_value (latch_at latches (slice_index_or ins k d)))
 has-token latches [] none k d below = absurd (omega arith)
-has-token latches (i ∷ ins) none zero d below = (there (latch_at latches i) i (first_empty latches ins) none).0
-has-token latches (i ∷ ins) none (suc k) d below = has-token latches ins (there (latch_at latches i) i (first_empty latches ins) none).1 k d (omega arith)
+has-token latches (i ∷ ins) none zero d below = (filled (latch_at latches i) i (first_empty latches ins) none).0
+has-token latches (i ∷ ins) none (suc k) d below = has-token latches ins (filled (latch_at latches i) i (first_empty latches ins) none).1 k d (omega arith)
 
 -- if a token is put into a latch, and the same value into the input, the latches still have the inputs' tokens
 pub tokens-latched : (latches : List (Option ℕ)) (inputs : List ℕ) (place token : ℕ) → length latches ≡ length inputs → place < length latches → HaveTokens latches inputs → HaveTokens (slice_set latches place (Some token)) (slice_set inputs place token)
@@ -62,12 +58,6 @@ all-inputs (latch ∷ latches) (input ∷ inputs) same all have = by latch (all 
 
 -- ---- tokens
 
--- the value of an in-signal is its input
-in-value : (piece : FlatCircuit) (state : State) (inputs signals : List ℕ) (place : ℕ) → IsWellFormed piece → Settled piece state inputs signals → place < length piece.ins → value_at signals (value_at piece.ins place) ≡ value_at inputs place
-in-value piece state inputs signals place formed settled below =
-    let s = value_at piece.ins place in
-    settled.driven s (formed.ins place below).0 ∙ ap (driver_value state inputs signals (shape_at (signal_shapes piece) s)) (formed.ins place below).1
-
 -- the value that is worked out for an out-signal is its out's token
 pub token-is : (program : Programmed) (cycle : ℕ) (state : State) (latches : List (Option ℕ)) (flags : List Bool) (held : List ℕ) (out value : ℕ) → IsWellFormed program.circuit → AreNeedsOfOuts program.circuit program.needs → out < length program.circuit.outs → HaveTokens latches held
     → first_empty latches (needs_at program.needs out) ≡ None → IsConeValue program.circuit state held (value_at program.circuit.outs out) value → IsTokenOf (RunsPiece program.circuit) (unit_machine program cycle state latches flags) out value
@@ -75,7 +65,7 @@ token-is program cycle state latches flags held out value formed needs below hav
     cone.every inputs signals settled (λ place within reaches.
     let has : Contains (needs_at program.needs out) place = ((needs.each out below).exact place).1 (within, reaches) in
     let token : latch_at latches place ≡ Some (latched_value (latch_at latches place)) = subst (λ i. latch_at latches i ≡ Some (latched_value (latch_at latches i))) has.2 (has-token latches (needs_at program.needs out) none has.0 place has.1) in
-    in-value program.circuit state inputs signals place formed settled within
+    row-in program.circuit state inputs signals place formed settled within
     ∙ agrees place (latched_value (latch_at latches place)) has token
     ∙ sym (have place (latched_value (latch_at latches place)) token))
 
@@ -178,11 +168,6 @@ kept-empty piece state slots n flags typed cycle none count outs =
       cycle = cycle;
       ins = length-replicate n None ∙ count;
       outs = outs;
-      put = λ i within. (λ has. absurd (none (value_at piece.ins i) has), λ some. absurd (none-some (latch_at (replicate n None) i) (empty-at n i) some));
-      tokens = λ i value is. absurd (none-is-no-some value (sym is ∙ empty-at n i));
+      put = λ i within. (λ has. absurd (none (value_at piece.ins i) has), λ some. absurd (none-some (latch_at (replicate n None) i) (empty-after n i) some));
+      tokens = λ i value is. absurd (none-some value (sym (empty-after n i) ∙ is));
     }
-  where
-    empty-at : (n i : ℕ) → latch_at (replicate n None) i ≡ None
-    empty-at zero i = refl
-    empty-at (suc n) zero = refl
-    empty-at (suc n) (suc i) = empty-at n i

@@ -1,12 +1,12 @@
 -- The registers' next values, one by one.
-use Rattle.std.proofs.Common.{◌≡◌, ◌≢◌, ℕ, zero, suc, ◌<◌, ◌≤◌, ◌+◌, List, [], ◌∷◌, length, map, set, get_or, refl, sym, ◌∙◌, ap, subst, arith, below_more}
-use Rattle.std.proofs.lemmas.List.{get_or-map, get_or-set_same, get_or-set_other, get_or_default, length-map}
+use Rattle.std.proofs.Common.{◌≡◌, ℕ, zero, suc, ◌<◌, ◌≤◌, List, [], ◌∷◌, length, map, get_or, refl, sym, ◌∙◌, ap, arith}
+use Rattle.std.proofs.lemmas.List.{get_or_default, length-map}
 use Rattle.std.proofs.lemmas.Grind.{same_number_lists}
-use Rattle.gg_bits.specs.Shape.{Shape, shape, uint, Fits}
+use Rattle.gg_bits.specs.Shape.{Shape, shape}
 use Rattle.gg_flat.specs.declared.piece.Register.{Register}
-use Rattle.gg_flat.specs.Line.{shape_at, value_at, AreTyped}
+use Rattle.gg_flat.specs.Line.{value_at, AreTyped}
 use Rattle.gg_flat.specs.State.{next_register, next_registers}
-use Rattle.gg_flat.proofs.TypedLemmas.{AreTyped-set}
+use Rattle.gg_flat.proofs.ListLemmas.{some-item}
 
 -- the shapes of registers
 abbrev pub shapes_of_registers : List Register → List Shape
@@ -17,25 +17,6 @@ pub record Advanced (registers : List Register) (signals old : List ℕ) (k : �
   pub typed : AreTyped (shapes_of_registers registers) own
   pub next : (i : ℕ) → i < k → (register : Register) → register ≡ get_or registers i register → value_at own i ≡ next_register signals register (value_at old i)
   pub rest : (i : ℕ) → k ≤ i → value_at own i ≡ value_at old i
-
-pub Advanced-none : (registers : List Register) (signals own : List ℕ) → AreTyped (shapes_of_registers registers) own → Advanced registers signals own 0 own
-Advanced-none registers signals own typed = record { typed = typed; next = λ i lt. absurd (omega arith); rest = λ i le. refl }
-
-pub Advanced-more : (registers : List Register) (signals old : List ℕ) (k : ℕ) (own : List ℕ) (register : Register) (value : ℕ) → k < length registers → register ≡ get_or registers k register → Advanced registers signals old k own → value ≡ next_register signals register (value_at own k) → Fits (shape register.ty) value → Advanced registers signals old (k + 1) (set own k value)
-Advanced-more registers signals old k own register value within read before is fits =
-    let known : k < length (shapes_of_registers registers) = omega (arith, within, length-map registers (λ (x : Register). shape x.ty)) in
-    let room : k < length own = omega (arith, known, before.typed.count) in
-    let shape_is : shape_at (shapes_of_registers registers) k ≡ shape register.ty = get_or-map (λ (x : Register). shape x.ty) registers k register (uint 0) within ∙ ap (λ (x : Register). shape x.ty) (sym read) in
-    record {
-      typed = AreTyped-set (shapes_of_registers registers) own k value before.typed known (subst (λ s. Fits s value) (sym shape_is) fits);
-      next =
-          below_more (λ i. (other : Register) → other ≡ get_or registers i other → value_at (set own k value) i ≡ next_register signals other (value_at old i)) k
-          (λ i lt other at. get_or-set_other own k i value 0 (let ne : i ≢ k = omega arith in ne) ∙ before.next i lt other at)
-          (λ other at.
-          let same : register ≡ other = read ∙ get_or_default registers k register other within ∙ sym at in
-          get_or-set_same own k value 0 room ∙ is ∙ ap (next_register signals register) (before.rest k (omega arith)) ∙ ap (λ x. next_register signals x (value_at old k)) same);
-      rest = λ i le. get_or-set_other own k i value 0 (let ne : i ≢ k = omega arith in ne) ∙ before.rest i (omega arith);
-    }
 
 -- the next values of registers, by their places
 pub length-next_registers : (signals : List ℕ) (registers : List Register) (old : List ℕ) → length old ≡ length registers → length (next_registers signals registers old) ≡ length registers
@@ -49,16 +30,11 @@ next_registers-at signals (register ∷ registers) [] i some count lt = absurd (
 next_registers-at signals (register ∷ registers) (own ∷ old) zero some count lt = refl
 next_registers-at signals (register ∷ registers) (own ∷ old) (suc i) some count lt = next_registers-at signals registers old i some (omega arith) (omega arith)
 
--- some register of a list that isn't empty
-pub some-register : (registers : List Register) (i : ℕ) → i < length registers → Register
-some-register [] i within = absurd (omega arith)
-some-register (register ∷ registers) i within = register
-
 pub Advanced-all : (registers : List Register) (signals old own : List ℕ) → length old ≡ length registers → Advanced registers signals old (length registers) own → own ≡ next_registers signals registers old
 Advanced-all registers signals old own count advanced =
     let long : length own ≡ length registers = advanced.typed.count ∙ length-map registers (λ (x : Register). shape x.ty) in
     same_number_lists own (next_registers signals registers old) (long ∙ sym (length-next_registers signals registers old count)) (λ i lt.
     let within : i < length registers = omega (arith, lt, long) in
-    let some = some-register registers i within in
+    let some = some-item registers i within in
     advanced.next i within (get_or registers i some) (get_or_default registers i some (get_or registers i some) within)
     ∙ sym (next_registers-at signals registers old i some count within))

@@ -19,9 +19,10 @@ use Rattle.gg_flat.specs.Order.{IsOrder}
 use Rattle.gg_flat.specs.Along.{with_signal, settled_along, rows_from, rows_along}
 use Rattle.gg_flat.proofs.TypedLemmas.{AreTyped-zeros, HasSource-from, driver_value-fits, pattern_of-lt}
 use Rattle.gg_flat.proofs.SettleLemmas.{Partly, Partly-none, Partly-more, Settled-from_Partly}
-use Rattle.gg_flat.proofs.AdvanceLemmas.{length-next_registers, next_registers-at, some-register}
+use Rattle.gg_flat.proofs.AdvanceLemmas.{length-next_registers, next_registers-at}
 use Rattle.gg_flat.proofs.BankLemmas.{AreBanks-next, AreBanks-opening, memories-valued}
 use Rattle.gg_flat.proofs.RunLemmas.{IsRunFrom-none, IsRunFrom-push}
+use Rattle.gg_flat.proofs.ListLemmas.{some-item}
 
 -- after i steps along the order, its first i signals have their drivers' values
 Partly-along : (circuit : FlatCircuit) (order : List ℕ) (state : State) (inputs start : List ℕ) → IsWellFormed circuit → IsOrder circuit order → IsState circuit state → IsInputs circuit inputs → AreTyped (signal_shapes circuit) start → (i : ℕ) → i ≤ length order → Partly circuit state inputs order i (fold (with_signal circuit state inputs) start (take i order))
@@ -69,7 +70,7 @@ registers-typed circuit own signals typed =
       count = length-next_registers signals circuit.registers own count ∙ sym long;
       fits = λ i known.
           let within : i < length circuit.registers = omega (arith, known, long) in
-          let some = some-register circuit.registers i within in
+          let some = some-item circuit.registers i within in
           let shape_is : shape_at (register_shapes circuit) i ≡ shape (get_or circuit.registers i some).ty = get_or-map (λ (register : Register). shape register.ty) circuit.registers i some (uint 0) within in
           let old = subst (λ s. Fits s (value_at own i)) shape_is (typed.fits i known) in
           let next = next_register-fits signals (get_or circuit.registers i some) (value_at own i) old in

@@ -13,7 +13,7 @@ use Rattle.gg_flat.specs.declared.memory.Writer.{Writer}
 use Rattle.gg_flat.specs.declared.memory.Memory.{Memory}
 use Rattle.gg_flat.specs.Line.{value_at, AreTyped, HasType, HasValue}
 use Rattle.gg_flat.specs.Circuit.{FlatCircuit, signal_shapes}
-use Rattle.gg_flat.specs.Memory.{Bank, found_word, hits, next_word, next_words, next_reads, next_bank, next_banks, opening_bank, read_count, words_read, bank_at, AreWords, IsBank, AreBanks, LooksAmong, WritesAmong}
+use Rattle.gg_flat.specs.Memory.{Bank, found_word, hits, next_word, next_words, next_reads, next_bank, next_banks, opening_bank, read_count, words_read, bank_at, AreWords, IsBank, AreBanks}
 use Rattle.gg_flat.specs.Served.{Access, ByReader, ByWriter, Brings, written, after_access}
 use Rattle.gg_flat.specs.WellFormed.{IsWriter, IsMemory, IsWellFormed}
 use Rattle.gg_flat.proofs.TypedLemmas.{read_word-fits}
@@ -43,12 +43,6 @@ IsMemory-value shapes values memory typed is =
 
 pub memories-valued : (circuit : FlatCircuit) (signals : List ℕ) → IsWellFormed circuit → AreTyped (signal_shapes circuit) signals → All (IsMemory (HasValue signals)) circuit.memories
 memories-valued circuit signals formed typed = λ m d lt. IsMemory-value (signal_shapes circuit) signals (get_or circuit.memories m d) typed (formed.memories m d lt)
-
-pub looks-among : (signals : List ℕ) (memory : Memory) → IsMemory (HasValue signals) memory → All (LooksAmong (length signals)) memory.readers
-looks-among signals memory is r d lt = let reader = is.readers r d lt in (reader.address.0, reader.enable.0)
-
-pub writes-among : (signals : List ℕ) (memory : Memory) → IsMemory (HasValue signals) memory → All (WritesAmong (length signals)) memory.writers
-writes-among signals memory is w d lt = let writer = is.writers w d lt in (writer.address.0, writer.enable.0, writer.input.0, writer.masked.0)
 
 -- ---- one memory
 

@@ -1,3 +1,4 @@
+pub mod ListLemmas
 pub mod PathLemmas
 pub mod PortLemmas
 pub mod AgreeLemmas

@@ -1,7 +1,7 @@
 -- A memory after all accesses of its due list holds what it holds after the cycle.
 use Rattle.std.proofs.Common.{◌≡◌, ℕ, suc, ◌+◌, ◌<◌, inl, inr, get_or, replicate, take, List, [], ◌∷◌, ◌++◌, length, map, set, refl, sym, ◌∙◌, ap, ap₂, arith}
 use Rattle.std.specs.Prelude.{fold, ◌==◌, ◌&&◌, if◌then◌else◌}
-use Rattle.std.proofs.lemmas.List.{length-append, length-replicate, append_assoc, take_more}
+use Rattle.std.proofs.lemmas.List.{length-append, length-replicate, append_assoc, take_more, nil_from_length}
 use Rattle.std.proofs.lemmas.List.Sums.{fold-append}
 use Rattle.std.proofs.Math.Seq.{take-length}
 use Rattle.gg_flat.specs.declared.memory.UnderWrite.TheVariants.{Old, New, Undefined}
@@ -22,10 +22,6 @@ bank_of words reads = record { words = words; reads = reads }
 set-seam : (xs ys : List ℕ) (y v : ℕ) → set (xs ++ y ∷ ys) (length xs) v ≡ xs ++ v ∷ ys
 set-seam [] ys y v = refl
 set-seam (x ∷ xs) ys y v = ap (λ l. x ∷ l) (set-seam xs ys y v)
-
-empty : (xs : List ℕ) → length xs ≡ 0 → xs ≡ []
-empty [] count = refl
-empty (x ∷ xs) count = absurd (omega arith)
 
 module _ (signals : List ℕ) where
   -- after the accesses of all writers the words are written, and the read registers are as before
@@ -61,7 +57,7 @@ module _ (signals : List ℕ) where
 
   all-due : (latency : Latency) (readers : List Reader) (writers : List Writer) (words reads : List ℕ) → length reads ≡ read_count latency readers
       → fold (after_access signals) (bank_of words reads) (due_of latency readers writers) ≡ bank_of (next_words signals writers words) (next_reads signals latency readers words (next_words signals writers words))
-  all-due Zero readers writers words reads count = all-writers writers words reads ∙ ap (bank_of (next_words signals writers words)) (empty reads count)
+  all-due Zero readers writers words reads count = all-writers writers words reads ∙ ap (bank_of (next_words signals writers words)) (nil_from_length reads count)
   all-due (One Old) readers writers words reads count = old-due readers writers words reads count
   all-due (One Undefined) readers writers words reads count = old-due readers writers words reads count
   all-due (One New) readers writers words reads count =

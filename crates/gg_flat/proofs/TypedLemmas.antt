@@ -16,12 +16,13 @@ use Rattle.gg_flat.specs.declared.memory.Memory.{Memory}
 use Rattle.gg_flat.specs.declared.piece.Signal.{Signal}
 use Rattle.gg_flat.specs.declared.piece.Driver.{Driver}
 use Rattle.gg_flat.specs.declared.piece.Driver.TheVariants.{Input, Held, MemoryWord, ReadRegister, Computed}
-use Rattle.gg_flat.specs.Line.{shape_at, value_at, shapes_of, op_at, AreTyped, HasShape, HasType, HasValue, IsLine, IsSource, IsCondition}
+use Rattle.gg_flat.specs.Line.{shape_at, value_at, shapes_of, op_at, AreTyped, HasShape, HasType, HasValue, IsLine, IsSource}
 use Rattle.gg_flat.specs.Circuit.{FlatCircuit, signal_shapes, register_shapes, driver_at, readers_at, latency_at, reader_at}
 use Rattle.gg_flat.specs.Memory.{read_word, read_count, bank_at}
 use Rattle.gg_flat.specs.WellFormed.{IsWellFormed, MayDrive, IsDataOf, IsReader, reader_driver}
 use Rattle.gg_flat.specs.State.{State, IsState}
 use Rattle.gg_flat.specs.Settled.{IsInputs, in_shapes, HasSource, driver_value}
+use Rattle.gg_flat.proofs.ListLemmas.{some-item}
 
 -- a pattern of w bits is below 2 ^ w
 pub pattern_of-lt : (w : ℕ) (z : ℤ) → pattern_of w z < 2 ^ w
@@ -60,9 +61,6 @@ IsLine-value shapes values nodes typed line =
 pub IsSource-value : (shapes : List Shape) (values : List ℕ) (sink : Shape) (nodes : List Node) → AreTyped shapes values → IsSource (HasType shapes) sink nodes → IsSource (HasValue values) sink nodes
 IsSource-value shapes values sink nodes typed source = record { line = IsLine-value shapes values nodes typed source.line; kind = source.kind; width = source.width }
 
-pub IsCondition-value : (shapes : List Shape) (values : List ℕ) (nodes : List Node) → AreTyped shapes values → IsCondition (HasType shapes) nodes → IsCondition (HasValue values) nodes
-IsCondition-value shapes values nodes typed condition = record { line = IsLine-value shapes values nodes typed condition.line; bit = condition.bit }
-
 -- the shape of the in-signal at a place
 pub shape_at-in_shapes : (circuit : FlatCircuit) (place : ℕ) → place < length circuit.ins → shape_at (in_shapes circuit) place ≡ shape_at (signal_shapes circuit) (value_at circuit.ins place)
 shape_at-in_shapes circuit place within = get_or-map (shape_at (signal_shapes circuit)) circuit.ins place 0 (uint 0) within
@@ -80,11 +78,6 @@ pub record HasReader (circuit : FlatCircuit) (m r s : ℕ) : Type 0 where
   pub sink : shape_at (signal_shapes circuit) s ≡ shape memory.word
   pub driver : driver_at circuit s ≡ reader_driver memory.latency m r reader
 
--- some memory of a list that isn't empty
-pub some-memory : (memories : List Memory) (m : ℕ) → m < length memories → Memory
-some-memory [] m within = absurd (omega arith)
-some-memory (memory ∷ memories) m within = memory
-
 -- the place of a memory that has a reader is in the list
 pub within-readers : (memories : List Memory) (m r : ℕ) → r < length (slice_index_or (map (λ (k : Memory). k.readers) memories) m []) → m < length memories
 within-readers [] zero r lt = absurd (omega arith)
@@ -95,7 +88,7 @@ within-readers (memory ∷ memories) (suc m) r lt = let before = within-readers 
 pub has-reader : (circuit : FlatCircuit) (m r s : ℕ) → IsWellFormed circuit → IsDataOf circuit m r s → HasReader circuit m r s
 has-reader circuit m r s formed of =
     let within = within-readers circuit.memories m r of.0 in
-    let some = some-memory circuit.memories m within in
+    let some = some-item circuit.memories m within in
     let memory = get_or circuit.memories m some in
     let found : get_or circuit.memories m memory ≡ memory = get_or_default circuit.memories m memory some within in
     let readers : readers_at circuit m ≡ memory.readers = get_or-map (λ (k : Memory). k.readers) circuit.memories m some [] within in

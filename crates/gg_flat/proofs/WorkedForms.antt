@@ -46,6 +46,11 @@ apart a b unequal e = true≢false (sym (eq-eqb a b e) ∙ unequal)
 pub differ : (a b : ℕ) → eqb a b ≡ false → (a ∷ []) ≢ (b ∷ [])
 differ a b unequal e = apart a b unequal (ap (λ l. value_at l 0) e)
 
+-- a name of one byte that isn't a dot
+pub letter : (byte : ℕ) → byte ≢ 46 → ¬ Contains (byte ∷ []) 46
+letter byte other (zero, lt, is) = other is
+letter byte other (suc k, lt, is) = absurd (omega arith)
+
 module _ {X : Type 0} where
   -- lists of one, two and four elements that differ
   pub single : (x : X) → AllPairs (λ a b. a ≢ b) (x ∷ [])

@@ -2,7 +2,7 @@
 --
 -- The top has the input `x` and the output `q`, which it connects to the output `b` of its instance `u`; `u.a` is connected to
 -- `x`. In `u`, `b` is the node `n`, and `n` is the input `a`.
-use Rattle.std.proofs.Common.{◌≡◌, ◌≢◌, ℕ, zero, suc, ◌<◌, ◌≤◌, ◌⊎◌, inl, inr, List, [], ◌∷◌, Some, None, true, false, refl, sym, ◌∙◌, ap, subst, arith, lit<, lit≤}
+use Rattle.std.proofs.Common.{◌≡◌, ◌≢◌, ℕ, zero, suc, ◌<◌, ◌≤◌, ◌⊎◌, inl, inr, [], ◌∷◌, Some, None, true, false, refl, sym, ◌∙◌, ap, subst, arith, lit<, lit≤}
 use Rattle.std.specs.Prelude.{Contains, AllPairs, slice_index_or}
 use Rattle.std.proofs.lemmas.Bool.{cases_lt}
 use Rattle.std.proofs.lemmas.List.Kept.{AllPairs-cons}
@@ -14,8 +14,8 @@ use Rattle.gg_flat.specs.declared.tree.InstancePort.{InstancePort}
 use Rattle.gg_flat.specs.Circuit.{FlatCircuit, driver_at}
 use Rattle.gg_flat.specs.Reads.{NamesSignal}
 use Rattle.gg_flat.specs.Tree.{InstanceTree, IsInnermost, IsJustBelow, Holds, path_at, instance_at, parent_place}
-use Rattle.gg_flat.specs.Scoped.{IsPort, IsInputOf, IsChildsInput, IsChildsPort, IsOwnSink, IsWritten, IsVisible, IsOwnPort, IsScoped}
-use Rattle.gg_flat.proofs.WorkedForms.{only, both, apart, same}
+use Rattle.gg_flat.specs.Scoped.{IsPort, IsInputOf, IsChildsInput, IsOwnSink, IsWritten, IsVisible, IsOwnPort, IsScoped}
+use Rattle.gg_flat.proofs.WorkedForms.{only, both, apart, same, letter}
 use Rattle.gg_flat.proofs.WorkedCircuits.{eight}
 use Rattle.gg_flat.proofs.WorkedMemories.{signal, copy}
 
@@ -48,11 +48,6 @@ lower = record { parent = Some 0; «module» = 1; first = 2; end = 5; ports = in
 
 abbrev tree : InstanceTree
 tree = record { paths = [] ∷ (117 ∷ []) ∷ []; instances = top ∷ lower ∷ []; memory_paths = []; memories = [] }
-
--- a name of one byte that isn't a dot
-letter : (byte : ℕ) → byte ≢ 46 → ¬ Contains (byte ∷ []) 46
-letter byte other (zero, lt, is) = other is
-letter byte other (suc k, lt, is) = absurd (omega arith)
 
 -- ---- the instance that each signal belongs to
 

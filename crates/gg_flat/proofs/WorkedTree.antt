@@ -1,12 +1,12 @@
 -- A small tree is the tree of its circuit, and those with one flaw each are not.
-use Rattle.std.proofs.Common.{◌≡◌, ◌≢◌, ℕ, zero, suc, ◌<◌, ◌≤◌, List, [], ◌∷◌, Some, None, false, refl, sym, ap, subst, arith, lit<, lit≤}
+use Rattle.std.proofs.Common.{◌≡◌, ℕ, zero, suc, ◌<◌, ◌≤◌, List, [], ◌∷◌, Some, None, false, refl, sym, ap, subst, arith, lit<, lit≤}
 use Rattle.std.specs.Prelude.{Contains, slice_index_or}
 use Rattle.gg_flat.specs.declared.memory.Latency.TheVariants.{Zero}
 use Rattle.gg_flat.specs.declared.tree.Instance.{Instance}
 use Rattle.gg_flat.specs.Line.{value_at}
 use Rattle.gg_flat.specs.Circuit.{FlatCircuit}
 use Rattle.gg_flat.specs.Tree.{InstanceTree, IsTree, IsBelow, IsInstance, IsHeld, IsInnermost, IsWithin, Holds, path_at, instance_at, parent_place, joined}
-use Rattle.gg_flat.proofs.WorkedForms.{only, both, pair, single, apart}
+use Rattle.gg_flat.proofs.WorkedForms.{only, both, pair, single, apart, letter}
 use Rattle.gg_flat.proofs.WorkedCircuits.{eight}
 use Rattle.gg_flat.proofs.WorkedMemories.{high}
 
@@ -40,11 +40,6 @@ with_lower instance =
 
 abbrev tree : InstanceTree
 tree = with_lower lower
-
--- a name of one byte that isn't a dot
-letter : (byte : ℕ) → byte ≢ 46 → ¬ Contains (byte ∷ []) 46
-letter byte other (zero, lt, is) = other is
-letter byte other (suc k, lt, is) = absurd (omega arith)
 
 below : (k : ℕ) → 0 < k → k < 2 → IsBelow tree k
 below zero positive lt = absurd (omega arith)

@@ -3,14 +3,15 @@ use Rattle.std.proofs.Common.{◌≡◌, ◌≢◌, ℕ, zero, suc, List, [], �
 use Rattle.std.specs.Prelude.{Contains, flat_map}
 use Rattle.std.proofs.lemmas.List.{map-append}
 use Rattle.std.proofs.lemmas.Grind.{flat_map-append}
+use Rattle.std.proofs.lemmas.Simd.{map-map}
 use Rattle.gg_ast.specs.Tree.{ModuleTree}
 use Rattle.gg_flat.specs.Tree.{joined}
+use Rattle.gg_flat.proofs.ListLemmas.{further, Contains-map, map-same}
 use Rattle.gg_count.specs.Sites.{Held, Site, site_below, sites, held_at}
-use Rattle.gg_digest.proofs.FlatLemmas.{map-twice}
 use Rattle.gg_digest.proofs.NameLemmas.{Differ, Differ-tail}
 use Rattle.gg_tree.proofs.DeclaredLemmas.{Differ-head}
 use Rattle.gg_tree.proofs.JoinLemmas.{joined-twice}
-use Rattle.gg_digest.proofs.AmongLemmas.{further, MadeOf, from-map, in-map, from-flat_map}
+use Rattle.gg_digest.proofs.AmongLemmas.{MadeOf, from-map, from-flat_map}
 use Rattle.gg_formed.proofs.DifferLemmas.{Differ-none, Differ-append, Differ-map, IsDotless, behind-once, first-once}
 
 -- the name of something in an instance: the instance's name, a dot, and its name there
@@ -21,10 +22,6 @@ behind h r = h.name ++ 46 ∷ r
 pub joined-same : (p a b : List ℕ) → joined p a ≡ joined p b → a ≡ b
 joined-same [] a b e = e
 joined-same (c ∷ cs) a b e = behind-once (c ∷ cs) a b e
-
-map-same : {A B : Type 0} (f g : A → B) (xs : List A) → ((x : A) → f x ≡ g x) → map f xs ≡ map g xs
-map-same f g [] h = refl
-map-same f g (x ∷ xs) h = ap₂ (λ y l. y ∷ l) (h x) (map-same f g xs h)
 
 -- What is known of the names of modules: what each has of its own differs; so do its instances' names, which aren't empty and
 -- have no dot; and nothing of its own is named as something in an instance.
@@ -54,7 +51,7 @@ module _ (modules : List ModuleTree) (own : ℕ → List (List ℕ)) (are : AreA
       clash w a b =
           let c = from-map (behind b.of) (names_below n b.of.number) w b.made in
           let same = first-once h.name b.of.name a.of c.of (are.plain k h (each h (0, omega arith, refl))) (are.plain k b.of (each b.of (further h hs b.of b.among))) (a.made ∙ sym c.made) in
-          Differ-head h.name (map (λ (x : Held). x.name) hs) differ (subst (Contains (map (λ (x : Held). x.name) hs)) (sym same) (in-map (λ (x : Held). x.name) hs b.of b.among))
+          Differ-head h.name (map (λ (x : Held). x.name) hs) differ (subst (Contains (map (λ (x : Held). x.name) hs)) (sym same) (Contains-map (λ (x : Held). x.name) hs b.of b.among))
 
   names-differ : (n k : ℕ) → Differ (names_below n k)
   names-differ zero k = are.differ k
@@ -79,7 +76,7 @@ module _ (modules : List ModuleTree) (own : ℕ → List (List ℕ)) (are : AreA
       ∙ ap₂ (λ a b. a ++ b)
       (below (site_below x h)
       ∙ map-same (joined (joined x.path h.name)) (λ r. joined x.path (behind h r)) (names_below n h.number) (λ r. sym (joined-twice x.path h.name r (some h (0, omega arith, refl))))
-      ∙ sym (map-twice (joined x.path) (behind h) (names_below n h.number)))
+      ∙ sym (map-map (joined x.path) (behind h) (names_below n h.number)))
       (along-paths n x below hs (λ y c. some y (further h hs y c)))
       ∙ sym (map-append (joined x.path) (map (behind h) (names_below n h.number)) (flat_map (λ h. map (behind h) (names_below n h.number)) hs))
 

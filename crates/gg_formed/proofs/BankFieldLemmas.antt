@@ -72,7 +72,7 @@ some-depth (Some word) depth (Some latency) readers writers bank e = go (nat_lt 
         omega (arith, same, some)
     go false is e = absurd (cc)
 
-abbrev bank_or : OwnBank → Option OwnBank → OwnBank
+abbrev pub bank_or : OwnBank → Option OwnBank → OwnBank
 bank_or b None = b
 bank_or b (Some x) = x
 

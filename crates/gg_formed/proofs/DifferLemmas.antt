@@ -11,7 +11,8 @@ use Rattle.gg_digest.proofs.NameLemmas.{Differ}
 use Rattle.gg_tree.proofs.DeclaredLemmas.{Differ-behind, Differ-parts}
 use Rattle.gg_tree.proofs.JoinLemmas.{dot-within}
 use Rattle.gg_tree.proofs.OwnLemmas.{front}
-use Rattle.gg_digest.proofs.AmongLemmas.{element-at, further, MadeOf, in-flat_map, from-flat_map}
+use Rattle.gg_digest.proofs.AmongLemmas.{element-at, MadeOf, in-flat_map, from-flat_map}
+use Rattle.gg_flat.proofs.ListLemmas.{further}
 
 -- ---- words that differ
 

@@ -21,13 +21,14 @@ use Rattle.gg_flat.specs.Line.{shape_at, value_at, HasType}
 use Rattle.gg_flat.specs.Memory.{address_width}
 use Rattle.gg_flat.specs.Tree.{joined}
 use Rattle.gg_flat.specs.WellFormed.{IsDataOf, MayDrive, IsReader, IsWriter, IsMemory, reader_driver, AreDriven, IsWellFormed}
+use Rattle.gg_flat.proofs.ListLemmas.{Contains-map}
 use Rattle.gg_count.specs.Sites.{Site, Outer, top_site, module_at, all_sites, sites_from, sites_of, sites}
 use Rattle.gg_formed.specs.Fitting.{FitsDriver, AreFitting}
 use Rattle.gg_digest.specs.Flat.{Drive, Outside, Gets, Holds, Answers, drive_of, FlatSignal, flat_signal, signals_at, flat_signals, FlatMemory, flat_memory, memories_at, flat_memories}
 use Rattle.gg_digest.specs.IsFlat.{IsDrivenBy, IsMemoryOf, IsFlatOf, IsFlat, answer, number_of, field_number, reader_of, writer_of, is_outside, is_register, drive_at, count_before, signals_of, memory_paths, port_names, top_ports}
 use Rattle.gg_digest.specs.Known.{types_of}
 use Rattle.gg_digest.specs.Signals.{Types, Cause, FromOutside, Connected, Expressed, Kept, Answered, Own, own, own_of_port, own_of_kind, own_signals, OwnBank, own_banks, field_name, reader_signals, writer_signals}
-use Rattle.gg_digest.proofs.AmongLemmas.{Element, element-at, in-map, MadeOf, from-map, in-flat_map, from-flat_map}
+use Rattle.gg_digest.proofs.AmongLemmas.{Element, element-at, MadeOf, from-map, in-flat_map, from-flat_map}
 use Rattle.gg_formed.proofs.BankFieldLemmas.{bank-signal, reader-among, writer-among, bank-depth, AnswerAmong, answer-among}
 use Rattle.gg_tree.proofs.JoinLemmas.{joined-behind}
 use Rattle.gg_digest.proofs.NameLemmas.{Differ, place_of-at}
@@ -137,7 +138,7 @@ module _ (types : Types) (modules : List ModuleTree) (top : ℕ) (flat : FlatCir
 
   -- a site's own signal is one of the circuit's
   signal-in : (x : Site) (o : Own) → Contains (all_sites modules top) x → Contains (own_at x) o → Contains all (flat_signal modules x o)
-  signal-in x o c k = in-flat_map (signals_at types modules) (all_sites modules top) x (flat_signal modules x o) c (in-map (flat_signal modules x) (own_at x) o k)
+  signal-in x o c k = in-flat_map (signals_at types modules) (all_sites modules top) x (flat_signal modules x o) c (Contains-map (flat_signal modules x) (own_at x) o k)
 
   -- a site's own signal stands at the number of its path
   place-of : (x : Site) (o : Own) → Contains (all_sites modules top) x → Contains (own_at x) o → Stands all (flat_signal modules x o) (number_of paths (joined x.path o.name))
@@ -354,7 +355,7 @@ module _ (types : Types) (modules : List ModuleTree) (top : ℕ) (flat : FlatCir
       known =
           subst (λ path. Stands banks (flat_memory x b) (number_of (memory_paths banks) path)) (sym memory_is)
           (stands-at (λ (y : FlatMemory). y.path) banks (flat_memory x b) memories
-          (in-flat_map (memories_at modules) (all_sites modules top) x (flat_memory x b) site.among (in-map (flat_memory x) (own_banks (module_at modules x.number).statements) b answered.listed)))
+          (in-flat_map (memories_at modules) (all_sites modules top) x (flat_memory x b) site.among (Contains-map (flat_memory x) (own_banks (module_at modules x.number).statements) b answered.listed)))
 
       readers : readers_at flat m ≡ map (reader_of paths (joined x.path b.name)) b.bank.readers
       readers = reader-there m (omega (arith, known.inside, is_flat.memory_count)) (record { site = x; there = site.among; bank = b; listed = answered.listed; is = known })

@@ -4,6 +4,7 @@ use Rattle.std.specs.Prelude.{Contains, All, flat_map, filter_map, option_map}
 use Rattle.std.proofs.lemmas.List.{map-append, length-map, get_or-map}
 use Rattle.std.proofs.lemmas.List.Concat.{flat_map_single}
 use Rattle.std.proofs.lemmas.List.Elements.{Contains-append_cases, All-contains}
+use Rattle.std.proofs.lemmas.Simd.{map-map}
 use Rattle.gg_bits.specs.Shape.{Shape}
 use Rattle.gg_ast.specs.Names.{IsPortNamed, AreNamesOfKind, AreNamesOfStatement, AreNamesOfCircuit}
 use Rattle.gg_ast.specs.declared.expression.Reference.TheVariants as reference
@@ -17,13 +18,13 @@ use Rattle.gg_names.specs.Along.{along, along_from}
 use Rattle.gg_names.specs.Namespace.{name_by, name_by_kind, port_names, names_in, names_after}
 use Rattle.gg_names.specs.Repetitions.{repeated_in, repeated_in_field, repeated_port, repeated_by, repeated_by_kind, repeated_declarations, repetitions}
 use Rattle.gg_flat.specs.Tree.{joined}
+use Rattle.gg_flat.proofs.ListLemmas.{Contains-map}
 use Rattle.gg_count.specs.Sites.{Held, Site, top_site, module_at, held_at, held_by_kind, sites_from, sites_of}
 use Rattle.gg_digest.specs.Flat.{FlatSignal, flat_signal, signals_at, FlatMemory, flat_memory, memories_at}
 use Rattle.gg_digest.specs.IsFlat.{memory_paths}
 use Rattle.gg_digest.specs.Known.{types_of}
 use Rattle.gg_digest.specs.Memories.{Bank, bank_of, type_shape}
 use Rattle.gg_digest.specs.Signals.{Types, Cause, Connected, Expressed, Kept, Own, own, own_of_port, cause_of_port, own_of_kind, own_signals, OwnBank, own_bank, own_banks, bank_of_kind, memory_signals}
-use Rattle.gg_digest.proofs.FlatLemmas.{map-twice}
 use Rattle.gg_digest.proofs.FreshLemmas.{Differ-front}
 use Rattle.gg_digest.proofs.NameLemmas.{Differ}
 use Rattle.gg_tree.specs.IsTreeOf.{site_paths, signal_paths, memories_of}
@@ -34,10 +35,11 @@ use Rattle.gg_tree.proofs.JoinLemmas.{dot-within}
 use Rattle.gg_tree.proofs.OwnLemmas.{own_in}
 use Rattle.gg_tree.proofs.SoundLemmas.{apart-names}
 use Rattle.gg_tree.proofs.WordLemmas.{ports-named, held-word, bank-word, BankWords}
-use Rattle.gg_digest.proofs.AmongLemmas.{MadeOf, in-map, from-map, in-flat_map, from-flat_map, in-filter_map}
+use Rattle.gg_digest.proofs.AmongLemmas.{MadeOf, from-map, in-flat_map, from-flat_map, in-filter_map}
 use Rattle.gg_formed.proofs.ApartLemmas.{behind, AreApart, own_paths, paths-differ}
 use Rattle.gg_formed.proofs.DifferLemmas.{Differ-none, Differ-one, Differ-append, IsDotless, first-once, BeginsIn, begins-apart, parts-differ, filter_map-parts, flat_map-parts}
 use Rattle.gg_formed.proofs.PortNameLemmas.{bank-differs, fields-apart}
+use Rattle.gg_formed.proofs.BankFieldLemmas.{bank_or}
 
 -- ---- the names of statements
 
@@ -110,10 +112,6 @@ kind-apart types k (says.Stop clock condition code label) h = Differ-none
 kind-apart types k (says.Report word arguments label) h = Differ-none
 
 -- ---- the ports of memories, if no name is repeated
-
-abbrev bank_or : OwnBank → Option OwnBank → OwnBank
-bank_or b None = b
-bank_or b (Some x) = x
 
 kind-ports : (names : List (List ℕ)) (line : ℕ) (kind : StmtKind) (b : OwnBank) → repeated_by_kind names line kind ≡ [] → bank_of_kind kind ≡ Some b → Differ (b.bank.readers ++ b.bank.writers)
 kind-ports names line (says.Wire name ty) b h e = absurd (cc)
@@ -215,7 +213,7 @@ module _ (circuit : CircuitTree) (are_names : AreNamesOfCircuit circuit) (once :
   ports-begin k w c =
       let p = from-flat_map port_words (body k).ports w c in
       let b = optional-begins p.of.name (cause_of_port p.of.direction) (type_shape p.of.ty) w p.made in
-      record { first = p.of.name; among = in-map (λ (q : Port). q.name) (body k).ports p.of p.among; is = named p.of.name w b }
+      record { first = p.of.name; among = Contains-map (λ (q : Port). q.name) (body k).ports p.of p.among; is = named p.of.name w b }
     where
       named : (n w : List ℕ) → BeginsIn (n ∷ []) w → (w ≡ n) ⊎ ((r : List ℕ) × (w ≡ n ++ 46 ∷ r))
       named n w b = subst (λ (x : List ℕ). (w ≡ x) ⊎ ((r : List ℕ) × (w ≡ x ++ 46 ∷ r))) (one-word n b.first b.among) b.is
@@ -355,8 +353,8 @@ module _ (circuit : CircuitTree) (are_names : AreNamesOfCircuit circuit) (once :
     where
       same : (s : Site) → map (λ (x : FlatSignal). x.path) (signals_at (types_of circuit) circuit.modules s) ≡ map (joined s.path) (own_names s.number)
       same s =
-          map-twice (λ (x : FlatSignal). x.path) (flat_signal circuit.modules s) (own_signals (types_of circuit) s.number (body s.number))
-          ∙ sym (map-twice (joined s.path) (λ (o : Own). o.name) (own_signals (types_of circuit) s.number (body s.number)))
+          map-map (λ (x : FlatSignal). x.path) (flat_signal circuit.modules s) (own_signals (types_of circuit) s.number (body s.number))
+          ∙ sym (map-map (joined s.path) (λ (o : Own). o.name) (own_signals (types_of circuit) s.number (body s.number)))
 
   pub memory-paths-differ : Differ (memory_paths (memories_of circuit))
   memory-paths-differ =
@@ -365,8 +363,8 @@ module _ (circuit : CircuitTree) (are_names : AreNamesOfCircuit circuit) (once :
     where
       same : (s : Site) → map (λ (x : FlatMemory). x.path) (memories_at circuit.modules s) ≡ map (joined s.path) (bank_names s.number)
       same s =
-          map-twice (λ (x : FlatMemory). x.path) (flat_memory s) (own_banks (body s.number).statements)
-          ∙ sym (map-twice (joined s.path) (λ (b : OwnBank). b.name) (own_banks (body s.number).statements))
+          map-map (λ (x : FlatMemory). x.path) (flat_memory s) (own_banks (body s.number).statements)
+          ∙ sym (map-map (joined s.path) (λ (b : OwnBank). b.name) (own_banks (body s.number).statements))
 
   pub site-paths-differ : Differ (site_paths circuit)
   site-paths-differ =

@@ -1,7 +1,7 @@
 -- The ports of a memory have different names, and so have their fields.
 use Rattle.std.proofs.Common.{◌≡◌, ◌⊎◌, inl, inr, ℕ, zero, suc, List, [], ◌∷◌, ◌++◌, Some, map, refl, sym, ap, ap₂, ◌∙◌, subst, arith, codes, append_assoc, append-nil}
 use Rattle.std.specs.Prelude.{Contains, flat_map, option_and_then, unwrap_or}
-use Rattle.std.proofs.lemmas.List.{map-append}
+use Rattle.std.proofs.lemmas.List.{map-append, map-id}
 use Rattle.std.proofs.lemmas.List.Concat.{flat_map_single}
 use Rattle.std.proofs.lemmas.List.Elements.{Contains-append_left, Contains-append_right, Contains-append_cases}
 use Rattle.std.proofs.lemmas.Grind.{flat_map-append}
@@ -155,11 +155,7 @@ ports-apart words of differ is ports apart plain =
     (λ p w c k. begins p w (from-map (dot p) words w (subst (λ l. Contains l w) (is p) k)))
   where
     single : flat_map (λ (p : List ℕ). p ∷ []) ports ≡ ports
-    single = flat_map_single (λ (p : List ℕ). p) ports ∙ same ports
-      where
-        same : (xs : List (List ℕ)) → map (λ (p : List ℕ). p) xs ≡ xs
-        same [] = refl
-        same (x ∷ xs) = ap (λ l. x ∷ l) (same xs)
+    single = flat_map_single (λ (p : List ℕ). p) ports ∙ map-id ports
 
     begins : (p w : List ℕ) → MadeOf (λ r z. dot p r ≡ z) words w → BeginsIn (p ∷ []) w
     begins p w m = record { first = p; among = (0, omega arith, refl); is = inr (m.of, sym m.made) }

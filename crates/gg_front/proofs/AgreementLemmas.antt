@@ -64,6 +64,10 @@ unread-once line_once text one other (AtLine utf8 n line at tells) (AtLine utf8'
     tells-once m line' one other
     (subst (λ (l : LineTokens). TellsLine m l one) same.1 (subst (λ (k : ℕ). TellsLine k line one) same.0 tells)) tells'
 
+-- a text has at most one fault of reading
+pub read-once : OneFaultLine → (text : List ℕ) (one other : ReadFault) → one ≢ unread.NoMemory → HasReadFault text one → other ≢ unread.NoMemory → HasReadFault text other → one ≡ other
+read-once line_once text one other some has some' has' = unread-once line_once text one other (unread-by text one some has) (unread-by text other some' has')
+
 -- ---- faults of circuits
 
 first-once : (faults : List Fault) (one other : Fault) → first faults ≡ Some one → first faults ≡ Some other → one ≡ other
@@ -110,7 +114,7 @@ first-alike circuit one other (OfLoop sound within flat flattened told) (OfLoop 
 
 pub faults-agree : OneCircuit → OneFaultLine → (text : List ℕ) (one other : FrontFault) → HasFrontFault text one → HasFrontFault text other → Agree one other
 faults-agree spelt_once line_once text (front.Read one) (front.Read other) a b =
-    unread-once line_once text one other (unread-by text one a.1 a.0) (unread-by text other b.1 b.0)
+    read-once line_once text one other a.1 a.0 b.1 b.0
 faults-agree spelt_once line_once text (front.Read one) (front.Fault other) a b = read-told text one other a.1 a.0 b
 faults-agree spelt_once line_once text (front.Read one) front.NoMemory a b = tt
 faults-agree spelt_once line_once text (front.Fault one) (front.Read other) a b = read-told text other one b.1 b.0 a

@@ -1,6 +1,7 @@
 -- A circuit has only one tree, and all its flat circuits have the same memories.
-use Rattle.std.proofs.Common.{◌≡◌, ℕ, suc, ◌+◌, ◌<◌, List, [], ◌∷◌, Option, None, Some, Bool, length, refl, sym, ap, ◌∙◌, arith}
-use Rattle.std.specs.Prelude.{flat_map, slice_index_or}
+use Rattle.std.proofs.Common.{◌≡◌, ℕ, ◌+◌, ◌<◌, List, [], ◌∷◌, Option, None, Some, Bool, length, refl, sym, ap, ◌∙◌, arith}
+use Rattle.std.specs.Prelude.{flat_map}
+use Rattle.std.proofs.lemmas.List.{same_lists}
 use Rattle.gg_ast.specs.declared.module.Port.{Port}
 use Rattle.gg_ast.specs.Tree.{CircuitTree}
 use Rattle.gg_flat.specs.Circuit.{FlatCircuit}
@@ -14,6 +15,7 @@ use Rattle.gg_flat.specs.declared.memory.Writer.{Writer}
 use Rattle.gg_flat.specs.declared.tree.Instance.{Instance}
 use Rattle.gg_flat.specs.declared.tree.InstancePort.{InstancePort}
 use Rattle.gg_flat.specs.declared.tree.MemoryInstance.{MemoryInstance}
+use Rattle.gg_flat.proofs.ListLemmas.{some-item}
 use Rattle.gg_count.specs.Sites.{Site, Outer, module_at, sites_of}
 use Rattle.gg_digest.specs.Flat.{FlatMemory, memories_at, signals_at}
 use Rattle.gg_digest.specs.IsFlat.{IsFlat, IsMemoryOf}
@@ -121,15 +123,6 @@ tree-same circuit a b p q =
 
 -- ---- memories of flat circuits
 
--- lists that agree at each place are the same
-places-same : {A : Type 0} (xs ys : List A) → length xs ≡ length ys → ((m : ℕ) (any : A) → m < length xs → slice_index_or xs m any ≡ slice_index_or ys m any) → xs ≡ ys
-places-same [] [] e h = refl
-places-same [] (y ∷ ys) e h = absurd (omega (arith, e))
-places-same (x ∷ xs) [] e h = absurd (omega (arith, e))
-places-same (x ∷ xs) (y ∷ ys) e h =
-    let head : x ≡ y = h 0 x (omega arith) in
-    let rest : xs ≡ ys = places-same xs ys (omega (arith, e)) (λ m any lt. h (suc m) any (omega (arith, lt))) in cc
-
 abbrev bank_made : Ty → ℕ → Latency → List Reader → List Writer → Memory
 bank_made word depth latency readers writers = record { word = word; depth = depth; latency = latency; readers = readers; writers = writers }
 
@@ -142,13 +135,8 @@ bank-same paths said a b p q =
     ∙ ap (λ (x : List Reader). bank_made b.word b.depth b.latency x a.writers) (p.readers ∙ sym q.readers)
     ∙ ap (λ (x : List Writer). bank_made b.word b.depth b.latency b.readers x) (p.writers ∙ sym q.writers)
 
--- a default for lists with a place m: their first element
-some-default : {A : Type 0} (xs : List A) (m : ℕ) → m < length xs → A
-some-default [] m lt = absurd (omega (arith, lt))
-some-default (x ∷ xs) m lt = x
-
 pub banks-same : (circuit : CircuitTree) (one other : FlatCircuit) → IsFlat circuit one → IsFlat circuit other → one.memories ≡ other.memories
 banks-same circuit one other p q =
-    places-same one.memories other.memories (p.memory_count ∙ sym q.memory_count)
-    (λ m any lt. let below : m < length (memories_of circuit) = omega (arith, lt, p.memory_count) in let said = some-default (memories_of circuit) m below in
+    same_lists one.memories other.memories (p.memory_count ∙ sym q.memory_count)
+    (λ m any lt. let below : m < length (memories_of circuit) = omega (arith, lt, p.memory_count) in let said = some-item (memories_of circuit) m below in
     bank-same _ _ _ _ (p.memories m said any below) (q.memories m said any below))

@@ -1,24 +1,15 @@
 -- Ascending lists: the places of their numbers, and the lists that an increasing function makes of them.
-use Rattle.std.proofs.Common.{◌≡◌, ℕ, ◌<◌, List, length, map, get_or, Bool, sym, ◌∙◌, ap, subst, inl, inr, ◌⊎◌, arith}
-use Rattle.std.specs.Prelude.{filter, Contains, AllPairs}
-use Rattle.std.specs.List.{range_with_len}
+use Rattle.std.proofs.Common.{◌≡◌, ℕ, ◌<◌, List, length, map, get_or, sym, ◌∙◌, ap, subst, inl, inr, ◌⊎◌, arith}
+use Rattle.std.specs.Prelude.{Contains, AllPairs}
 use Rattle.std.proofs.lemmas.Bool.{cases_order}
 use Rattle.std.proofs.lemmas.List.{length-map, get_or-map}
 use Rattle.std.proofs.lemmas.List.Elements.{Contains-get_or}
-use Rattle.std.proofs.lemmas.List.FromFn.{length-range_with_len, get_or-range_with_len}
-use Rattle.std.proofs.lemmas.List.Kept.{AllPairs-filter}
 use Rattle.gg_flat.specs.Line.{value_at}
-use Rattle.gg_closed.proofs.ListLemmas.{map-cases, Contains-map}
+use Rattle.gg_flat.proofs.ListLemmas.{Contains-map}
+use Rattle.gg_closed.proofs.ListLemmas.{map-cases}
 use Rattle.gg_check.proofs.SameCutLemmas.{ascending-same}
 use Rattle.gg_sound.specs.Built.{place_in}
 use Rattle.gg_sound.proofs.NumberLemmas.{placed}
-
--- the numbers below n that pass a test are ascending
-pub numbers-up : (test : ℕ → Bool) (n : ℕ) → AllPairs (λ a b. a < b) (filter test (range_with_len 0 n))
-numbers-up test n = AllPairs-filter (λ a b. a < b) test (range_with_len 0 n)
-    (λ i j d lt inside.
-    let high : j < n = omega (arith, inside, length-range_with_len 0 n) in
-    omega (arith, lt, get_or-range_with_len 0 n i d (omega (arith, lt, high)), get_or-range_with_len 0 n j d high))
 
 -- of two numbers in an ascending list, the smaller one comes first
 pub place-up : (numbers : List ℕ) (c d : ℕ) → AllPairs (λ a b. a < b) numbers → Contains numbers c → Contains numbers d → c < d → place_in numbers c < place_in numbers d

@@ -1,11 +1,12 @@
 -- The channel of a signal.
 use Rattle.std.proofs.Common.{◌≡◌, ◌≢◌, ℕ, ◌<◌, List, length, true≢false, refl, sym, ◌∙◌, ap, Some, None, eq-eqb, true-eqb}
 use Rattle.std.specs.Prelude.{Option, AllPairs, unwrap_or, ◌==◌}
+use Rattle.std.proofs.lemmas.List.Folds.{list_any_at}
 use Rattle.gg_cut.specs.declared.wires.Wire.{Wire}
 use Rattle.gg_cut.specs.Listed.{first_place}
 use Rattle.gg_cut.specs.Channels.{wire}
 use Rattle.gg_cut.specs.Plan.{wire_at}
-use Rattle.gg_cut.proofs.PathLemmas.{first_place-Some, first_place-None, any-at}
+use Rattle.gg_cut.proofs.PathLemmas.{first_place-Some, first_place-None}
 use Rattle.gg_sound.proofs.SideLemmas.{link-one}
 use Rattle.gg_layout.specs.CutLayout.{channel_of}
 
@@ -15,7 +16,7 @@ channel-back wires c once lt = by (first_place (λ (w : Wire). w.signal == (wire
   where
     by : (found : Option ℕ) → first_place (λ (w : Wire). w.signal == (wire_at wires c).signal) wires ≡ found → channel_of wires (wire_at wires c).signal ≡ c
     by None e =
-        let any = any-at (λ (w : Wire). w.signal == (wire_at wires c).signal) wires c (wire 0 0 0) lt (eq-eqb (wire_at wires c).signal (wire_at wires c).signal refl) in
+        let any = list_any_at (λ (w : Wire). w.signal == (wire_at wires c).signal) wires c (wire 0 0 0) lt (eq-eqb (wire_at wires c).signal (wire_at wires c).signal refl) in
         absurd (true≢false (sym any ∙ first_place-None (λ (w : Wire). w.signal == (wire_at wires c).signal) wires e))
     by (Some i) e =
         let at = first_place-Some (λ (w : Wire). w.signal == (wire_at wires c).signal) wires i e in

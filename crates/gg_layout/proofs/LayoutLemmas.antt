@@ -7,6 +7,7 @@ use Rattle.std.proofs.lemmas.List.{length-map, get_or-map, same_lists}
 use Rattle.std.proofs.lemmas.List.Elements.{Contains-get_or}
 use Rattle.std.proofs.lemmas.List.FromFn.{length-range_with_len, get_or-range_with_len}
 use Rattle.gg_flat.specs.Tree.{port_count}
+use Rattle.gg_flat.proofs.ListLemmas.{some-item}
 use Rattle.gg_order.specs.Design.{Ordered}
 use Rattle.gg_partfile.specs.declared.request.Request.{Request}
 use Rattle.gg_cut.specs.declared.listed.Listed.{Listed}
@@ -29,7 +30,7 @@ use Rattle.gg_net.specs.Network.{Frame, Kind, kind_of, kind_at, no_kind, wire_at
 use Rattle.gg_marking.specs.Marking.{Link, Turn, Layout, link_at, turns_at}
 use Rattle.gg_marking.specs.Fits.{AreTaken, AreTurnsOf, HasLayout, IsLinkOf, places_of}
 use Rattle.gg_sound.specs.Built.{machine_in, nameless, place_in, wires_of_plan, AreBuilt, IsBuilt, IsGiven, plan_frame}
-use Rattle.gg_sound.proofs.LinkLemmas.{AreLinks, length-wires, linked, some-channel}
+use Rattle.gg_sound.proofs.LinkLemmas.{AreLinks, length-wires, linked}
 use Rattle.gg_sound.proofs.PlanLemmas.{links}
 use Rattle.gg_sound.proofs.FitLemmas.{kind-is}
 use Rattle.gg_sound.proofs.MemoryPartLemmas.{memory-part}
@@ -108,13 +109,13 @@ module _ (design : Ordered) (request : Request) (default : ℕ) (plan : Plan) (c
   link-needs : (c : ℕ) → c < length wires → AreChannelNeeds design.circuit listed wires c (link_at layout c).needs
   link-needs c lt =
       let known : c < length plan.channels = omega (arith, lt, given.planned.channel_total) in
-      let any = some-channel plan.channels c known in
+      let any = some-item plan.channels c known in
       subst (λ (link : Link). AreChannelNeeds design.circuit listed wires c link.needs) (sym (link-is c any known)) (channel-needs design request default plan given.planned c any lt)
 
   cut-link : (c : ℕ) → c < length wires → IsChannelLink design request default listed wires c (link_at layout c)
   cut-link c lt =
       let known : c < length plan.channels = omega (arith, lt, given.planned.channel_total) in
-      let any = some-channel plan.channels c known in
+      let any = some-item plan.channels c known in
       let channel = given.planned.channel c any known in
       let is = link-is c any known in
       record {
@@ -145,7 +146,7 @@ module _ (design : Ordered) (request : Request) (default : ℕ) (plan : Plan) (c
     own-needs : HasOutNeeds wires p c needs (kind_of (machine_at machines p))
     own-needs =
         let known : c < length plan.channels = omega (arith, lt, given.planned.channel_total) in
-        let any = some-channel plan.channels c known in
+        let any = some-item plan.channels c known in
         let machine = given.planned.machine p nameless below in
         subst (λ (link : Link). HasOutNeeds wires p c link.needs (kind_of (machine_at machines p))) (sym (link-is c any known))
         (out-needs design listed given.design_is apart few p c (record { known = lt; producer = refl }) columns n (machine_in plan p) (machine_in plan p).body (machine_at machines p) (machine_in plan p).ins (get_or plan.channels c any).needs machine.body (built.each p below) machine.ins ((given.planned.channel c any known).needs nameless))
@@ -186,7 +187,7 @@ module _ (design : Ordered) (request : Request) (default : ℕ) (plan : Plan) (c
     net-link : IsLinkOf frame c (link_at layout c)
     net-link =
         let known : c < length plan.channels = omega (arith, lt, given.planned.channel_total) in
-        let any = some-channel plan.channels c known in
+        let any = some-item plan.channels c known in
         let link = linked plan wires are c lt in
         let cut = cut-link c lt in
         record {

@@ -8,7 +8,8 @@ use Rattle.gg_flat.specs.declared.piece.Driver.TheVariants.{Input, MemoryWord, R
 use Rattle.gg_flat.specs.Line.{value_at}
 use Rattle.gg_flat.specs.Circuit.{FlatCircuit, driver_at}
 use Rattle.gg_flat.specs.Reads.{NamesSignal, Reads, IsPath, Reaches}
-use Rattle.gg_closed.proofs.ListLemmas.{Contains-cases, one-place, pairs-nil}
+use Rattle.gg_flat.proofs.ListLemmas.{Contains-cases, once-apart}
+use Rattle.gg_closed.proofs.ListLemmas.{pairs-nil}
 
 -- the places, ascending, of just the in-signals that a signal reaches
 pub record AreReached (circuit : FlatCircuit) (out : ℕ) (places : List ℕ) : Type 0 where
@@ -61,10 +62,10 @@ module _ (circuit : FlatCircuit) (inputs : (place : ℕ) → place < length circ
     named : (place next : ℕ) (path : List ℕ) → place < length circuit.ins → IsPath circuit next path (value_at circuit.ins place) → (value_at circuit.ins addr ≡ next) ⊎ (value_at circuit.ins en ≡ next) → Contains (addr ∷ en ∷ []) place
     named place next path lt is (inl same) =
         let end = in-alone addr (value_at circuit.ins place) path low (subst (λ s. IsPath circuit s path (value_at circuit.ins place)) (sym same) is) in
-        (0, omega arith, one-place circuit.ins addr place once low lt end)
+        (0, omega arith, once-apart circuit.ins 0 once addr place low lt end)
     named place next path lt is (inr same) =
         let end = in-alone en (value_at circuit.ins place) path inside (subst (λ s. IsPath circuit s path (value_at circuit.ins place)) (sym same) is) in
-        (1, omega arith, one-place circuit.ins en place once inside lt end)
+        (1, omega arith, once-apart circuit.ins 0 once en place inside lt end)
 
     from : (place : ℕ) (path : List ℕ) → place < length circuit.ins → IsPath circuit out path (value_at circuit.ins place) → Contains (addr ∷ en ∷ []) place
     from place [] lt is = let clash : MemoryWord m r (value_at circuit.ins addr) (value_at circuit.ins en) ≡ Input place = sym driven ∙ ap (driver_at circuit) is ∙ inputs place lt in absurd (cc)

@@ -9,7 +9,8 @@ use Rattle.gg_net.specs.Network.{wire_at as joint_at}
 use Rattle.gg_sound.specs.Built.{place_in, wires_of_plan}
 use Rattle.gg_sound.proofs.LinkLemmas.{AreLinks, linked, length-wires, wire-from}
 use Rattle.gg_sound.proofs.ListedLemmas.{taken-in, given-in}
-use Rattle.gg_layout.proofs.AscendingLemmas.{numbers-up, place-up}
+use Rattle.gg_flat.proofs.ListLemmas.{numbers-up}
+use Rattle.gg_layout.proofs.AscendingLemmas.{place-up}
 
 -- ---- at a machine
 

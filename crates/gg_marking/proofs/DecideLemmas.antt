@@ -3,7 +3,7 @@ use Rattle.std.proofs.Common.{◌≡◌, ℕ, zero, suc, ◌<◌, ◌≤◌, Lis
 use Rattle.std.specs.Prelude.{◌⊎◌, All, IsSome, slice_index_or}
 use Rattle.std.proofs.lemmas.Bool.{cases_eq, cases_lt}
 use Rattle.std.proofs.lemmas.List.{length-map}
-use Rattle.std.proofs.lemmas.Option.{same_Some}
+use Rattle.std.proofs.lemmas.Option.{same_Some, none-some}
 use Rattle.std.proofs.Math.ListN as exact
 use Rattle.gg_node.specs.Machine.{Machine, no_machine, machine_at, latch_at, flag_at, due}
 use Rattle.gg_node.specs.Step.{AllFired, AllLatched}
@@ -14,7 +14,6 @@ use Rattle.gg_net.specs.declared.event.Refusal.TheVariants.{Stranger, Ended, Lat
 use Rattle.gg_net.specs.Network.{Network, Kind, IsAtIn, IsAtOut, wire_at, queue_at, kind_of, kind_at}
 use Rattle.gg_net.specs.Step.{IsBelow, HasPort, CanTake, CanGive, CanLatch, CanFire, CanServe, CanFinish, Ready, IsWanted, IsFirstClear, IsFirstEmpty, IsUnfired, IsUnlatched, LatchRefused, FireRefused, ServeRefused, FinishRefused, Refused, latch_of, flag_of, missing_of, missing_field, due_or_count}
 use Rattle.gg_net.specs.Kept.{Kept}
-use Rattle.gg_net.proofs.LatchLemmas.{some-is-no-none}
 use Rattle.gg_net.proofs.MayLemmas.{producer-there}
 use Rattle.gg_net.proofs.NetLemmas.{missing-within, field-within}
 
@@ -175,7 +174,7 @@ module _ (lists : List (List ℕ)) (runs : List (List (List ℕ))) (net : Networ
     serve-other has below fired other = inr (Order (due_or_count (machine_at net.machines m).port_count (due (machine_at net.machines m))), (has, below, fired, other, refl))
 
     serve-due : (port : Option ℕ) → due (machine_at net.machines m) ≡ port → HasPort net m p → IsBelow net m → AllFired (machine_at net.machines m) → CanServe net m p ⊎ ((cause : Refusal) × ServeRefused net m p cause)
-    serve-due None is has below fired = serve-other has below fired (λ this. some-is-no-none p (sym this ∙ is))
+    serve-due None is has below fired = serve-other has below fired (λ this. none-some p (sym is ∙ this))
     serve-due (Some q) is has below fired =
         ⊎_elim
         (λ (same : q ≡ p). serve-fields (missing_field net m) refl has below fired (is ∙ ap Some same))

@@ -7,10 +7,11 @@ use Rattle.std.proofs.lemmas.List.FromFn.{length-map-range_with_len, get_or-map-
 use Rattle.gg_flat.specs.State.{State}
 use Rattle.gg_node.specs.Machine.{Machine, machine_at}
 use Rattle.gg_node.specs.Step.{finished}
+use Rattle.gg_node.proofs.EmptyLemmas.{empty-after}
 use Rattle.gg_net.specs.declared.event.Event.TheVariants.{Finish}
 use Rattle.gg_net.specs.Network.{Network, wire_at, frame_of}
 use Rattle.gg_net.specs.Step.{after_finish}
-use Rattle.gg_net.proofs.StepLemmas.{clear-after, empty-after}
+use Rattle.gg_net.proofs.StepLemmas.{clear-after}
 use Rattle.gg_marking.specs.Marking.{Link, Layout, link_at, is_set, cleared, after}
 use Rattle.gg_marking.specs.Fits.{HasLayout, marking_of}
 use Rattle.gg_marking.proofs.ChangeLemmas.{same-parts, same-frame, next-cycles, none-served, taken-by, given-by}

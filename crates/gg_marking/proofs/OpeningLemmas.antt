@@ -4,10 +4,11 @@ use Rattle.std.specs.Prelude.{All, is_some, replicate}
 use Rattle.std.proofs.lemmas.Bool.{cases_lt}
 use Rattle.std.proofs.lemmas.List.{length-map, length-replicate, get_or-map, get_or-replicate, get_or_past, ext_get_or}
 use Rattle.gg_node.specs.Machine.{Machine, no_machine, machine_at, latch_at, flag_at}
+use Rattle.gg_node.proofs.EmptyLemmas.{empty-after}
 use Rattle.gg_net.specs.declared.shape.Wire.{Wire}
 use Rattle.gg_net.specs.Network.{Network, wire_at, given_by, puts, kind_of, frame_of}
 use Rattle.gg_net.specs.Net.{IsOpening, opening_net}
-use Rattle.gg_net.proofs.StepLemmas.{clear-after, empty-after}
+use Rattle.gg_net.proofs.StepLemmas.{clear-after}
 use Rattle.gg_marking.specs.Marking.{Layout, opening_marking}
 use Rattle.gg_marking.specs.Fits.{HasLayout, marking_of}
 use Rattle.gg_marking.proofs.CountLemmas.{taken-at, given-at}

@@ -1,8 +1,8 @@
 -- Which port is at a place of the order in which ports are served.
-use Rattle.std.proofs.Common.{◌≡◌, ℕ, zero, suc, ◌+◌, ◌-◌, ◌<◌, ◌≤◌, List, [], ◌∷◌, ◌++◌, Option, Some, None, Bool, true, false, length, map, refl, sym, ap, ◌∙◌, subst, inl, inr, ◌⊎◌, arith}
-use Rattle.std.specs.Prelude.{slice_get, nat_lt, if◌then◌else◌, MatchOption, ⊤}
+use Rattle.std.proofs.Common.{◌≡◌, ℕ, zero, suc, ◌+◌, ◌-◌, ◌<◌, ◌≤◌, List, [], ◌∷◌, ◌++◌, Option, Some, None, Bool, true, false, length, map, refl, sym, ap, ◌∙◌, inl, inr, ◌⊎◌, arith}
+use Rattle.std.specs.Prelude.{slice_get, nat_lt, if◌then◌else◌}
 use Rattle.std.specs.Option.{option_map}
-use Rattle.std.proofs.lemmas.Option.{slice_get-map}
+use Rattle.std.proofs.lemmas.Option.{slice_get-map, none-some, slice_get_past}
 use Rattle.std.proofs.lemmas.Bool.{cases_lt, lt-ltb, le-ltb}
 use Rattle.std.proofs.lemmas.List.{length-map, length-append}
 use Rattle.gg_flat.specs.declared.memory.UnderWrite.TheVariants.{Old, New, Undefined}
@@ -28,11 +28,6 @@ right : (xs ys : List Access) (j : ℕ) → length xs ≤ j → slice_get (xs ++
 right [] ys j above = ap (slice_get ys) (let same : j ≡ j - 0 = omega arith in same)
 right (x ∷ xs) ys zero above = absurd (omega arith)
 right (x ∷ xs) ys (suc j) above = right xs ys j (omega arith) ∙ ap (slice_get ys) (let same : j - length xs ≡ suc j - suc (length xs) = omega arith in same)
-
-past : (xs : List Port) (j : ℕ) → length xs ≤ j → slice_get xs j ≡ None
-past [] j above = refl
-past (x ∷ xs) zero above = absurd (omega arith)
-past (x ∷ xs) (suc j) above = past xs j (omega arith)
 
 -- ---- accesses
 
@@ -128,7 +123,7 @@ count_ports latency readers writers = length-map (due_of latency readers writers
     by (One New) = omega (arith, length-append (by_writers 0 writers) (by_readers 0 readers), length-by_readers 0 readers, length-by_writers 0 writers)
 
 pub none_past : (latency : Latency) (readers : List Reader) (writers : List Writer) (j : ℕ) → length (ports_by latency readers writers) ≤ j → slice_get (ports_by latency readers writers) j ≡ None
-none_past latency readers writers j above = past (ports_by latency readers writers) j above
+none_past latency readers writers j above = slice_get_past (ports_by latency readers writers) j above
 
 -- ---- their numbers
 
@@ -183,14 +178,11 @@ classify latency readers writers j = by latency
     by (One Undefined) below = old below
     by (One New) below = new below
 
-none-is-no-some : (p : ℕ) → ◌≡◌ {A = Option ℕ} None (Some p) → ⊥
-none-is-no-some p is = subst (λ option. MatchOption option ⊤ (λ n. ⊥)) is tt
-
 module _ (latency : Latency) (readers : List Reader) (writers : List Writer) (j p : ℕ) (is : port_number (slice_get (ports_by latency readers writers) j) ≡ Some p) where
   pub due-below : j < count_by latency (length readers) (length writers)
   due-below = elim (cases_lt j (count_by latency (length readers) (length writers))) [
     | inl lt ↦ lt
-    | inr ge ↦ absurd (none-is-no-some p (sym (ap port_number (none_past latency readers writers j (omega (arith, ge, count_ports latency readers writers)))) ∙ is))
+    | inr ge ↦ absurd (none-some p (sym (ap port_number (none_past latency readers writers j (omega (arith, ge, count_ports latency readers writers)))) ∙ is))
   ]
 
   -- the number of a known port

@@ -3,6 +3,8 @@ use Rattle.std.proofs.Common.{◌≡◌, ℕ, suc, ◌<◌, List, [], ◌∷◌,
 use Rattle.std.specs.Prelude.{All, fold, slice_index_or, slice_set, ◌==◌, ◌&&◌, if◌then◌else◌}
 use Rattle.std.proofs.lemmas.List.Sums.{fold-append}
 use Rattle.std.proofs.Math.Seq.{take-length}
+use Rattle.std.proofs.lemmas.List.{nil_from_length}
+use Rattle.std.proofs.lemmas.List.Elements.{All-tail}
 use Rattle.gg_flat.specs.declared.memory.UnderWrite.TheVariants.{Old, New, Undefined}
 use Rattle.gg_flat.specs.declared.memory.Latency.{Latency}
 use Rattle.gg_flat.specs.declared.memory.Latency.TheVariants.{Zero, One}
@@ -40,9 +42,6 @@ by-ports latches n registers (access ∷ accesses) bank =
 
 -- ---- values that agree on the fields
 
-rest : {X : Type 0} (P : X → Type 0) (x : X) (xs : List X) → All P (x ∷ xs) → All P xs
-rest P x xs all k d below = all (suc k) d (omega arith)
-
 module _ (n : ℕ) (v w : List ℕ) (same : (i : ℕ) → i < n → value_at v i ≡ value_at w i) where
   found-agrees : (words : List ℕ) (reader : Reader) → LooksAmong n reader → found_word v words reader ≡ found_word w words reader
   found-agrees words reader looks = ap (λ a. read_word words a (value_at v reader.en)) (same reader.addr looks.0) ∙ ap (read_word words (value_at w reader.addr)) (same reader.en looks.1)
@@ -58,13 +57,13 @@ module _ (n : ℕ) (v w : List ℕ) (same : (i : ℕ) → i < n → value_at v i
   readers-agree r [] all bank = refl
   readers-agree r (reader ∷ readers) all bank =
       ap (λ found. fold (after_access v) (record { words = bank.words; reads = slice_set bank.reads r found }) (by_readers (suc r) readers)) (found-agrees bank.words reader (all 0 reader (omega arith)))
-      ∙ readers-agree (suc r) readers (rest (LooksAmong n) reader readers all) (after_access w bank (ByReader r reader))
+      ∙ readers-agree (suc r) readers (All-tail (LooksAmong n) reader readers all) (after_access w bank (ByReader r reader))
 
   writers-agree : (k : ℕ) (writers : List Writer) → All (WritesAmong n) writers → (bank : Bank) → fold (after_access v) bank (by_writers k writers) ≡ fold (after_access w) bank (by_writers k writers)
   writers-agree k [] all bank = refl
   writers-agree k (writer ∷ writers) all bank =
       ap (λ (words : List ℕ). fold (after_access v) (record { words = words; reads = bank.reads }) (by_writers (suc k) writers)) (written-agrees bank.words writer (all 0 writer (omega arith)))
-      ∙ writers-agree (suc k) writers (rest (WritesAmong n) writer writers all) (after_access w bank (ByWriter k writer))
+      ∙ writers-agree (suc k) writers (All-tail (WritesAmong n) writer writers all) (after_access w bank (ByWriter k writer))
 
   module _ (readers : List Reader) (writers : List Writer) (looks : All (LooksAmong n) readers) (writes : All (WritesAmong n) writers) (bank : Bank) where
     readers-first : fold (after_access v) bank (by_readers 0 readers ++ by_writers 0 writers) ≡ fold (after_access w) bank (by_readers 0 readers ++ by_writers 0 writers)
@@ -89,10 +88,6 @@ module _ (n : ℕ) (v w : List ℕ) (same : (i : ℕ) → i < n → value_at v i
 
 -- ---- all ports served
 
-no-numbers : (xs : List ℕ) → length xs ≡ 0 → xs ≡ []
-no-numbers [] none = refl
-no-numbers (x ∷ xs) none = absurd (omega arith)
-
 one-of : (banks : List Bank) → length banks ≡ 1 → banks ≡ bank_at banks 0 ∷ []
 one-of [] one = absurd (omega arith)
 one-of (bank ∷ []) one = refl
@@ -107,7 +102,7 @@ served-through piece state latches signals is typed settled =
     let memory = found.0 in
     let only = found.1 in
     let bank = bank_at state.banks 0 in
-    let none : state.registers ≡ [] = no-numbers state.registers (typed.typed.count ∙ ap (λ (registers : List Register). length (map (λ (register : Register). shape register.ty) registers)) is.alone) in
+    let none : state.registers ≡ [] = nil_from_length state.registers (typed.typed.count ∙ ap (λ (registers : List Register). length (map (λ (register : Register). shape register.ty) registers)) is.alone) in
     let one : state.banks ≡ bank ∷ [] = one-of state.banks (typed.held.count ∙ is.one) in
     let held : IsBank memory bank = subst (λ (memories : List Memory). IsBank (slice_index_or memories 0 memory) bank) only (typed.held.each 0 memory (omega (arith, is.one))) in
     let looks = of-sole (λ (memory : Memory). All (LooksAmong (length piece.ins)) memory.readers) piece.memories memory only is.readers in

@@ -1,7 +1,7 @@
 -- The tokens, the accesses and the next state of a memory unit.
 use Rattle.std.proofs.Common.{◌≡◌, ℕ, zero, suc, ◌+◌, ◌<◌, ◌^◌, List, [], ◌∷◌, Option, None, Some, Bool, length, map, refl, sym, ap, subst, ◌∙◌, arith}
-use Rattle.std.specs.Prelude.{All, replicate, slice_get, slice_index_or, slice_set, MatchOption, ⊤}
-use Rattle.std.proofs.lemmas.List.{get_or-map, length-map, map-set}
+use Rattle.std.specs.Prelude.{All, replicate, slice_get, slice_index_or, slice_set}
+use Rattle.std.proofs.lemmas.List.{get_or-map, length-map, map-set, nil_from_length}
 use Rattle.gg_flat.specs.declared.memory.Latency.{Latency}
 use Rattle.gg_flat.specs.declared.memory.Latency.TheVariants.{Zero, One}
 use Rattle.gg_flat.specs.declared.memory.UnderWrite.{UnderWrite}
@@ -16,20 +16,14 @@ use Rattle.gg_flat.specs.Settled.{Settled, driver_value}
 use Rattle.gg_flat.specs.WellFormed.{AreDriven, reader_driver}
 use Rattle.gg_flat.specs.Memory.{Bank, found_word, read_word, next_words_from, next_reads, next_banks, read_count, LooksAmong}
 use Rattle.gg_flat.specs.Served.{after_access}
-use Rattle.gg_node.specs.Machine.{RunsPiece, Port, Machine, latch_at, latched_value, latched_values, first_empty, empty_or, needs_at, port_number}
+use Rattle.gg_node.specs.Machine.{RunsPiece, Port, Machine, latch_at, latched_value, latched_values, first_empty, needs_at, port_number}
 use Rattle.gg_node.specs.Token.{AgreesOn, IsTokenOf, IsNextOf, accessed}
 use Rattle.gg_node.specs.Step.{with_served}
+use Rattle.gg_node.proofs.EmptyLemmas.{filled}
 use Rattle.gg_memunit.specs.MemoryUnit.{IsMemoryPiece, outs_of, ports_of, ports_by, count_by, needs_by, needs_of, state_of, memory_machine, access_of}
 use Rattle.gg_memunit.proofs.PortLemmas.{count_ports, due-below, reader-due, port-due, port-below}
 
 -- ---- latches
-
-none-is-no-some : (i : ℕ) → ◌≡◌ {A = Option ℕ} (Some i) None → ⊥
-none-is-no-some i is = subst (λ option. MatchOption option ⊥ (λ n. ⊤)) is tt
-
-there : (latch : Option ℕ) (i : ℕ) (rest : Option ℕ) → empty_or latch i rest ≡ None → (latch ≡ Some (latched_value latch)) × (rest ≡ None)
-there None i rest is = absurd (none-is-no-some i is)
-there (Some v) i rest is = (refl, is)
 
 -- the value of a latch is at its place among the latched values
 token-at : (latches : List (Option ℕ)) (i : ℕ) → latched_value (latch_at latches i) ≡ value_at (latched_values latches) i
@@ -100,8 +94,8 @@ module _ (piece : FlatCircuit) (memory : Memory) (is : IsMemoryPiece piece) (onl
     same-token zero-late addr-in en-in missing inputs signals settled agrees =
         let reader = reader_at memory.readers o in
         let needs : needs_at (needs_of piece.memories) o ≡ reader.addr ∷ reader.en ∷ [] = needs-are o below ∙ ap (λ latency. needs_by latency reader) zero-late in
-        let first = there (latch_at latches reader.addr) reader.addr (first_empty latches (reader.en ∷ [])) (ap (first_empty latches) (sym needs) ∙ missing) in
-        let second = there (latch_at latches reader.en) reader.en None first.1 in
+        let first = filled (latch_at latches reader.addr) reader.addr (first_empty latches (reader.en ∷ [])) (ap (first_empty latches) (sym needs) ∙ missing) in
+        let second = filled (latch_at latches reader.en) reader.en None first.1 in
         let agreed : AgreesOn (reader.addr ∷ reader.en ∷ []) latches inputs = subst (λ ins. AgreesOn ins latches inputs) needs agrees in
         let addr : value_at signals reader.addr ≡ value_at (latched_values latches) reader.addr =
         in-value (state_of bank) inputs signals settled reader.addr addr-in ∙ agreed reader.addr (latched_value (latch_at latches reader.addr)) (0, omega arith, refl) first.0 ∙ token-at latches reader.addr in
@@ -118,17 +112,13 @@ nothing-written : (signals : List ℕ) (a : ℕ) (words : List ℕ) → next_wor
 nothing-written signals a [] = refl
 nothing-written signals a (word ∷ words) = ap (λ rest. word ∷ rest) (nothing-written signals (suc a) words)
 
-no-numbers : (xs : List ℕ) → length xs ≡ 0 → xs ≡ []
-no-numbers [] none = refl
-no-numbers (x ∷ xs) none = absurd (omega arith)
-
 bank-stays : (signals words reads : List ℕ) (latency : Latency) (readers : List Reader) (writers : List Writer) → count_by latency (length readers) (length writers) ≡ 0 → length reads ≡ read_count latency readers
     → ◌≡◌ {A = Bank} (record { words = words; reads = reads }) (record { words = next_words_from signals writers 0 words; reads = next_reads signals latency readers words (next_words_from signals writers 0 words) })
 bank-stays signals words reads Zero readers [] none held =
-    ap (λ (reads : List ℕ). record { words = words; reads = reads }) (no-numbers reads held) ∙ ap (λ (words : List ℕ). record { words = words; reads = [] }) (sym (nothing-written signals 0 words))
+    ap (λ (reads : List ℕ). record { words = words; reads = reads }) (nil_from_length reads held) ∙ ap (λ (words : List ℕ). record { words = words; reads = [] }) (sym (nothing-written signals 0 words))
 bank-stays signals words reads Zero readers (writer ∷ writers) none held = absurd (omega arith)
 bank-stays signals words reads (One under) [] [] none held =
-    ap (λ (reads : List ℕ). record { words = words; reads = reads }) (no-numbers reads held) ∙ ap (λ (words : List ℕ). record { words = words; reads = [] }) (sym (nothing-written signals 0 words))
+    ap (λ (reads : List ℕ). record { words = words; reads = reads }) (nil_from_length reads held) ∙ ap (λ (words : List ℕ). record { words = words; reads = [] }) (sym (nothing-written signals 0 words))
 bank-stays signals words reads (One under) (reader ∷ readers) writers none held = absurd (omega arith)
 bank-stays signals words reads (One under) [] (writer ∷ writers) none held = absurd (omega arith)
 

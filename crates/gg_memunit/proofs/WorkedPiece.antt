@@ -3,6 +3,7 @@ use Rattle.std.proofs.Common.{◌≡◌, ◌≢◌, ℕ, ◌<◌, List, [], ◌�
 use Rattle.std.specs.Prelude.{All, AllPairs, slice_index_or}
 use Rattle.std.proofs.lemmas.List.{get_or-map, length-map}
 use Rattle.std.proofs.lemmas.List.Kept.{AllPairs-cons}
+use Rattle.std.proofs.lemmas.List.Elements.{All-nil}
 use Rattle.gg_bits.specs.Shape.{shape}
 use Rattle.gg_flat.specs.declared.memory.Latency.TheVariants.{Zero}
 use Rattle.gg_flat.specs.declared.memory.Reader.{Reader}
@@ -39,9 +40,6 @@ piece =
 one-of : {X : Type 0} (P : X → Type 0) (x : X) → P x → All P (x ∷ [])
 one-of P x is k d below = only (λ k. P (slice_index_or (x ∷ []) k d)) is k below
 
-none-of : {X : Type 0} (P : X → Type 0) → All P []
-none-of P k d below = absurd (omega arith)
-
 apart : AllPairs (λ a b. a ≢ b) piece.paths
 apart =
     AllPairs-cons (λ a b. a ≢ b) (97 ∷ []) ((101 ∷ []) ∷ (100 ∷ []) ∷ [])
@@ -56,13 +54,13 @@ formed =
       drivers = three (λ s. MayDrive piece s (driver_at piece s)) (omega arith, refl) (omega arith, refl) (omega arith, refl);
       ins = both (λ place. (value_at piece.ins place < length piece.signals) × (driver_at piece (value_at piece.ins place) ≡ Input place)) (omega arith, refl) (omega arith, refl);
       outs = only (λ place. value_at piece.outs place < length piece.signals) (omega arith);
-      registers = none-of (IsRegister (HasType (signal_shapes piece)));
+      registers = All-nil (IsRegister (HasType (signal_shapes piece)));
       memories =
           one-of (IsMemory (HasType (signal_shapes piece))) memory
           (record {
             some = omega arith;
             readers = one-of (IsReader (HasType (signal_shapes piece)) (shape eight) 2) reader (record { address = (omega arith, refl); enable = (omega arith, refl); output = (omega arith, refl) });
-            writers = none-of (IsWriter (HasType (signal_shapes piece)) (shape eight) 2);
+            writers = All-nil (IsWriter (HasType (signal_shapes piece)) (shape eight) 2);
           });
       reads = only (λ m. AreDriven (driver_at piece) m (latency_at piece m) (readers_at piece m)) (only (λ r. driver_at piece (reader_at (reader ∷ []) r).word ≡ reader_driver Zero 0 r (reader_at (reader ∷ []) r)) refl);
     }
@@ -79,7 +77,7 @@ read-alone p well registers ins outs readers writers =
       alone = registers;
       first = subst (λ ins. (i : ℕ) → i < length ins → value_at ins i ≡ i) (sym ins) (both (λ i. value_at (0 ∷ 1 ∷ []) i ≡ i) refl refl);
       readers = λ k d below. subst (λ ins. All (LooksAmong (length ins)) (slice_index_or p.memories k d).readers) (sym ins) (subst (All (LooksAmong 2)) (sym (readers-at k d below)) (one-of (LooksAmong 2) reader (omega arith, omega arith)));
-      writers = λ k d below. subst (All (WritesAmong (length p.ins))) (sym (writers-at k d below)) (none-of (WritesAmong (length p.ins)));
+      writers = λ k d below. subst (All (WritesAmong (length p.ins))) (sym (writers-at k d below)) (All-nil (WritesAmong (length p.ins)));
       few = λ k d below. omega (arith, ap length (readers-at k d below), ap length (writers-at k d below));
       outs = outs ∙ sym (outs-are p.memories readers);
     }

@@ -1,6 +1,6 @@
 -- What is found along a list, element by element.
-use Rattle.std.proofs.Common.{◌≡◌, ℕ, ◌+◌, ◌<◌, ◌≤◌, List, [], ◌∷◌, ◌++◌, length, get_or, take, drop, Some, refl, sym, ap, subst, ◌∙◌, append_assoc}
-use Rattle.std.proofs.lemmas.List.{take_more, drop_more, drop_all}
+use Rattle.std.proofs.Common.{◌≡◌, ℕ, ◌+◌, ◌<◌, List, [], ◌∷◌, ◌++◌, length, get_or, take, drop, Some, sym, ap, subst, ◌∙◌}
+use Rattle.std.proofs.lemmas.List.{take_more, drop_more}
 use Rattle.gg_names.specs.declared.fault.Repetition.{Repetition}
 use Rattle.gg_names.specs.declared.fault.NamesFault.{NamesFault}
 use Rattle.gg_names.specs.declared.fault.NamesFault.TheVariants.{Repeated, NoMemory}
@@ -21,9 +21,6 @@ module _ {A B : Type 0} (at : List A → A → List B) (xs : List A) where
       ap (along_from at (take i xs)) (drop_more xs i d lt)
       ∙ ap (λ before. at (take i xs) (get_or xs i d) ++ along_from at before (drop (i + 1) xs)) (sym (take_more xs i d lt))
 
-  pub left-end : (i : ℕ) → length xs ≤ i → left i ≡ []
-  left-end i le = ap (along_from at (take i xs)) (drop_all i xs le)
-
   -- if nothing is found before the i-th element and at it, all that is found is found after it
   pub left-more : (i : ℕ) (x : A) → i < length xs → x ≡ get_or xs i x → at (take i xs) x ≡ [] → along at xs ≡ left i → along at xs ≡ left (i + 1)
   left-more i x lt is none h =
@@ -32,25 +29,11 @@ module _ {A B : Type 0} (at : List A → A → List B) (xs : List A) where
   pub left-from : (i : ℕ) (x : A) → i < length xs → x ≡ get_or xs i x → along at xs ≡ left i → along at xs ≡ at (take i xs) x ++ left (i + 1)
   left-from i x lt is h = h ∙ left-step i x lt ∙ ap (λ y. at (take i xs) y ++ left (i + 1)) (sym is)
 
-module _ {A B : Type 0} (f g : List A → A → List B) (all : List A) (same : (before : List A) (x : A) (after : List A) → before ++ x ∷ after ≡ all → f before x ≡ g before x) where
-  along_from-same : (before rest : List A) → before ++ rest ≡ all → along_from f before rest ≡ along_from g before rest
-  along_from-same before [] e = refl
-  along_from-same before (x ∷ rest) e =
-      ap (λ l. l ++ along_from f (before ++ x ∷ []) rest) (same before x rest e)
-      ∙ ap (λ l. g before x ++ l) (along_from-same (before ++ x ∷ []) rest (append_assoc before (x ∷ []) rest ∙ e))
-
-  -- two searches that agree at each element find the same
-  pub along-same : along f all ≡ along g all
-  along-same = along_from-same [] all refl
-
 -- ---- refusals
 
 pub names_first : (xs ys : List Repetition) (r : NamesFault) → Names xs r → Names (xs ++ ys) r
 names_first xs ys (Repeated x) h = first-front xs ys x h
 names_first xs ys NoMemory h = tt
-
-pub names_next : (xs ys : List Repetition) (r : NamesFault) → xs ≡ [] → Names ys r → Names (xs ++ ys) r
-names_next xs ys r none h = rw none h
 
 -- if the i-th element is the first with a repetition, or memory ran out there, this is the answer for the whole list
 pub left-refused : {A : Type 0} (at : List A → A → List Repetition) (xs : List A) (i : ℕ) (x : A) (r : NamesFault) → i < length xs → x ≡ get_or xs i x → along at xs ≡ left at xs i → Names (at (take i xs) x) r → Names (along at xs) r

@@ -1,7 +1,7 @@
 -- What the elements of a list give one after another; for modules, the places of those that the statements hold.
-use Rattle.std.proofs.Common.{◌≡◌, ℕ, ◌+◌, ◌<◌, ◌≤◌, List, [], ◌∷◌, ◌++◌, length, get_or, take, drop, zero, suc, refl, sym, ap, subst, ◌∙◌, ◌⊎◌, inl, inr, arith}
+use Rattle.std.proofs.Common.{◌≡◌, ℕ, ◌+◌, ◌<◌, List, [], ◌∷◌, ◌++◌, length, get_or, take, drop, zero, suc, refl, sym, ap, subst, ◌∙◌, ◌⊎◌, inl, inr, arith}
 use Rattle.std.specs.Prelude.{Contains, flat_map}
-use Rattle.std.proofs.lemmas.List.{take_more, take_all, take-append-drop, append-nil}
+use Rattle.std.proofs.lemmas.List.{take_more, take-append-drop, append-nil}
 use Rattle.std.proofs.lemmas.Grind.{flat_map-append}
 use Rattle.std.proofs.lemmas.List.Elements.{Contains-append_left, Contains-append_right, Contains-append_cases}
 
@@ -33,11 +33,3 @@ module _ {A : Type 0} (f : A → List ℕ) (xs : List A) where
       only : (j k : ℕ) → Contains (k ∷ []) j → j ≡ k
       only j k (zero, lt, e) = sym e
       only j k (suc n, lt, e) = absurd (omega (arith, lt))
-
-  -- if the next element gives nothing, all was given before
-  pub given-none : (i j : ℕ) (x : A) → i < length xs → x ≡ get_or xs i x → f x ≡ [] → Contains (flat_map f (take (i + 1) xs)) j → Contains (flat_map f (take i xs)) j
-  given-none i j x lt is gives h =
-      subst (λ (l : List ℕ). Contains l j) (given-more i x lt is ∙ ap (λ l. flat_map f (take i xs) ++ l) gives ∙ append-nil (flat_map f (take i xs))) h
-
-  pub given-all : (i j : ℕ) → length xs ≤ i → Contains (flat_map f xs) j → Contains (flat_map f (take i xs)) j
-  given-all i j le h = subst (λ (l : List A). Contains (flat_map f l) j) (sym (take_all i xs le)) h

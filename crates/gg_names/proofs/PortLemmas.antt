@@ -5,6 +5,7 @@ use Rattle.std.specs.Str.{bytes_eq}
 use Rattle.std.proofs.lemmas.List.{take_more, append-nil}
 use Rattle.std.proofs.lemmas.List.Folds.{list_any-append}
 use Rattle.std.proofs.lemmas.Grind.{flat_map-append}
+use Rattle.std.proofs.Math.Bool.{or-false, or_comm, or_assoc, or-true}
 use Rattle.gg_ast.specs.declared.statement.Field.{Field}
 use Rattle.gg_ast.specs.declared.statement.MemoryField as fields
 use Rattle.gg_ast.specs.declared.statement.MemoryField.TheVariants.{DataType, Depth, ReadLatency, WriteLatency, Readers, Writers, ReadUnderWrite}
@@ -12,20 +13,6 @@ use Rattle.gg_names.specs.Memory.{readers_in, writers_in}
 use Rattle.gg_names.specs.Along.{along}
 use Rattle.gg_names.specs.Repetitions.{ports_in_field, repeated_in_field, repeated_port_of}
 use Rattle.gg_names.specs.Tables.{HaveSame, HavePorts, IsEither, readers_of, writers_of}
-
-or_assoc : (a b c : Bool) → (a || b) || c ≡ a || (b || c)
-or_assoc true b c = refl
-or_assoc false b c = refl
-
-pub or_comm : (a b : Bool) → a || b ≡ b || a
-or_comm true true = refl
-or_comm true false = refl
-or_comm false true = refl
-or_comm false false = refl
-
-or_false : (a : Bool) → a || false ≡ a
-or_false true = refl
-or_false false = refl
 
 -- ---- names one by one
 
@@ -50,13 +37,10 @@ same-more start names words new i name lt is same more = λ q.
     ∙ sym (list_any-append (bytes_eq q) start (take i names ++ name ∷ []))
     ∙ sym (ap (λ l. list_any (bytes_eq q) (start ++ l)) grown)
 
-pub same-start : (start : List (List ℕ)) → HaveSame start (start ++ [])
-same-start start = λ q. ap (list_any (bytes_eq q)) (sym (append-nil start))
-
 -- ---- field by field
 
 any-ports : (q : List ℕ) (kind : fields.MemoryField) → list_any (bytes_eq q) (ports_in_field kind) ≡ list_any (bytes_eq q) (readers_in kind) || list_any (bytes_eq q) (writers_in kind)
-any-ports q (Readers names) = sym (or_false (list_any (bytes_eq q) names))
+any-ports q (Readers names) = sym (or-false (list_any (bytes_eq q) names))
 any-ports q (Writers names) = refl
 any-ports q (DataType ty) = refl
 any-ports q (Depth n) = refl
@@ -69,11 +53,7 @@ ports_of fs = flat_map (λ (g : Field). ports_in_field g.kind) fs
 
 four : (a b c d : Bool) → (a || b) || (c || d) ≡ (a || c) || (b || d)
 four true b c d = refl
-four false true c d = sym (or_true c)
-  where
-    or_true : (b : Bool) → b || true ≡ true
-    or_true true = refl
-    or_true false = refl
+four false true c d = sym (or-true c)
 four false false c d = refl
 
 any-of : (q : List ℕ) (fs : List Field) → list_any (bytes_eq q) (ports_of fs) ≡ list_any (bytes_eq q) (readers_of fs) || list_any (bytes_eq q) (writers_of fs)
@@ -137,10 +117,6 @@ writers-more fs f names readers writers new is more have =
     ports-more fs f readers writers readers new have
     (λ q. ap (list_any (bytes_eq q)) (sym (ap (λ k. readers ++ readers_in k) is ∙ append-nil readers)))
     (λ q. more q ∙ ap (λ k. list_any (bytes_eq q) (writers ++ writers_in k)) (sym is))
-
--- without fields there are no ports
-pub no-ports : HavePorts [] [] []
-no-ports = record { reads = λ q. refl; writes = λ q. refl }
 
 -- the first i fields and the next one are the first i + 1
 pub have-next : (fs : List Field) (i : ℕ) (f : Field) (readers writers : List (List ℕ)) → i < length fs → f ≡ get_or fs i f → HavePorts (take i fs ++ f ∷ []) readers writers → HavePorts (take (i + 1) fs) readers writers

@@ -48,10 +48,6 @@ lacks q table h = none-is_some (value_of q table) (some-value_of q table ∙ h)
 pub Fresh : List ℕ → List (List ℕ × Declared) → Type 0
 Fresh name table = list_any (bytes_eq name) (names_told table) ≡ false
 
-pub to_fresh : (name : List ℕ) (table : List (List ℕ × Declared)) → list_any (bytes_eq name) (names_told table) ≡ false → Fresh name table
-unfolding Fresh
-to_fresh name table h = h
-
 -- if the name is no repetition, the table doesn't have it yet
 pub fresh-name : (name : List ℕ) (table : List (List ℕ × Declared)) (line : ℕ) → repeated_in (names_told table) line name ≡ [] → Fresh name table
 unfolding Fresh

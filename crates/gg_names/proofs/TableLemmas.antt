@@ -1,5 +1,5 @@
 -- Tables and sets of names, and the lists that contracts see in their place.
-use Rattle.std.proofs.Common.{◌≡◌, ℕ, zero, suc, ◌+◌, ◌<◌, ◌≤◌, Bool, true, false, cond, ◌||◌, List, [], ◌∷◌, ◌++◌, length, map, take, position, nat_lt, Option, None, Some, is_some, refl, sym, ap, ◌∙◌, if◌then◌else◌, true≢false, ltb-true, lt-ltb, le-ltb, arith}
+use Rattle.std.proofs.Common.{◌≡◌, ℕ, zero, suc, ◌+◌, ◌≤◌, Bool, true, false, cond, ◌||◌, List, [], ◌∷◌, ◌++◌, length, map, take, position, nat_lt, Option, None, Some, is_some, refl, sym, ap, ◌∙◌, if◌then◌else◌, true≢false, ltb-true, lt-ltb, le-ltb, arith}
 use Rattle.std.specs.List.{position_or_len, list_any}
 use Rattle.std.specs.Option.{option_map}
 use Rattle.std.specs.Map.{lookup, keys_of}
@@ -7,6 +7,7 @@ use Rattle.std.specs.Str.{bytes_eq}
 use Rattle.std.proofs.lemmas.Bool.Decides.{nat_tests}
 use Rattle.std.proofs.lemmas.List.Folds.{list_any-append}
 use Rattle.std.proofs.lemmas.Slice.Eq.{bytes_eq-Decides}
+use Rattle.std.proofs.Math.Bool.{or-false, or-true}
 use Rattle.indexmap.specs.IndexSet.{insert_key}
 use denote.Ref.{Bor}
 use Rattle.gg_ast.specs.Places.{place_of}
@@ -25,10 +26,6 @@ pub any-texts : (q : List ℕ) (keys : List (Bor (List ℕ))) → list_any (is_t
 any-texts q [] = refl
 any-texts q (k ∷ ks) = ap (λ b. bytes_eq q k.now || b) (any-texts q ks)
 
-or_false : (b : Bool) → b || false ≡ b
-or_false true = refl
-or_false false = refl
-
 pub texts-append : (xs ys : List (Bor (List ℕ))) → texts (xs ++ ys) ≡ texts xs ++ texts ys
 texts-append [] ys = refl
 texts-append (x ∷ xs) ys = ap (λ l. x.now ∷ l) (texts-append xs ys)
@@ -37,15 +34,11 @@ texts-append (x ∷ xs) ys = ap (λ l. x.now ∷ l) (texts-append xs ys)
 any-again : (q name : List ℕ) (names : List (List ℕ)) → list_any (bytes_eq name) names ≡ true → list_any (bytes_eq q) names ≡ list_any (bytes_eq q) (names ++ name ∷ [])
 any-again q name names there = go (bytes_eq q name) refl ∙ sym (list_any-append (bytes_eq q) names (name ∷ []))
   where
-    or_true : (b : Bool) → b || true ≡ true
-    or_true true = refl
-    or_true false = refl
-
     go : (b : Bool) → bytes_eq q name ≡ b → list_any (bytes_eq q) names ≡ list_any (bytes_eq q) names || (bytes_eq q name || false)
     go true e =
         ap (λ x. list_any (bytes_eq x) names) ((bytes_eq-Decides q name).0 e) ∙ there
-        ∙ sym (ap (λ b. list_any (bytes_eq q) names || (b || false)) e ∙ or_true (list_any (bytes_eq q) names))
-    go false e = sym (ap (λ b. list_any (bytes_eq q) names || (b || false)) e ∙ or_false (list_any (bytes_eq q) names))
+        ∙ sym (ap (λ b. list_any (bytes_eq q) names || (b || false)) e ∙ or-true (list_any (bytes_eq q) names))
+    go false e = sym (ap (λ b. list_any (bytes_eq q) names || (b || false)) e ∙ or-false (list_any (bytes_eq q) names))
 
 -- a set after a key was put into it
 pub any-inserted : (q : List ℕ) (keys : List (Bor (List ℕ))) (k : Bor (List ℕ)) → list_any (bytes_eq q) (texts (insert_key (λ a b. bytes_eq a.now b.now) keys k)) ≡ list_any (bytes_eq q) (texts keys ++ k.now ∷ [])
@@ -110,24 +103,6 @@ position-seen {V} q (e ∷ es) = go (bytes_eq q e.0.now) refl (position-seen q e
         position_next (is_text q) e.0 (keys_of es) t
         ∙ ap (option_map (λ k. k + 1)) rest
         ∙ sym (ap (λ b. if b then Some 0 else option_map (λ k. k + 1) (place_of q (names_seen es))) t)
-
--- a place is below the number of names
-pub place-within : (name : List ℕ) (names : List (List ℕ)) (k : ℕ) → place_of name names ≡ Some k → k < length names
-place-within name [] k h = cc
-place-within name (n ∷ ns) k h = go (bytes_eq name n) refl (place_of name ns) refl (place-within name ns)
-  where
-    go : (b : Bool) → bytes_eq name n ≡ b → (o : Option ℕ) → place_of name ns ≡ o → ((j : ℕ) → place_of name ns ≡ Some j → j < length ns) → k < suc (length ns)
-    go true t o u rest =
-        let e : Some 0 ≡ Some k = sym (ap (λ b. if b then Some 0 else option_map (λ k. k + 1) (place_of name ns)) t) ∙ h in
-        let z : 0 ≡ k = cc in omega arith
-    go false t None u rest =
-        let e : None ≡ Some k = sym (ap (λ b. if b then Some 0 else option_map (λ k. k + 1) (place_of name ns)) t ∙ ap (option_map (λ k. k + 1)) u) ∙ h in
-        cc
-    go false t (Some j) u rest =
-        let e : Some (j + 1) ≡ Some k = sym (ap (λ b. if b then Some 0 else option_map (λ k. k + 1) (place_of name ns)) t ∙ ap (option_map (λ k. k + 1)) u) ∙ h in
-        let z : j + 1 ≡ k = cc in
-        let below = rest j u in
-        omega arith
 
 -- a value that is there if its place is below n
 abbrev pub if_before : {V : Type 0} → Option ℕ → ℕ → Option V → Option V

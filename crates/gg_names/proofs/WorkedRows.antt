@@ -11,7 +11,7 @@
 --      9        writer => w
 --     10        reader => r
 --     11      wire n : UInt<8>
-use Rattle.std.proofs.Common.{◌≡◌, ℕ, List, [], ◌∷◌, Some, None, codes, refl}
+use Rattle.std.proofs.Common.{◌≡◌, ℕ, List, [], ◌∷◌, Some, None, codes, refl, false}
 use Rattle.gg_ast.specs.declared.expression.Reference.{Reference}
 use Rattle.gg_ast.specs.declared.expression.Reference.TheVariants.{Local, PortOf, FieldOf}
 use Rattle.gg_ast.specs.declared.module.Direction.TheVariants.{Input, Output}
@@ -137,10 +137,10 @@ holds_none = refl
 
 -- ---- near misses
 
--- `m.r` doesn't name the memory
-port_alone : meaning_of (scope_of modules (parent_with (mem_m ∷ []))) (PortOf (codes "m") (codes "r")) ≡ Some Memory → ⊥
-port_alone h = cc
+-- a memory's port alone can't be written: `m.r` names nothing
+port_alone : meaning_of (scope_of modules (parent_with (mem_m ∷ []))) (PortOf (codes "m") (codes "r")) ≡ None
+port_alone = refl
 
--- `m.w.data` isn't the data of a reader
-data_no_source : meaning_of (scope_of modules (parent_with (mem_m ∷ []))) (field (codes "w") (codes "data")) ≡ Some (MemoryPort Reader Data) → ⊥
-data_no_source h = cc
+-- the data of a writer is given to the memory: `m.w.data` is no source
+data_no_source : is_source (meaning_of (scope_of modules (parent_with (mem_m ∷ []))) (field (codes "w") (codes "data"))) ≡ false
+data_no_source = refl

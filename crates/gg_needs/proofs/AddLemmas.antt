@@ -21,9 +21,6 @@ mark-at place [] s = ap (λ (n : ℕ). n == 1) (sym (bit_at-zero place))
 mark-at place (x ∷ marks) zero = refl
 mark-at place (x ∷ marks) (suc s) = mark-at place marks s
 
-pub marked-bit : (place : ℕ) (marks : List ℕ) (s : ℕ) → is_marked (marks_of place marks) s ≡ true → bit_at (value_at marks s) place ≡ 1
-marked-bit place marks s is = (Decides-eqb (bit_at (value_at marks s) place) 1).0 (sym (mark-at place marks s) ∙ is)
-
 pub bit-marked : (place : ℕ) (marks : List ℕ) (s : ℕ) → bit_at (value_at marks s) place ≡ 1 → is_marked (marks_of place marks) s ≡ true
 bit-marked place marks s is = mark-at place marks s ∙ (Decides-eqb (bit_at (value_at marks s) place) 1).1 is
 
@@ -93,19 +90,6 @@ Adds-then added P Q R a b c from_p from_q cases first second =
       count = second.count ∙ first.count;
       given = λ place is. Marks-then P Q R (marks_of place a) (marks_of place b) (marks_of place c) from_p from_q cases (first.given place is) (second.given place is);
       kept = λ place is. second.kept place is ∙ first.kept place is;
-    }
-
--- a property of signals can be replaced by another that the same signals have
-pub Adds-same : (added : ℕ) (P R : ℕ → Type 0) (a b : List ℕ) → ((s : ℕ) → P s → R s) → ((s : ℕ) → R s → P s) → Adds added P a b → Adds added R a b
-Adds-same added P R a b to from adds =
-    record {
-      count = adds.count;
-      given = λ place is. let m = adds.given place is in record {
-        kept = m.kept;
-        marked = λ s r. m.marked s (from s r);
-        only = λ s h. elim (m.only s h) [ inl k ↦ inl k | inr p ↦ inr (to s p) ];
-      };
-      kept = adds.kept;
     }
 
 -- a set is added to what one more node names

@@ -1,27 +1,15 @@
 -- The marked in-signals are what a signal needs, where just what it reaches is marked.
-use Rattle.std.proofs.Common.{◌≡◌, ℕ, ◌+◌, ◌<◌, List, [], ◌∷◌, ◌++◌, length, get_or, Bool, true, false, true≢false, refl, sym, ◌∙◌, ap, subst, inl, inr, ◌⊎◌, arith}
+use Rattle.std.proofs.Common.{◌≡◌, ℕ, ◌+◌, ◌<◌, List, [], ◌∷◌, ◌++◌, length, get_or, Bool, true, false, true≢false, sym, ◌∙◌, ap, subst, inl, inr, arith}
 use Rattle.std.specs.Prelude.{Contains}
 use Rattle.std.proofs.lemmas.List.{get_or_default}
-use Rattle.std.proofs.lemmas.List.Elements.{Contains-append_left, Contains-append_right, Contains-append_cases}
+use Rattle.std.proofs.lemmas.List.Elements.{Contains-append_left, Contains-push, Contains-push_cases}
 use Rattle.std.proofs.lemmas.List.Quantifiers.{all_pairs_push}
 use Rattle.std.proofs.lemmas.Bool.{cases_lt}
 use Rattle.gg_flat.specs.Line.{value_at}
 use Rattle.gg_flat.specs.Circuit.{FlatCircuit}
-use Rattle.gg_flat.proofs.NameLemmas.{Contains-one}
 use Rattle.gg_order.specs.Marks.{is_marked}
 use Rattle.gg_needs.specs.Needs.{AreNeeds}
 use Rattle.gg_needs.specs.Walk.{MarksReached, AreMarkedIns}
-
--- ---- a list that grows by an element
-
-contains_old : (xs : List ℕ) (y s : ℕ) → Contains xs s → Contains (xs ++ y ∷ []) s
-contains_old xs y s h = Contains-append_left xs (y ∷ []) s h
-
-contains_new : (xs : List ℕ) (y : ℕ) → Contains (xs ++ y ∷ []) y
-contains_new xs y = Contains-append_right xs (y ∷ []) y (0, omega arith, refl)
-
-contains_cases : (xs : List ℕ) (y s : ℕ) → Contains (xs ++ y ∷ []) s → Contains xs s ⊎ (y ≡ s)
-contains_cases xs y s h = elim (Contains-append_cases xs (y ∷ []) s h) [ inl old ↦ inl old | inr new ↦ inr (Contains-one y s new) ]
 
 -- ---- the marked in-signals, place by place
 
@@ -53,15 +41,15 @@ AreMarkedIns-push circuit marks k needs is h =
       ascending = all_pairs_push (λ (a b : ℕ). a < b) needs k h.ascending (λ i d lt.
           ((h.exact (get_or needs i d)).0 (i, lt, get_or_default needs i (get_or needs i d) d lt)).0);
       exact = λ place. (
-        λ has. elim (contains_cases needs k place has) [
+        λ has. elim (Contains-push_cases needs k place has) [
           | inl old ↦ let both = (h.exact place).0 old in (omega (arith, both.0), both.1)
           | inr same ↦ (omega (arith, same), subst (λ (x : ℕ). is_marked marks (value_at circuit.ins x) ≡ true) same is)
         ],
         λ both. elim (cases_lt place k) [
-          | inl less ↦ contains_old needs k place ((h.exact place).1 (less, both.1))
+          | inl less ↦ Contains-append_left needs (k ∷ []) place ((h.exact place).1 (less, both.1))
           | inr ge ↦
               let same : k ≡ place = omega (arith, both.0, ge) in
-              subst (Contains (needs ++ k ∷ [])) same (contains_new needs k)
+              subst (Contains (needs ++ k ∷ [])) same (Contains-push needs k)
         ],
       );
     }

@@ -8,9 +8,6 @@ use Rattle.gg_needs.specs.Needs.{AreNeeds}
 use Rattle.gg_needs.specs.Needs.{AreNeedsOfOuts}
 use Rattle.gg_needs.specs.Groups.{AreNeedsSoFar}
 
-pub AreNeedsSoFar-none : (circuit : FlatCircuit) → AreNeedsSoFar circuit []
-AreNeedsSoFar-none circuit = record { within = omega arith; each = λ out lt. absurd (omega arith) }
-
 pub AreNeedsSoFar-push : (circuit : FlatCircuit) (needs : List (List ℕ)) (own : List ℕ) (n : ℕ) → n ≡ length needs → n < length circuit.outs → AreNeeds circuit (value_at circuit.outs n) own → AreNeedsSoFar circuit needs → AreNeedsSoFar circuit (needs ++ own ∷ [])
 AreNeedsSoFar-push circuit needs own n count some is h =
     record {

@@ -1,16 +1,14 @@
 -- A walk from the back of an order to its front marks just what a signal reaches.
-use Rattle.std.proofs.Common.{◌≡◌, ◌≢◌, ℕ, zero, suc, ◌+◌, ◌<◌, ◌≤◌, List, length, set, replicate, Bool, true, false, true≢false, refl, sym, ◌∙◌, ap, subst, inl, inr, arith, nat_eq}
-use Rattle.std.proofs.lemmas.List.{get_or-set_same, get_or-set_other, length-set, length-replicate}
+use Rattle.std.proofs.Common.{◌≡◌, ℕ, ◌+◌, ◌<◌, List, length, Bool, true, refl, sym, subst, inl, inr, arith}
 use Rattle.std.proofs.lemmas.Bool.{cases_lt}
-use Rattle.std.proofs.lemmas.Bool.Decides.{Decides-eqb}
 use Rattle.gg_flat.specs.Line.{value_at}
-use Rattle.gg_flat.specs.Circuit.{FlatCircuit, driver_at}
-use Rattle.gg_flat.specs.Reads.{Reads, NamesSignal, Reaches}
+use Rattle.gg_flat.specs.Circuit.{FlatCircuit}
+use Rattle.gg_flat.specs.Reads.{Reads}
 use Rattle.gg_flat.specs.Order.{IsOrder}
 use Rattle.gg_flat.proofs.OrderLemmas.{read-before, place-of}
-use Rattle.gg_order.specs.Marks.{is_marked, Marks}
+use Rattle.gg_order.specs.Marks.{is_marked}
 use Rattle.gg_needs.specs.Walk.{MarksReached, IsClosed, IsWalk, ReadsMarked}
-use Rattle.gg_needs.proofs.ReachLemmas.{Reaches-itself, Reaches-on, along-reaches}
+use Rattle.gg_needs.proofs.ReachLemmas.{Reaches-on, along-reaches}
 
 -- one step of the walk: the signal at place k is looked at
 pub IsWalk-step : (circuit : FlatCircuit) (order : List ℕ) (out k n : ℕ) (before after : List Bool) → IsOrder circuit order → k < length order → n ≡ k + 1 → length after ≡ length circuit.signals → ReadsMarked circuit (value_at order k) before after → IsWalk circuit order out n before → IsWalk circuit order out k after
@@ -49,21 +47,3 @@ MarksReached-walk circuit order out k marks o front walk s =
     closed a b is reads =
         let at = place-of circuit order a o reads.signal in
         walk.closed at.place b (omega (arith, front)) at.within (subst (λ (x : ℕ). is_marked marks x ≡ true) (sym at.is) is) (subst (λ (x : ℕ). Reads circuit x b) (sym at.is) reads)
-
--- marking what a marked signal's driver names marks what the signal reads
-pub ReadsMarked-driver : (circuit : FlatCircuit) (signal : ℕ) (before after : List Bool) → signal < length circuit.signals → is_marked before signal ≡ true → Marks (NamesSignal (driver_at circuit signal)) before after → ReadsMarked circuit signal before after
-ReadsMarked-driver circuit signal before after known is marks =
-    record {
-      kept = marks.kept;
-      read = λ s was reads. marks.marked s reads.names;
-      only = λ s h. elim (marks.only s h) [ inl was ↦ inl was | inr names ↦ inr (is, record { signal = known; names = names }) ];
-    }
-
--- nothing is marked for a signal that isn't marked itself
-pub ReadsMarked-none : (circuit : FlatCircuit) (signal : ℕ) (marks : List Bool) → is_marked marks signal ≡ false → ReadsMarked circuit signal marks marks
-ReadsMarked-none circuit signal marks not =
-    record {
-      kept = λ s h. h;
-      read = λ s was reads. absurd (true≢false (sym was ∙ not));
-      only = λ s h. inl h;
-    }

@@ -6,38 +6,17 @@ use Rattle.std.proofs.lemmas.List.{length-map, length-replicate}
 use Rattle.std.proofs.lemmas.List.FromFn.{length-range_with_len, get_or-range_with_len}
 use Rattle.std.proofs.lemmas.Nat.Bits.{bit_at-zero, bit_at-pow_same, bit_at-pow_other}
 use Rattle.gg_flat.specs.Line.{value_at}
-use Rattle.gg_flat.specs.Circuit.{FlatCircuit, driver_at}
-use Rattle.gg_flat.specs.Reads.{NamesSignal, Reaches}
+use Rattle.gg_flat.specs.Circuit.{FlatCircuit}
+use Rattle.gg_flat.specs.Reads.{Reaches}
 use Rattle.gg_part.specs.InOrder.{IsInOrder}
 use Rattle.gg_part.proofs.AlongLemmas.{IsOrder-numbers}
 use Rattle.gg_order.specs.Marks.{is_marked}
 use Rattle.gg_needs.specs.Walk.{IsWalk, ReadsMarked}
 use Rattle.gg_needs.proofs.ReachLemmas.{Reaches-itself}
-use Rattle.gg_needs.proofs.ReachedLemmas.{IsWalk-step, MarksReached-walk, ReadsMarked-driver, ReadsMarked-none}
+use Rattle.gg_needs.proofs.ReachedLemmas.{IsWalk-step, MarksReached-walk}
 use Rattle.gg_needs.specs.Marks.{marks_of, Adds}
 use Rattle.gg_needs.specs.Walk.{AreOwn, AreReached, HandsOn}
-use Rattle.gg_needs.proofs.AddLemmas.{bit-marked, bit-unmarked, bit-cases}
-
--- ---- a signal hands its marks on
-
-pub HandsOn-adds : (circuit : FlatCircuit) (signal own : ℕ) (before after : List ℕ) → signal < length circuit.signals → own ≡ value_at before signal → Adds own (NamesSignal (driver_at circuit signal)) before after → HandsOn circuit signal before after
-HandsOn-adds circuit signal own before after known is adds =
-    record {
-      count = adds.count;
-      each = λ place. elim (bit-cases own place) [
-        | inl one ↦ ReadsMarked-driver circuit signal (marks_of place before) (marks_of place after) known
-            (bit-marked place before signal (ap (λ (n : ℕ). bit_at n place) (sym is) ∙ one)) (adds.given place one)
-        | inr none ↦ subst (ReadsMarked circuit signal (marks_of place before)) (sym (adds.kept place none))
-            (ReadsMarked-none circuit signal (marks_of place before) (bit-unmarked place before signal (ap (λ (n : ℕ). bit_at n place) (sym is) ∙ none)))
-      ];
-    }
-
-pub HandsOn-none : (circuit : FlatCircuit) (signal : ℕ) (marks : List ℕ) → value_at marks signal ≡ 0 → HandsOn circuit signal marks marks
-HandsOn-none circuit signal marks is =
-    record {
-      count = refl;
-      each = λ place. ReadsMarked-none circuit signal (marks_of place marks) (bit-unmarked place marks signal (ap (λ (n : ℕ). bit_at n place) is ∙ bit_at-zero place));
-    }
+use Rattle.gg_needs.proofs.AddLemmas.{bit-unmarked}
 
 -- ---- the out-signals' own marks
 

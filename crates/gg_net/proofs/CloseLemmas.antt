@@ -8,7 +8,7 @@ use Rattle.gg_flat.specs.Line.{value_at}
 use Rattle.gg_flat.specs.State.{State}
 use Rattle.gg_node.specs.Machine.{Machine, no_machine, machine_at}
 use Rattle.gg_node.specs.Token.{IsToken, IsNextState}
-use Rattle.gg_node.specs.Step.{MayLatch, MayFire, MayServe, MayFinish, with_latch, with_flag, with_served, finished}
+use Rattle.gg_node.specs.Step.{MayLatch, MayFire, with_latch, with_flag, with_served, finished}
 use Rattle.gg_net.specs.declared.shape.Wire.{Wire}
 use Rattle.gg_net.specs.declared.shape.Station.{Station}
 use Rattle.gg_net.specs.declared.event.Event.TheVariants.{Latch, Fire, Serve, Finish}
@@ -20,7 +20,7 @@ use Rattle.gg_net.specs.Seats.{machines_by, seated, IsReseated, HasGoneOn}
 use Rattle.gg_net.specs.Net.{net_of, held_at, AreListed, HasRoom, IsWithinLimits, IsNet}
 use Rattle.gg_net.proofs.SeatLemmas.{machines-set, are-seated}
 use Rattle.gg_net.proofs.StepLemmas.{kept-step}
-use Rattle.gg_net.proofs.MayLemmas.{consumer-there, producer-there, may-latch, may-fire, may-serve, may-finish}
+use Rattle.gg_net.proofs.MayLemmas.{consumer-there, producer-there, may-latch, may-fire}
 
 -- ---- kinds
 
@@ -131,9 +131,6 @@ module _ {lists : List (List ℕ)} {runs : List (List (List ℕ))} {hosts : List
 
       -- ---- `Latch`
 
-      pub latch-held : CanLatch old c → 0 < length queue.tokens
-      latch-held can = omega (arith, can.held, ap length queue-is)
-
       module _ (station : Station) (s-is : station ≡ slice_index_or stations w.consumer station) (token : ℕ) (t-is : token ≡ value_at queue.tokens 0) where
         seat-is : seated hosts station ≡ machine_at (machines_by hosts stations) (wire_at wires c).consumer
         seat-is = sym (machine-is w.consumer station consumer-seat s-is) ∙ ap (λ (v : Wire). machine_at (machines_by hosts stations) v.consumer) wire-is
@@ -194,12 +191,6 @@ module _ {lists : List (List ℕ)} {runs : List (List (List ℕ))} {hosts : List
   -- ---- `Serve` and `Finish`
 
   module _ (m : ℕ) (station : Station) (below : m < length stations) (is : station ≡ slice_index_or stations m station) where
-    pub serve-may : (p : ℕ) → CanServe old m p → MayServe (seated hosts station) p
-    serve-may p can = subst (λ x. MayServe x p) (machine-is m station below is) (may-serve lists runs old net.kept m p can)
-
-    pub finish-may : CanFinish old m → MayFinish (seated hosts station)
-    finish-may can = subst MayFinish (machine-is m station below is) (may-finish lists runs old net.kept m can)
-
     module _ (p : ℕ) (can : CanServe old m p) (after : List (List Machine)) (step : IsReseated hosts after station (with_served (seated hosts station))) where
       pub serve-is : net_of after stations wires queues end ≡ after_serve old m
       serve-is =

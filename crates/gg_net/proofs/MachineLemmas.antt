@@ -1,11 +1,11 @@
 -- One machine of a network that is kept: its tokens and its next state are those of its rows, and each of its steps
 -- leaves it a machine that may stand at its place.
-use Rattle.std.proofs.Common.{◌≡◌, ℕ, zero, suc, ◌<◌, ◌≤◌, ◌++◌, List, [], ◌∷◌, Option, None, Some, true, false, length, take, refl, sym, ap, subst, ◌∙◌, ⊎_elim, arith, get_or-set_same, get_or-set_other}
+use Rattle.std.proofs.Common.{◌≡◌, ℕ, zero, suc, ◌<◌, ◌≤◌, ◌++◌, List, [], ◌∷◌, Option, None, Some, true, false, length, take, refl, sym, ap, subst, ◌∙◌, ⊎_elim, arith, get_or-set_same, get_or-set_other, true≢false}
 use Rattle.std.specs.Prelude.{All, slice_index_or, slice_set, slice_get, replicate}
 use Rattle.std.proofs.lemmas.Bool.{cases_eq, cases_lt}
 use Rattle.std.proofs.lemmas.List.{length-set, length-map, length-append, length-replicate, get_or-map, get_or_at, get_or_append_left, ext_get_or, take_all}
 use Rattle.std.proofs.lemmas.List.Elements.{All-append}
-use Rattle.std.proofs.lemmas.Option.{same_Some, slice_get_within, get_or_from_slice_get}
+use Rattle.std.proofs.lemmas.Option.{same_Some, slice_get_within, get_or_from_slice_get, none-some}
 use Rattle.std.proofs.Math.Seq.{take-suc}
 use Rattle.gg_flat.specs.Line.{value_at}
 use Rattle.gg_flat.specs.Circuit.{FlatCircuit}
@@ -18,7 +18,7 @@ use Rattle.gg_node.specs.Step.{with_latch, with_flag, with_served, finished, kep
 use Rattle.gg_net.specs.Network.{wire_at, IsAtIn, Kind, kind_at, Frame}
 use Rattle.gg_net.specs.Step.{fields_at, due_fields}
 use Rattle.gg_net.specs.Kept.{list_at, rows_at, ins_of, run_state, served_one, served_by, RunsRows, Runs, Answers, Asks, ServesRows, IsSound, IsStateOf, HasKept, Keeps, MachineAt}
-use Rattle.gg_net.proofs.LatchLemmas.{none-is-no-some, true-is-no-false, has-value, latch-within, latch-grows, value-latched, all-filled, missing-grows, no-latch, no-flag}
+use Rattle.gg_net.proofs.LatchLemmas.{has-value, latch-within, latch-grows, value-latched, all-filled, missing-grows, no-latch, no-flag}
 use Rattle.gg_net.proofs.StateLemmas.{inputs-are, accessed-is, served-next}
 
 -- ---- over plain variables
@@ -32,7 +32,7 @@ none-of-none P xs k d below = absurd (omega arith)
 
 -- if a number is due, its port exists
 pub due-port : (port : Option Port) (p : ℕ) → port_number port ≡ Some p → (q : Port) × (port ≡ Some q)
-due-port None p is = absurd (none-is-no-some p is)
+due-port None p is = absurd (none-some p is)
 due-port (Some q) p is = (q, refl)
 
 -- a tray's values, with one more
@@ -117,7 +117,7 @@ module _ (lists : List (List ℕ)) (runs : List (List (List ℕ))) (frame : Fram
     -- while an out hasn't given its token, no port was served
     unserved : (o : ℕ) → o < length x.flags → flag_at x.flags o ≡ false → x.served ≡ 0
     unserved o within clear =
-        ⊎_elim (λ (lt : 0 < x.served). absurd (true-is-no-false (sym (at.serving lt o false within) ∙ clear))) (λ (le : x.served ≤ 0). omega (arith, le)) (cases_lt 0 x.served)
+        ⊎_elim (λ (lt : 0 < x.served). absurd (true≢false (sym (at.serving lt o false within) ∙ clear))) (λ (le : x.served ≤ 0). omega (arith, le)) (cases_lt 0 x.served)
 
     pub out-within : (c : ℕ) → c < length frame.wires → (wire_at frame.wires c).producer ≡ m → (wire_at frame.wires c).out < length x.flags
     out-within c known is =

@@ -1,23 +1,19 @@
--- What a host requires of a step is met if the event may be done.
-use Rattle.std.proofs.Common.{◌≡◌, ℕ, ◌<◌, ◌≤◌, List, Option, None, Some, length, map, refl, sym, ap, subst, ◌∙◌, arith}
-use Rattle.std.specs.Prelude.{IfSome, slice_get}
+-- What a host requires of `Latch` and `Fire` is met if the event may be done.
+use Rattle.std.proofs.Common.{◌≡◌, ℕ, ◌<◌, ◌≤◌, List, length, map, refl, sym, ap, subst, ◌∙◌, arith}
 use Rattle.std.proofs.lemmas.List.{length-map, get_or-map}
 use Rattle.gg_bits.specs.Shape.{Shape, Fits, uint, shape}
 use Rattle.gg_flat.specs.declared.piece.Signal.{Signal}
 use Rattle.gg_flat.specs.Line.{value_at, shape_at}
 use Rattle.gg_flat.specs.Circuit.{signal_shapes}
 use Rattle.gg_flat.specs.Run.{row_at}
-use Rattle.gg_node.specs.Machine.{Behaviour, RunsPiece, GivesColumn, KeepsValues, Port, Machine, machine_at, first_empty}
-use Rattle.gg_node.specs.Step.{FitsIn, HasValueAt, HasFields, MayLatch, MayFire, MayServe, MayFinish, fields_of}
+use Rattle.gg_node.specs.Machine.{Behaviour, RunsPiece, GivesColumn, KeepsValues, Machine}
+use Rattle.gg_node.specs.Step.{FitsIn, HasValueAt, MayLatch, MayFire}
 use Rattle.gg_net.specs.declared.shape.Wire.{Wire}
-use Rattle.gg_net.specs.Network.{Network, wire_at, queue_at, producer_of, consumer_of, takes, puts, got_by, Kind, kind_of, kind_at, Frame, frame_of}
-use Rattle.gg_net.specs.Step.{CanLatch, CanFire, CanServe, CanFinish, front_of, fields_at}
+use Rattle.gg_net.specs.Network.{Network, wire_at, queue_at, producer_of, consumer_of, takes, puts, got_by, kind_of, kind_at, Frame, frame_of}
+use Rattle.gg_net.specs.Step.{CanLatch, CanFire, front_of}
 use Rattle.gg_net.specs.Kept.{list_at, rows_at, RunsRows, Runs, Asks, IsSound, MachineAt, Kept}
-use Rattle.gg_net.proofs.LatchLemmas.{all-filled}
 use Rattle.gg_net.proofs.MachineLemmas.{asks, does, behaviour-is, place-within, out-within}
 use Rattle.gg_net.proofs.ChannelLemmas.{front-is}
-use Rattle.gg_net.proofs.StepLemmas.{all-served}
-use Rattle.gg_net.proofs.PortLemmas.{any_port}
 
 module _ (lists : List (List ℕ)) (runs : List (List (List ℕ))) (frame : Frame) (sound : IsSound lists runs frame) (m : ℕ) (below : m < length frame.kinds) where
   -- a channel's value is of the type of its in
@@ -87,31 +83,4 @@ module _ (lists : List (List ℕ)) (runs : List (List (List ℕ))) (net : Networ
         clear = can.clear;
         needed = can.needed;
         known = known-by lists runs (frame_of net) kept.sound m below x.behaviour x.cycle (behaviour-is lists runs (frame_of net) kept.sound m below x at) can.can.1;
-      }
-
-  pub may-serve : (m p : ℕ) → CanServe net m p → MayServe (machine_at net.machines m) p
-  may-serve m p can =
-      let x : Machine = machine_at net.machines m in
-      record {
-        fired = can.fired;
-        due = can.due;
-        fields = filled (slice_get x.ports x.served) can.fields;
-      }
-    where
-      filled : (port : Option Port) → first_empty (machine_at net.machines m).latches (fields_at port) ≡ None → IfSome port (HasFields (machine_at net.machines m).latches)
-      filled None none = tt
-      filled (Some port) none = all-filled (machine_at net.machines m).latches (fields_of port.access) none
-
-  pub may-finish : (m : ℕ) → CanFinish net m → MayFinish (machine_at net.machines m)
-  may-finish m can =
-      let x : Machine = machine_at net.machines m in
-      let below : m < length (map kind_of net.machines) = known m can.there in
-      let at : MachineAt lists runs (frame_of net) m x = kept.machines m can.there in
-      let able : net.end ≤ (kind_at (map kind_of net.machines) m).limit = kept.sound.solves.able m below in
-      let limit : x.limit ≡ (kind_at (map kind_of net.machines) m).limit = ap (λ (k : Kind). k.limit) at.kind in
-      record {
-        fired = can.fired;
-        served = all-served x.ports x.served any_port at.served can.served;
-        latched = can.latched;
-        below = omega (arith, can.below, able, limit);
       }

@@ -5,6 +5,7 @@ use Rattle.std.proofs.Math.ListN as exact
 use Rattle.gg_flat.specs.State.{State}
 use Rattle.gg_flat.specs.Run.{row_at}
 use Rattle.gg_node.specs.Machine.{Behaviour, RunsPiece, GivesColumn, KeepsValues, Port, Machine, no_machine, machine_at, latch_at, flag_at}
+use Rattle.gg_node.proofs.EmptyLemmas.{empty-after}
 use Rattle.gg_net.specs.declared.shape.Wire.{Wire}
 use Rattle.gg_net.specs.declared.shape.Station.{Station}
 use Rattle.gg_net.specs.Network.{Network, wire_at, queue_at, given_by, got_by, puts, takes, kind_of, frame_of}
@@ -13,7 +14,7 @@ use Rattle.gg_net.specs.Queue.{Held}
 use Rattle.gg_net.specs.Seats.{machines_by}
 use Rattle.gg_net.specs.Net.{net_of, IsNet, OpensIn, IsOpening, opening_net, Opens, AreOpen}
 use Rattle.gg_net.proofs.LatchLemmas.{no-latch, no-flag}
-use Rattle.gg_net.proofs.StepLemmas.{clear-after, empty-after}
+use Rattle.gg_net.proofs.StepLemmas.{clear-after}
 
 -- ---- queues
 

@@ -5,19 +5,20 @@ use Rattle.std.proofs.Math.Seq.{map-set_same}
 use Rattle.std.proofs.Math.ListN.{get_or-map}
 use Rattle.std.proofs.lemmas.Bool.{cases_eq, cases_lt}
 use Rattle.std.proofs.lemmas.List.{length-map, length-set}
-use Rattle.std.proofs.lemmas.Option.{slice_get-get_or}
+use Rattle.std.proofs.lemmas.Option.{slice_get-get_or, none-some}
 use Rattle.gg_flat.specs.Line.{value_at}
 use Rattle.gg_flat.specs.State.{State}
 use Rattle.gg_node.specs.Machine.{Port, Machine, no_machine, machine_at, latch_at, flag_at, port_number}
 use Rattle.gg_node.specs.Token.{IsToken, IsNextState}
 use Rattle.gg_node.specs.Step.{with_latch, with_flag, with_served, finished}
+use Rattle.gg_node.proofs.EmptyLemmas.{empty-after}
 use Rattle.gg_net.specs.declared.event.Event.{Event}
 use Rattle.gg_net.specs.declared.event.Event.TheVariants.{Latch, Fire, Serve, Finish}
 use Rattle.gg_net.specs.declared.shape.Wire.{Wire}
 use Rattle.gg_net.specs.Network.{wire_at, Network, queue_at, producer_of, consumer_of, given_by, got_by, puts, takes, Kind, kind_of, frame_of}
 use Rattle.gg_net.specs.Step.{CanLatch, CanFire, CanServe, CanFinish, front_of, after_latch, after_fire, after_serve, after_finish, Step}
 use Rattle.gg_net.specs.Kept.{list_at, IsSound, MachineAt, BetweenAt, Kept}
-use Rattle.gg_net.proofs.LatchLemmas.{some-is-no-none, has-value}
+use Rattle.gg_net.proofs.LatchLemmas.{has-value}
 use Rattle.gg_net.proofs.MachineLemmas.{token_is, out-within, place-within, own_latch, own_fire, own_serve, own_finish}
 use Rattle.gg_net.proofs.PortLemmas.{any_port}
 use Rattle.gg_net.proofs.ChannelLemmas.{between-same, front-is, taken-one, put-one}
@@ -29,14 +30,9 @@ clear-after zero o = refl
 clear-after (suc n) zero = refl
 clear-after (suc n) (suc o) = clear-after n o
 
-pub empty-after : (n i : ℕ) → ◌≡◌ {A = Option ℕ} (latch_at (replicate n None) i) None
-empty-after zero i = refl
-empty-after (suc n) zero = refl
-empty-after (suc n) (suc i) = empty-after n i
-
 pub no-port : (port : Option Port) → port_number port ≡ None → port ≡ None
 no-port None is = refl
-no-port (Some q) is = absurd (some-is-no-none q.number is)
+no-port (Some q) is = absurd (none-some q.number (sym is))
 
 -- if no port is due, all are served
 pub all-served : (ports : List Port) (n : ℕ) (any : Port) → n ≤ length ports → port_number (slice_get ports n) ≡ None → n ≡ length ports

@@ -1,6 +1,7 @@
 -- Machines worked by hand: what they are after some steps, and which values are their tokens.
-use Rattle.std.proofs.Common.{◌≡◌, ℕ, zero, suc, ◌<◌, [], ◌∷◌, Option, Some, None, Bool, true, false, refl, sym, ap, subst, ◌∙◌, arith}
-use Rattle.std.specs.Prelude.{Contains, MatchOption, ⊤}
+use Rattle.std.proofs.Common.{◌≡◌, ℕ, zero, suc, ◌<◌, [], ◌∷◌, Some, None, Bool, true, false, refl, sym, ap, subst, ◌∙◌, arith}
+use Rattle.std.specs.Prelude.{Contains, ⊤}
+use Rattle.std.proofs.lemmas.Option.{none-some}
 use Rattle.gg_flat.specs.declared.line.Op.TheVariants.{Ref}
 use Rattle.gg_flat.specs.declared.piece.Driver.TheVariants.{Input, Computed}
 use Rattle.gg_bits.specs.Shape.{Fits, uint}
@@ -101,13 +102,10 @@ row-driven (suc (suc (suc i))) below = absurd (omega arith)
 row-settled : Settled pair (holds 3) (5 ∷ 0 ∷ []) (5 ∷ 0 ∷ 5 ∷ [])
 row-settled = record { typed = record { count = refl; fits = row-fits }; driven = row-driven }
 
-none-is-no-some : (value : ℕ) → ◌≡◌ {A = Option ℕ} None (Some value) → ⊥
-none-is-no-some value is = subst (λ option. MatchOption option ⊤ (λ n. ⊥)) is tt
-
 row-agrees : (i value : ℕ) → Contains {X = ℕ} (0 ∷ []) i → latch_at (Some 5 ∷ None ∷ []) i ≡ Some value → value_at (5 ∷ 0 ∷ []) i ≡ value
 row-agrees zero value has is = ap latched_value is
-row-agrees (suc zero) value has is = absurd (none-is-no-some value is)
-row-agrees (suc (suc i)) value has is = absurd (none-is-no-some value is)
+row-agrees (suc zero) value has is = absurd (none-some value is)
+row-agrees (suc (suc i)) value has is = absurd (none-some value is)
 
 not-another : IsToken (with_latch unit 0 5) 0 6 → ⊥
 not-another is = omega (arith, is (5 ∷ 0 ∷ []) (5 ∷ 0 ∷ 5 ∷ []) row-settled row-agrees)

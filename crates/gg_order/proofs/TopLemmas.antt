@@ -1,15 +1,12 @@
 -- A tree of the top alone is the tree of a circuit without instances and memories, and the circuit keeps to its scopes.
-use Rattle.std.proofs.Common.{◌≡◌, ◌≢◌, ◌⊎◌, inl, inr, ℕ, zero, suc, ◌<◌, ◌≤◌, ◌∙◌, List, [], ◌∷◌, length, Some, None, refl, sym, ap, subst, arith, lit<}
-use Rattle.std.specs.Prelude.{Contains, All, AllPairs, slice_index_or}
-use Rattle.std.proofs.lemmas.List.{get_or_default}
+use Rattle.std.proofs.Common.{◌≡◌, ◌≢◌, inl, inr, ℕ, zero, suc, ◌<◌, ◌≤◌, ◌∙◌, List, [], ◌∷◌, length, Some, None, refl, sym, ap, subst, arith, lit<}
+use Rattle.std.specs.Prelude.{Contains, All, AllPairs}
 use Rattle.gg_flat.specs.declared.tree.Instance.{Instance}
 use Rattle.gg_flat.specs.declared.tree.InstancePort.{InstancePort}
-use Rattle.gg_flat.specs.declared.tree.MemoryInstance.{MemoryInstance}
-use Rattle.gg_flat.specs.Circuit.{FlatCircuit, driver_at}
+use Rattle.gg_flat.specs.Circuit.{FlatCircuit}
 use Rattle.gg_flat.specs.WellFormed.{IsWellFormed}
-use Rattle.gg_flat.specs.Reads.{NamesSignal}
-use Rattle.gg_flat.specs.Tree.{InstanceTree, IsTree, IsTop, IsInstance, IsInnermost, IsWithin, IsJustBelow, path_at, instance_at}
-use Rattle.gg_flat.specs.Scoped.{IsScoped, IsPort, IsOwnPort, IsChildsInput, IsWritten, IsVisible, input_signals, output_signals}
+use Rattle.gg_flat.specs.Tree.{InstanceTree, IsTree, IsInstance, IsInnermost, IsWithin, IsJustBelow, path_at, instance_at}
+use Rattle.gg_flat.specs.Scoped.{IsScoped, IsWritten, IsVisible, input_signals, output_signals}
 use Rattle.gg_order.proofs.ReadLemmas.{names_within, register-names_within}
 
 -- What is known of the top of a circuit without instances and memories.

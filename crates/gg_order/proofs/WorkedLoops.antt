@@ -1,11 +1,8 @@
 -- A loop by hand as it is reported, and lists of signals that aren't a loop or aren't reported.
-use Rattle.std.proofs.Common.{◌≡◌, ◌≢◌, ℕ, List, [], ◌∷◌, eqb, false, true≢false, refl, sym, ap, ◌∙◌, lit<}
-use Rattle.std.specs.Prelude.{AllPairs}
+use Rattle.std.proofs.Common.{◌≡◌, ◌≢◌, ℕ, List, [], ◌∷◌, false, true≢false, refl, sym, ap, ◌∙◌, lit<}
 use Rattle.std.specs.List.{IsDistinct}
 use Rattle.std.specs.Ordering.{nat_cmp, is_lt}
 use Rattle.std.specs.Cmp.Lexicographic.{slice_cmp}
-use Rattle.std.proofs.lemmas.Bool.Decides.{Decides-eqb}
-use Rattle.std.proofs.lemmas.Map.Made.{AllPairs-from_IsDistinct}
 use Rattle.gg_flat.specs.declared.line.Op.TheVariants.{Ref}
 use Rattle.gg_flat.specs.Circuit.{FlatCircuit}
 use Rattle.gg_flat.specs.Reads.{Names, IsLoop}
@@ -13,10 +10,8 @@ use Rattle.gg_flat.proofs.NameLemmas.{Contains-one}
 use Rattle.gg_flat.proofs.WorkedCircuits.{eight, node}
 use Rattle.gg_flat.proofs.WorkedForms.{three, apart}
 use Rattle.gg_flat.proofs.WorkedMemories.{copy}
+use Rattle.gg_walk.proofs.WorkedRows.{distinct}
 use Rattle.gg_order.specs.Loop.{IsBefore, IsToldLoop}
-
-distinct : (xs : List ℕ) → IsDistinct eqb xs → AllPairs (λ a b. a ≢ b) xs
-distinct xs h = AllPairs-from_IsDistinct Decides-eqb xs h
 
 -- ---- three signals that read each other, and one that reads one of them
 

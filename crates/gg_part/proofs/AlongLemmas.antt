@@ -13,6 +13,7 @@ use Rattle.gg_flat.specs.Circuit.{FlatCircuit, driver_at}
 use Rattle.gg_flat.specs.Reads.{Names, NamesSignal, Reads}
 use Rattle.gg_flat.specs.Order.{IsOrder}
 use Rattle.gg_flat.proofs.OrderLemmas.{read-before, not-before, place-of}
+use Rattle.gg_flat.proofs.ListLemmas.{once-apart}
 use Rattle.gg_part.specs.Part.{IsPart, IsFrom, renamed_op, renamed_line}
 use Rattle.gg_part.specs.InOrder.{Precedes, IsAlong, IsInOrder}
 
@@ -48,20 +49,11 @@ module _ (whole part : FlatCircuit) (globals held memories order : List ℕ) (is
       let at = named-in part.ins globals held memories a b (driver_at whole (value_at globals a)) (driver_at part a) (is.drivers a known) reads.names in
       (at.within, record { signal = is.within a known; names = at.named })
 
-  -- no signal stands at two places of an order
-  one-place : (i j : ℕ) → i < length order → j < length order → value_at order i ≡ value_at order j → i ≡ j
-  one-place i j li lj same = by (cases_lt i j) (cases_lt j i)
-    where
-      by : (i < j) ⊎ (j ≤ i) → (j < i) ⊎ (i ≤ j) → i ≡ j
-      by (inl lt) q = absurd (ordered.once i j 0 lt lj same)
-      by (inr le) (inl lt) = absurd (ordered.once j i 0 lt li (sym same))
-      by (inr le) (inr ge) = omega arith
-
   -- a signal doesn't stand before what it reads
   no-later : (a b : ℕ) → Reads whole a b → Precedes order a b → ⊥
   no-later a b reads precedes =
       let before = read-before whole order precedes.first a b ordered (omega (arith, precedes.before, precedes.within)) precedes.first_is reads in
-      let same = one-place before.place precedes.second before.within precedes.within (before.is ∙ sym precedes.second_is) in
+      let same = once-apart order 0 ordered.once before.place precedes.second before.within precedes.within (before.is ∙ sym precedes.second_is) in
       omega (arith, same, before.before, precedes.before)
 
   -- a signal doesn't read itself

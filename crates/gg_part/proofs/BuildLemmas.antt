@@ -11,9 +11,9 @@ use Rattle.gg_flat.specs.Circuit.{FlatCircuit, signal_shapes, driver_at}
 use Rattle.gg_flat.specs.Tree.{path_at}
 use Rattle.gg_flat.specs.declared.piece.Register.{Register}
 use Rattle.gg_flat.specs.declared.memory.Memory.{Memory}
+use Rattle.gg_flat.proofs.ListLemmas.{once-apart}
 use Rattle.gg_part.specs.Part.{renamed_register, renamed_memory, RegisterBelow, MemoryBelow}
 use Rattle.gg_part.specs.Building.{IsDriven, IsAdded, AreSignals, AreRegisters, AreMemories}
-use Rattle.gg_part.proofs.FormedLemmas.{once-apart}
 
 -- ---- one more of a list
 

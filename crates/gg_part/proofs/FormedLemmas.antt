@@ -1,7 +1,6 @@
 -- A part of a well-formed circuit is well formed.
-use Rattle.std.proofs.Common.{◌≡◌, ◌≢◌, ℕ, zero, suc, ◌<◌, ◌≤◌, List, [], ◌∷◌, length, map, get_or, refl, sym, ◌∙◌, ap, ap₂, subst, inl, inr, ◌⊎◌, arith}
+use Rattle.std.proofs.Common.{◌≡◌, ◌≢◌, ℕ, zero, suc, ◌<◌, ◌≤◌, List, [], ◌∷◌, length, map, get_or, refl, sym, ◌∙◌, ap, ap₂, subst, inl, inr, arith}
 use Rattle.std.specs.Prelude.{Option, Some, None, MatchOption, AllPairs, ⊤}
-use Rattle.std.proofs.lemmas.Bool.{cases_lt}
 use Rattle.std.proofs.lemmas.List.{get_or-map, get_or_default, length-map}
 use Rattle.gg_bits.specs.Shape.{Shape, shape, uint}
 use Rattle.gg_flat.specs.declared.line.Node.{Node}
@@ -21,20 +20,10 @@ use Rattle.gg_flat.specs.Circuit.{FlatCircuit, signal_shapes, driver_at, readers
 use Rattle.gg_flat.specs.Reads.{Names, ResetNames, NextNames}
 use Rattle.gg_flat.specs.Tree.{path_at}
 use Rattle.gg_flat.specs.WellFormed.{IsDataOf, MayDrive, IsReset, IsRegister, IsReader, IsWriter, IsMemory, IsWellFormed, reader_driver}
-use Rattle.gg_flat.proofs.AdvanceLemmas.{some-register}
-use Rattle.gg_flat.proofs.TypedLemmas.{some-memory}
+use Rattle.gg_flat.proofs.ListLemmas.{some-item, once-apart}
 use Rattle.gg_part.specs.Part.{IsPart, IsFrom, renamed_op, renamed_line, renamed_next, renamed_reset, renamed_register, renamed_reader, renamed_writer, renamed_memory, NamesBelow, ReadsAmong}
 use Rattle.gg_part.proofs.RenameLemmas.{shapes_of-renamed, length-renamed, line_shape-renamed}
 use Rattle.gg_part.proofs.RunLemmas.{shape-part, length-shapes}
-
--- in a list of distinct items, equal items stand at the same place
-pub once-apart : {X : Type 0} (xs : List X) (d : X) → AllPairs (λ a b. a ≢ b) xs → (i j : ℕ) → i < length xs → j < length xs → get_or xs i d ≡ get_or xs j d → i ≡ j
-once-apart xs d once i j li lj same = by (cases_lt i j) (cases_lt j i)
-  where
-    by : (i < j) ⊎ (j ≤ i) → (j < i) ⊎ (i ≤ j) → i ≡ j
-    by (inl lt) q = absurd (once i j d lt lj same)
-    by (inr le) (inl lt) = absurd (once j i d lt li (sym same))
-    by (inr le) (inr ge) = omega arith
 
 module _ (whole part : FlatCircuit) (globals held memories : List ℕ) (is : IsPart whole part globals held memories) where
   type-part : (s : ℕ) (to : Shape) → s < length globals → HasType (signal_shapes whole) (value_at globals s) to → HasType (signal_shapes part) s to
@@ -125,7 +114,7 @@ module _ (whole part : FlatCircuit) (globals held memories : List ℕ) (is : IsP
   readers-part : (m : ℕ) → m < length memories → readers_at whole (value_at memories m) ≡ map (λ reader. renamed_reader globals reader) (readers_at part m)
   readers-part m lt =
       let within : m < length part.memories = omega (arith, lt, is.memory_count) in
-      let some = some-memory part.memories m within in
+      let some = some-item part.memories m within in
       let local = get_or part.memories m some in
       let at = is.memory_from m lt in
       get_or-map (λ (k : Memory). k.readers) whole.memories (value_at memories m) (renamed_memory globals local) [] at.within
@@ -135,7 +124,7 @@ module _ (whole part : FlatCircuit) (globals held memories : List ℕ) (is : IsP
   latency-part : (m : ℕ) → m < length memories → latency_at whole (value_at memories m) ≡ latency_at part m
   latency-part m lt =
       let within : m < length part.memories = omega (arith, lt, is.memory_count) in
-      let some = some-memory part.memories m within in
+      let some = some-item part.memories m within in
       let local = get_or part.memories m some in
       let at = is.memory_from m lt in
       get_or-map (λ (k : Memory). k.latency) whole.memories (value_at memories m) (renamed_memory globals local) Zero at.within
@@ -145,7 +134,7 @@ module _ (whole part : FlatCircuit) (globals held memories : List ℕ) (is : IsP
   reader-among : (m r : ℕ) → m < length memories → r < length (readers_at part m) → ReadsAmong (length globals) (reader_at (readers_at part m) r)
   reader-among m r lt inside =
       let within : m < length part.memories = omega (arith, lt, is.memory_count) in
-      let some = some-memory part.memories m within in
+      let some = some-item part.memories m within in
       let same : readers_at part m ≡ (get_or part.memories m some).readers = get_or-map (λ (k : Memory). k.readers) part.memories m some [] within in
       subst (λ (l : List Reader). ReadsAmong (length globals) (reader_at l r)) (sym same) (((is.memory_from m lt).below some).readers r (record { addr = 0; en = 0; word = 0 }) (subst (λ (l : List Reader). r < length l) same inside))
 
@@ -167,7 +156,7 @@ module _ (whole part : FlatCircuit) (globals held memories : List ℕ) (is : IsP
   drive-part s outer (Held r) known from may =
       let old = subst (MayDrive whole (value_at globals s)) from.1 may in
       let within : r < length part.registers = omega (arith, from.0, is.register_count) in
-      let some = some-register part.registers r within in
+      let some = some-item part.registers r within in
       let local = get_or part.registers r some in
       let at = is.register_from r from.0 in (
         within,

@@ -11,11 +11,10 @@ use Rattle.gg_flat.specs.Line.{value_at, shape_at}
 use Rattle.gg_flat.specs.Circuit.{FlatCircuit, signal_shapes, driver_at, readers_at, reader_at}
 use Rattle.gg_flat.specs.Tree.{path_at}
 use Rattle.gg_flat.specs.WellFormed.{IsWellFormed}
-use Rattle.gg_flat.proofs.TypedLemmas.{some-memory}
+use Rattle.gg_flat.proofs.ListLemmas.{some-item, once-apart}
 use Rattle.gg_part.specs.Part.{IsPart, IsFrom, renamed_reader, renamed_memory}
 use Rattle.gg_part.specs.Choice.{IsChoice}
 use Rattle.gg_part.specs.Building.{AreHeld, AreSignals, AreRegisters, AreMemories}
-use Rattle.gg_part.proofs.FormedLemmas.{once-apart}
 use Rattle.gg_part.proofs.FrameLemmas.{held-within}
 
 -- a choice is one without its out-signals too, and with equal lists in place of its own
@@ -74,7 +73,7 @@ module _ (whole piece : FlatCircuit) (globals ins held memories : List ℕ) (for
   readers-made : (m : ℕ) → m < length memories → readers_at whole (value_at memories m) ≡ map (λ reader. renamed_reader globals reader) (readers_at piece m)
   readers-made m lt =
       let within : m < length piece.memories = omega (arith, lt, banks.counted) in
-      let some = some-memory piece.memories m within in
+      let some = some-item piece.memories m within in
       let local = get_or piece.memories m some in
       get_or-map (λ (k : Memory). k.readers) whole.memories (value_at memories m) (renamed_memory globals local) [] (chosen.memory_within m 0 lt)
       ∙ ap (λ (k : Memory). k.readers) (banks.each m some (renamed_memory globals local) lt)
@@ -83,7 +82,7 @@ module _ (whole piece : FlatCircuit) (globals ins held memories : List ℕ) (for
   word-known : (m r : ℕ) → m < length memories → r < length (readers_at piece m) → (reader_at (readers_at piece m) r).word < length globals
   word-known m r lt inside =
       let within : m < length piece.memories = omega (arith, lt, banks.counted) in
-      let some = some-memory piece.memories m within in
+      let some = some-item piece.memories m within in
       let same : readers_at piece m ≡ (get_or piece.memories m some).readers = get_or-map (λ (k : Memory). k.readers) piece.memories m some [] within in
       subst (λ (l : List Reader). (reader_at l r).word < length globals) (sym same)
       ((banks.below m some lt).readers r (record { addr = 0; en = 0; word = 0 }) (subst (λ (l : List Reader). r < length l) same inside)).2

@@ -13,10 +13,11 @@ use Rattle.gg_flat.specs.Memory.{Bank, read_word, bank_at, next_banks, next_bank
 use Rattle.gg_flat.specs.State.{State, opening, next_state, next_register, next_registers, IsState}
 use Rattle.gg_flat.specs.Settled.{Settled, driver_value}
 use Rattle.gg_flat.specs.Run.{Start, later, opening_start, IsRunFrom, IsRun, IsColumns, state_at, row_at, inputs_at, column}
-use Rattle.gg_flat.proofs.AdvanceLemmas.{length-next_registers, next_registers-at, some-register}
+use Rattle.gg_flat.proofs.AdvanceLemmas.{length-next_registers, next_registers-at}
 use Rattle.gg_flat.proofs.BankLemmas.{length-next_banks, next_banks-at}
-use Rattle.gg_flat.proofs.TypedLemmas.{some-memory, shape_at-in_shapes}
+use Rattle.gg_flat.proofs.TypedLemmas.{shape_at-in_shapes}
 use Rattle.gg_flat.proofs.AlongLemmas.{IsState-opening}
+use Rattle.gg_flat.proofs.ListLemmas.{some-item}
 use Rattle.gg_part.specs.Part.{IsPart, IsFrom, renamed_register, renamed_memory}
 use Rattle.gg_part.specs.PartRun.{part_row, part_rows, part_state, part_start, part_columns}
 use Rattle.gg_part.proofs.RenameLemmas.{part_row-at, connected-renamed, register-renamed, bank-renamed, opening-renamed}
@@ -103,7 +104,7 @@ module _ (whole part : FlatCircuit) (globals held memories : List ℕ) (is : IsP
       (long ∙ is.register_count ∙ sym (length-map held (value_at (next_registers row whole.registers state.registers)))) (λ r lt.
       let within : r < length part.registers = omega (arith, lt, long) in
       let known : r < length held = omega (arith, within, is.register_count) in
-      let some = some-register part.registers r within in
+      let some = some-item part.registers r within in
       let local = get_or part.registers r some in
       let at = is.register_from r known in
       next_registers-at (part_row globals row) part.registers own r some count within
@@ -122,7 +123,7 @@ module _ (whole part : FlatCircuit) (globals held memories : List ℕ) (is : IsP
       (long ∙ is.memory_count ∙ sym (length-map memories (bank_at (next_banks row whole.memories state.banks)))) (λ m lt.
       let within : m < length part.memories = omega (arith, lt, long) in
       let known : m < length memories = omega (arith, within, is.memory_count) in
-      let some = some-memory part.memories m within in
+      let some = some-item part.memories m within in
       let local = get_or part.memories m some in
       let at = is.memory_from m known in
       next_banks-at (part_row globals row) part.memories own m some count within
@@ -178,7 +179,7 @@ module _ (whole part : FlatCircuit) (globals held memories : List ℕ) (is : IsP
       (length-map memories (bank_at banks) ∙ sym is.memory_count ∙ sym (length-map part.memories (λ memory. opening_bank memory))) (λ m lt.
       let known : m < length memories = omega (arith, lt, length-map memories (bank_at banks)) in
       let within : m < length part.memories = omega (arith, known, is.memory_count) in
-      let some = some-memory part.memories m within in
+      let some = some-item part.memories m within in
       let local = get_or part.memories m some in
       let at = is.memory_from m known in
       bank-at memories banks m known

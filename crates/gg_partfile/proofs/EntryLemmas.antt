@@ -6,6 +6,7 @@ use Rattle.std.specs.Cmp.Lexicographic.{slice_cmp}
 use Rattle.std.specs.declared.cmp.Ordering.{Ordering}
 use Rattle.std.specs.declared.cmp.Ordering.TheVariants.{Less, Equal, Greater}
 use Rattle.std.proofs.lemmas.List.{length-append}
+use Rattle.std.proofs.lemmas.Option.{same_Some}
 use Rattle.json.specs.Token.{Token}
 use Rattle.json.specs.Lex.{Lexeme, token, comma, colon, Class, quote, backslash, operator, space, other, Mode, between, in_word, in_string, in_escape, class, lex_byte, lex, Place, fresh, after_value, after_comma, after_key, begins_colon, if_allowed, may_begin, may_close, place_token, punctuate, tokens}
 use Rattle.json.specs.Json.{Json, Parse, parse_map, after_end_array, read_key, items_step, members_step, items, members, value_with, value, if_last}
@@ -14,7 +15,6 @@ use Rattle.serde_json.specs.Data.{Data, null, boolean, number, string, array, ob
 use Rattle.serde_json.specs.Find.{get, get_member, as_array, as_str}
 use Rattle.serde_json.specs.Read.{of_json, of_items, of_members, number_of, max_depth, read}
 use Rattle.gg_partfile.specs.Partition.{Asks, each, groups, numbers, pairs, texts, or_empty, under, whole}
-use Rattle.gg_partfile.proofs.OnceLemmas.{some-same}
 use Rattle.gg_partfile.specs.Size.{HasAtMost, shared}
 use Rattle.gg_partfile.specs.declared.fault.PartFault.{PartFault}
 use Rattle.gg_partfile.specs.declared.request.Request.{Request}
@@ -377,7 +377,7 @@ known-light w n o a h is = subst (λ x. AtMost w n x) is h
 -- what is read under a key weighs less than the whole value
 or-light : {A : Type 0} (w : List A → ℕ) (f : Data → Option (List A)) → w [] ≡ 0 → ((d : Data) → AtMost w (size d) (f d))
     → (n : ℕ) (o : Option Data) → 1 ≤ n → AtMost (λ e. suc (size e)) n o → (xs : List A) → or_empty f o ≡ Some xs → suc (w xs) ≤ n
-or-light w f z h n None some k xs is = omega (arith, z, ap w (some-same [] xs is), some)
+or-light w f z h n None some k xs is = omega (arith, z, ap w (same_Some [] xs is), some)
 or-light w f z h n (Some d) some k xs is = omega (arith, known-light w (size d) (f d) xs (h d) is, k)
 
 under-light : {A : Type 0} (w : List A → ℕ) (f : Data → Option (List A)) (key : List ℕ) (d : Data) (xs : List A) → w [] ≡ 0 → ((e : Data) → AtMost w (size e) (f e)) → under f key d ≡ Some xs → suc (w xs) ≤ size d

@@ -1,7 +1,7 @@
 -- Lists that are read item by item.
-use Rattle.std.proofs.Common.{◌≡◌, ℕ, ◌+◌, ◌<◌, ◌≤◌, List, [], ◌∷◌, ◌++◌, length, get_or, map, drop, Option, Some, None, Global, refl, sym, ap, ◌∙◌, append_assoc, append-nil, arith}
+use Rattle.std.proofs.Common.{◌≡◌, ℕ, ◌+◌, ◌<◌, List, [], ◌∷◌, ◌++◌, length, get_or, map, drop, Option, Some, None, Global, refl, sym, ap, ◌∙◌, append_assoc, arith}
 use Rattle.std.specs.Prelude.{String, string_bytes, option_map, option_and_then}
-use Rattle.std.proofs.lemmas.List.{drop_more, drop_all, length-map, get_or-map}
+use Rattle.std.proofs.lemmas.List.{drop_more, length-map, get_or-map}
 use Rattle.serde_json.specs.Data.{Data}
 use Rattle.serde_json.specs.View.{items_of, view, members_view}
 use Rattle.serde_json.specs.declared.value.Value.{Value}
@@ -15,18 +15,11 @@ pub behind-more : {A : Type 0} (found : List A) (a : A) (rest : Option (List A))
 behind-more found a None = refl
 behind-more found a (Some more) = ap Some (sym (append_assoc found (a ∷ []) more))
 
-behind-none : {A : Type 0} (rest : Option (List A)) → behind [] rest ≡ rest
-behind-none None = refl
-behind-none (Some more) = refl
-
 -- ---- the items of a list
 
 -- what was read of the first i items, and then what f reads of the others, is what f reads of all
 pub record ReadsItems {A : Type 0} (f : Data → Option A) (ds : List Data) (i : ℕ) (found : List A) : Type 0 where
   pub reads : behind found (each f (items_of (drop i ds))) ≡ each f (items_of ds)
-
-pub items-none : {A : Type 0} (f : Data → Option A) (ds : List Data) → ReadsItems f ds 0 []
-items-none f ds = record { reads = behind-none (each f (items_of ds)) }
 
 -- what f reads of the items from i on begins with what it reads of the one at i
 items-at : {A : Type 0} (f : Data → Option A) (ds : List Data) (i : ℕ) (d : Data) (o : Option A) → i < length ds → d ≡ get_or ds i d → f d ≡ o → each f (items_of (drop i ds)) ≡ option_and_then (λ a. option_map (λ more. a ∷ more) (each f (items_of (drop (i + 1) ds)))) o
@@ -42,10 +35,6 @@ items-more f ds i d a found lt is reads h = record {
 pub items-stop : {A : Type 0} (f : Data → Option A) (ds : List Data) (i : ℕ) (d : Data) (found : List A) → i < length ds → d ≡ get_or ds i d → f d ≡ None → ReadsItems f ds i found → each f (items_of ds) ≡ None
 items-stop f ds i d found lt is reads h = sym h.reads ∙ ap (behind found) (items-at f ds i d None lt is reads)
 
-pub items-all : {A : Type 0} (f : Data → Option A) (ds : List Data) (i : ℕ) (found : List A) → length ds ≤ i → ReadsItems f ds i found → each f (items_of ds) ≡ Some found
-items-all f ds i found le h =
-    sym h.reads ∙ ap (λ (l : List Data). behind found (each f (items_of l))) (drop_all i ds le) ∙ ap Some (append-nil found)
-
 -- ---- the items of a list of values
 
 pub values-more : {A : Type 0} (f : Data → Option A) (values : List Value) (i : ℕ) (value : Value) (a : A) (found : List A) → i < length values → value ≡ get_or values i value → f (view value) ≡ Some a → ReadsItems f (map view values) i found → ReadsItems f (map view values) (i + 1) (found ++ a ∷ [])
@@ -55,9 +44,6 @@ values-more f values i value a found lt is reads h =
 pub values-stop : {A : Type 0} (f : Data → Option A) (values : List Value) (i : ℕ) (value : Value) (found : List A) → i < length values → value ≡ get_or values i value → f (view value) ≡ None → ReadsItems f (map view values) i found → each f (items_of (map view values)) ≡ None
 values-stop f values i value found lt is reads h =
     items-stop f (map view values) i (view value) found (omega (arith, lt, length-map values view)) (ap view is ∙ sym (get_or-map view values i value (view value) lt)) reads h
-
-pub values-all : {A : Type 0} (f : Data → Option A) (values : List Value) (i : ℕ) (found : List A) → length values ≤ i → ReadsItems f (map view values) i found → each f (items_of (map view values)) ≡ Some found
-values-all f values i found le h = items-all f (map view values) i found (omega (arith, le, length-map values view)) h
 
 -- ---- the members of an object
 

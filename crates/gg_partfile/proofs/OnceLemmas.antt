@@ -1,11 +1,9 @@
 -- Bytes hold one request at most.
-use Rattle.std.proofs.Common.{◌≡◌, ℕ, List, Some, sym, ap, ◌∙◌, subst}
+use Rattle.std.proofs.Common.{◌≡◌, ℕ, List, sym, ap, ◌∙◌, subst}
+use Rattle.std.proofs.lemmas.Option.{same_Some}
 use Rattle.serde_json.specs.Data.{Data}
 use Rattle.gg_partfile.specs.Partition.{Asks, IsPartition}
 use Rattle.gg_partfile.specs.declared.request.Request.{Request}
-
-pub some-same : {A : Type 0} (a b : A) → Some a ≡ Some b → a ≡ b
-some-same a b e = cc
 
 abbrev pub request_made : List (List ℕ) → List (List (List ℕ)) → List (List ℕ) → List (List ℕ × ℕ) → Request
 request_made units share memories capacity = record { units = units; share = share; memories = memories; capacity = capacity }
@@ -19,9 +17,9 @@ requests-equal a b u s m c =
 
 asked-once : (d : Data) (a b : Request) → Asks d a → Asks d b → a ≡ b
 asked-once d a b p q =
-    requests-equal a b (some-same a.units b.units (sym p.units ∙ q.units)) (some-same a.share b.share (sym p.share ∙ q.share))
-    (some-same a.memories b.memories (sym p.memories ∙ q.memories)) (some-same a.capacity b.capacity (sym p.capacity ∙ q.capacity))
+    requests-equal a b (same_Some a.units b.units (sym p.units ∙ q.units)) (same_Some a.share b.share (sym p.share ∙ q.share))
+    (same_Some a.memories b.memories (sym p.memories ∙ q.memories)) (same_Some a.capacity b.capacity (sym p.capacity ∙ q.capacity))
 
 pub request-once : (bytes : List ℕ) (a b : Request) → IsPartition bytes a → IsPartition bytes b → a ≡ b
 request-once bytes a b p q =
-    asked-once q.value a b (subst (λ (d : Data). Asks d a) (some-same p.value q.value (sym p.is ∙ q.is)) p.asks) q.asks
+    asked-once q.value a b (subst (λ (d : Data). Asks d a) (same_Some p.value q.value (sym p.is ∙ q.is)) p.asks) q.asks

@@ -5,7 +5,8 @@ use Rattle.std.proofs.lemmas.List.{get_or-set_other}
 use Rattle.std.proofs.lemmas.Grind.{get_or-set_at}
 use Rattle.std.proofs.lemmas.Slice.Eq.{bytes_eq-Decides}
 use Rattle.gg_flat.specs.Tree.{path_at}
-use Rattle.gg_cut.proofs.PathLemmas.{HoldsPath, holds-path, one-place}
+use Rattle.gg_flat.proofs.ListLemmas.{once-apart}
+use Rattle.gg_cut.proofs.PathLemmas.{HoldsPath, holds-path}
 
 -- setting the capacity of a path's signal sets it for this path and no other
 pub capacity-set : (paths : List (List ℕ)) (path : List ℕ) (signal capacity : ℕ) (table : List ℕ) → AllPairs (λ a b. a ≢ b) paths → slice_get paths signal ≡ Some path → length table ≡ length paths → (s : ℕ) → s < length paths
@@ -17,7 +18,7 @@ capacity-set paths path signal capacity table once found count s lt = by (bytes_
 
     by : (b : Bool) → bytes_eq path (path_at paths s) ≡ b → get_or (set table signal capacity) s 0 ≡ (if b then capacity else get_or table s 0)
     by true e =
-        let same : s ≡ signal = one-place paths s signal once lt holds.within (sym ((bytes_eq-Decides path (path_at paths s)).0 e) ∙ sym holds.is) in
+        let same : s ≡ signal = once-apart paths [] once s signal lt holds.within (sym ((bytes_eq-Decides path (path_at paths s)).0 e) ∙ sym holds.is) in
         get_or-set_at table signal s capacity 0 same (omega (arith, holds.within, count))
     by false e =
         let other : s ≢ signal = λ same. absurd (clash (sym e ∙ (bytes_eq-Decides path (path_at paths s)).1 (sym (ap (path_at paths) same ∙ holds.is)))) in

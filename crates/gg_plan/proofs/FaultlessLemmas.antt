@@ -1,8 +1,8 @@
 -- What a request without a fault says of its capacities, channels and machines.
 use Rattle.std.proofs.Common.{◌≡◌, ℕ, zero, suc, ◌^◌, ◌<◌, ◌≤◌, List, [], ◌∷◌, length, get_or, Bool, true, false, refl, ap, Some, None, arith}
-use Rattle.std.specs.Prelude.{Option, option_map, find, cond, ◌||◌, ◌==◌, nat_lt, unwrap_or, bytes_eq, All}
+use Rattle.std.specs.Prelude.{option_map, find, cond, ◌||◌, ◌==◌, nat_lt, unwrap_or, bytes_eq, All}
 use Rattle.std.proofs.lemmas.List.{get_or-map, length-map}
-use Rattle.std.proofs.lemmas.Bool.{ltb-false}
+use Rattle.std.proofs.lemmas.Bool.{ltb-false, or_parts}
 use Rattle.gg_flat.specs.WellFormed.{IsWellFormed}
 use Rattle.gg_flat.specs.Tree.{IsTree}
 use Rattle.gg_order.specs.Design.{Ordered}
@@ -15,23 +15,13 @@ use Rattle.gg_cut.specs.Fault.{or_else, most_capacity, out_of_range, range_fault
 use Rattle.gg_cut.specs.Plan.{wire_at}
 use Rattle.gg_cut.proofs.KnownLemmas.{signals-known}
 use Rattle.gg_cut.proofs.ChannelLemmas.{wires-signals}
+use Rattle.gg_cut.proofs.FindLemmas.{none-map}
 use Rattle.gg_closed.proofs.FaultlessLemmas as closed
 use Rattle.gg_closed.proofs.EndLemmas as ends
+use Rattle.gg_closed.proofs.FaultlessLemmas.{none-first, none-second}
 use Rattle.gg_plan.specs.Made.{IsCapacity}
 
 -- ---- the first of several faults
-
-none-first : {A : Type 0} (a b : Option A) → or_else a b ≡ None → a ≡ None
-none-first None b e = refl
-none-first (Some x) b e = absurd (cc)
-
-none-rest : {A : Type 0} (a b : Option A) → or_else a b ≡ None → b ≡ None
-none-rest None b e = e
-none-rest (Some x) b e = absurd (cc)
-
-none-map : {A B : Type 0} (f : A → B) (a : Option A) → option_map f a ≡ None → a ≡ None
-none-map f None e = refl
-none-map f (Some x) e = absurd (cc)
 
 -- the capacities of a request without a fault are in range
 pub range-free : (design : Ordered) (request : Request) → first_fault design request ≡ None → range_fault request.capacity ≡ None
@@ -43,8 +33,8 @@ range-free design request none =
     let last = channel_fault circuit request listed signals in
     let limits = or_else (option_map (λ n. TooManyUnits n) (too_many_units listed)) (option_map (λ n. TooManyChannels n) (too_many_channels signals)) in
     none-first (range_fault request.capacity) limits
-    (none-rest (option_map (λ p. UnknownChannel p) (unknown_channel (channel_names circuit signals) request.capacity)) (or_else (range_fault request.capacity) limits)
-    (none-rest (kind_fault tree request) last (none-rest (entry_fault tree request) (or_else (kind_fault tree request) last) none)))
+    (none-second (option_map (λ p. UnknownChannel p) (unknown_channel (channel_names circuit signals) request.capacity)) (or_else (range_fault request.capacity) limits)
+    (none-second (kind_fault tree request) last (none-second (entry_fault tree request) (or_else (kind_fault tree request) last) none)))
 
 -- ---- capacities
 
@@ -52,16 +42,12 @@ in-range : (capacities : List (List ℕ × ℕ)) → out_of_range capacities ≡
 in-range [] none = λ k d lt. absurd (omega arith)
 in-range (pair ∷ capacities) none = by ((pair.1 == 0) || nat_lt most_capacity pair.1) refl none (in-range capacities)
   where
-    or-right : (a b : Bool) → (a || b) ≡ false → b ≡ false
-    or-right true b e = absurd (cc)
-    or-right false b e = e
-
     by : (b : Bool) → ((pair.1 == 0) || nat_lt most_capacity pair.1) ≡ b → cond b (Some pair) (out_of_range capacities) ≡ None → (out_of_range capacities ≡ None → All (λ pair. pair.1 < 2 ^ 32) capacities) → All (λ pair. pair.1 < 2 ^ 32) (pair ∷ capacities)
     by true e none rest = absurd (cc)
     by false e none rest = first
       where
         small : pair.1 ≤ most_capacity
-        small = ltb-false most_capacity pair.1 (or-right (pair.1 == 0) (nat_lt most_capacity pair.1) e)
+        small = ltb-false most_capacity pair.1 (or_parts (pair.1 == 0) (nat_lt most_capacity pair.1) e).1
 
         first : All (λ pair. pair.1 < 2 ^ 32) (pair ∷ capacities)
         first zero d lt = omega (arith, small)
@@ -76,14 +62,6 @@ capacity-in-range [] default name none own = own
 capacity-in-range (pair ∷ capacities) default name none own =
     by ((pair.1 == 0) || nat_lt most_capacity pair.1) refl none (λ more. capacity-in-range capacities default name more own)
   where
-    or-left : (a b : Bool) → (a || b) ≡ false → a ≡ false
-    or-left true b e = absurd (cc)
-    or-left false b e = refl
-
-    or-right : (a b : Bool) → (a || b) ≡ false → b ≡ false
-    or-right true b e = absurd (cc)
-    or-right false b e = e
-
     some : (n : ℕ) → (n == 0) ≡ false → 0 < n
     some zero e = absurd (cc)
     some (suc n) e = omega arith
@@ -96,7 +74,7 @@ capacity-in-range (pair ∷ capacities) default name none own =
     by true e none rest = absurd (cc)
     by false e none rest =
         either (bytes_eq pair.0 name)
-        (some pair.1 (or-left (pair.1 == 0) (nat_lt most_capacity pair.1) e), ltb-false most_capacity pair.1 (or-right (pair.1 == 0) (nat_lt most_capacity pair.1) e))
+        (some pair.1 (or_parts (pair.1 == 0) (nat_lt most_capacity pair.1) e).0, ltb-false most_capacity pair.1 (or_parts (pair.1 == 0) (nat_lt most_capacity pair.1) e).1)
         (rest none)
 
 pub capacity-sound : (capacities : List (List ℕ × ℕ)) (default : ℕ) (name : List ℕ) → range_fault capacities ≡ None → IsCapacity default → IsCapacity (capacity_of capacities default name)

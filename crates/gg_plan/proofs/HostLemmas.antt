@@ -1,11 +1,10 @@
 -- The first machine of a host, and the numbers of hosts.
 use Rattle.std.proofs.Common.{◌≡◌, ℕ, zero, suc, ◌+◌, ◌-◌, ◌<◌, ◌≤◌, List, [], ◌∷◌, ◌++◌, length, map, get_or, drop, Bool, true, false, true≢false, true-eqb, refl, sym, ◌∙◌, ap, ap₂, Some, None, min, ⊎_elim, below_more, arith}
-use Rattle.std.specs.Prelude.{Option, filter, cond, ◌==◌, if◌then◌else◌, ◌||◌, find, option_map, bytes_eq}
+use Rattle.std.specs.Prelude.{Option, filter, cond, ◌==◌, if◌then◌else◌, ◌||◌, find}
 use Rattle.std.specs.List.{list_any, range_with_len}
 use Rattle.std.proofs.lemmas.List.{get_or-map, get_or_default, get_or_push, get_or_append_left, length-append}
 use Rattle.std.proofs.lemmas.Bool.{cases_lt}
 use Rattle.gg_flat.specs.Line.{value_at}
-use Rattle.gg_cut.specs.Listed.{place_of}
 use Rattle.gg_cut.specs.Hosts.{machine_of, least_machine, group_of, leader_in, leader, host_of}
 use Rattle.gg_cut.proofs.FindLemmas.{rest-at}
 use Rattle.gg_cut.proofs.RangeLemmas.{filter-more}
@@ -106,15 +105,3 @@ host-at units share leaders before hosts are counts is m lt =
     ap (λ l. value_at l m) is ∙ get_or-map (value_at before) leaders m 0 0 lt ∙ ap (value_at before) (are m lt)
     ∙ counts first (omega (arith, below))
     ∙ ap length (filter-agree (λ k. value_at leaders k == k) (λ k. leader units share k == k) 0 first (λ k inside. ap (λ x. x == k) (are k (omega (arith, below, inside)))))
-
--- ---- the machine of a path
-
-pub place-next : (units : List (List ℕ)) (path unit : List ℕ) (n : ℕ) → n < length units → unit ≡ get_or units n unit → bytes_eq path unit ≡ false → place_of units path ≡ option_map (λ k. n + k) (place_of (drop n units) path) → place_of units path ≡ option_map (λ k. n + 1 + k) (place_of (drop (n + 1) units) path)
-place-next units path unit n lt read other was =
-    was ∙ ap (λ l. option_map (λ k. n + k) (place_of l path)) (rest-at units n unit lt read)
-    ∙ ap (λ b. option_map (λ k. n + k) (if b then Some 0 else option_map suc (place_of (drop (n + 1) units) path))) other
-    ∙ by (place_of (drop (n + 1) units) path)
-  where
-    by : (found : Option ℕ) → option_map (λ k. n + k) (option_map suc found) ≡ option_map (λ k. n + 1 + k) found
-    by None = refl
-    by (Some k) = ap Some (let same : n + suc k ≡ n + 1 + k = omega arith in same)

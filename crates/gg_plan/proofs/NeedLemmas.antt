@@ -1,13 +1,12 @@
 -- The needs of channels.
-use Rattle.std.proofs.Common.{◌≡◌, ◌≢◌, ℕ, ◌+◌, ◌<◌, List, [], length, map, get_or, Bool, true-eqb, eq-eqb, sym, ◌∙◌, ap, subst, arith}
-use Rattle.std.specs.Prelude.{filter, ◌==◌, All, AllPairs, Contains}
+use Rattle.std.proofs.Common.{◌≡◌, ◌≢◌, ℕ, ◌+◌, ◌<◌, List, [], length, map, get_or, true-eqb, eq-eqb, sym, ◌∙◌, ap, subst, arith}
+use Rattle.std.specs.Prelude.{◌==◌, All, AllPairs, Contains}
 use Rattle.std.specs.List.{range_with_len}
 use Rattle.std.proofs.lemmas.List.{get_or-map, get_or_default, length-map}
 use Rattle.std.proofs.lemmas.List.Elements.{Contains-get_or}
 use Rattle.std.proofs.lemmas.List.FromFn.{length-range_with_len, get_or-range_with_len}
-use Rattle.std.proofs.lemmas.List.Kept.{AllPairs-filter}
 use Rattle.gg_flat.specs.Line.{value_at}
-use Rattle.gg_closed.proofs.ListLemmas.{Contains-filter, filter-cases, one-place}
+use Rattle.gg_flat.proofs.ListLemmas.{Contains-filter, filter-cases, numbers-up, once-apart}
 use Rattle.gg_needs.specs.Needs.{AreNeeds}
 use Rattle.gg_needs.specs.Needs.{AreNeedsOfOuts}
 use Rattle.gg_part.specs.declared.part.Part.{Part}
@@ -18,24 +17,16 @@ use Rattle.gg_cut.specs.declared.wires.Wire.{Wire}
 use Rattle.gg_cut.specs.Plan.{wire_at, channels_to, channels_from, IsNeed, AreNeedsOf, NeedsIn}
 use Rattle.gg_plan.specs.Made.{IsServed, ArePartNeeds, ArePut, AreGiven}
 
--- ---- numbers that pass a test
-
-numbers-ascending : (test : ℕ → Bool) (n : ℕ) → AllPairs (λ a b. a < b) (filter test (range_with_len 0 n))
-numbers-ascending test n = AllPairs-filter (λ a b. a < b) test (range_with_len 0 n)
-    (λ i j d lt inside.
-    let high : j < n = omega (arith, inside, length-range_with_len 0 n) in
-    omega (arith, lt, get_or-range_with_len 0 n i d (omega (arith, lt, high)), get_or-range_with_len 0 n j d high))
-
 -- ---- the channels that a machine gives
 
 pub given-ascending : (wires : List Wire) (m : ℕ) (channels : List ℕ) → channels ≡ channels_from wires m → AllPairs (λ a b. a < b) channels
-given-ascending wires m channels is = subst (λ (l : List ℕ). AllPairs (λ a b. a < b) l) (sym is) (numbers-ascending (λ c. (wire_at wires c).producer == m) (length wires))
+given-ascending wires m channels is = subst (λ (l : List ℕ). AllPairs (λ a b. a < b) l) (sym is) (numbers-up (λ c. (wire_at wires c).producer == m) (length wires))
 
 pub given-once : (wires : List Wire) (m : ℕ) (channels : List ℕ) → channels ≡ channels_from wires m → AllPairs (λ a b. a ≢ b) channels
 given-once wires m channels is = λ i j d lt inside same. let less = given-ascending wires m channels is i j d lt inside in absurd (omega (arith, less, same))
 
 taken-ascending : (wires : List Wire) (m : ℕ) (channels : List ℕ) → channels ≡ channels_to wires m → AllPairs (λ a b. a < b) channels
-taken-ascending wires m channels is = subst (λ (l : List ℕ). AllPairs (λ a b. a < b) l) (sym is) (numbers-ascending (λ c. (wire_at wires c).consumer == m) (length wires))
+taken-ascending wires m channels is = subst (λ (l : List ℕ). AllPairs (λ a b. a < b) l) (sym is) (numbers-up (λ c. (wire_at wires c).consumer == m) (length wires))
 
 given-there : (wires : List Wire) (m : ℕ) (channels : List ℕ) → channels ≡ channels_from wires m → (c : ℕ) → c < length wires → (wire_at wires c).producer ≡ m → Contains channels c
 given-there wires m channels is c lt gives =
@@ -87,7 +78,7 @@ part-told wires part ins outs m lists before table served taken given all put c 
     record {
       ascending = subst (λ (l : List ℕ). AllPairs (λ a b. a < b) l) (sym told) (map-ascending ins places (taken-ascending wires m ins taken) needs.ascending (places-within wires part ins outs lists served all i has.1));
       needs = λ out lt same.
-          let joined : own ≡ out = one-place part.globals own out served.once (served.known i inside) lt (signal ∙ sym same) in
+          let joined : own ≡ out = once-apart part.globals 0 served.once own out (served.known i inside) lt (signal ∙ sym same) in
           subst (λ (l : List ℕ). AreNeedsOf part ins out l) (sym told)
           (subst (λ (o : ℕ). AreNeedsOf part ins o (map (value_at ins) places)) joined (needs-at own places needs));
     }

@@ -1,11 +1,12 @@
 -- Tests that show of a plan in full that it is a plan of a cut, or that it isn't: each is computed, and a lemma says what it shows.
-use Rattle.std.proofs.Common.{◌≡◌, ◌≢◌, ◌==◌, ◌&&◌, ◌||◌, ◌↔◌, ◌⊎◌, ℕ, zero, suc, ◌<◌, ◌≤◌, List, [], ◌∷◌, length, map, get_or, set, replicate, Bool, true, false, true≢false, not, nat_eq, nat_lt, refl, sym, ◌∙◌, ap, subst, inl, inr, arith}
+use Rattle.std.proofs.Common.{◌≡◌, ◌≢◌, ◌==◌, ◌&&◌, ◌||◌, ◌↔◌, ◌⊎◌, ℕ, zero, suc, ◌<◌, ◌≤◌, List, [], ◌∷◌, length, map, get_or, set, replicate, Bool, true, false, true≢false, not, nat_eq, nat_lt, refl, sym, ◌∙◌, ap, subst, inl, inr, arith, ltb-true}
 use Rattle.std.specs.Prelude.{if◌then◌else◌, Contains, AllPairs, bytes_eq}
 use Rattle.std.specs.List.{list_all}
-use Rattle.std.proofs.lemmas.Bool.Decides.{Decides-eqb, Decides-ltb}
+use Rattle.std.proofs.lemmas.Bool.Decides.{Decides-eqb}
 use Rattle.std.proofs.lemmas.List.{get_or-map, get_or-set_other, get_or_default, length-map}
 use Rattle.std.proofs.lemmas.List.Kept.{AllPairs-cons}
 use Rattle.std.proofs.lemmas.Slice.Eq.{bytes_eq-Decides}
+use Rattle.std.proofs.lemmas.Bool.{and_from, and_parts, or_left, or_right, or_cases, not-true}
 use Rattle.gg_flat.specs.declared.line.Node.{Node}
 use Rattle.gg_flat.specs.declared.line.Op.{Op}
 use Rattle.gg_flat.specs.declared.line.Op.TheVariants.{Ref, Literal, One, Two, Fix, Mux}
@@ -43,52 +44,33 @@ abbrev pub all_below : (ℕ → Bool) → ℕ → Bool
 all_below test zero = true
 all_below test (suc n) = test 0 && all_below (λ k. test (suc k)) n
 
-both-true : (a b : Bool) → (a && b) ≡ true → (a ≡ true) × (b ≡ true)
-both-true true b is = (refl, is)
-both-true false b is = cc
-
 pub test-below : (test : ℕ → Bool) (n : ℕ) → all_below test n ≡ true → (k : ℕ) → k < n → test k ≡ true
 test-below test zero is k lt = absurd (omega arith)
-test-below test (suc n) is zero lt = (both-true (test 0) (all_below (λ k. test (suc k)) n) is).0
-test-below test (suc n) is (suc k) lt = test-below (λ i. test (suc i)) n (both-true (test 0) (all_below (λ k. test (suc k)) n) is).1 k (omega arith)
-
-pub below-test : (a b : ℕ) → nat_lt a b ≡ true → a < b
-below-test a b is = (Decides-ltb a b).0 is
+test-below test (suc n) is zero lt = (and_parts (test 0) (all_below (λ k. test (suc k)) n) is).0
+test-below test (suc n) is (suc k) lt = test-below (λ i. test (suc i)) n (and_parts (test 0) (all_below (λ k. test (suc k)) n) is).1 k (omega arith)
 
 -- the number is in the list
 abbrev pub has : List ℕ → ℕ → Bool
 has [] s = false
 has (x ∷ xs) s = (x == s) || has xs s
 
-or-cases : (a b : Bool) → (a || b) ≡ true → (a ≡ true) ⊎ (b ≡ true)
-or-cases true b is = inl refl
-or-cases false b is = inr is
-
-or-right : (a b : Bool) → b ≡ true → (a || b) ≡ true
-or-right true b is = refl
-or-right false b is = is
-
-or-left : (a b : Bool) → a ≡ true → (a || b) ≡ true
-or-left true b is = refl
-or-left false b is = cc
-
 pub has-contains : (xs : List ℕ) (s : ℕ) → has xs s ≡ true → Contains xs s
 has-contains [] s is = cc
-has-contains (x ∷ xs) s is = elim (or-cases (x == s) (has xs s) is) [
+has-contains (x ∷ xs) s is = elim (or_cases (x == s) (has xs s) is) [
   | inl here ↦ (0, omega arith, (Decides-eqb x s).0 here)
   | inr later ↦ let at = has-contains xs s later in (suc at.0, omega (arith, at.1), at.2)
 ]
 
 pub contains-has : (xs : List ℕ) (s : ℕ) → Contains xs s → has xs s ≡ true
 contains-has [] s (k, lt, is) = absurd (omega arith)
-contains-has (x ∷ xs) s (zero, lt, is) = or-left (x == s) (has xs s) ((Decides-eqb x s).1 is)
-contains-has (x ∷ xs) s (suc k, lt, is) = or-right (x == s) (has xs s) (contains-has xs s (k, omega arith, is))
+contains-has (x ∷ xs) s (zero, lt, is) = or_left (x == s) (has xs s) ((Decides-eqb x s).1 is)
+contains-has (x ∷ xs) s (suc k, lt, is) = or_right (x == s) (has xs s) (contains-has xs s (k, omega arith, is))
 
 -- a test that holds of a whole list holds of each number in it
 pub test-of : (test : ℕ → Bool) (xs : List ℕ) → list_all test xs ≡ true → (s : ℕ) → Contains xs s → test s ≡ true
 test-of test [] is s (k, lt, at) = absurd (omega arith)
-test-of test (x ∷ xs) is s (zero, lt, at) = subst (λ (y : ℕ). test y ≡ true) at (both-true (test x) (list_all test xs) is).0
-test-of test (x ∷ xs) is s (suc k, lt, at) = test-of test xs (both-true (test x) (list_all test xs) is).1 s (k, omega arith, at)
+test-of test (x ∷ xs) is s (zero, lt, at) = subst (λ (y : ℕ). test y ≡ true) at (and_parts (test x) (list_all test xs) is).0
+test-of test (x ∷ xs) is s (suc k, lt, at) = test-of test xs (and_parts (test x) (list_all test xs) is).1 s (k, omega arith, at)
 
 -- the test holds of each number and each later one
 abbrev pub all_pairs : (ℕ → ℕ → Bool) → List ℕ → Bool
@@ -98,15 +80,11 @@ all_pairs test (x ∷ xs) = list_all (test x) xs && all_pairs test xs
 pub pairs-test : (test : ℕ → ℕ → Bool) (R : ℕ → ℕ → Type 0) → ((a b : ℕ) → test a b ≡ true → R a b) → (xs : List ℕ) → all_pairs test xs ≡ true → AllPairs R xs
 pairs-test test R shows [] is = λ i j d lt within. absurd (omega arith)
 pairs-test test R shows (x ∷ xs) is =
-    let parts = both-true (list_all (test x) xs) (all_pairs test xs) is in
+    let parts = and_parts (list_all (test x) xs) (all_pairs test xs) is in
     AllPairs-cons R x xs (λ i d lt. shows x (get_or xs i d) (test-of (test x) xs parts.0 (get_or xs i d) (i, lt, get_or_default xs i (get_or xs i d) d lt))) (pairs-test test R shows xs parts.1)
 
-not-true : (b : Bool) → not b ≡ true → b ≡ false
-not-true true is = cc
-not-true false is = refl
-
 pub ascending : (xs : List ℕ) → all_pairs nat_lt xs ≡ true → AllPairs (λ a b. a < b) xs
-ascending xs is = pairs-test nat_lt (λ a b. a < b) below-test xs is
+ascending xs is = pairs-test nat_lt (λ a b. a < b) ltb-true xs is
 
 pub distinct : (xs : List ℕ) → all_pairs (λ a b. not (a == b)) xs ≡ true → AllPairs (λ a b. a ≢ b) xs
 distinct xs is = pairs-test (λ a b. not (a == b)) (λ a b. a ≢ b) (λ a b t same. true≢false (sym ((Decides-eqb a b).1 same) ∙ not-true (a == b) t)) xs is
@@ -183,7 +161,7 @@ named-only (Computed line) s at = names-refs line s at
 
 -- a line names only signals below n
 pub names-below : (n : ℕ) (line : List Node) → list_all (λ s. nat_lt s n) (refs line) ≡ true → NamesBelow n line
-names-below n line is s names = below-test s n (test-of (λ t. nat_lt t n) (refs line) is s (refs-names line s names))
+names-below n line is s names = ltb-true s n (test-of (λ t. nat_lt t n) (refs line) is s (refs-names line s names))
 
 -- the signals of a circuit stand in an order of evaluation
 abbrev pub in_order : FlatCircuit → Bool
@@ -191,7 +169,7 @@ in_order circuit = all_below (λ a. list_all (λ s. nat_lt s a) (named (driver_a
 
 pub in-order : (circuit : FlatCircuit) → in_order circuit ≡ true → IsInOrder circuit
 in-order circuit is a b reads =
-    below-test b a (test-of (λ s. nat_lt s a) (named (driver_at circuit a)) (test-below (λ x. list_all (λ s. nat_lt s x) (named (driver_at circuit x))) (length circuit.signals) is a reads.signal) b (named-all (driver_at circuit a) b reads.names))
+    ltb-true b a (test-of (λ s. nat_lt s a) (named (driver_at circuit a)) (test-below (λ x. list_all (λ s. nat_lt s x) (named (driver_at circuit x))) (length circuit.signals) is a reads.signal) b (named-all (driver_at circuit a) b reads.names))
 
 -- ---- what a signal reaches
 
@@ -262,7 +240,7 @@ closed-step circuit marks all x y at reads =
 -- what is reached is marked
 pub cone-all : (circuit : FlatCircuit) (out s : ℕ) → is_closed circuit out ≡ true → Reaches circuit out s → is_marked (cone circuit out) s ≡ true
 cone-all circuit out s is to =
-    let parts = both-true (is_marked (cone circuit out) out) (all_below (hands_on circuit (cone circuit out)) (length circuit.signals)) is in
+    let parts = and_parts (is_marked (cone circuit out) out) (all_below (hands_on circuit (cone circuit out)) (length circuit.signals)) is in
     along-reaches circuit (λ x. is_marked (cone circuit out) x ≡ true) (closed-step circuit (cone circuit out) parts.1) out s parts.0 to
 
 -- ---- needs
@@ -335,7 +313,7 @@ has_needs part channels s needs = all_below (λ out. if value_at part.globals ou
 pub has-needs : (part : Part) (channels : List ℕ) (s : ℕ) (needs : List ℕ) → has_needs part channels s needs ≡ true → (out : ℕ) → out < length part.globals → value_at part.globals out ≡ s → AreNeedsOf part channels out needs
 has-needs part channels s needs test out lt is =
     let here = test-below (λ o. if value_at part.globals o == s then is_closed part.piece o && bytes_eq needs (needed part channels o) else true) (length part.globals) test out lt in
-    let parts = both-true (is_closed part.piece out) (bytes_eq needs (needed part channels out)) (subst (λ (b : Bool). (if b then is_closed part.piece out && bytes_eq needs (needed part channels out) else true) ≡ true) ((Decides-eqb (value_at part.globals out) s).1 is) here) in
+    let parts = and_parts (is_closed part.piece out) (bytes_eq needs (needed part channels out)) (subst (λ (b : Bool). (if b then is_closed part.piece out && bytes_eq needs (needed part channels out) else true) ≡ true) ((Decides-eqb (value_at part.globals out) s).1 is) here) in
     subst (AreNeedsOf part channels out) (sym ((bytes_eq-Decides needs (needed part channels out)).0 parts.1)) (needs-needed part channels out parts.0)
 
 -- a channel that is needed and isn't listed
@@ -385,23 +363,19 @@ test-inner wires s inner = by (has (map (λ w. w.signal) wires) s) refl
 
 makes-shows : (circuit : FlatCircuit) (tree : InstanceTree) (listed : Listed) (wires : List Wire) (m s : ℕ) → s < length circuit.signals → makes circuit tree listed wires m s ≡ true → Makes circuit tree listed wires m s
 makes-shows circuit tree listed wires m s known is =
-    elim (or-cases ((owner_of circuit tree listed s == m) && not (has (map (λ w. w.signal) wires) s)) (has (signals_of wires (channels_from wires m)) s) is) [
+    elim (or_cases ((owner_of circuit tree listed s == m) && not (has (map (λ w. w.signal) wires) s)) (has (signals_of wires (channels_from wires m)) s) is) [
       | inl own ↦
-          let parts = both-true (owner_of circuit tree listed s == m) (not (has (map (λ w. w.signal) wires) s)) own in
+          let parts = and_parts (owner_of circuit tree listed s == m) (not (has (map (λ w. w.signal) wires) s)) own in
           inl (known, (Decides-eqb (owner_of circuit tree listed s) m).0 parts.0, inner-test wires s (not-true (has (map (λ w. w.signal) wires) s) parts.1))
       | inr given ↦ inr (has-contains (signals_of wires (channels_from wires m)) s given)
     ]
 
-and-true : (a b : Bool) → a ≡ true → b ≡ true → (a && b) ≡ true
-and-true true b at is = is
-and-true false b at is = cc
-
 shows-makes : (circuit : FlatCircuit) (tree : InstanceTree) (listed : Listed) (wires : List Wire) (m s : ℕ) → Makes circuit tree listed wires m s → makes circuit tree listed wires m s ≡ true
 shows-makes circuit tree listed wires m s (inl (known, owner, inner)) =
-    or-left ((owner_of circuit tree listed s == m) && not (has (map (λ w. w.signal) wires) s)) (has (signals_of wires (channels_from wires m)) s)
-    (and-true (owner_of circuit tree listed s == m) (not (has (map (λ w. w.signal) wires) s)) ((Decides-eqb (owner_of circuit tree listed s) m).1 owner) (ap not (test-inner wires s inner)))
+    or_left ((owner_of circuit tree listed s == m) && not (has (map (λ w. w.signal) wires) s)) (has (signals_of wires (channels_from wires m)) s)
+    (and_from (owner_of circuit tree listed s == m) (not (has (map (λ w. w.signal) wires) s)) ((Decides-eqb (owner_of circuit tree listed s) m).1 owner) (ap not (test-inner wires s inner)))
 shows-makes circuit tree listed wires m s (inr given) =
-    or-right ((owner_of circuit tree listed s == m) && not (has (map (λ w. w.signal) wires) s)) (has (signals_of wires (channels_from wires m)) s)
+    or_right ((owner_of circuit tree listed s == m) && not (has (map (λ w. w.signal) wires) s)) (has (signals_of wires (channels_from wires m)) s)
     (contains-has (signals_of wires (channels_from wires m)) s given)
 
 -- all are signals of the circuit
@@ -409,7 +383,7 @@ abbrev pub are_known : FlatCircuit → List ℕ → Bool
 are_known circuit signals = list_all (λ s. nat_lt s (length circuit.signals)) signals
 
 known-at : (circuit : FlatCircuit) (signals : List ℕ) (s : ℕ) → are_known circuit signals ≡ true → Contains signals s → s < length circuit.signals
-known-at circuit signals s is at = below-test s (length circuit.signals) (test-of (λ t. nat_lt t (length circuit.signals)) signals is s at)
+known-at circuit signals s is at = ltb-true s (length circuit.signals) (test-of (λ t. nat_lt t (length circuit.signals)) signals is s at)
 
 -- just the signals that a machine makes or takes
 abbrev pub has_signals : FlatCircuit → InstanceTree → Listed → List Wire → ℕ → List ℕ → Bool
@@ -425,7 +399,7 @@ has-signals circuit tree listed wires m globals test own given taken s = (to, fr
     to : Contains globals s → Makes circuit tree listed wires m s ⊎ Takes wires m s
     to at =
         let lt = known-at circuit globals s own at in
-        elim (or-cases (makes circuit tree listed wires m s) (has (signals_of wires (channels_to wires m)) s) (same-to (has globals s) (makes_or_takes circuit tree listed wires m s) (same lt) (contains-has globals s at))) [
+        elim (or_cases (makes circuit tree listed wires m s) (has (signals_of wires (channels_to wires m)) s) (same-to (has globals s) (makes_or_takes circuit tree listed wires m s) (same lt) (contains-has globals s at))) [
           | inl made ↦ inl (makes-shows circuit tree listed wires m s lt made)
           | inr got ↦ inr (has-contains (signals_of wires (channels_to wires m)) s got)
         ]
@@ -435,18 +409,18 @@ has-signals circuit tree listed wires m globals test own given taken s = (to, fr
 
     from : Makes circuit tree listed wires m s ⊎ Takes wires m s → Contains globals s
     from (inl (inl (known, owner, inner))) =
-        there known (or-left (makes circuit tree listed wires m s) (has (signals_of wires (channels_to wires m)) s) (shows-makes circuit tree listed wires m s (inl (known, owner, inner))))
+        there known (or_left (makes circuit tree listed wires m s) (has (signals_of wires (channels_to wires m)) s) (shows-makes circuit tree listed wires m s (inl (known, owner, inner))))
     from (inl (inr gives)) =
-        there (known-at circuit (signals_of wires (channels_from wires m)) s given gives) (or-left (makes circuit tree listed wires m s) (has (signals_of wires (channels_to wires m)) s) (shows-makes circuit tree listed wires m s (inr gives)))
+        there (known-at circuit (signals_of wires (channels_from wires m)) s given gives) (or_left (makes circuit tree listed wires m s) (has (signals_of wires (channels_to wires m)) s) (shows-makes circuit tree listed wires m s (inr gives)))
     from (inr takes) =
-        there (known-at circuit (signals_of wires (channels_to wires m)) s taken takes) (or-right (makes circuit tree listed wires m s) (has (signals_of wires (channels_to wires m)) s) (contains-has (signals_of wires (channels_to wires m)) s takes))
+        there (known-at circuit (signals_of wires (channels_to wires m)) s taken takes) (or_right (makes circuit tree listed wires m s) (has (signals_of wires (channels_to wires m)) s) (contains-has (signals_of wires (channels_to wires m)) s takes))
 
 -- a machine can't have a signal that it neither makes nor takes
 pub foreign-signal : (circuit : FlatCircuit) (tree : InstanceTree) (listed : Listed) (wires : List Wire) (m : ℕ) (globals : List ℕ) (s : ℕ) → has globals s ≡ true → makes_or_takes circuit tree listed wires m s ≡ false
     → ¬ ((t : ℕ) → Contains globals t ↔ (Makes circuit tree listed wires m t ⊎ Takes wires m t))
 foreign-signal circuit tree listed wires m globals s there foreign signals = elim ((signals s).0 (has-contains globals s there)) [
-  | inl made ↦ true≢false (sym (or-left (makes circuit tree listed wires m s) (has (signals_of wires (channels_to wires m)) s) (shows-makes circuit tree listed wires m s made)) ∙ foreign)
-  | inr got ↦ true≢false (sym (or-right (makes circuit tree listed wires m s) (has (signals_of wires (channels_to wires m)) s) (contains-has (signals_of wires (channels_to wires m)) s got)) ∙ foreign)
+  | inl made ↦ true≢false (sym (or_left (makes circuit tree listed wires m s) (has (signals_of wires (channels_to wires m)) s) (shows-makes circuit tree listed wires m s made)) ∙ foreign)
+  | inr got ↦ true≢false (sym (or_right (makes circuit tree listed wires m s) (has (signals_of wires (channels_to wires m)) s) (contains-has (signals_of wires (channels_to wires m)) s got)) ∙ foreign)
 ]
 
 -- a machine can't lack a signal that it makes
@@ -475,7 +449,7 @@ is-part-with whole part globals held memories count known once paths types drive
       types = types;
       drivers = each-below (λ s. IsFrom part.ins globals held memories s (driver_at whole (value_at globals s)) (driver_at part s)) (length globals) drivers;
       ins = each-below (λ place. (value_at part.ins place < length globals) × (driver_at part (value_at part.ins place) ≡ Input place)) (length part.ins) ins;
-      outs = λ place lt. below-test (value_at part.outs place) (length globals) (test-of (λ s. nat_lt s (length globals)) part.outs outs (value_at part.outs place) (place, lt, get_or_default part.outs place (value_at part.outs place) 0 lt));
+      outs = λ place lt. ltb-true (value_at part.outs place) (length globals) (test-of (λ s. nat_lt s (length globals)) part.outs outs (value_at part.outs place) (place, lt, get_or_default part.outs place (value_at part.outs place) 0 lt));
       register_count = register_count;
       register_from = register_from;
       memory_count = memory_count;

@@ -50,7 +50,7 @@ below-agree circuit state values others row out Done formed ordered known right 
     (λ place is. same-in circuit values row out s place (driver_at circuit s) needs to (formed.drivers s there) is)
 
 -- in a row that is settled with these inputs, an in-signal has its input
-row-in : (circuit : FlatCircuit) (state : State) (inputs row : List ℕ) (place : ℕ) → IsWellFormed circuit → Settled circuit state inputs row → place < length circuit.ins → value_at row (value_at circuit.ins place) ≡ value_at inputs place
+pub row-in : (circuit : FlatCircuit) (state : State) (inputs row : List ℕ) (place : ℕ) → IsWellFormed circuit → Settled circuit state inputs row → place < length circuit.ins → value_at row (value_at circuit.ins place) ≡ value_at inputs place
 row-in circuit state inputs row place formed settled within =
     let s = value_at circuit.ins place in
     let of = formed.ins place within in

@@ -124,5 +124,3 @@ InCycle-put circuit state slots place input formed within fits free h =
       right = AreRight-put circuit state slots.values place input (IsDone slots) (IsDone (with_input circuit slots place input)) formed within free
           (λ t is. mark-cases slots.done s t is) (λ t is. mark-more slots.done s t marked is) h.right;
     }
-
--- ---- the whole cycle

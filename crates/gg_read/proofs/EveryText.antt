@@ -4,13 +4,15 @@ use Rattle.std.proofs.lemmas.List.{append-nil}
 use Rattle.std.specs.Prelude.{slice_get}
 use Rattle.std.specs.Str.{IsUtf8}
 use Rattle.std.specs.Str.Lines.{lines}
+use Rattle.std.proofs.lemmas.Bool.{cases_lt}
 use Rattle.gg_lex.specs.declared.token.Tok.{Tok}
 use Rattle.gg_lex.specs.Lines.{Lexes}
 use Rattle.gg_lex.proofs.EveryLine.{every_line}
 use Rattle.gg_ast.specs.Row.{Row}
 use Rattle.gg_ast.specs.Tree.{CircuitTree}
 use Rattle.gg_row.specs.Reading.{row_at}
-use Rattle.gg_row.proofs.RowLaws.{row_at-spelt, spelt-row_at}
+use Rattle.gg_row.proofs.RowLaws.{spelt-row_at}
+use Rattle.gg_row.proofs.RowsSpelt.{row-spells}
 use Rattle.gg_read.specs.declared.stage.Stage.{Stage}
 use Rattle.gg_read.specs.declared.stage.Stage.TheVariants.{Start, Version, Header, Ports, Statements, Fields, Open}
 use Rattle.gg_read.specs.Stages.{stage_place, HasRead}
@@ -26,11 +28,8 @@ use Rattle.gg_read.proofs.TokenCounts.{opened-cons, closed-cons}
 abbrev DeepBehind : ℕ → ℕ → List Tok → Type 0
 DeepBehind o c ts = (k : ℕ) × (256 + (c + closed (take k ts)) < o + opened (take k ts))
 
-less_or_not : (x y : ℕ) → (x < y) ⊎ (y ≤ x)
-less_or_not x y = grind arith
-
 deep_or_not : (ts : List Tok) (o c : ℕ) → DeepBehind o c ts ⊎ (DeepBehind o c ts → ⊥)
-deep_or_not [] o c = by (less_or_not (256 + c) o)
+deep_or_not [] o c = by (cases_lt (256 + c) o)
   where
     none : o ≤ 256 + c → DeepBehind o c [] → ⊥
     none le (zero, deep) = omega (arith, le, deep)
@@ -39,7 +38,7 @@ deep_or_not [] o c = by (less_or_not (256 + c) o)
     by : (256 + c < o) ⊎ (o ≤ 256 + c) → DeepBehind o c [] ⊎ (DeepBehind o c [] → ⊥)
     by (inl less) = inl (zero, omega (arith, less))
     by (inr le) = inr (none le)
-deep_or_not (t ∷ ts) o c = by (less_or_not (256 + c) o) (deep_or_not ts (o + opened (t ∷ [])) (c + closed (t ∷ [])))
+deep_or_not (t ∷ ts) o c = by (cases_lt (256 + c) o) (deep_or_not ts (o + opened (t ∷ [])) (c + closed (t ∷ [])))
   where
     none : o ≤ 256 + c → (DeepBehind (o + opened (t ∷ [])) (c + closed (t ∷ [])) ts → ⊥) → DeepBehind o c (t ∷ ts) → ⊥
     none le shallow (zero, deep) = omega (arith, le, deep)
@@ -70,7 +69,7 @@ bad-judged place ts x = Faulty (inr (blank, form))
     form row next h = let none : Some x ≡ None = h.whole in cc
 
 placed-judged : (place : LinePlace) (t : Tok) (ts : List Tok) (row : Row) (o : Option LinePlace) → (IsTooDeep (t ∷ ts) → ⊥) → row_at (t ∷ ts) ≡ Some row → place_after place row ≡ o → Judged place (holding (t ∷ ts) None)
-placed-judged place t ts row (Some next) shallow found there = Formed row next (record { whole = refl; spelt = row_at-spelt (t ∷ ts) row found; there = there }) shallow
+placed-judged place t ts row (Some next) shallow found there = Formed row next (record { whole = refl; spelt = row-spells (t ∷ ts) row found; there = there }) shallow
 placed-judged place t ts row None shallow found there = Faulty (inr (blank, form))
   where
     blank : IsBlank (holding (t ∷ ts) None) → ⊥
@@ -78,7 +77,7 @@ placed-judged place t ts row None shallow found there = Faulty (inr (blank, form
 
     form : (r : Row) (next : LinePlace) → IsForm place (holding (t ∷ ts) None) r next → ⊥
     form r next h =
-        let same : row ≡ r = same_row (t ∷ ts) row r (row_at-spelt (t ∷ ts) row found) h.spelt in
+        let same : row ≡ r = same_row (t ∷ ts) row r (row-spells (t ∷ ts) row found) h.spelt in
         let here : place_after place row ≡ Some next = ap (λ (x : Row). place_after place x) same ∙ h.there in
         cc
 

@@ -1,7 +1,8 @@
 -- A text spells one circuit at most, and has one fault line at most; where it has both, the line is too deep.
 use Rattle.std.proofs.Common.{◌≡◌, ℕ, zero, suc, ◌+◌, ◌<◌, ◌≤◌, ◌⊎◌, inl, inr, List, [], ◌∷◌, length, take, Option, Some, None, refl, sym, ap, ◌∙◌, subst, arith}
-use Rattle.std.specs.Prelude.{slice_get, unwrap_or}
+use Rattle.std.specs.Prelude.{slice_get}
 use Rattle.std.specs.Str.Lines.{lines}
+use Rattle.std.proofs.lemmas.Option.{same_Some, slice_get_within}
 use Rattle.gg_lex.specs.declared.token.Tok.{Tok}
 use Rattle.gg_lex.specs.Lines.{Lexes}
 use Rattle.gg_lex.proofs.Readings.{Lexes-same}
@@ -13,12 +14,9 @@ use Rattle.gg_row.specs.Forms.{SpellsRow}
 use Rattle.gg_read.specs.Text.{LinePlace, AtStart, LineTokens, AreLineTokens, AreRows, IsBlank, IsForm, IsNoForm, IsAtFault, IsTooDeep, AreShallow, IsEndPlace, IsFaultLine, HasNoFaultLine, Spells, place_after, without_version}
 use Rattle.gg_row.proofs.RowLaws.{spelt-row_at, row_at-nothing}
 
-pub some_same : {A : Type 0} (x y : A) → Some x ≡ Some y → x ≡ y
-some_same x y e = ap (λ o. unwrap_or o x) e
-
 -- the tokens of a line spell one row at most
 pub same_row : (ts : List Tok) (r s : Row) → SpellsRow r ts → SpellsRow s ts → r ≡ s
-same_row ts r s spelt again = some_same r s (sym (spelt-row_at ts r spelt) ∙ spelt-row_at ts s again)
+same_row ts r s spelt again = same_Some r s (sym (spelt-row_at ts r spelt) ∙ spelt-row_at ts s again)
 
 -- a blank line is no row
 pub blank_no_row : (line : LineTokens) (row : Row) → IsBlank line → SpellsRow row line.tokens → ⊥
@@ -31,7 +29,7 @@ blank_no_row line row blank spelt =
 same_next : (place : LinePlace) (line : LineTokens) (r s : Row) (p q : LinePlace) → IsForm place line r p → IsForm place line s q → p ≡ q
 same_next place line r s p q form again =
     let row : r ≡ s = same_row line.tokens r s form.spelt again.spelt in
-    some_same p q (sym form.there ∙ ap (λ (x : Row). place_after place x) row ∙ again.there)
+    same_Some p q (sym form.there ∙ ap (λ (x : Row). place_after place x) row ∙ again.there)
 
 -- lines are read as rows in one way at most
 AreRows-same : (place : LinePlace) (n : ℕ) (held : List LineTokens) (rows others : List Numbered) (last final : LinePlace) → AreRows place n held rows last → AreRows place n held others final → (rows ≡ others) × (last ≡ final)
@@ -69,11 +67,11 @@ among_rows : (place : LinePlace) (n : ℕ) (ls : List (List ℕ)) (before held :
 among_rows place n ls before [] rows others mid last l line tokens again less read other there lexed none = omega (arith, less)
 among_rows place n [] before (h ∷ hs) rows others mid last l line tokens again less read other there lexed none = absurd again
 among_rows place n (k ∷ ks) [] (h ∷ hs) rows others mid last l line tokens again less read (inl (blank, more)) there lexed none =
-    let same : k ≡ l = some_same k l there in
+    let same : k ≡ l = same_Some k l there in
     let equal : h ≡ line = same_line k h line again.0 (subst (λ (x : List ℕ). Lexes x line.tokens line.bad) (sym same) lexed) in
     none.0 (subst (λ (x : LineTokens). IsBlank x) equal blank)
 among_rows place n (k ∷ ks) [] (h ∷ hs) rows others mid last l line tokens again less read (inr (r, p, rs, form, same_rows, more)) there lexed none =
-    let same : k ≡ l = some_same k l there in
+    let same : k ≡ l = same_Some k l there in
     let equal : h ≡ line = same_line k h line again.0 (subst (λ (x : List ℕ). Lexes x line.tokens line.bad) (sym same) lexed) in
     none.1 r p (subst (λ (x : LineTokens). IsForm mid x r p) equal (subst (λ (x : LinePlace). IsForm x h r p) (sym read.1) form))
 among_rows place n (k ∷ ks) (b ∷ bs) (h ∷ hs) rows others mid last l line tokens again less (inl (blank, more)) (inl (blank_too, rest)) there lexed none =
@@ -94,7 +92,7 @@ deep_among : (ls : List (List ℕ)) (held : List LineTokens) (i : ℕ) (l : List
 deep_among ls [] i l line tokens shallow less there lexed deep = omega (arith, less)
 deep_among [] (h ∷ hs) i l line tokens shallow less there lexed deep = absurd tokens
 deep_among (k ∷ ks) (h ∷ hs) zero l line tokens shallow less there lexed deep =
-    let same : k ≡ l = some_same k l there in
+    let same : k ≡ l = same_Some k l there in
     let equal : h ≡ line = same_line k h line tokens.0 (subst (λ (x : List ℕ). Lexes x line.tokens line.bad) (sym same) lexed) in
     shallow.0 (subst (λ (x : LineTokens). IsTooDeep x.tokens) (sym equal) deep)
 deep_among (k ∷ ks) (h ∷ hs) (suc i) l line tokens shallow less there lexed deep =
@@ -105,12 +103,6 @@ within : (ls : List (List ℕ)) (held : List LineTokens) → AreLineTokens (take
 within ls [] tokens = omega arith
 within [] (t ∷ ts) tokens = absurd tokens
 within (l ∷ ls) (t ∷ ts) tokens = omega (arith, within ls ts tokens.1)
-
--- a place that has a line is below the number of lines
-inside : (ls : List (List ℕ)) (i : ℕ) (l : List ℕ) → slice_get ls i ≡ Some l → i < length ls
-inside [] i l there = absurd (cc)
-inside (k ∷ ks) zero l there = omega arith
-inside (k ∷ ks) (suc i) l there = omega (arith, inside ks i l there)
 
 -- no fault line comes before another
 no_earlier : (text : List ℕ) (n m : ℕ) (line other : LineTokens) (a : IsFaultLine text n line) (b : IsFaultLine text m other) → length a.before < length b.before → ⊥
@@ -141,12 +133,12 @@ one_fault_line-law text n m line other a b = (omega (arith, a.number, b.number, 
         → ((l : List ℕ) × (slice_get (lines text) (length b.before) ≡ Some l) × Lexes l other.tokens other.bad × IsAtFault b.place other)
         ⊎ ((length (lines text) ≡ length b.before) × (other ≡ record { tokens = []; bad = None }) × (IsEndPlace b.place → ⊥)) → line ≡ other
     by_faults (inl (l, there, lexed, none)) (inl (k, here, again, none_too)) =
-        let same : l ≡ k = some_same l k (sym there ∙ ap (λ (i : ℕ). slice_get (lines text) i) size ∙ here) in
+        let same : l ≡ k = same_Some l k (sym there ∙ ap (λ (i : ℕ). slice_get (lines text) i) size ∙ here) in
         same_line k line other (subst (λ (x : List ℕ). Lexes x line.tokens line.bad) same lexed) again
     by_faults (inl (l, there, lexed, none)) (inr (end, empty, incomplete)) =
-        absurd (omega (arith, end, size, inside (lines text) (length a.before) l there))
+        absurd (omega (arith, end, size, slice_get_within (lines text) (length a.before) l there))
     by_faults (inr (end, empty, incomplete)) (inl (k, here, again, none)) =
-        absurd (omega (arith, end, size, inside (lines text) (length b.before) k here))
+        absurd (omega (arith, end, size, slice_get_within (lines text) (length b.before) k here))
     by_faults (inr (end, empty, incomplete)) (inr (end_too, empty_too, incomplete_too)) = empty ∙ sym empty_too
 
 lines_held : (ls : List (List ℕ)) (held : List LineTokens) → AreLineTokens ls held → (length ls ≡ length held) × AreLineTokens (take (length held) ls) held
@@ -173,7 +165,7 @@ deep_there text n line held rows last a tokens read end_place = by_fault a.fault
         ⊎ ((length (lines text) ≡ length a.before) × (line ≡ record { tokens = []; bad = None }) × (IsEndPlace a.place → ⊥)) → IsDeepThere text (length a.before) line
     by_fault (inl (l, there, lexed, inl deep)) = record { deep = deep; l = l; there = there; lexed = lexed }
     by_fault (inl (l, there, lexed, inr none)) =
-        absurd (among_rows AtStart 1 (lines text) a.before held a.rows rows a.place last l line a.tokens whole.1 (omega (arith, whole.0, inside (lines text) (length a.before) l there)) a.read read there lexed none)
+        absurd (among_rows AtStart 1 (lines text) a.before held a.rows rows a.place last l line a.tokens whole.1 (omega (arith, whole.0, slice_get_within (lines text) (length a.before) l there)) a.read read there lexed none)
     by_fault (inr (end, empty, incomplete)) =
         let size : length a.before ≡ length held = sym end ∙ whole.0 in
         let same : a.before ≡ held = AreLineTokens-same (take (length held) (lines text)) a.before held (subst (λ (i : ℕ). AreLineTokens (take i (lines text)) a.before) size a.tokens) whole.1 in
@@ -191,7 +183,7 @@ pub no_fault_line : (text : List ℕ) (held : List LineTokens) (rows : List Numb
 no_fault_line text held rows last tokens read end_place shallow = λ n line a.
     let whole = lines_held (lines text) held tokens in
     let found = deep_there text n line held rows last a tokens read end_place in
-    deep_among (lines text) held (length a.before) found.l line whole.1 shallow (omega (arith, whole.0, inside (lines text) (length a.before) found.l found.there)) found.there found.lexed found.deep
+    deep_among (lines text) held (length a.before) found.l line whole.1 shallow (omega (arith, whole.0, slice_get_within (lines text) (length a.before) found.l found.there)) found.there found.lexed found.deep
 
 -- a text spells one circuit at most
 pub one_circuit-law : (text : List ℕ) (c d : CircuitTree) → Spells text c → Spells text d → c ≡ d

@@ -1,5 +1,6 @@
 -- After each row that is valid at a position there is a next stage, whose circuit has that row too.
 use Rattle.std.proofs.Common.{◌≡◌, ℕ, ◌+◌, ◌<◌, List, [], ◌∷◌, ◌++◌, length, true, Some, None, Ok, refl, sym, ap, ◌∙◌, arith, length-append}
+use Rattle.std.proofs.lemmas.Option.{same_Some}
 use Rattle.gg_ast.specs.declared.module.Port.{Port}
 use Rattle.gg_ast.specs.declared.statement.Field.{Field}
 use Rattle.gg_ast.specs.declared.statement.Reset.{Reset}
@@ -16,9 +17,6 @@ use Rattle.gg_read.specs.declared.stage.Stage.TheVariants.{Start, Version, Heade
 use Rattle.gg_read.specs.Stages.{stage_place, open_row, IsBuilt, Holds}
 use Rattle.gg_read.specs.Text.{LinePlace, AfterVersion, AfterCircuit, InPorts, InStatements, InFields, AwaitsReset, place_after, after_statement, after_open, after_memory, after_module}
 use Rattle.gg_read.proofs.Builds.{rows_more, version_first, header_next, nothing_first, inline_rows, rows_closed}
-
-some_same : {A : Type 0} (x y : A) → Some x ≡ Some y → x ≡ y
-some_same x y e = cc
 
 -- what holds of a stage before line n, apart from what is said of names
 abbrev pub GoesOn : Stage → ℕ → Type 0
@@ -98,7 +96,7 @@ statement-next stage n row place kind same goes there =
     let s : Stmt = record { line = n; kind = kind } in
     record {
       next = Statements (add_statement has.circuit s);
-      there = some_same InStatements place (sym has.to_statements ∙ there);
+      there = same_Some InStatements place (sym has.to_statements ∙ there);
       goes = some_left has.circuit s has.some;
       built = λ before b. rows_more has.circuit before (numbered n row ∷ []) (has.holds before b) ∙ grown has.circuit s (numbered n row ∷ []) has.some same;
     }
@@ -108,7 +106,7 @@ open-next stage n register row place at same goes there =
     let has = body stage n InStatements goes (opens-statement stage place there) in
     record {
       next = Open has.circuit register;
-      there = some_same AwaitsReset place (sym has.to_open ∙ there);
+      there = same_Some AwaitsReset place (sym has.to_open ∙ there);
       goes = (has.some, omega (arith, at));
       built = λ before b. rows_more has.circuit before (numbered n row ∷ []) (has.holds before b) ∙ ap (λ (r : Numbered). rows_of has.circuit ++ r ∷ []) (sym same);
     }
@@ -120,7 +118,7 @@ memory-next stage n name place goes there =
     let open_ : IsOpenToFields (on_last (with_statement s) has.circuit.modules) = memory-if s has.circuit.modules (on_last (with_statement s) has.circuit.modules) {E = Unit {0}} (Ok tt) refl has.some tt in
     record {
       next = Fields (add_statement has.circuit s);
-      there = some_same InFields place (sym has.to_fields ∙ there);
+      there = same_Some InFields place (sym has.to_fields ∙ there);
       goes = (some_left has.circuit s has.some, open_);
       built = λ before b. rows_more has.circuit before (numbered n (MemoryRow name) ∷ []) (has.holds before b) ∙ grown has.circuit s (numbered n (MemoryRow name) ∷ []) has.some refl;
     }
@@ -139,10 +137,10 @@ module-on stage c n name place holds there =
 module-next : (stage : Stage) (n : ℕ) (name : List ℕ) (place : LinePlace) → after_module (stage_place stage) ≡ Some place → NextStage stage n (ModuleRow name) place
 module-next Start n name place there = absurd (cc)
 module-next Version n name place there = absurd (cc)
-module-next (Header c) n name place there = module-on (Header c) c n name place (λ before b. b) (some_same InPorts place there)
-module-next (Ports c) n name place there = module-on (Ports c) c n name place (λ before b. b) (some_same InPorts place there)
-module-next (Statements c) n name place there = module-on (Statements c) c n name place (λ before b. b) (some_same InPorts place there)
-module-next (Fields c) n name place there = module-on (Fields c) c n name place (λ before b. b) (some_same InPorts place there)
+module-next (Header c) n name place there = module-on (Header c) c n name place (λ before b. b) (same_Some InPorts place there)
+module-next (Ports c) n name place there = module-on (Ports c) c n name place (λ before b. b) (same_Some InPorts place there)
+module-next (Statements c) n name place there = module-on (Statements c) c n name place (λ before b. b) (same_Some InPorts place there)
+module-next (Fields c) n name place there = module-on (Fields c) c n name place (λ before b. b) (same_Some InPorts place there)
 module-next (Open c register) n name place there = absurd (cc)
 
 port-next : (stage : Stage) (port : Port) (place : LinePlace) → GoesOn stage port.line → place_after (stage_place stage) (PortRow port.direction port.name port.ty) ≡ Some place → NextStage stage port.line (PortRow port.direction port.name port.ty) place
@@ -152,7 +150,7 @@ port-next (Header c) port place goes there = absurd (cc)
 port-next (Ports c) port place goes there =
     record {
       next = Ports (add_port c port);
-      there = some_same InPorts place there;
+      there = same_Some InPorts place there;
       goes = (omega (arith, goes.0, length-on_last (with_port port) c.modules), open-with_port port c.modules goes.1);
       built = λ before b. rows_more c before (port_row port ∷ []) b
           ∙ sym (ap (λ (l : List Numbered). numbered c.line (CircuitRow c.name) ∷ l) (rows_of_modules-with_port port c.modules goes.1));
@@ -170,7 +168,7 @@ field-next (Statements c) field place goes there = absurd (cc)
 field-next (Fields c) field place goes there =
     record {
       next = Fields (add_field c field);
-      there = some_same InFields place there;
+      there = same_Some InFields place there;
       goes = (omega (arith, goes.0, length-on_last (module_with_field field) c.modules), fields-if field c.modules (on_last (module_with_field field) c.modules) true refl goes.1);
       built = λ before b. rows_more c before (field_row field ∷ []) b
           ∙ sym (ap (λ (l : List Numbered). numbered c.line (CircuitRow c.name) ∷ l) (rows_of_modules-with_field field c.modules goes.1));
@@ -192,13 +190,13 @@ reset-next (Open c r) reset place goes there =
     let s : Stmt = record { line = r.line; kind = statement.Register r.name r.ty r.clock (Some reset) } in
     record {
       next = Statements (closed c r reset);
-      there = some_same InStatements place there;
+      there = same_Some InStatements place there;
       goes = some_left c s goes.0;
       built = λ before b. rows_closed c (closed c r reset) r reset before goes.1 (sym (grown c s (statement_rows s) goes.0 refl)) b;
     }
 
 version-next : (stage : Stage) (n x y z : ℕ) (place : LinePlace) → place_after (stage_place stage) (VersionRow x y z) ≡ Some place → NextStage stage n (VersionRow x y z) place
-version-next Start n x y z place there = record { next = Version; there = some_same AfterVersion place there; goes = tt; built = λ before b. version_first before n x y z b }
+version-next Start n x y z place there = record { next = Version; there = same_Some AfterVersion place there; goes = tt; built = λ before b. version_first before n x y z b }
 version-next Version n x y z place there = absurd (cc)
 version-next (Header c) n x y z place there = absurd (cc)
 version-next (Ports c) n x y z place there = absurd (cc)
@@ -208,8 +206,8 @@ version-next (Open c register) n x y z place there = absurd (cc)
 
 circuit-next : (stage : Stage) (n : ℕ) (name : List ℕ) (place : LinePlace) → place_after (stage_place stage) (CircuitRow name) ≡ Some place → NextStage stage n (CircuitRow name) place
 circuit-next Start n name place there =
-    record { next = Header (empty_circuit n name); there = some_same AfterCircuit place there; goes = tt; built = λ before b. header_next before n name (nothing_first before b) }
-circuit-next Version n name place there = record { next = Header (empty_circuit n name); there = some_same AfterCircuit place there; goes = tt; built = λ before b. header_next before n name b }
+    record { next = Header (empty_circuit n name); there = same_Some AfterCircuit place there; goes = tt; built = λ before b. header_next before n name (nothing_first before b) }
+circuit-next Version n name place there = record { next = Header (empty_circuit n name); there = same_Some AfterCircuit place there; goes = tt; built = λ before b. header_next before n name b }
 circuit-next (Header c) n name place there = absurd (cc)
 circuit-next (Ports c) n name place there = absurd (cc)
 circuit-next (Statements c) n name place there = absurd (cc)

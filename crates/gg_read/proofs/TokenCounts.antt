@@ -1,11 +1,10 @@
 -- How many brackets tokens open and close, counted token by token; and the first outside word.
-use Rattle.std.proofs.Common.{◌≡◌, ℕ, ◌+◌, ◌<◌, ◌≤◌, List, [], ◌∷◌, ◌++◌, length, take, drop, get_or, sym, ap, ◌∙◌, arith}
-use Rattle.std.specs.Option.{option_or}
-use Rattle.std.proofs.lemmas.List.{take_more, at_drop_more}
+use Rattle.std.proofs.Common.{◌≡◌, ℕ, ◌+◌, ◌<◌, ◌≤◌, List, [], ◌∷◌, ◌++◌, length, take, get_or, sym, ap, ◌∙◌, arith}
+use Rattle.std.proofs.lemmas.List.{take_more}
 use Rattle.gg_lex.specs.declared.token.Tok.{Tok}
 use Rattle.gg_lex.specs.declared.token.Tok.TheVariants.{Word, Number, Text, Symbol}
 use Rattle.gg_lex.specs.declared.token.Symbol.TheVariants as mark
-use Rattle.gg_read.specs.Text.{opened, closed, first_outside, outside_text}
+use Rattle.gg_read.specs.Text.{opened, closed}
 
 pub opened-cons : (t : Tok) (ts : List Tok) → opened (t ∷ ts) ≡ opened (t ∷ []) + opened ts
 opened-cons (Word w) ts = omega arith
@@ -50,7 +49,3 @@ closed-one (Number w) = omega arith
 closed-one (Text w) = omega arith
 closed-one (Symbol mark.CloseParen) = omega arith
 closed-one (Symbol _) = omega arith
-
-pub first_outside-more : (ts : List Tok) (i : ℕ) (t : Tok) → i < length ts → t ≡ get_or ts i t → first_outside (drop i ts) ≡ option_or (outside_text t) (first_outside (drop (i + 1) ts))
-first_outside-more ts i t within is =
-    at_drop_more first_outside ts i t within ∙ ap (λ (u : Tok). option_or (outside_text u) (first_outside (drop (i + 1) ts))) (sym is)

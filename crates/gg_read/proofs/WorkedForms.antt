@@ -5,7 +5,8 @@ use Rattle.gg_lex.specs.declared.token.Tok.TheVariants.{Word, Number, Text, Symb
 use Rattle.gg_lex.specs.declared.token.Symbol.TheVariants as mark
 use Rattle.gg_ast.specs.Row.{Row}
 use Rattle.gg_row.specs.Reading.{row_at}
-use Rattle.gg_row.proofs.RowLaws.{row_at-spelt, spelt-row_at}
+use Rattle.gg_row.proofs.RowLaws.{spelt-row_at}
+use Rattle.gg_row.proofs.RowsSpelt.{row-spells}
 use Rattle.gg_read.specs.Text.{LineTokens, LinePlace, place_after, opened, IsTooDeep, IsForm, IsNoForm, IsBlank}
 use Rattle.gg_read.proofs.FaultLines.{same_row}
 
@@ -18,7 +19,7 @@ abbrev pub holding : List Tok → LineTokens
 holding tokens = record { tokens = tokens; bad = None }
 
 pub form : {place next : LinePlace} {row : Row} {ts : List Tok} → row_at ts ≡ Some row → place_after place row ≡ Some next → IsForm place (holding ts) row next
-form {place} {next} {row} {ts} found there = record { whole = refl; spelt = row_at-spelt ts row found; there = there }
+form {place} {next} {row} {ts} found there = record { whole = refl; spelt = row-spells ts row found; there = there }
 
 some_token : (t : Tok) (ts : List Tok) → IsBlank (holding (t ∷ ts)) → ⊥
 some_token t ts blank = let none : t ∷ ts ≡ [] = blank.0 in cc
@@ -36,7 +37,7 @@ no_place {place} {row} {t} {ts} found nowhere = (some_token t ts, none)
   where
     none : (r : Row) (next : LinePlace) → IsForm place (holding (t ∷ ts)) r next → ⊥
     none r next h =
-        let same : row ≡ r = same_row (t ∷ ts) row r (row_at-spelt (t ∷ ts) row found) h.spelt in
+        let same : row ≡ r = same_row (t ∷ ts) row r (row-spells (t ∷ ts) row found) h.spelt in
         let there : place_after place row ≡ Some next = ap (λ (x : Row). place_after place x) same ∙ h.there in
         cc
 

@@ -1,6 +1,6 @@
 -- The tests' circuit has its tree, and keeps to its scopes.
 use Rattle.std.proofs.Common.{◌≡◌, ◌≢◌, ◌⊎◌, inl, inr, ℕ, zero, suc, ◌+◌, ◌<◌, List, [], ◌∷◌, ◌++◌, length, Some, refl, sym, ap, ◌∙◌, subst, arith, lit<, lit≤}
-use Rattle.std.specs.Prelude.{Result, Ok, Err, IfOk, Contains, AllPairs, slice_index_or}
+use Rattle.std.specs.Prelude.{Contains, AllPairs, slice_index_or}
 use Rattle.std.specs.List.{flat_map}
 use Rattle.std.proofs.lemmas.List.{length-map, get_or-map}
 use Rattle.gg_flat.specs.declared.memory.Reader.{Reader}
@@ -10,19 +10,9 @@ use Rattle.gg_flat.specs.Circuit.{FlatCircuit}
 use Rattle.gg_flat.specs.WellFormed.{IsWellFormed}
 use Rattle.gg_flat.specs.Tree.{IsTree, IsInstance, IsHeld, IsInnermost, IsWithin, IsJustBelow, Holds, path_at, instance_at, memory_at, joined}
 use Rattle.gg_flat.specs.Scoped.{IsScoped, IsPort, IsOwnPort, IsOwnField, IsMemoryField, IsFieldOf, IsWritten, IsVisible, memory_fields, reader_fields, writer_fields, writers_at}
-use Rattle.gg_flat.proofs.WorkedForms.{only, apart}
+use Rattle.gg_flat.proofs.WorkedForms.{only, apart, letter}
 use Rattle.gg_order.proofs.ReadLemmas.{names_within, register-names_within}
 use Rattle.gg_refsim.specs.Fixture.{IsFixture, fixture_reader, fixture_top, fixture_tree, field_names}
-
--- if a fact holds of an answer, so does what follows from it
-pub if-ok : {T E : Type 0} (result : Result T E) (P Q : T → Type 0) → ((x : T) → P x → Q x) → IfOk result P → IfOk result Q
-if-ok (Ok x) P Q f h = f x h
-if-ok (Err e) P Q f h = h
-
--- a name of one letter
-letter : (byte : ℕ) → byte ≢ 46 → ¬ Contains (byte ∷ []) 46
-letter byte other (zero, lt, is) = other is
-letter byte other (suc k, lt, is) = absurd (omega arith)
 
 abbrev fields : List ℕ
 fields = 1 ∷ 2 ∷ 3 ∷ 4 ∷ 5 ∷ 6 ∷ 7 ∷ []

@@ -31,7 +31,3 @@ natural_parsed (b ∷ bs) r digits h =
     let parsed = parse_digits own 32 (b ∷ bs) r h all in
     by_bound (digits_value 10 (b ∷ bs)) (length (b ∷ bs)) r (nat_lt (digits_value 10 (b ∷ bs)) (2 ^ 32)) parsed (omega arith) refl
     ∙ ap (λ d. if (d && nat_lt (digits_value 10 (b ∷ bs)) (2 ^ 32)) then Some (digits_value 10 (b ∷ bs)) else None) (sym digits)
-
--- bytes that aren't all digits spell no natural number
-pub natural_of-no_digits : (bs : List ℕ) → are_digits Decimal bs ≡ false → natural_of bs ≡ None
-natural_of-no_digits bs e = ap (λ d. if (d && nat_lt (digits_value 10 bs) (2 ^ 32)) then Some (digits_value 10 bs) else None) e

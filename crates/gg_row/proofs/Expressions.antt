@@ -1,7 +1,8 @@
 -- An expression that is spelt is read.
 use Rattle.std.proofs.Common.{◌≡◌, ℕ, zero, suc, ◌<◌, ◌≤◌, List, [], ◌∷◌, length, Bool, true, false, Option, None, Some, IsTrue, refl, sym, ap, ◌∙◌, subst, arith}
-use Rattle.std.specs.Prelude.{if◌then◌else◌, codes, is_some, ◌==◌, ◌&&◌}
+use Rattle.std.specs.Prelude.{if◌then◌else◌, codes, is_some, ◌==◌}
 use Rattle.std.specs.List.{list_all}
+use Rattle.std.proofs.lemmas.Bool.{and_parts}
 use Rattle.gg_bits.specs.declared.types.Kind.{Kind}
 use Rattle.gg_bits.specs.declared.types.Kind.TheVariants as kind
 use Rattle.gg_bits.specs.declared.ops.Op1.{Op1}
@@ -85,15 +86,11 @@ not_minus Octal b h = grind arith
 not_minus Decimal b h = grind arith
 not_minus Hexadecimal b h = grind arith
 
-left_true : (a b : Bool) → (a && b) ≡ true → a ≡ true
-left_true true b h = refl
-left_true false b h = absurd (cc)
-
 signed-read : (radix : Radix) (negative : Bool) (digits : List ℕ) → IsTrue (are_digits radix digits) → signed_digits radix (signed negative digits) ≡ Some (record { radix = radix; negative = negative; digits = digits })
 signed-read radix true digits h = checked-read radix true digits h
 signed-read radix false [] h = absurd (cc)
 signed-read radix false (b ∷ bs) h =
-    ap (λ t. if t then checked_digits radix true bs else checked_digits radix false (b ∷ bs)) (not_minus radix b (left_true (is_digit_of radix b) (list_all (is_digit_of radix) bs) (is_true (are_digits radix (b ∷ bs)) h)))
+    ap (λ t. if t then checked_digits radix true bs else checked_digits radix false (b ∷ bs)) (not_minus radix b (and_parts (is_digit_of radix b) (list_all (is_digit_of radix) bs) (is_true (are_digits radix (b ∷ bs)) h)).0)
     ∙ checked-read radix false (b ∷ bs) h
 
 digits-read : (radix : Radix) (negative : Bool) (digits : List ℕ) (rest : List Tok) → IsTrue (are_digits radix digits) → digits_at (number_token radix (signed negative digits) ∷ rest) ≡ Some (record { radix = radix; negative = negative; digits = digits }, rest)

@@ -1,6 +1,7 @@
 -- An expression that is read is spelt so.
 use Rattle.std.proofs.Common.{◌≡◌, ℕ, zero, suc, List, [], ◌∷◌, Bool, true, false, Option, None, Some, IsTrue, refl, sym, ap, ◌∙◌, subst, arith}
 use Rattle.std.specs.Prelude.{if◌then◌else◌, codes, ◌==◌}
+use Rattle.std.proofs.lemmas.Option.{same_Some}
 use Rattle.gg_bits.specs.declared.types.Kind.{Kind}
 use Rattle.gg_bits.specs.declared.types.Kind.TheVariants as kind
 use Rattle.gg_bits.specs.declared.ops.Op1.{Op1}
@@ -26,7 +27,7 @@ use Rattle.gg_row.specs.Words.{kind_text, operation_of}
 use Rattle.gg_ast.specs.Names.{IsName}
 use Rattle.gg_row.specs.Forms.{IsNatural, SpellsReference, SpellsType, SpellsLiteral, SpellsParameters, SpellsExpr, are_digits, signed, number_token}
 use Rattle.gg_row.specs.Reading.{◌>>=◌, symbol_at, word_at, name_at, natural_at, third_at, second_at, reference_at, width_at, kind_at, ground_type, type_at, checked_digits, signed_digits, radix_of, text_digits, digits_at, literal_of, literal_at, operation_at, one_parameter_at, two_parameters_at, parameters_at, is_second, unary_at, binary_at, fixed_at, mux_at, operands_at, call_at, expr_at}
-use Rattle.gg_row.proofs.Leaves.{bound, chosen, not_chosen, some_same, symbol_at-spells, word_at-spells, name_at-spells, natural_at-spells}
+use Rattle.gg_row.proofs.Leaves.{bound, chosen, not_chosen, symbol_at-spells, word_at-spells, name_at-spells, natural_at-spells}
 use Rattle.gg_row.proofs.WordLaws.{operation_text, operation_of-spells}
 
 -- ---- references
@@ -35,7 +36,7 @@ third-spells : (a b : List ℕ) (ts rest : List Tok) (r : Reference) (o : Option
 third-spells a b ts rest r None na nb e h =
     let go : List Tok → Option (Reference × List Tok) = λ t. name_at t >>= λ c. Some (reference.FieldOf a b c.0, c.1) in
     let stop : Option (Reference × List Tok) = Some (reference.PortOf a b, ts) in
-    let same = some_same (reference.PortOf a b, ts) (r, rest) (sym (not_chosen (symbol_at Dot ts) go stop e) ∙ h) in
+    let same = same_Some (reference.PortOf a b, ts) (r, rest) (sym (not_chosen (symbol_at Dot ts) go stop e) ∙ h) in
     subst (λ (p : Reference × List Tok). SpellsReference p.0 (Word a ∷ (Symbol Dot ∷ (Word b ∷ ts))) p.1) same (na, nb, refl)
 third-spells a b ts rest r (Some t) na nb e h =
     let go : List Tok → Option (Reference × List Tok) = λ t. name_at t >>= λ c. Some (reference.FieldOf a b c.0, c.1) in
@@ -43,14 +44,14 @@ third-spells a b ts rest r (Some t) na nb e h =
     let n = bound (name_at t) (λ c. Some (reference.FieldOf a b c.0, c.1)) (r, rest) (sym (chosen (symbol_at Dot ts) go stop t e) ∙ h) in
     let word = name_at-spells t n.0.0 n.0.1 n.1 in
     let tail : ts ≡ Symbol Dot ∷ (Word n.0.0 ∷ n.0.1) = symbol_at-spells Dot ts t e ∙ ap (λ l. Symbol Dot ∷ l) word.1 in
-    subst (λ (p : Reference × List Tok). SpellsReference p.0 (Word a ∷ (Symbol Dot ∷ (Word b ∷ ts))) p.1) (some_same (reference.FieldOf a b n.0.0, n.0.1) (r, rest) n.2)
+    subst (λ (p : Reference × List Tok). SpellsReference p.0 (Word a ∷ (Symbol Dot ∷ (Word b ∷ ts))) p.1) (same_Some (reference.FieldOf a b n.0.0, n.0.1) (r, rest) n.2)
     (na, nb, word.0, ap (λ l. Word a ∷ (Symbol Dot ∷ (Word b ∷ l))) tail)
 
 second-spells : (a : List ℕ) (ts rest : List Tok) (r : Reference) (o : Option (List Tok)) → IsName a → symbol_at Dot ts ≡ o → second_at a ts ≡ Some (r, rest) → SpellsReference r (Word a ∷ ts) rest
 second-spells a ts rest r None na e h =
     let go : List Tok → Option (Reference × List Tok) = λ t. name_at t >>= λ b. third_at a b.0 b.1 in
     let stop : Option (Reference × List Tok) = Some (reference.Local a, ts) in
-    let same = some_same (reference.Local a, ts) (r, rest) (sym (not_chosen (symbol_at Dot ts) go stop e) ∙ h) in
+    let same = same_Some (reference.Local a, ts) (r, rest) (sym (not_chosen (symbol_at Dot ts) go stop e) ∙ h) in
     subst (λ (p : Reference × List Tok). SpellsReference p.0 (Word a ∷ ts) p.1) same (na, refl)
 second-spells a ts rest r (Some t) na e h =
     let go : List Tok → Option (Reference × List Tok) = λ t. name_at t >>= λ b. third_at a b.0 b.1 in
@@ -80,7 +81,7 @@ width-spells ts rest n h =
     let number = bound (natural_at open_.0) (λ n. symbol_at Greater n.1 >>= λ u. Some (n.0, u)) (n, rest) open_.2 in
     let close = bound (symbol_at Greater number.0.1) (λ u. Some (number.0.0, u)) (n, rest) number.2 in
     let digits = natural_at-spells open_.0 number.0.0 number.0.1 number.1 in
-    let same = some_same (number.0.0, close.0) (n, rest) close.2 in
+    let same = same_Some (number.0.0, close.0) (n, rest) close.2 in
     record {
       digits = digits.0;
       natural = subst (λ (p : ℕ × List Tok). IsNatural digits.0 p.0) same digits.1;
@@ -92,14 +93,14 @@ kind_by : (ts rest : List Tok) (k : Kind) (o : Option (List Tok)) → word_at (c
 kind_by ts rest k (Some t) e h =
     let go : List Tok → Option (Kind × List Tok) = λ t. Some (kind.UInt, t) in
     let other : Option (Kind × List Tok) = word_at (codes "SInt") ts >>= λ t. Some (kind.SInt, t) in
-    let same = some_same (kind.UInt, t) (k, rest) (sym (chosen (word_at (codes "UInt") ts) go other t e) ∙ h) in
+    let same = same_Some (kind.UInt, t) (k, rest) (sym (chosen (word_at (codes "UInt") ts) go other t e) ∙ h) in
     word_at-spells (codes "UInt") ts t e ∙ ap (λ (p : Kind × List Tok). Word (kind_text p.0) ∷ p.1) same
 kind_by ts rest k None e h =
     let go : List Tok → Option (Kind × List Tok) = λ t. Some (kind.UInt, t) in
     let sint : List Tok → Option (Kind × List Tok) = λ t. Some (kind.SInt, t) in
     let other : Option (Kind × List Tok) = word_at (codes "SInt") ts >>= sint in
     let w = bound (word_at (codes "SInt") ts) sint (k, rest) (sym (not_chosen (word_at (codes "UInt") ts) go other e) ∙ h) in
-    word_at-spells (codes "SInt") ts w.0 w.1 ∙ ap (λ (p : Kind × List Tok). Word (kind_text p.0) ∷ p.1) (some_same (kind.SInt, w.0) (k, rest) w.2)
+    word_at-spells (codes "SInt") ts w.0 w.1 ∙ ap (λ (p : Kind × List Tok). Word (kind_text p.0) ∷ p.1) (same_Some (kind.SInt, w.0) (k, rest) w.2)
 
 kind-spells : (ts rest : List Tok) (k : Kind) → kind_at ts ≡ Some (k, rest) → ts ≡ Word (kind_text k) ∷ rest
 kind-spells ts rest k h = kind_by ts rest k (word_at (codes "UInt") ts) refl h
@@ -112,14 +113,14 @@ type_by : (ts rest : List Tok) (ty : GroundType) (o : Option (List Tok)) → wor
 type_by ts rest ty (Some t) e h =
     let go : List Tok → Option (GroundType × List Tok) = λ t. Some (plain_type.Clock, t) in
     let other : Option (GroundType × List Tok) = kind_at ts >>= λ k. width_at k.1 >>= λ w. Some (ground_type k.0 w.0, w.1) in
-    let same = some_same (plain_type.Clock, t) (ty, rest) (sym (chosen (word_at (codes "Clock") ts) go other t e) ∙ h) in
+    let same = same_Some (plain_type.Clock, t) (ty, rest) (sym (chosen (word_at (codes "Clock") ts) go other t e) ∙ h) in
     subst (λ (p : GroundType × List Tok). SpellsType p.0 ts p.1) same (word_at-spells (codes "Clock") ts t e)
 type_by ts rest ty None e h =
     let go : List Tok → Option (GroundType × List Tok) = λ t. Some (plain_type.Clock, t) in
     let other : Option (GroundType × List Tok) = kind_at ts >>= λ k. width_at k.1 >>= λ w. Some (ground_type k.0 w.0, w.1) in
     let k = bound (kind_at ts) (λ k. width_at k.1 >>= λ w. Some (ground_type k.0 w.0, w.1)) (ty, rest) (sym (not_chosen (word_at (codes "Clock") ts) go other e) ∙ h) in
     let w = bound (width_at k.0.1) (λ w. Some (ground_type k.0.0 w.0, w.1)) (ty, rest) k.2 in
-    subst (λ (p : GroundType × List Tok). SpellsType p.0 ts p.1) (some_same (ground_type k.0.0 w.0.0, w.0.1) (ty, rest) w.2)
+    subst (λ (p : GroundType × List Tok). SpellsType p.0 ts p.1) (same_Some (ground_type k.0.0 w.0.0, w.0.1) (ty, rest) w.2)
     (wide k.0.0 w.0.0 ts k.0.1 w.0.1 (kind-spells ts k.0.1 k.0.0 k.1) (width-spells k.0.1 w.0.1 w.0.0 w.1))
 
 pub type-spells : (ts rest : List Tok) (ty : GroundType) → type_at ts ≡ Some (ty, rest) → SpellsType ty ts rest
@@ -133,7 +134,7 @@ record AreSigned (radix : Radix) (bytes : List ℕ) (d : Digits) : Type 0 where
 
 checked_by : (radix : Radix) (negative : Bool) (bs : List ℕ) (d : Digits) (b : Bool) → are_digits radix bs ≡ b → (if b then Some (record { radix = radix; negative = negative; digits = bs }) else None) ≡ Some d → (d.radix ≡ radix) × (d.negative ≡ negative) × (d.digits ≡ bs) × IsTrue (are_digits radix d.digits)
 checked_by radix negative bs d true e h =
-    let same = some_same (record { radix = radix; negative = negative; digits = bs }) d h in (
+    let same = same_Some (record { radix = radix; negative = negative; digits = bs }) d h in (
       sym (ap (λ (x : Digits). x.radix) same),
       sym (ap (λ (x : Digits). x.negative) same),
       sym (ap (λ (x : Digits). x.digits) same),
@@ -169,9 +170,9 @@ radix_byte b bs radix d e s =
   where
     with_radix : (x y z : Bool) → (b == 98) ≡ x → (b == 111) ≡ y → (b == 104) ≡ z
         → (if x then Some Binary else (if y then Some Octal else (if z then Some Hexadecimal else None))) ≡ Some radix → Text (b ∷ bs) ≡ number_token radix (signed d.negative d.digits)
-    with_radix true y z p q r f = let at : b ≡ 98 = grind arith in ap (λ n. Text (n ∷ bs)) at ∙ ap (λ l. Text (98 ∷ l)) s.spelt ∙ ap (λ k. number_token k (signed d.negative d.digits)) (some_same Binary radix f)
-    with_radix false true z p q r f = let at : b ≡ 111 = grind arith in ap (λ n. Text (n ∷ bs)) at ∙ ap (λ l. Text (111 ∷ l)) s.spelt ∙ ap (λ k. number_token k (signed d.negative d.digits)) (some_same Octal radix f)
-    with_radix false false true p q r f = let at : b ≡ 104 = grind arith in ap (λ n. Text (n ∷ bs)) at ∙ ap (λ l. Text (104 ∷ l)) s.spelt ∙ ap (λ k. number_token k (signed d.negative d.digits)) (some_same Hexadecimal radix f)
+    with_radix true y z p q r f = let at : b ≡ 98 = grind arith in ap (λ n. Text (n ∷ bs)) at ∙ ap (λ l. Text (98 ∷ l)) s.spelt ∙ ap (λ k. number_token k (signed d.negative d.digits)) (same_Some Binary radix f)
+    with_radix false true z p q r f = let at : b ≡ 111 = grind arith in ap (λ n. Text (n ∷ bs)) at ∙ ap (λ l. Text (111 ∷ l)) s.spelt ∙ ap (λ k. number_token k (signed d.negative d.digits)) (same_Some Octal radix f)
+    with_radix false false true p q r f = let at : b ≡ 104 = grind arith in ap (λ n. Text (n ∷ bs)) at ∙ ap (λ l. Text (104 ∷ l)) s.spelt ∙ ap (λ k. number_token k (signed d.negative d.digits)) (same_Some Hexadecimal radix f)
     with_radix false false false p q r f = absurd (cc)
 
 digits-spells : (ts rest : List Tok) (d : Digits) → digits_at ts ≡ Some (d, rest) → (t : Tok) × SpellsDigits d t × (ts ≡ t ∷ rest)
@@ -180,13 +181,13 @@ digits-spells (Word w ∷ ts) rest d h = absurd (cc)
 digits-spells (Symbol m ∷ ts) rest d h = absurd (cc)
 digits-spells (Number w ∷ ts) rest d h =
     let n = bound (signed_digits Decimal w) (λ d. Some (d, ts)) (d, rest) h in
-    let same = some_same (n.0, ts) (d, rest) n.2 in
+    let same = same_Some (n.0, ts) (d, rest) n.2 in
     (Number w, in_number w d (subst (λ (p : Digits × List Tok). AreSigned Decimal w p.0) same (signed-spells Decimal w n.0 n.1)), ap (λ (p : Digits × List Tok). Number w ∷ p.1) same)
 digits-spells (Text [] ∷ ts) rest d h = absurd (cc)
 digits-spells (Text (b ∷ bs) ∷ ts) rest d h =
     let n = bound (text_digits (b ∷ bs)) (λ d. Some (d, ts)) (d, rest) h in
     let r = bound (radix_of b) (λ radix. signed_digits radix bs) n.0 n.1 in
-    let same = some_same (n.0, ts) (d, rest) n.2 in
+    let same = same_Some (n.0, ts) (d, rest) n.2 in
     (Text (b ∷ bs), subst (λ (p : Digits × List Tok). SpellsDigits p.0 (Text (b ∷ bs))) same (radix_byte b bs r.0 n.0 r.1 (signed-spells r.0 bs n.0 r.2)), ap (λ (p : Digits × List Tok). Text (b ∷ bs) ∷ p.1) same)
 
 literal-spells : (ts rest : List Tok) (l : Literal) → literal_at ts ≡ Some (l, rest) → SpellsLiteral l ts rest
@@ -200,7 +201,7 @@ literal-spells ts rest l h =
     let number = digits-spells o.0 d.0.1 d.0.0 d.1 in
     let inner : o.0 ≡ number_token d.0.0.radix (signed d.0.0.negative d.0.0.digits) ∷ (Symbol CloseParen ∷ c.0) =
     number.2 ∙ ap (λ t. t ∷ d.0.1) number.1.spelt ∙ ap (λ l. number_token d.0.0.radix (signed d.0.0.negative d.0.0.digits) ∷ l) (symbol_at-spells CloseParen d.0.1 c.0 c.1) in
-    subst (λ (p : Literal × List Tok). SpellsLiteral p.0 ts p.1) (some_same (literal_of k.0.0 w.0.0 d.0.0, c.0) (l, rest) c.2) (
+    subst (λ (p : Literal × List Tok). SpellsLiteral p.0 ts p.1) (same_Some (literal_of k.0.0 w.0.0 d.0.0, c.0) (l, rest) c.2) (
       width.digits,
       width.natural,
       number.1.digits,
@@ -220,7 +221,7 @@ one_parameter-spells ts rest n h =
     let number = bound (natural_at comma.0) (λ n. symbol_at CloseParen n.1 >>= λ u. Some (n.0, u)) (n, rest) comma.2 in
     let close = bound (symbol_at CloseParen number.0.1) (λ u. Some (number.0.0, u)) (n, rest) number.2 in
     let digits = natural_at-spells comma.0 number.0.0 number.0.1 number.1 in
-    let same = some_same (number.0.0, close.0) (n, rest) close.2 in
+    let same = same_Some (number.0.0, close.0) (n, rest) close.2 in
     record {
       digits = digits.0;
       natural = subst (λ (p : ℕ × List Tok). IsNatural digits.0 p.0) same digits.1;
@@ -238,7 +239,7 @@ two_parameters-spells ts rest n m h =
     let x = natural_at-spells comma.0 high.0.0 high.0.1 high.1 in
     let y = natural_at-spells again.0 low.0.0 low.0.1 low.1 in
     let inner : again.0 ≡ Number y.0 ∷ (Symbol CloseParen ∷ close.0) = y.2 ∙ ap (λ l. Number y.0 ∷ l) (symbol_at-spells CloseParen low.0.1 close.0 close.1) in
-    subst (λ (p : (ℕ × ℕ) × List Tok). SpellsParameters Bits p.0.0 p.0.1 ts p.1) (some_same ((high.0.0, low.0.0), close.0) ((n, m), rest) close.2)
+    subst (λ (p : (ℕ × ℕ) × List Tok). SpellsParameters Bits p.0.0 p.0.1 ts p.1) (same_Some ((high.0.0, low.0.0), close.0) ((n, m), rest) close.2)
     (x.0, y.0, x.1, y.1, symbol_at-spells Comma ts comma.0 comma.1 ∙ ap (λ l. Symbol Comma ∷ l) (x.2 ∙ ap (λ l. Number x.0 ∷ l) (symbol_at-spells Comma high.0.1 again.0 again.1 ∙ ap (λ l. Symbol Comma ∷ l) inner)))
 
 -- one parameter, and no second: 0 in its place
@@ -252,7 +253,7 @@ alone n = Some ((n.0, 0), n.1)
 one_only : (ts rest : List Tok) (n m : ℕ) → (one_parameter_at ts >>= alone) ≡ Some ((n, m), rest) → OneParameter ts rest n m
 one_only ts rest n m h =
     let p = bound (one_parameter_at ts) alone ((n, m), rest) h in
-    let same = some_same ((p.0.0, 0), p.0.1) ((n, m), rest) p.2 in
+    let same = same_Some ((p.0.0, 0), p.0.1) ((n, m), rest) p.2 in
     record {
       spelt = subst (λ (q : (ℕ × ℕ) × List Tok). SpellsParameter q.0.0 ts q.1) same (one_parameter-spells ts p.0.1 p.0.0 p.1);
       none = sym (ap (λ (q : (ℕ × ℕ) × List Tok). q.0.1) same);
@@ -288,7 +289,7 @@ module _ (sub : List Tok → Option (Term × List Tok)) (sound : IsSound sub) wh
   unary-spells o t rest e h =
       let a = bound (sub t) (λ a. symbol_at CloseParen a.1 >>= λ t. Some (UnaryTerm o a.0, t)) (e, rest) h in
       let u = bound (symbol_at CloseParen a.0.1) (λ t. Some (UnaryTerm o a.0.0, t)) (e, rest) a.2 in
-      subst (λ (p : Term × List Tok). SpellsExpr p.0 (Word (text1 o) ∷ (Symbol OpenParen ∷ t)) p.1) (some_same (UnaryTerm o a.0.0, u.0) (e, rest) u.2)
+      subst (λ (p : Term × List Tok). SpellsExpr p.0 (Word (text1 o) ∷ (Symbol OpenParen ∷ t)) p.1) (same_Some (UnaryTerm o a.0.0, u.0) (e, rest) u.2)
       (t, refl, operand-close t a.0 u.0 a.1 u.1)
 
   binary-spells : (o : Op2) (t rest : List Tok) (e : Term) → binary_at sub o t ≡ Some (e, rest) → SpellsExpr e (Word (text2 o) ∷ (Symbol OpenParen ∷ t)) rest
@@ -297,14 +298,14 @@ module _ (sub : List Tok → Option (Term × List Tok)) (sound : IsSound sub) wh
       let u = bound (symbol_at Comma a.0.1) (λ t. sub t >>= λ b. symbol_at CloseParen b.1 >>= λ u. Some (BinaryTerm o a.0.0 b.0, u)) (e, rest) a.2 in
       let b = bound (sub u.0) (λ b. symbol_at CloseParen b.1 >>= λ u. Some (BinaryTerm o a.0.0 b.0, u)) (e, rest) u.2 in
       let v = bound (symbol_at CloseParen b.0.1) (λ u. Some (BinaryTerm o a.0.0 b.0.0, u)) (e, rest) b.2 in
-      subst (λ (p : Term × List Tok). SpellsExpr p.0 (Word (text2 o) ∷ (Symbol OpenParen ∷ t)) p.1) (some_same (BinaryTerm o a.0.0 b.0.0, v.0) (e, rest) v.2)
+      subst (λ (p : Term × List Tok). SpellsExpr p.0 (Word (text2 o) ∷ (Symbol OpenParen ∷ t)) p.1) (same_Some (BinaryTerm o a.0.0 b.0.0, v.0) (e, rest) v.2)
       (t, u.0, refl, operand-comma t a.0 u.0 a.1 u.1, operand-close u.0 b.0 v.0 b.1 v.1)
 
   fixed-spells : (o : OpN) (t rest : List Tok) (e : Term) → fixed_at sub o t ≡ Some (e, rest) → SpellsExpr e (Word (text_const o) ∷ (Symbol OpenParen ∷ t)) rest
   fixed-spells o t rest e h =
       let a = bound (sub t) (λ a. parameters_at o a.1 >>= λ p. Some (FixedTerm o a.0 p.0.0 p.0.1, p.1)) (e, rest) h in
       let p = bound (parameters_at o a.0.1) (λ p. Some (FixedTerm o a.0.0 p.0.0 p.0.1, p.1)) (e, rest) a.2 in
-      subst (λ (p : Term × List Tok). SpellsExpr p.0 (Word (text_const o) ∷ (Symbol OpenParen ∷ t)) p.1) (some_same (FixedTerm o a.0.0 p.0.0.0 p.0.0.1, p.0.1) (e, rest) p.2)
+      subst (λ (p : Term × List Tok). SpellsExpr p.0 (Word (text_const o) ∷ (Symbol OpenParen ∷ t)) p.1) (same_Some (FixedTerm o a.0.0 p.0.0.0 p.0.0.1, p.0.1) (e, rest) p.2)
       (t, a.0.1, refl, sound t a.0.1 a.0.0 a.1, parameters-spells o a.0.1 p.0.1 p.0.0.0 p.0.0.1 p.1)
 
   mux-spells : (t rest : List Tok) (e : Term) → mux_at sub t ≡ Some (e, rest) → SpellsExpr e (Word (codes "mux") ∷ (Symbol OpenParen ∷ t)) rest
@@ -315,7 +316,7 @@ module _ (sub : List Tok → Option (Term × List Tok)) (sound : IsSound sub) wh
       let v = bound (symbol_at Comma a.0.1) (λ u. sub u >>= λ b. symbol_at CloseParen b.1 >>= λ v. Some (MuxTerm c.0.0 a.0.0 b.0, v)) (e, rest) a.2 in
       let b = bound (sub v.0) (λ b. symbol_at CloseParen b.1 >>= λ v. Some (MuxTerm c.0.0 a.0.0 b.0, v)) (e, rest) v.2 in
       let w = bound (symbol_at CloseParen b.0.1) (λ v. Some (MuxTerm c.0.0 a.0.0 b.0.0, v)) (e, rest) b.2 in
-      subst (λ (p : Term × List Tok). SpellsExpr p.0 (Word (codes "mux") ∷ (Symbol OpenParen ∷ t)) p.1) (some_same (MuxTerm c.0.0 a.0.0 b.0.0, w.0) (e, rest) w.2)
+      subst (λ (p : Term × List Tok). SpellsExpr p.0 (Word (codes "mux") ∷ (Symbol OpenParen ∷ t)) p.1) (same_Some (MuxTerm c.0.0 a.0.0 b.0.0, w.0) (e, rest) w.2)
       (t, u.0, v.0, refl, operand-comma t c.0 u.0 c.1 u.1, operand-comma u.0 a.0 v.0 a.1 v.1, operand-close v.0 b.0 w.0 b.1 w.1)
 
   operands-spells : (o : Operation) (t rest : List Tok) (e : Term) → operands_at sub o t ≡ Some (e, rest) → SpellsExpr e (Word (operation_text o) ∷ (Symbol OpenParen ∷ t)) rest
@@ -333,7 +334,7 @@ module _ (sub : List Tok → Option (Term × List Tok)) (sound : IsSound sub) wh
       let o = bound (operation_at (Word w ∷ ts)) (λ o. symbol_at OpenParen o.1 >>= λ t. operands_at sub o.0 t) (e, rest) h in
       let named = bound (operation_of w) (λ k. Some (k, ts)) o.0 o.1 in
       let open_ = bound (symbol_at OpenParen o.0.1) (λ t. operands_at sub o.0.0 t) (e, rest) o.2 in
-      let same = some_same (named.0, ts) o.0 named.2 in
+      let same = same_Some (named.0, ts) o.0 named.2 in
       let word : w ≡ operation_text o.0.0 = operation_of-spells w named.0 named.1 ∙ ap (λ (p : Operation × List Tok). operation_text p.0) same in
       let tail : ts ≡ Symbol OpenParen ∷ open_.0 = ap (λ (p : Operation × List Tok). p.1) same ∙ symbol_at-spells OpenParen o.0.1 open_.0 open_.1 in
       let tokens : Word (operation_text o.0.0) ∷ (Symbol OpenParen ∷ open_.0) ≡ Word w ∷ ts = sym (ap (λ x. Word x ∷ ts) word ∙ ap (λ l. Word (operation_text o.0.0) ∷ l) tail) in
@@ -343,10 +344,10 @@ module _ (sub : List Tok → Option (Term × List Tok)) (sound : IsSound sub) wh
   form_by ts rest e true y h = call-spells ts rest e h
   form_by ts rest e false true h =
       let l = bound (literal_at ts) literal_term (e, rest) h in
-      subst (λ (p : Term × List Tok). SpellsExpr p.0 ts p.1) (some_same (ConstantTerm l.0.0, l.0.1) (e, rest) l.2) (literal-spells ts l.0.1 l.0.0 l.1)
+      subst (λ (p : Term × List Tok). SpellsExpr p.0 ts p.1) (same_Some (ConstantTerm l.0.0, l.0.1) (e, rest) l.2) (literal-spells ts l.0.1 l.0.0 l.1)
   form_by ts rest e false false h =
       let r = bound (reference_at ts) reference_term (e, rest) h in
-      subst (λ (p : Term × List Tok). SpellsExpr p.0 ts p.1) (some_same (NamedTerm r.0.0, r.0.1) (e, rest) r.2) (reference-spells ts r.0.1 r.0.0 r.1)
+      subst (λ (p : Term × List Tok). SpellsExpr p.0 ts p.1) (same_Some (NamedTerm r.0.0, r.0.1) (e, rest) r.2) (reference-spells ts r.0.1 r.0.0 r.1)
 
 -- an expression that is read is spelt so
 pub expr-spells : (n : ℕ) → IsSound (expr_at n)

@@ -2,6 +2,7 @@
 use Rattle.std.proofs.Common.{◌≡◌, ℕ, List, [], ◌∷◌, ◌++◌, Bool, true, false, Option, None, Some, refl, sym, ap, ◌∙◌, subst, append_assoc}
 use Rattle.std.proofs.lemmas.List.{append-nil}
 use Rattle.std.specs.Prelude.{if◌then◌else◌, codes}
+use Rattle.std.proofs.lemmas.Option.{same_Some}
 use Rattle.gg_lex.specs.declared.token.Tok.{Tok}
 use Rattle.gg_lex.specs.declared.token.Tok.TheVariants.{Word, Number, Text, Symbol}
 use Rattle.gg_lex.specs.declared.token.Symbol.TheVariants.{Arrow}
@@ -16,7 +17,7 @@ use Rattle.gg_row.specs.declared.words.FieldWord.TheVariants as field_word
 use Rattle.gg_row.specs.Words.{read_under_write_text, field_text}
 use Rattle.gg_row.specs.Forms.{IsNatural, SpellsType, SpellsMoreNames, SpellsNames, SpellsField}
 use Rattle.gg_row.specs.Reading.{◌>>=◌, choose, word_at, natural_at, end_at, type_at, more_names_at, names_at, last_type_at, last_natural_at, read_under_write_at, last_read_under_write_at, field_at}
-use Rattle.gg_row.proofs.Leaves.{bound, ended, goes_on, chosen, not_chosen, some_same, word_at-spells, natural_at-spells, natural_at-here, true_is, is_true}
+use Rattle.gg_row.proofs.Leaves.{bound, ended, goes_on, chosen, not_chosen, word_at-spells, natural_at-spells, natural_at-here, true_is, is_true}
 use Rattle.gg_row.proofs.ExpressionsSpelt.{type-spells}
 use Rattle.gg_row.proofs.Expressions.{type-read}
 
@@ -50,7 +51,7 @@ more_names-by w before all ts true e ih h =
 more_names-by w before all ts false e ih h = absurd (cc)
 
 more_names-spells : (ts : List Tok) (before all : List (List ℕ)) → more_names_at before ts ≡ Some all → SpellsBehind before all ts
-more_names-spells [] before all h = record { more = []; whole = sym (some_same before all h) ∙ sym (append-nil before); spelt = refl }
+more_names-spells [] before all h = record { more = []; whole = sym (same_Some before all h) ∙ sym (append-nil before); spelt = refl }
 more_names-spells (Word w ∷ ts) before all h = more_names-by w before all ts (is_name w) refl (more_names-spells ts (before ++ w ∷ []) all) h
 more_names-spells (Number w ∷ ts) before all h = absurd (cc)
 more_names-spells (Text w ∷ ts) before all h = absurd (cc)
@@ -81,15 +82,15 @@ new_at ts = choose (word_at (codes "new") ts) new_word (word_at (codes "undefine
 
 new-by : (ts rest : List Tok) (w : ReadUnderWrite) (o : Option (List Tok)) → word_at (codes "new") ts ≡ o → new_at ts ≡ Some (w, rest) → ts ≡ Word (read_under_write_text w) ∷ rest
 new-by ts rest w (Some t) e h =
-    let same = some_same (under_write.New, t) (w, rest) (sym (chosen (word_at (codes "new") ts) new_word (word_at (codes "undefined") ts >>= undefined_word) t e) ∙ h) in
+    let same = same_Some (under_write.New, t) (w, rest) (sym (chosen (word_at (codes "new") ts) new_word (word_at (codes "undefined") ts >>= undefined_word) t e) ∙ h) in
     word_at-spells (codes "new") ts t e ∙ ap (λ (p : ReadUnderWrite × List Tok). Word (read_under_write_text p.0) ∷ p.1) same
 new-by ts rest w None e h =
     let u = bound (word_at (codes "undefined") ts) undefined_word (w, rest) (sym (not_chosen (word_at (codes "new") ts) new_word (word_at (codes "undefined") ts >>= undefined_word) e) ∙ h) in
-    word_at-spells (codes "undefined") ts u.0 u.1 ∙ ap (λ (p : ReadUnderWrite × List Tok). Word (read_under_write_text p.0) ∷ p.1) (some_same (under_write.Undefined, u.0) (w, rest) u.2)
+    word_at-spells (codes "undefined") ts u.0 u.1 ∙ ap (λ (p : ReadUnderWrite × List Tok). Word (read_under_write_text p.0) ∷ p.1) (same_Some (under_write.Undefined, u.0) (w, rest) u.2)
 
 read_under_write-by : (ts rest : List Tok) (w : ReadUnderWrite) (o : Option (List Tok)) → word_at (codes "old") ts ≡ o → read_under_write_at ts ≡ Some (w, rest) → ts ≡ Word (read_under_write_text w) ∷ rest
 read_under_write-by ts rest w (Some t) e h =
-    let same = some_same (under_write.Old, t) (w, rest) (sym (chosen (word_at (codes "old") ts) old_word (new_at ts) t e) ∙ h) in
+    let same = same_Some (under_write.Old, t) (w, rest) (sym (chosen (word_at (codes "old") ts) old_word (new_at ts) t e) ∙ h) in
     word_at-spells (codes "old") ts t e ∙ ap (λ (p : ReadUnderWrite × List Tok). Word (read_under_write_text p.0) ∷ p.1) same
 read_under_write-by ts rest w None e h = new-by ts rest w (word_at (codes "new") ts) refl (sym (not_chosen (word_at (codes "old") ts) old_word (new_at ts) e) ∙ h)
 
@@ -105,28 +106,28 @@ last_read_under_write-spells ts w h =
 pub field-spells : (word : FieldWord) (t ts : List Tok) (f : MemoryField) → ts ≡ Word (field_text word) ∷ (Symbol Arrow ∷ t) → field_at word t ≡ Some f → SpellsField f ts
 field-spells field_word.DataType t ts f is h =
     let x = bound (last_type_at t) (λ ty. Some (field.DataType ty)) f h in
-    subst (λ (g : MemoryField). SpellsField g ts) (some_same (field.DataType x.0) f x.2) (t, is, last_type-spells t x.0 x.1)
+    subst (λ (g : MemoryField). SpellsField g ts) (same_Some (field.DataType x.0) f x.2) (t, is, last_type-spells t x.0 x.1)
 field-spells field_word.Depth t ts f is h =
     let x = bound (last_natural_at t) (λ n. Some (field.Depth n)) f h in
     let d = last_natural-spells t x.0 x.1 in
-    subst (λ (g : MemoryField). SpellsField g ts) (some_same (field.Depth x.0) f x.2) (d.0, d.1, is ∙ ap (λ l. Word (codes "depth") ∷ (Symbol Arrow ∷ l)) d.2)
+    subst (λ (g : MemoryField). SpellsField g ts) (same_Some (field.Depth x.0) f x.2) (d.0, d.1, is ∙ ap (λ l. Word (codes "depth") ∷ (Symbol Arrow ∷ l)) d.2)
 field-spells field_word.ReadLatency t ts f is h =
     let x = bound (last_natural_at t) (λ n. Some (field.ReadLatency n)) f h in
     let d = last_natural-spells t x.0 x.1 in
-    subst (λ (g : MemoryField). SpellsField g ts) (some_same (field.ReadLatency x.0) f x.2) (d.0, d.1, is ∙ ap (λ l. Word (codes "read-latency") ∷ (Symbol Arrow ∷ l)) d.2)
+    subst (λ (g : MemoryField). SpellsField g ts) (same_Some (field.ReadLatency x.0) f x.2) (d.0, d.1, is ∙ ap (λ l. Word (codes "read-latency") ∷ (Symbol Arrow ∷ l)) d.2)
 field-spells field_word.WriteLatency t ts f is h =
     let x = bound (last_natural_at t) (λ n. Some (field.WriteLatency n)) f h in
     let d = last_natural-spells t x.0 x.1 in
-    subst (λ (g : MemoryField). SpellsField g ts) (some_same (field.WriteLatency x.0) f x.2) (d.0, d.1, is ∙ ap (λ l. Word (codes "write-latency") ∷ (Symbol Arrow ∷ l)) d.2)
+    subst (λ (g : MemoryField). SpellsField g ts) (same_Some (field.WriteLatency x.0) f x.2) (d.0, d.1, is ∙ ap (λ l. Word (codes "write-latency") ∷ (Symbol Arrow ∷ l)) d.2)
 field-spells field_word.Reader t ts f is h =
     let x = bound (names_at t) (λ n. Some (field.Readers n)) f h in
-    subst (λ (g : MemoryField). SpellsField g ts) (some_same (field.Readers x.0) f x.2) (t, is, names-spells t x.0 x.1)
+    subst (λ (g : MemoryField). SpellsField g ts) (same_Some (field.Readers x.0) f x.2) (t, is, names-spells t x.0 x.1)
 field-spells field_word.Writer t ts f is h =
     let x = bound (names_at t) (λ n. Some (field.Writers n)) f h in
-    subst (λ (g : MemoryField). SpellsField g ts) (some_same (field.Writers x.0) f x.2) (t, is, names-spells t x.0 x.1)
+    subst (λ (g : MemoryField). SpellsField g ts) (same_Some (field.Writers x.0) f x.2) (t, is, names-spells t x.0 x.1)
 field-spells field_word.ReadUnderWrite t ts f is h =
     let x = bound (last_read_under_write_at t) (λ w. Some (field.ReadUnderWrite w)) f h in
-    subst (λ (g : MemoryField). SpellsField g ts) (some_same (field.ReadUnderWrite x.0) f x.2) (is ∙ ap (λ l. Word (codes "read-under-write") ∷ (Symbol Arrow ∷ l)) (last_read_under_write-spells t x.0 x.1))
+    subst (λ (g : MemoryField). SpellsField g ts) (same_Some (field.ReadUnderWrite x.0) f x.2) (is ∙ ap (λ l. Word (codes "read-under-write") ∷ (Symbol Arrow ∷ l)) (last_read_under_write-spells t x.0 x.1))
 
 -- ---- what is spelt so is read
 

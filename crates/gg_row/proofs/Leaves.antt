@@ -4,6 +4,7 @@ use Rattle.std.specs.Prelude.{if◌then◌else◌, codes}
 use Rattle.std.specs.Str.{bytes_eq}
 use Rattle.std.specs.Str.Parse.{digits_value}
 use Rattle.std.proofs.lemmas.Slice.Eq.{bytes_eq-Decides}
+use Rattle.std.proofs.lemmas.Option.{same_Some}
 use Rattle.gg_lex.specs.declared.token.Tok.{Tok}
 use Rattle.gg_lex.specs.declared.token.Tok.TheVariants.{Word, Number, Text, Symbol}
 use Rattle.gg_lex.specs.declared.token.Symbol.{Symbol as Mark}
@@ -65,9 +66,6 @@ mark_of-spelling OpenAnnotations = refl
 same_mark : (a b : Mark) → spelling a ≡ spelling b → a ≡ b
 same_mark a b e = sym (mark_of-spelling a) ∙ ap mark_of e ∙ mark_of-spelling b
 
-pub some_same : {A : Type 0} (x y : A) → Some x ≡ Some y → x ≡ y
-some_same x y h = cc
-
 -- if a choice by a test gives something, the test passed
 passed : {A : Type 0} (b : Bool) (x y : A) → (if b then Some x else None) ≡ Some y → (b ≡ true) × (x ≡ y)
 passed true x y h = (refl, cc)
@@ -82,9 +80,6 @@ symbol_at-spells m (Symbol a ∷ ts) t h =
     let p = passed (bytes_eq (spelling a) (spelling m)) ts t h in
     let same : a ≡ m = same_mark a m (equal_bytes (spelling a) (spelling m) p.0) in
     ap (λ x. Symbol x ∷ ts) same ∙ ap (λ l. Symbol m ∷ l) p.1
-
-pub symbol_at-here : (m : Mark) (t : List Tok) → symbol_at m (Symbol m ∷ t) ≡ Some t
-symbol_at-here m t = ap (λ b. if b then Some t else None) (same_bytes (spelling m))
 
 pub word_at-spells : (w : List ℕ) (ts t : List Tok) → word_at w ts ≡ Some t → ts ≡ Word w ∷ t
 word_at-spells w [] t h = absurd (cc)
@@ -123,8 +118,8 @@ natural_at-spells (Symbol a ∷ ts) n t h = absurd (cc)
 natural_at-spells (Number v ∷ ts) n t h =
     let b = bound (natural_of v) (λ k. Some (k, ts)) (n, t) h in
     let p = passed (is_natural v) (digits_value 10 v) b.0 b.1 in
-    let number : b.0 ≡ n = ap (λ (q : ℕ × List Tok). q.0) (some_same (b.0, ts) (n, t) b.2) in
-    let rest : ts ≡ t = ap (λ (q : ℕ × List Tok). q.1) (some_same (b.0, ts) (n, t) b.2) in
+    let number : b.0 ≡ n = ap (λ (q : ℕ × List Tok). q.0) (same_Some (b.0, ts) (n, t) b.2) in
+    let rest : ts ≡ t = ap (λ (q : ℕ × List Tok). q.1) (same_Some (b.0, ts) (n, t) b.2) in
     (v, record { decimal = true_is (is_natural v) p.0; value = p.1 ∙ number }, ap (λ l. Number v ∷ l) rest)
 
 pub natural_at-here : (digits : List ℕ) (n : ℕ) (t : List Tok) → IsNatural digits n → natural_at (Number digits ∷ t) ≡ Some (n, t)
@@ -141,9 +136,9 @@ text_at-spells (Word v ∷ ts) x t h = absurd (cc)
 text_at-spells (Number v ∷ ts) x t h = absurd (cc)
 text_at-spells (Symbol a ∷ ts) x t h = absurd (cc)
 text_at-spells (Text v ∷ ts) x t h =
-    let e = some_same (v, ts) (x, t) h in
+    let e = same_Some (v, ts) (x, t) h in
     ap (λ (q : List ℕ × List Tok). Text q.0 ∷ q.1) e
 
 -- a reader that must be at the end of the line found it: no token is left
 pub ended : {A : Type 0} (rest : List Tok) (x y : A) → (end_at rest >>= λ u. Some x) ≡ Some y → (rest ≡ []) × (x ≡ y)
-ended rest x y h = let e = bound (end_at rest) (λ u. Some x) y h in (end_at-spells rest e.0 e.1, some_same x y e.2)
+ended rest x y h = let e = bound (end_at rest) (λ u. Some x) y h in (end_at-spells rest e.0 e.1, same_Some x y e.2)

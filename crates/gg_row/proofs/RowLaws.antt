@@ -13,9 +13,6 @@ use Rattle.gg_row.specs.Reading.{row_at}
 use Rattle.gg_row.proofs.RowsRead.{row-read}
 use Rattle.gg_row.proofs.RowsSpelt.{row-spells}
 
-pub row_at-spelt : (ts : List Tok) (r : Row) → row_at ts ≡ Some r → SpellsRow r ts
-row_at-spelt ts r found = row-spells ts r found
-
 pub spelt-row_at : (ts : List Tok) (r : Row) → SpellsRow r ts → row_at ts ≡ Some r
 spelt-row_at ts r spelt = row-read r ts spelt
 
@@ -24,7 +21,7 @@ row_at-nothing = refl
 
 held : (ts : List Tok) (o : Option Row) → MatchOption o ⊥ (λ row. row_at ts ≡ Some row) → MatchOption o ⊥ (λ row. SpellsRow row ts)
 held ts None found = found
-held ts (Some row) found = row_at-spelt ts row found
+held ts (Some row) found = row-spells ts row found
 
 -- the answer of the reader of rows tells of the row that is spelt
 pub row_told : (ts : List Tok) (result : Result LineRow Miss) → FindsRow result (row_at ts) → TellsRow ts result

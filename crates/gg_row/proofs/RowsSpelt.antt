@@ -1,6 +1,7 @@
 -- A row that is read is spelt so.
 use Rattle.std.proofs.Common.{◌≡◌, ℕ, zero, suc, List, [], ◌∷◌, ◌++◌, length, Bool, true, false, Option, None, Some, refl, sym, ap, ◌∙◌, subst, append_assoc}
 use Rattle.std.specs.Prelude.{if◌then◌else◌, codes}
+use Rattle.std.proofs.lemmas.Option.{same_Some}
 use Rattle.gg_lex.specs.declared.token.Tok.{Tok}
 use Rattle.gg_lex.specs.declared.token.Tok.TheVariants.{Word, Number, Text, Symbol}
 use Rattle.gg_lex.specs.declared.token.Symbol.TheVariants.{Connect, Arrow, Colon, Comma, Dot, OpenParen, CloseParen, Equals}
@@ -18,7 +19,7 @@ use Rattle.gg_row.specs.Words.{direction_text, report_text, field_text, keyword_
 use Rattle.gg_ast.specs.Names.{IsName}
 use Rattle.gg_row.specs.Forms.{SpellsReference, SpellsType, SpellsExpr, SpellsReset, SpellsLabel, SpellsArgument, SpellsArguments, SpellsRegister, SpellsRow}
 use Rattle.gg_row.specs.Reading.{◌>>=◌, choose, symbol_at, word_at, name_at, natural_at, end_at, type_at, reference_at, one_parameter_at, text_at, expression_at, last_expression_at, version_at, header_at, declared_at, last_declared_at, node_at, reset_at, reset_row_at, inline_reset_at, with_at, clocked_at, register_at, instance_at, label_at, stop_at, argument_at, arguments_at, report_at, field_at, field_row_at, body_at, keyword_at, invalid_at, driven_at, connection_at, is_connection, row_at}
-use Rattle.gg_row.proofs.Leaves.{bound, ended, chosen, not_chosen, some_same, symbol_at-spells, word_at-spells, name_at-spells, natural_at-spells, end_at-spells, text_at-spells}
+use Rattle.gg_row.proofs.Leaves.{bound, ended, chosen, not_chosen, symbol_at-spells, word_at-spells, name_at-spells, natural_at-spells, end_at-spells, text_at-spells}
 use Rattle.gg_row.proofs.FieldLaws.{field-spells}
 use Rattle.gg_row.proofs.WordLaws.{keyword_text, keyword_of-spells}
 use Rattle.gg_row.proofs.ExpressionsSpelt.{reference-spells, type-spells, one_parameter-spells, expr-spells}
@@ -50,7 +51,7 @@ driven-spells sink ts rest row None c h e =
 driven-spells sink ts rest row (Some t) c h e =
     let go : List Tok → Option Row = λ t. last_expression_at t >>= λ e. Some (ConnectRow sink e) in
     let x = bound (last_expression_at t) (λ e. Some (ConnectRow sink e)) row (sym (chosen (symbol_at Connect rest) go (invalid_at sink rest) t c) ∙ e) in
-    subst (λ r. SpellsRow r ts) (some_same (ConnectRow sink x.0) row x.2) (t, subst (λ l. SpellsReference sink ts l) (symbol_at-spells Connect rest t c) h, last-spells t x.0 x.1)
+    subst (λ r. SpellsRow r ts) (same_Some (ConnectRow sink x.0) row x.2) (t, subst (λ l. SpellsReference sink ts l) (symbol_at-spells Connect rest t c) h, last-spells t x.0 x.1)
 
 connection-spells : (ts : List Tok) (row : Row) → connection_at ts ≡ Some row → SpellsRow row ts
 connection-spells ts row e =
@@ -72,7 +73,7 @@ declared-spells ts rest name ty h =
     let c = bound (symbol_at Colon n.0.1) (λ t. type_at t >>= λ ty. Some ((n.0.0, ty.0), ty.1)) ((name, ty), rest) n.2 in
     let y = bound (type_at c.0) (λ ty. Some ((n.0.0, ty.0), ty.1)) ((name, ty), rest) c.2 in
     let word = name_at-spells ts n.0.0 n.0.1 n.1 in
-    subst (λ (p : (List ℕ × GroundType) × List Tok). SpellsDeclared p.0.0 p.0.1 ts p.1) (some_same ((n.0.0, y.0.0), y.0.1) ((name, ty), rest) y.2)
+    subst (λ (p : (List ℕ × GroundType) × List Tok). SpellsDeclared p.0.0 p.0.1 ts p.1) (same_Some ((n.0.0, y.0.0), y.0.1) ((name, ty), rest) y.2)
     (record { named = word.0; t = c.0; tokens = word.1 ∙ ap (λ l. Word n.0.0 ∷ l) (symbol_at-spells Colon n.0.1 c.0 c.1); typed = type-spells c.0 y.0.1 y.0.0 y.1 })
 
 last_declared-spells : (ts : List Tok) (d : List ℕ × GroundType) → last_declared_at ts ≡ Some d → SpellsDeclared d.0 d.1 ts []
@@ -112,7 +113,7 @@ node-spells ts row h =
     let q = bound (symbol_at Equals n.0.1) (λ t. last_expression_at t >>= λ e. Some (NodeRow n.0.0 e)) row n.2 in
     let e = bound (last_expression_at q.0) (λ e. Some (NodeRow n.0.0 e)) row q.2 in
     let word = name_at-spells ts n.0.0 n.0.1 n.1 in
-    subst (λ r. SpellsRow r (Word (codes "node") ∷ ts)) (some_same (NodeRow n.0.0 e.0) row e.2)
+    subst (λ r. SpellsRow r (Word (codes "node") ∷ ts)) (same_Some (NodeRow n.0.0 e.0) row e.2)
     (q.0, word.0, ap (λ l. Word (codes "node") ∷ l) (word.1 ∙ ap (λ l. Word n.0.0 ∷ l) (symbol_at-spells Equals n.0.1 q.0 q.1)), last-spells q.0 e.0 e.1)
 
 -- a reset that is read after the word `reset` is spelt so
@@ -124,7 +125,7 @@ reset-spells ts rest c i h =
     let m = bound (symbol_at Comma x.0.1) (λ v. expression_at v >>= λ i. symbol_at CloseParen i.1 >>= λ w. Some ((x.0.0, i.0), w)) ((c, i), rest) x.2 in
     let y = bound (expression_at m.0) (λ i. symbol_at CloseParen i.1 >>= λ w. Some ((x.0.0, i.0), w)) ((c, i), rest) m.2 in
     let z = bound (symbol_at CloseParen y.0.1) (λ w. Some ((x.0.0, y.0.0), w)) ((c, i), rest) y.2 in
-    subst (λ (p : (Term × Term) × List Tok). SpellsReset p.0.0 p.0.1 (Word (codes "reset") ∷ ts) p.1) (some_same ((x.0.0, y.0.0), z.0) ((c, i), rest) z.2) (
+    subst (λ (p : (Term × Term) × List Tok). SpellsReset p.0.0 p.0.1 (Word (codes "reset") ∷ ts) p.1) (same_Some ((x.0.0, y.0.0), z.0) ((c, i), rest) z.2) (
       o.0,
       m.0,
       ap (λ l. Word (codes "reset") ∷ l) (symbol_at-spells Arrow ts a.0 a.1 ∙ ap (λ l. Symbol Arrow ∷ l) (symbol_at-spells OpenParen a.0 o.0 o.1)),
@@ -156,7 +157,7 @@ module _ (name : List ℕ) (ty : GroundType) (clock : Term) (all : List Tok) whe
   with-by ts u t row None x h with_ colon e =
       inline-spells ts u t row h with_ colon (sym (not_chosen (end_at t) (λ v. Some (RegisterOpenRow name ty clock)) (inline_reset_at name ty clock t) x) ∙ e)
   with-by ts u t row (Some v) x h with_ colon e =
-      let same = some_same (RegisterOpenRow name ty clock) row (sym (chosen (end_at t) (λ v. Some (RegisterOpenRow name ty clock)) (inline_reset_at name ty clock t) v x) ∙ e) in
+      let same = same_Some (RegisterOpenRow name ty clock) row (sym (chosen (end_at t) (λ v. Some (RegisterOpenRow name ty clock)) (inline_reset_at name ty clock t) v x) ∙ e) in
       let tail : ts ≡ Word (codes "with") ∷ (Symbol Colon ∷ []) = with_ ∙ ap (λ l. Word (codes "with") ∷ l) (colon ∙ ap (λ l. Symbol Colon ∷ l) (end_at-spells t v x)) in
       subst (λ r. SpellsRow r all) same (subst (λ l. SpellsRegister name ty clock all l) tail h)
 
@@ -169,7 +170,7 @@ module _ (name : List ℕ) (ty : GroundType) (clock : Term) (all : List Tok) whe
   clocked-spells : (ts : List Tok) (row : Row) (o : Option (List Tok)) → end_at ts ≡ o → SpellsRegister name ty clock all ts → clocked_at name ty clock ts ≡ Some row → SpellsRow row all
   clocked-spells ts row None x h e = with-spells ts row h (sym (not_chosen (end_at ts) (λ u. Some (RegisterRow name ty clock)) (with_at name ty clock ts) x) ∙ e)
   clocked-spells ts row (Some v) x h e =
-      let same = some_same (RegisterRow name ty clock) row (sym (chosen (end_at ts) (λ u. Some (RegisterRow name ty clock)) (with_at name ty clock ts) v x) ∙ e) in
+      let same = same_Some (RegisterRow name ty clock) row (sym (chosen (end_at ts) (λ u. Some (RegisterRow name ty clock)) (with_at name ty clock ts) v x) ∙ e) in
       subst (λ r. SpellsRow r all) same (subst (λ l. SpellsRegister name ty clock all l) (end_at-spells ts v x) h)
 
 register-spells : (ts : List Tok) (row : Row) → register_at ts ≡ Some row → SpellsRow row (Word (codes "reg") ∷ ts)
@@ -197,7 +198,7 @@ label-by : (ts : List Tok) (label : Option (List ℕ)) (o : Option (List Tok)) �
 label-by ts label (Some v) x e =
     let other : Option (Option (List ℕ)) = symbol_at Colon ts >>= λ t. name_at t >>= λ n. end_at n.1 >>= λ u. Some (Some n.0) in
     let none : List Tok → Option (Option (List ℕ)) = λ u. Some None in
-    subst (λ l. SpellsLabel l ts) (some_same None label (sym (chosen (end_at ts) none other v x) ∙ e)) (end_at-spells ts v x)
+    subst (λ l. SpellsLabel l ts) (same_Some None label (sym (chosen (end_at ts) none other v x) ∙ e)) (end_at-spells ts v x)
 label-by ts label None x e =
     let other : Option (Option (List ℕ)) = symbol_at Colon ts >>= λ t. name_at t >>= λ n. end_at n.1 >>= λ u. Some (Some n.0) in
     let none : List Tok → Option (Option (List ℕ)) = λ u. Some None in
@@ -219,7 +220,7 @@ stop-spells ts row h =
     let n = bound (one_parameter_at e.0.1) (λ n. label_at n.1 >>= λ l. Some (StopRow c.0.0 e.0.0 n.0 l)) row e.2 in
     let l = bound (label_at n.0.1) (λ l. Some (StopRow c.0.0 e.0.0 n.0.0 l)) row n.2 in
     let p = one_parameter-spells e.0.1 n.0.1 n.0.0 n.1 in
-    subst (λ r. SpellsRow r (Word (codes "stop") ∷ ts)) (some_same (StopRow c.0.0 e.0.0 n.0.0 l.0) row l.2) (
+    subst (λ r. SpellsRow r (Word (codes "stop") ∷ ts)) (same_Some (StopRow c.0.0 e.0.0 n.0.0 l.0) row l.2) (
       o.0,
       m.0,
       p.digits,
@@ -235,12 +236,12 @@ argument-by : (ts rest : List Tok) (a : Argument) (o : Option (List ℕ × List 
 argument-by ts rest a (Some x) t e =
     let text : (List ℕ × List Tok) → Option (Argument × List Tok) = λ t. Some (given.Text t.0, t.1) in
     let other : Option (Argument × List Tok) = expression_at ts >>= λ e. Some (given.Value e.0, e.1) in
-    subst (λ (p : Argument × List Tok). SpellsArgument p.0 ts p.1) (some_same (given.Text x.0, x.1) (a, rest) (sym (chosen (text_at ts) text other x t) ∙ e)) (text_at-spells ts x.0 x.1 t)
+    subst (λ (p : Argument × List Tok). SpellsArgument p.0 ts p.1) (same_Some (given.Text x.0, x.1) (a, rest) (sym (chosen (text_at ts) text other x t) ∙ e)) (text_at-spells ts x.0 x.1 t)
 argument-by ts rest a None t e =
     let text : (List ℕ × List Tok) → Option (Argument × List Tok) = λ t. Some (given.Text t.0, t.1) in
     let other : Option (Argument × List Tok) = expression_at ts >>= λ e. Some (given.Value e.0, e.1) in
     let x = bound (expression_at ts) (λ e. Some (given.Value e.0, e.1)) (a, rest) (sym (not_chosen (text_at ts) text other t) ∙ e) in
-    subst (λ (p : Argument × List Tok). SpellsArgument p.0 ts p.1) (some_same (given.Value x.0.0, x.0.1) (a, rest) x.2) (expression-spells ts x.0.1 x.0.0 x.1)
+    subst (λ (p : Argument × List Tok). SpellsArgument p.0 ts p.1) (same_Some (given.Value x.0.0, x.0.1) (a, rest) x.2) (expression-spells ts x.0.1 x.0.0 x.1)
 
 -- the arguments read so far, and those that are spelt after them
 record SpellsMore (before all : List Argument) (ts rest : List Tok) : Type 0 where
@@ -259,7 +260,7 @@ more-by n before all a ts left rest (Some t) ih c h e =
     record { first = a; more = m.first ∷ m.more; whole = m.whole ∙ append_assoc before (a ∷ []) (m.first ∷ m.more); spelt = (t, subst (λ l. SpellsArgument a ts l) (symbol_at-spells Comma left t c) h, m.spelt) }
 more-by n before all a ts left rest None ih c h e =
     let x = bound (symbol_at CloseParen left) (last_argument (before ++ a ∷ [])) (all, rest) (sym (not_chosen (symbol_at Comma left) (λ t. arguments_at n (before ++ a ∷ []) t) (symbol_at CloseParen left >>= last_argument (before ++ a ∷ [])) c) ∙ e) in
-    let same = some_same (before ++ a ∷ [], x.0) (all, rest) x.2 in
+    let same = same_Some (before ++ a ∷ [], x.0) (all, rest) x.2 in
     subst (λ (p : List Argument × List Tok). SpellsMore before p.0 ts p.1) same (record { first = a; more = []; whole = refl; spelt = subst (λ l. SpellsArgument a ts l) (symbol_at-spells CloseParen left x.0 x.1) h })
 
 arguments-spells : (n : ℕ) (before all : List Argument) (ts rest : List Tok) → arguments_at n before ts ≡ Some (all, rest) → SpellsMore before all ts rest
@@ -274,14 +275,14 @@ report-spells word ts row h =
     let a = bound (arguments_at (length o.0) [] o.0) (λ a. label_at a.1 >>= λ l. Some (ReportRow word a.0 l)) row o.2 in
     let l = bound (label_at a.0.1) (λ l. Some (ReportRow word a.0.0 l)) row a.2 in
     let m = arguments-spells (length o.0) [] a.0.0 o.0 a.0.1 a.1 in
-    subst (λ r. SpellsRow r (Word (report_text word) ∷ ts)) (some_same (ReportRow word a.0.0 l.0) row l.2)
+    subst (λ r. SpellsRow r (Word (report_text word) ∷ ts)) (same_Some (ReportRow word a.0.0 l.0) row l.2)
     (o.0, a.0.1, ap (λ x. Word (report_text word) ∷ x) (symbol_at-spells OpenParen ts o.0 o.1), subst (λ x. SpellsArguments x o.0 a.0.1) (sym m.whole) m.spelt, label-spells a.0.1 l.0 l.1)
 
 field_row-spells : (word : FieldWord) (ts : List Tok) (row : Row) → field_row_at word ts ≡ Some row → SpellsRow row (Word (field_text word) ∷ ts)
 field_row-spells word ts row h =
     let a = bound (symbol_at Arrow ts) (λ t. field_at word t >>= λ f. Some (FieldRow f)) row h in
     let f = bound (field_at word a.0) (λ f. Some (FieldRow f)) row a.2 in
-    subst (λ r. SpellsRow r (Word (field_text word) ∷ ts)) (some_same (FieldRow f.0) row f.2)
+    subst (λ r. SpellsRow r (Word (field_text word) ∷ ts)) (same_Some (FieldRow f.0) row f.2)
     (field-spells word a.0 (Word (field_text word) ∷ ts) f.0 (ap (λ l. Word (field_text word) ∷ l) (symbol_at-spells Arrow ts a.0 a.1)) f.1)
 
 body-spells : (k : Keyword) (ts : List Tok) (row : Row) → body_at k ts ≡ Some row → SpellsRow row (Word (keyword_text k) ∷ ts)
@@ -289,19 +290,19 @@ body-spells keyword.Version ts row h = version-spells ts row h
 body-spells keyword.Circuit ts row h =
     let n = bound (header_at ts) (λ name. Some (CircuitRow name)) row h in
     let x = header-spells ts n.0 n.1 in
-    subst (λ r. SpellsRow r (Word (codes "circuit") ∷ ts)) (some_same (CircuitRow n.0) row n.2) (x.0, ap (λ l. Word (codes "circuit") ∷ l) x.1)
+    subst (λ r. SpellsRow r (Word (codes "circuit") ∷ ts)) (same_Some (CircuitRow n.0) row n.2) (x.0, ap (λ l. Word (codes "circuit") ∷ l) x.1)
 body-spells keyword.Module ts row h =
     let n = bound (header_at ts) (λ name. Some (ModuleRow name)) row h in
     let x = header-spells ts n.0 n.1 in
-    subst (λ r. SpellsRow r (Word (codes "module") ∷ ts)) (some_same (ModuleRow n.0) row n.2) (x.0, ap (λ l. Word (codes "module") ∷ l) x.1)
+    subst (λ r. SpellsRow r (Word (codes "module") ∷ ts)) (same_Some (ModuleRow n.0) row n.2) (x.0, ap (λ l. Word (codes "module") ∷ l) x.1)
 body-spells (keyword.Port direction) ts row h =
     let d = bound (last_declared_at ts) (λ d. Some (PortRow direction d.0 d.1)) row h in
     let x = last_declared-spells ts d.0 d.1 in
-    subst (λ r. SpellsRow r (Word (direction_text direction) ∷ ts)) (some_same (PortRow direction d.0.0 d.0.1) row d.2) (x.t, x.named, ap (λ l. Word (direction_text direction) ∷ l) x.tokens, x.typed)
+    subst (λ r. SpellsRow r (Word (direction_text direction) ∷ ts)) (same_Some (PortRow direction d.0.0 d.0.1) row d.2) (x.t, x.named, ap (λ l. Word (direction_text direction) ∷ l) x.tokens, x.typed)
 body-spells keyword.Wire ts row h =
     let d = bound (last_declared_at ts) (λ d. Some (WireRow d.0 d.1)) row h in
     let x = last_declared-spells ts d.0 d.1 in
-    subst (λ r. SpellsRow r (Word (codes "wire") ∷ ts)) (some_same (WireRow d.0.0 d.0.1) row d.2) (x.t, x.named, ap (λ l. Word (codes "wire") ∷ l) x.tokens, x.typed)
+    subst (λ r. SpellsRow r (Word (codes "wire") ∷ ts)) (same_Some (WireRow d.0.0 d.0.1) row d.2) (x.t, x.named, ap (λ l. Word (codes "wire") ∷ l) x.tokens, x.typed)
 body-spells keyword.Node ts row h = node-spells ts row h
 body-spells keyword.Register ts row h = register-spells ts row h
 body-spells keyword.Reset ts row h = reset_row-spells ts row h
@@ -309,7 +310,7 @@ body-spells keyword.Instance ts row h = instance-spells ts row h
 body-spells keyword.Memory ts row h =
     let n = bound (header_at ts) (λ name. Some (MemoryRow name)) row h in
     let x = header-spells ts n.0 n.1 in
-    subst (λ r. SpellsRow r (Word (codes "mem") ∷ ts)) (some_same (MemoryRow n.0) row n.2) (x.0, ap (λ l. Word (codes "mem") ∷ l) x.1)
+    subst (λ r. SpellsRow r (Word (codes "mem") ∷ ts)) (same_Some (MemoryRow n.0) row n.2) (x.0, ap (λ l. Word (codes "mem") ∷ l) x.1)
 body-spells (keyword.Field word) ts row h = field_row-spells word ts row h
 body-spells keyword.Skip ts row h =
     let stop = ended ts SkipRow row h in
@@ -325,7 +326,7 @@ keyword-spells (Symbol m ∷ ts) row h = absurd (cc)
 keyword-spells (Word w ∷ ts) row h =
     let k = bound (keyword_at (Word w ∷ ts)) (λ k. body_at k.0 k.1) row h in
     let n = bound (keyword_of w) (λ k. Some (k, ts)) k.0 k.1 in
-    let same = some_same (n.0, ts) k.0 n.2 in
+    let same = same_Some (n.0, ts) k.0 n.2 in
     let tokens : Word (keyword_text k.0.0) ∷ k.0.1 ≡ Word w ∷ ts =
     sym (ap (λ x. Word x ∷ ts) (keyword_of-spells w n.0 n.1) ∙ ap (λ (p : Keyword × List Tok). Word (keyword_text p.0) ∷ p.1) same) in
     subst (λ l. SpellsRow row l) tokens (body-spells k.0.0 k.0.1 row k.2)

@@ -3,6 +3,7 @@ use Rattle.std.proofs.Common.{◌≡◌, ℕ, List, [], ◌∷◌, Bool, true, f
 use Rattle.std.specs.Prelude.{if◌then◌else◌, codes, option_map}
 use Rattle.std.specs.Option.{option_or}
 use Rattle.std.specs.Str.{bytes_eq}
+use Rattle.std.proofs.lemmas.Option.{same_Some}
 use Rattle.gg_bits.specs.declared.ops.Op1.TheVariants as one
 use Rattle.gg_bits.specs.declared.ops.Op2.TheVariants as two
 use Rattle.gg_bits.specs.declared.ops.OpN.TheVariants as fix
@@ -15,7 +16,7 @@ use Rattle.gg_row.specs.declared.words.Keyword.{Keyword}
 use Rattle.gg_row.specs.declared.words.Keyword.TheVariants as keyword
 use Rattle.gg_bits.specs.Spelling.{text1, text2, text_const, written_as, all1, all2, all_const, named1, named2, named_const}
 use Rattle.gg_row.specs.Words.{direction_text, report_text, field_text, find_word, operation_of, head_words, tail_words, field_words, keyword_of}
-use Rattle.gg_row.proofs.Leaves.{equal_bytes, some_same}
+use Rattle.gg_row.proofs.Leaves.{equal_bytes}
 
 -- in each entry of the table, the word is the spelling of the value
 abbrev IsSpelt : {A : Type 0} → (A → List ℕ) → List (List ℕ × A) → Type 0
@@ -23,7 +24,7 @@ IsSpelt text [] = Unit {0}
 IsSpelt text (entry ∷ table) = (entry.0 ≡ text entry.1) × IsSpelt text table
 
 by_test : {A : Type 0} (text : A → List ℕ) (word : List ℕ) (entry : List ℕ × A) (rest : Option A) (x : A) (b : Bool) → bytes_eq word entry.0 ≡ b → entry.0 ≡ text entry.1 → (rest ≡ Some x → word ≡ text x) → (if b then Some entry.1 else rest) ≡ Some x → word ≡ text x
-by_test text word entry rest x true e spelt more h = equal_bytes word entry.0 e ∙ spelt ∙ ap text (some_same entry.1 x h)
+by_test text word entry rest x true e spelt more h = equal_bytes word entry.0 e ∙ spelt ∙ ap text (same_Some entry.1 x h)
 by_test text word entry rest x false e spelt more h = more h
 
 find_word-spells : {A : Type 0} (text : A → List ℕ) (word : List ℕ) (table : List (List ℕ × A)) (x : A) → IsSpelt text table → find_word word table ≡ Some x → word ≡ text x
@@ -37,7 +38,7 @@ first_or (Some y) b x h = inl h
 
 mapped : {A B : Type 0} (f : A → B) (o : Option A) (x : B) → option_map f o ≡ Some x → (y : A) × (o ≡ Some y) × (f y ≡ x)
 mapped f None x h = absurd (cc)
-mapped f (Some y) x h = (y, refl, some_same (f y) x h)
+mapped f (Some y) x h = (y, refl, same_Some (f y) x h)
 
 -- the word of an operation
 abbrev pub operation_text : Operation → List ℕ
@@ -58,7 +59,7 @@ from_all wrap text word ops o same h =
     written text word ops m.0 m.1 ∙ same m.0 ∙ ap operation_text m.2
 
 is_mux : (word : List ℕ) (o : Operation) (b : Bool) → bytes_eq word (codes "mux") ≡ b → (if b then Some Mux else None) ≡ Some o → word ≡ operation_text o
-is_mux word o true e h = equal_bytes word (codes "mux") e ∙ ap operation_text (some_same Mux o h)
+is_mux word o true e h = equal_bytes word (codes "mux") e ∙ ap operation_text (same_Some Mux o h)
 is_mux word o false e h = absurd (cc)
 
 pub operation_of-spells : (word : List ℕ) (o : Operation) → operation_of word ≡ Some o → word ≡ operation_text o

@@ -1,6 +1,6 @@
 -- Memories worked by hand from the grammar (FIRRTL Specification, "Memories"): which row the tokens of a memory's line
 -- and of each field spell, and near misses.
-use Rattle.std.proofs.Common.{◌≡◌, ℕ, List, [], ◌∷◌, None, Some, codes, refl}
+use Rattle.std.proofs.Common.{ℕ, List, [], ◌∷◌, codes, refl}
 use Rattle.gg_lex.specs.declared.token.Tok.{Tok}
 use Rattle.gg_lex.specs.declared.token.Tok.TheVariants.{Word, Number, Symbol}
 use Rattle.gg_lex.specs.declared.token.Symbol.TheVariants.{Connect, Arrow, Colon, Comma, Dot, Less, Greater, Equals}
@@ -10,21 +10,7 @@ use Rattle.gg_ast.specs.declared.statement.MemoryField.TheVariants as field
 use Rattle.gg_ast.specs.declared.statement.ReadUnderWrite.TheVariants.{Old, New, Undefined}
 use Rattle.gg_ast.specs.Row.{Row, MemoryRow, FieldRow, ConnectRow}
 use Rattle.gg_ast.specs.Term.{NamedTerm}
-use Rattle.gg_row.specs.Forms.{SpellsRow}
-use Rattle.gg_row.specs.Reading.{row_at}
-use Rattle.gg_row.proofs.RowLaws.{row_at-spelt, spelt-row_at}
-
--- a line with these tokens is this row
-record IsRow (row : Row) (ts : List Tok) : Type 0 where
-  pub spelt : SpellsRow row ts
-
-read : {row : Row} {ts : List Tok} → row_at ts ≡ Some row → IsRow row ts
-read {row} {ts} found = record { spelt = row_at-spelt ts row found }
-
-none : {row : Row} {ts : List Tok} → row_at ts ≡ None → IsRow row ts → ⊥
-none {row} {ts} nothing is =
-    let found = spelt-row_at ts row is.spelt in
-    cc
+use Rattle.gg_row.proofs.WorkedRows.{IsRow, read, none}
 
 -- a field's line: its word, `=>`, and these tokens
 abbrev line : List ℕ → List Tok → List Tok

@@ -2,6 +2,7 @@
 -- "Primitive Operations"). Each operation, keyword and form has one, with a different operand in each place, so that the row
 -- would change if words or operands changed places.
 use Rattle.std.proofs.Common.{◌≡◌, ℕ, Bool, true, false, List, [], ◌∷◌, None, Some, codes, refl, sym, ◌∙◌}
+use Rattle.std.proofs.lemmas.Option.{same_Some}
 use Rattle.gg_bits.specs.declared.types.Kind.{Kind}
 use Rattle.gg_bits.specs.declared.types.Kind.TheVariants.{UInt, SInt}
 use Rattle.gg_bits.specs.declared.ops.Op1.TheVariants as one
@@ -23,21 +24,21 @@ use Rattle.gg_ast.specs.declared.statement.Argument.{Argument}
 use Rattle.gg_ast.specs.declared.statement.Argument.TheVariants as given
 use Rattle.gg_row.specs.Forms.{SpellsRow}
 use Rattle.gg_row.specs.Reading.{row_at}
-use Rattle.gg_row.proofs.Leaves.{some_same}
-use Rattle.gg_row.proofs.RowLaws.{row_at-spelt, spelt-row_at}
+use Rattle.gg_row.proofs.RowLaws.{spelt-row_at}
+use Rattle.gg_row.proofs.RowsSpelt.{row-spells}
 
 -- a line with these tokens is this row
-record IsRow (row : Row) (ts : List Tok) : Type 0 where
+pub record IsRow (row : Row) (ts : List Tok) : Type 0 where
   pub spelt : SpellsRow row ts
 
 -- from the reader of rows, which finds exactly the row that is spelt
-read : {row : Row} {ts : List Tok} → row_at ts ≡ Some row → IsRow row ts
-read {row} {ts} found = record { spelt = row_at-spelt ts row found }
+pub read : {row : Row} {ts : List Tok} → row_at ts ≡ Some row → IsRow row ts
+read {row} {ts} found = record { spelt = row-spells ts row found }
 
 sole : {row other : Row} {ts : List Tok} → row_at ts ≡ Some row → IsRow other ts → row ≡ other
-sole {row} {other} {ts} found is = some_same row other (sym found ∙ spelt-row_at ts other is.spelt)
+sole {row} {other} {ts} found is = same_Some row other (sym found ∙ spelt-row_at ts other is.spelt)
 
-none : {row : Row} {ts : List Tok} → row_at ts ≡ None → IsRow row ts → ⊥
+pub none : {row : Row} {ts : List Tok} → row_at ts ≡ None → IsRow row ts → ⊥
 none {row} {ts} nothing is =
     let found = spelt-row_at ts row is.spelt in
     cc

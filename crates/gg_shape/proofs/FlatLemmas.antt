@@ -1,7 +1,7 @@
 -- Faults one after another: of two checks, along a list, and of each element of a list.
-use Rattle.std.proofs.Common.{◌≡◌, ℕ, ◌+◌, ◌<◌, ◌≤◌, List, [], ◌++◌, length, get_or, take, drop, Result, refl, sym, ap, subst, ◌∙◌}
+use Rattle.std.proofs.Common.{◌≡◌, ℕ, ◌+◌, ◌<◌, List, [], ◌++◌, length, get_or, take, drop, Result, refl, sym, ap, subst, ◌∙◌}
 use Rattle.std.specs.List.{flat_map}
-use Rattle.std.proofs.lemmas.List.{drop_more, drop_all}
+use Rattle.std.proofs.lemmas.List.{drop_more}
 use Rattle.gg_ast.specs.Tree.{ModuleTree, empty_module}
 use Rattle.gg_names.specs.Modules.{module_at}
 use Rattle.gg_names.proofs.AlongLemmas.{first-front, left, left-from}
@@ -31,9 +31,6 @@ module _ {A : Type 0} (f : A → List Fault) (xs : List A) where
 
   rest-step : (i : ℕ) (d : A) → i < length xs → rest i ≡ f (get_or xs i d) ++ rest (i + 1)
   rest-step i d lt = ap (flat_map f) (drop_more xs i d lt)
-
-  pub rest-end : (i : ℕ) → length xs ≤ i → rest i ≡ []
-  rest-end i le = ap (flat_map f) (drop_all i xs le)
 
   -- if no element up to the i-th has a fault, all faults are after it
   pub rest-more : (i : ℕ) (d x : A) → i < length xs → x ≡ get_or xs i d → f x ≡ [] → flat_map f xs ≡ rest i → flat_map f xs ≡ rest (i + 1)

@@ -1,32 +1,14 @@
 -- Rings of one, two and five modules, and circuits without a ring.
-use Rattle.std.proofs.Common.{◌≡◌, ◌≢◌, ℕ, zero, suc, ◌<◌, List, [], ◌∷◌, codes, eqb, get_or, take, refl, arith, lit<}
-use Rattle.std.specs.Prelude.{AllPairs, Contains}
+use Rattle.std.proofs.Common.{◌≡◌, ℕ, zero, suc, ◌<◌, List, [], ◌∷◌, codes, get_or, take, refl, arith, lit<}
+use Rattle.std.specs.Prelude.{Contains}
 use Rattle.std.specs.List.{IsDistinct}
-use Rattle.std.proofs.lemmas.Bool.Decides.{Decides-eqb}
-use Rattle.std.proofs.lemmas.Map.Made.{AllPairs-from_IsDistinct}
 use Rattle.gg_ast.specs.Tree.{ModuleTree, CircuitTree}
 use Rattle.gg_names.specs.Modules.{Holds}
 use Rattle.gg_walk.specs.Graph.{node_at, IsOrderOf}
 use Rattle.gg_walk.proofs.RingLemmas.{no_ring}
+use Rattle.gg_walk.proofs.WorkedRows.{one, two, five, distinct}
 use Rattle.gg_shape.specs.Rings.{HasNoRing, IsRingOf, ring_names}
 use Rattle.gg_shape.proofs.WorkedCircuits.{instance, module_with, circuit_with, family_with, inst_i, wired}
-
-one : (P : ℕ → Type 0) → P 0 → (k : ℕ) → k < 1 → P k
-one P a zero lt = a
-one P a (suc k) lt = absurd (omega arith)
-
-two : (P : ℕ → Type 0) → P 0 → P 1 → (k : ℕ) → k < 2 → P k
-two P a b zero lt = a
-two P a b (suc k) lt = one (λ i. P (suc i)) b k (omega arith)
-
-five : (P : ℕ → Type 0) → P 0 → P 1 → P 2 → P 3 → P 4 → (k : ℕ) → k < 5 → P k
-five P a b c d e zero lt = a
-five P a b c d e (suc zero) lt = b
-five P a b c d e (suc (suc zero)) lt = c
-five P a b c d e (suc (suc (suc k))) lt = two (λ i. P (suc (suc (suc i)))) d e k (omega arith)
-
-distinct : (xs : List ℕ) → IsDistinct eqb xs → AllPairs (λ a b. a ≢ b) xs
-distinct xs h = AllPairs-from_IsDistinct Decides-eqb xs h
 
 -- a module with one instance, which is of this module
 abbrev holder : List ℕ → List ℕ → ModuleTree

@@ -12,11 +12,12 @@ use Rattle.gg_flat.specs.Line.{value_at}
 use Rattle.gg_flat.specs.Circuit.{driver_at}
 use Rattle.gg_flat.specs.Memory.{LooksAmong, WritesAmong}
 use Rattle.gg_flat.specs.WellFormed.{IsWellFormed, AreDriven, reader_driver}
+use Rattle.gg_flat.proofs.ListLemmas.{once-apart}
 use Rattle.gg_part.specs.Part.{MemoryBelow, renamed_memory, renamed_reader, renamed_writer}
 use Rattle.gg_part.specs.Building.{IsHeldIn}
 use Rattle.gg_part.specs.declared.part.Part.{Part}
 use Rattle.gg_part.proofs.FormedLemmas.{IsWellFormed-part}
-use Rattle.gg_closed.proofs.ListLemmas.{map-cases, one-place}
+use Rattle.gg_closed.proofs.ListLemmas.{map-cases}
 use Rattle.gg_memunit.specs.MemoryUnit.{outs_of, IsMemoryPiece}
 use Rattle.gg_memunit.proofs.UnitLemmas.{sole, of-only}
 use Rattle.gg_sound.specs.Alone.{IsCutAgain}
@@ -76,13 +77,13 @@ module _ (part alone : Part) (memory : Memory) (formed : IsWellFormed part.piece
   in-first : (i : ℕ) → i < length alone.piece.ins → value_at alone.piece.ins i ≡ i
   in-first i lt =
       let low : i < length part.piece.ins = omega (arith, lt, in-count) in
-      one-place alone.globals (value_at alone.piece.ins i) i is.is_part.once (is.is_part.ins i lt).0 (high i low)
+      once-apart alone.globals 0 is.is_part.once (value_at alone.piece.ins i) i (is.is_part.ins i lt).0 (high i low)
       (sym (get_or-map (value_at alone.globals) alone.piece.ins i 0 0 lt) ∙ ap (λ (l : List ℕ). value_at l i) is.ins ∙ sym (in-place i low))
 
   -- a signal that stands for an in-signal of the part is one of the first
   field-low : (s : ℕ) → s < length alone.globals → Contains part.piece.ins (value_at alone.globals s) → s < length alone.piece.ins
   field-low s lt h =
-      let same : s ≡ h.0 = one-place alone.globals s h.0 is.is_part.once lt (high h.0 h.1) (sym (in-place h.0 h.1 ∙ get_or_default part.piece.ins h.0 0 (value_at alone.globals s) h.1 ∙ h.2)) in
+      let same : s ≡ h.0 = once-apart alone.globals 0 is.is_part.once s h.0 lt (high h.0 h.1) (sym (in-place h.0 h.1 ∙ get_or_default part.piece.ins h.0 0 (value_at alone.globals s) h.1 ∙ h.2)) in
       omega (arith, same, h.1, in-count)
 
   -- ---- the memory

@@ -6,8 +6,9 @@ use Rattle.std.proofs.lemmas.Grind.{same_number_lists}
 use Rattle.std.proofs.lemmas.Simd.{map-map}
 use Rattle.gg_flat.specs.declared.memory.Reader.{Reader}
 use Rattle.gg_flat.specs.Line.{value_at}
+use Rattle.gg_flat.proofs.ListLemmas.{once-apart}
 use Rattle.gg_part.specs.Part.{renamed_reader, ReadsAmong}
-use Rattle.gg_closed.proofs.ListLemmas.{map-cases, one-place}
+use Rattle.gg_closed.proofs.ListLemmas.{map-cases}
 
 pub All-unmap : {A B : Type 0} (P : B → Type 0) (f : A → B) (xs : List A) → All P (map f xs) → All (λ x. P (f x)) xs
 All-unmap P f xs all = λ i d lt. subst P (get_or-map f xs i d (f d) lt) (all i (f d) (omega (arith, lt, length-map xs f)))
@@ -24,7 +25,7 @@ module _ (globals : List ℕ) (once : AllPairs (λ a b. a ≢ b) globals) where
   contains-back xs ys s low is lt has =
       let at = map-cases (value_at globals) xs (value_at globals s) (subst (λ (l : List ℕ). Contains l (value_at globals s)) (sym is) has) in
       let below = subst (λ k. k < length globals) (get_or_default xs at.place 0 s at.within) (low at.place at.within) in
-      (at.place, at.within, one-place globals (get_or xs at.place s) s once below lt (at.holds s))
+      (at.place, at.within, once-apart globals 0 once (get_or xs at.place s) s below lt (at.holds s))
 
   -- two lists that stand for the same list are the same
   pub map-back : (xs ys : List ℕ) → ((k : ℕ) → k < length xs → value_at xs k < length globals) → ((k : ℕ) → k < length ys → value_at ys k < length globals) → map (value_at globals) xs ≡ map (value_at globals) ys → xs ≡ ys
@@ -32,7 +33,7 @@ module _ (globals : List ℕ) (once : AllPairs (λ a b. a ≢ b) globals) where
       let count : length xs ≡ length ys = sym (length-map xs (value_at globals)) ∙ ap length is ∙ length-map ys (value_at globals) in
       same_number_lists xs ys count (λ k lt.
       let inside : k < length ys = omega (arith, lt, count) in
-      one-place globals (value_at xs k) (value_at ys k) once (low k lt) (high k inside)
+      once-apart globals 0 once (value_at xs k) (value_at ys k) (low k lt) (high k inside)
       (sym (get_or-map (value_at globals) xs k 0 0 lt) ∙ ap (λ (l : List ℕ). value_at l k) is ∙ get_or-map (value_at globals) ys k 0 0 inside))
 
   -- out-signals that stand for the data of readers are the data of these readers

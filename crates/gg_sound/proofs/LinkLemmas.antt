@@ -6,6 +6,7 @@ use Rattle.gg_cut.specs.declared.wires.Wire.{Wire as Link}
 use Rattle.gg_cut.specs.Plan.{wire_at as link_at, channels_to, channels_from}
 use Rattle.gg_closed.specs.Apart.{AreEnds}
 use Rattle.gg_net.specs.Network.{wire_at}
+use Rattle.gg_flat.proofs.ListLemmas.{some-item}
 use Rattle.gg_sound.specs.Built.{machine_in, place_in, wire_of, wires_from, wires_of_plan}
 
 -- The channels of a plan are these links, whose ends are machines of the plan, and which its machines list.
@@ -29,10 +30,6 @@ wire-from plan a (channel ∷ channels) zero any lt = ap (λ k. wire_of plan k c
 wire-from plan a (channel ∷ channels) (suc c) any lt =
     wire-from plan (suc a) channels c any (omega (arith, lt)) ∙ ap (λ k. wire_of plan k (get_or channels c any)) (let same : suc a + c ≡ a + suc c = omega arith in same)
 
-pub some-channel : (channels : List Channel) (c : ℕ) → c < length channels → Channel
-some-channel [] c lt = absurd (omega (arith, lt))
-some-channel (channel ∷ channels) c lt = channel
-
 -- A channel of the network leads where its link does, and stands at the places at which the link's machines list it.
 pub record IsLinkedAs (plan : Plan) (links : List Link) (c : ℕ) : Type 0 where
   pub producer : (wire_at (wires_of_plan plan) c).producer ≡ (link_at links c).producer
@@ -47,7 +44,7 @@ module _ (plan : Plan) (links : List Link) (are : AreLinks plan links) where
   pub linked : (c : ℕ) → c < length links → IsLinkedAs plan links c
   linked c lt =
       let known : c < length plan.channels = omega (arith, lt, are.count) in
-      let any = some-channel plan.channels c known in
+      let any = some-item plan.channels c known in
       let channel = get_or plan.channels c any in
       let is : wire_at (wires_of_plan plan) c ≡ wire_of plan c channel = wire-from plan 0 plan.channels c any known ∙ ap (λ k. wire_of plan k channel) (let same : 0 + c ≡ c = omega arith in same) in
       let ends = are.ends c lt in

@@ -10,6 +10,7 @@ use Rattle.gg_flat.specs.Line.{value_at}
 use Rattle.gg_flat.specs.Circuit.{FlatCircuit, readers_at}
 use Rattle.gg_flat.specs.Tree.{InstanceTree, memory_at}
 use Rattle.gg_flat.specs.Scoped.{writers_at}
+use Rattle.gg_flat.proofs.ListLemmas.{Contains-map}
 use Rattle.gg_order.specs.Design.{Ordered, IsDesign}
 use Rattle.gg_part.specs.Part.{IsMemoryFrom, MemoryBelow, renamed_memory, renamed_reader, renamed_writer}
 use Rattle.gg_part.specs.declared.part.Part.{Part}
@@ -21,7 +22,7 @@ use Rattle.gg_cut.specs.Plan.{wire_at as link_at, channels_to, channels_from, si
 use Rattle.gg_cut.proofs.PathLemmas.{first_place-Some}
 use Rattle.gg_cut.proofs.WireLemmas.{unit_or_hub-below}
 use Rattle.gg_closed.specs.Apart.{AreApart, AreFew}
-use Rattle.gg_closed.proofs.ListLemmas.{Somewhere, Contains-map, map-cases, flattened-in, AllPairs-append, AllPairs-map}
+use Rattle.gg_closed.proofs.ListLemmas.{Somewhere, map-cases, flattened-in, AllPairs-append, AllPairs-map}
 use Rattle.gg_closed.proofs.KindLemmas.{outside_memory, in-fields}
 use Rattle.gg_closed.proofs.MakerLemmas.{find-unit, no-field-place, takes}
 use Rattle.gg_closed.proofs.WrittenLemmas.{inner-plain}

@@ -6,10 +6,11 @@ use Rattle.std.proofs.lemmas.List.{get_or_default}
 use Rattle.std.proofs.lemmas.List.Elements.{Contains-get_or}
 use Rattle.std.proofs.lemmas.List.FromFn.{length-range_with_len, get_or-range_with_len}
 use Rattle.std.proofs.lemmas.List.Kept.{AllPairs-filter}
+use Rattle.std.proofs.lemmas.List.Folds.{list_any_at}
 use Rattle.gg_flat.specs.Line.{value_at}
+use Rattle.gg_flat.proofs.ListLemmas.{here, Contains-filter, filter-cases, once-apart}
 use Rattle.gg_cut.specs.Listed.{first_place}
-use Rattle.gg_cut.proofs.PathLemmas.{first_place-Some, first_place-None, any-at}
-use Rattle.gg_closed.proofs.ListLemmas.{Contains-filter, filter-cases, here, one-place}
+use Rattle.gg_cut.proofs.PathLemmas.{first_place-Some, first_place-None}
 use Rattle.gg_sound.specs.Built.{place_in}
 
 -- ---- places
@@ -24,7 +25,7 @@ placed numbers c has = by (first_place (λ d. d == c) numbers) refl
   where
     by : (found : Option ℕ) → first_place (λ d. d == c) numbers ≡ found → IsPlaced numbers c
     by None e =
-        let any = any-at (λ d. d == c) numbers has.0 c has.1 (eq-eqb (get_or numbers has.0 c) c has.2) in
+        let any = list_any_at (λ d. d == c) numbers has.0 c has.1 (eq-eqb (get_or numbers has.0 c) c has.2) in
         absurd (true≢false (sym any ∙ first_place-None (λ d. d == c) numbers e))
     by (Some i) e =
         let at = first_place-Some (λ d. d == c) numbers i e in
@@ -35,7 +36,7 @@ placed numbers c has = by (first_place (λ d. d == c) numbers) refl
 pub place-back : (numbers : List ℕ) (i : ℕ) → AllPairs (λ a b. a ≢ b) numbers → i < length numbers → place_in numbers (value_at numbers i) ≡ i
 place-back numbers i once lt =
     let at = placed numbers (value_at numbers i) (Contains-get_or numbers i 0 lt) in
-    one-place numbers (place_in numbers (value_at numbers i)) i once at.within lt at.is
+    once-apart numbers 0 once (place_in numbers (value_at numbers i)) i at.within lt at.is
 
 -- ---- numbers below n that pass a test
 

@@ -17,10 +17,10 @@ use Rattle.gg_flat.specs.Reads.{NamesSignal, Reads}
 use Rattle.gg_flat.specs.Memory.{LooksAmong, WritesAmong}
 use Rattle.gg_flat.specs.Served.{Access, ByReader, ByWriter, by_readers, by_writers, due_of}
 use Rattle.gg_flat.specs.WellFormed.{AreDriven, reader_driver}
+use Rattle.gg_flat.proofs.ListLemmas.{Contains-cases}
 use Rattle.gg_node.specs.Machine.{Port, needs_at}
 use Rattle.gg_node.specs.Step.{fields_of}
 use Rattle.gg_memunit.specs.MemoryUnit.{count_of, outs_of, port_of, ports_of, needs_by, needs_of, IsMemoryPiece}
-use Rattle.gg_closed.proofs.ListLemmas.{Contains-cases}
 
 -- ---- needs
 

@@ -6,10 +6,10 @@ use Rattle.gg_flat.specs.Circuit.{FlatCircuit, driver_at}
 use Rattle.gg_flat.specs.Reads.{Reads, Reaches}
 use Rattle.gg_flat.specs.Order.{IsOrder}
 use Rattle.gg_flat.proofs.OrderLemmas.{read-before}
+use Rattle.gg_flat.proofs.ListLemmas.{once-apart}
 use Rattle.gg_needs.proofs.ReachLemmas.{Reaches-itself, Reaches-on, along-reaches}
 use Rattle.gg_part.specs.Part.{IsPart}
 use Rattle.gg_part.proofs.AlongLemmas.{named-in}
-use Rattle.gg_closed.proofs.ListLemmas.{one-place}
 use Rattle.gg_sound.specs.Built.{place_in}
 use Rattle.gg_sound.proofs.NumberLemmas.{placed}
 
@@ -22,7 +22,7 @@ module _ (circuit : FlatCircuit) (order : List ℕ) (ordered : IsOrder circuit o
       let at = placed order a (ordered.every a reads.signal) in
       let before = read-before circuit order (place_in order a) a b ordered at.within at.is reads in
       let there = placed order b (before.place, before.within, get_or_default order before.place b 0 before.within ∙ before.is) in
-      let same : place_in order b ≡ before.place = one-place order (place_in order b) before.place ordered.once there.within before.within (there.is ∙ sym before.is) in
+      let same : place_in order b ≡ before.place = once-apart order 0 ordered.once (place_in order b) before.place there.within before.within (there.is ∙ sym before.is) in
       omega (arith, same, before.before)
 
   -- a signal that is reached is the signal itself, or comes before it

@@ -3,6 +3,7 @@ use Rattle.std.proofs.Common.{◌≡◌, ℕ, ◌<◌, List, [], length, map, ge
 use Rattle.std.proofs.lemmas.List.{length-map, get_or-map}
 use Rattle.gg_flat.specs.Line.{value_at}
 use Rattle.gg_flat.specs.Run.{row_at, column}
+use Rattle.gg_flat.proofs.ListLemmas.{some-item}
 use Rattle.gg_order.specs.Design.{Ordered}
 use Rattle.gg_partfile.specs.declared.request.Request.{Request}
 use Rattle.gg_cut.specs.declared.plan.Body.{Body}
@@ -21,7 +22,7 @@ use Rattle.gg_net.specs.Network.{wire_at, Kind, kind_of, kind_at}
 use Rattle.gg_net.specs.Kept.{list_at, rows_at, Answers, Asks, Solves}
 use Rattle.gg_net.proofs.StateLemmas.{column-at}
 use Rattle.gg_sound.specs.Built.{machine_in, nameless, wires_of_plan, IsBuilt, AreBuilt, body_rows, rows_of, IsGiven, plan_frame}
-use Rattle.gg_sound.proofs.LinkLemmas.{AreLinks, some-channel, length-wires, linked}
+use Rattle.gg_sound.proofs.LinkLemmas.{AreLinks, length-wires, linked}
 use Rattle.gg_sound.proofs.ListedLemmas.{taken-placed, given-placed}
 use Rattle.gg_sound.proofs.SideLemmas.{source-takes, tray-takes, tray-gives-none}
 use Rattle.gg_sound.proofs.FitLemmas.{kind-is}
@@ -81,7 +82,7 @@ module _ (design : Ordered) (request : Request) (default : ℕ) (plan : Plan) (c
   list-is : (c : ℕ) → c < length all → list_at (columns_of plan rows) c ≡ column rows (link_at all c).signal
   list-is c lt =
       let known : c < length plan.channels = omega (arith, lt, are.count) in
-      let any = some-channel plan.channels c known in
+      let any = some-item plan.channels c known in
       get_or-map (λ (channel : Channel). column rows channel.signal) plan.channels c any [] known ∙ ap (column rows) (given.planned.channel c any known).signal
 
   value-is : (c t : ℕ) → c < length all → value_at (list_at (columns_of plan rows) c) t ≡ value_at (row_at rows t) (link_at all c).signal

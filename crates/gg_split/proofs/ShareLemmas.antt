@@ -1,8 +1,8 @@
 -- From the lists to what each machine has.
-use Rattle.std.proofs.Common.{◌≡◌, ◌≢◌, ℕ, ◌+◌, ◌<◌, List, [], length, get_or, Bool, true, false, refl, sym, ◌∙◌, ap, subst, Some, None, inl, inr, ◌⊎◌, eq-eqb, true-eqb, arith}
-use Rattle.std.specs.Prelude.{Option, ◌||◌, ◌==◌, filter, slice_index_or, Contains, AllPairs}
+use Rattle.std.proofs.Common.{◌≡◌, ◌≢◌, ℕ, ◌+◌, ◌<◌, List, [], length, get_or, true, sym, ◌∙◌, ap, subst, Some, None, inl, inr, ◌⊎◌, eq-eqb, true-eqb, arith}
+use Rattle.std.specs.Prelude.{Option, ◌==◌, filter, slice_index_or, Contains, AllPairs}
 use Rattle.std.specs.List.{range_with_len}
-use Rattle.std.proofs.lemmas.Bool.{or_cases}
+use Rattle.std.proofs.lemmas.Bool.{or_cases, or_left, or_right}
 use Rattle.std.proofs.lemmas.List.{get_or_default}
 use Rattle.std.proofs.lemmas.List.Elements.{Contains-get_or}
 use Rattle.std.proofs.lemmas.List.Kept.{AllPairs-filter}
@@ -13,6 +13,7 @@ use Rattle.gg_flat.specs.WellFormed.{IsWellFormed}
 use Rattle.gg_flat.specs.Tree.{InstanceTree, IsTree, memory_at}
 use Rattle.gg_flat.specs.Scoped.{IsScoped}
 use Rattle.gg_flat.specs.Order.{IsOrder}
+use Rattle.gg_flat.proofs.ListLemmas.{Contains-map, Contains-filter, filter-cases, in-range, range-below}
 use Rattle.gg_part.specs.InOrder.{Precedes, IsAlong}
 use Rattle.gg_cut.specs.declared.wires.Wire.{Wire}
 use Rattle.gg_cut.specs.declared.listed.Listed.{Listed}
@@ -23,11 +24,11 @@ use Rattle.gg_cut.specs.Plan.{wire_at, channels_to, channels_from, signals_of, H
 use Rattle.gg_closed.specs.Apart.{AreApart}
 use Rattle.gg_split.specs.Share.{IsShareOf}
 use Rattle.gg_split.specs.Spread.{AreChannels, IsChannelBelow, has_by, has, signals_among, memories_below, AreSignals, AreMemories}
-use Rattle.gg_closed.proofs.ListLemmas.{Contains-filter, filter-cases, Contains-map, map-cases, AllPairs-map}
+use Rattle.gg_closed.proofs.ListLemmas.{map-cases, AllPairs-map}
 use Rattle.gg_closed.proofs.TreeLemmas.{innermost}
 use Rattle.gg_closed.proofs.PlaceLemmas.{place-signal}
 use Rattle.gg_closed.proofs.OnceLemmas.{channel-one}
-use Rattle.gg_closed.proofs.MakerLemmas.{Gets, in-range, range-below, chosen-in, chosen-out, wire-among, no-channel, owner-signal}
+use Rattle.gg_closed.proofs.MakerLemmas.{Gets, chosen-in, chosen-out, wire-among, no-channel, owner-signal}
 use Rattle.gg_closed.proofs.WrittenLemmas.{inner-plain}
 use Rattle.gg_closed.proofs.ChoiceLemmas.{gets-known, choice}
 
@@ -66,14 +67,6 @@ module _ (circuit : FlatCircuit) (tree : InstanceTree) (order : List ℕ) (liste
         by (inl p) = inl (inr (subst (λ t. Contains (signals_of (wires_of circuit tree listed) (channels_from (wires_of circuit tree listed) m)) t) at.1 (chosen-in (wires_of circuit tree listed) (λ w. w.producer == m) (wire_at (wires_of circuit tree listed) c) (wire-among (wires_of circuit tree listed) c at.0) p)))
         by (inr p) = inr (subst (λ t. Contains (signals_of (wires_of circuit tree listed) (channels_to (wires_of circuit tree listed) m)) t) at.1 (chosen-in (wires_of circuit tree listed) (λ w. w.consumer == m) (wire_at (wires_of circuit tree listed) c) (wire-among (wires_of circuit tree listed) c at.0) p))
 
-    or-left : (a b : Bool) → a ≡ true → (a || b) ≡ true
-    or-left true b e = refl
-    or-left false b e = absurd (cc)
-
-    or-right : (a b : Bool) → b ≡ true → (a || b) ≡ true
-    or-right true b e = refl
-    or-right false b e = e
-
     same-wire : (s c : ℕ) (w : Wire) → c < length (wires_of circuit tree listed) → (wire_at (wires_of circuit tree listed) c).signal ≡ s → Contains (wires_of circuit tree listed) w → w.signal ≡ s → w ≡ wire_at (wires_of circuit tree listed) c
     same-wire s c w lt is among of = channel-one circuit tree listed fits scoped apart w (wire_at (wires_of circuit tree listed) c) among (wire-among (wires_of circuit tree listed) c lt) (of ∙ sym is)
 
@@ -87,10 +80,10 @@ module _ (circuit : FlatCircuit) (tree : InstanceTree) (order : List ℕ) (liste
     gets-spread s lt (Some c) at (inl (inl own)) = absurd (own.2 c at.0 at.1)
     gets-spread s lt (Some c) at (inl (inr h)) =
         let w = chosen-out (wires_of circuit tree listed) (λ (v : Wire). v.producer == m) s h in
-        or-left ((wire_at (wires_of circuit tree listed) c).producer == m) ((wire_at (wires_of circuit tree listed) c).consumer == m) (ap (λ (v : Wire). v.producer == m) (sym (same-wire s c w.wire at.0 at.1 w.among w.is)) ∙ w.passes)
+        or_left ((wire_at (wires_of circuit tree listed) c).producer == m) ((wire_at (wires_of circuit tree listed) c).consumer == m) (ap (λ (v : Wire). v.producer == m) (sym (same-wire s c w.wire at.0 at.1 w.among w.is)) ∙ w.passes)
     gets-spread s lt (Some c) at (inr h) =
         let w = chosen-out (wires_of circuit tree listed) (λ (v : Wire). v.consumer == m) s h in
-        or-right ((wire_at (wires_of circuit tree listed) c).producer == m) ((wire_at (wires_of circuit tree listed) c).consumer == m) (ap (λ (v : Wire). v.consumer == m) (sym (same-wire s c w.wire at.0 at.1 w.among w.is)) ∙ w.passes)
+        or_right ((wire_at (wires_of circuit tree listed) c).producer == m) ((wire_at (wires_of circuit tree listed) c).consumer == m) (ap (λ (v : Wire). v.consumer == m) (sym (same-wire s c w.wire at.0 at.1 w.among w.is)) ∙ w.passes)
 
     pub signals-are : AreSignals circuit tree order listed m (signals_among (wires_of circuit tree listed) owners channels order m)
     signals-are =

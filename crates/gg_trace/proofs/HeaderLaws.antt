@@ -1,6 +1,6 @@
 -- The part of a header whose names were read.
-use Rattle.std.proofs.Common.{◌≡◌, ◌≢◌, ℕ, ◌+◌, ◌<◌, ◌≤◌, zero, suc, Bool, true, false, List, [], ◌∷◌, ◌++◌, length, get_or, set, drop, replicate, codes, ◌⊎◌, inl, inr, refl, sym, ap, ◌∙◌, subst, arith, add-one, length-drop}
-use Rattle.std.proofs.lemmas.List.{get_or_append_left, get_or_at, length_push, get_or-set_same, get_or-set_other, length-set, length-replicate}
+use Rattle.std.proofs.Common.{◌≡◌, ◌≢◌, ℕ, ◌+◌, ◌<◌, ◌≤◌, zero, suc, Bool, true, false, List, [], ◌∷◌, ◌++◌, length, get_or, set, drop, codes, ◌⊎◌, inl, inr, refl, sym, ap, ◌∙◌, subst, arith, add-one, length-drop}
+use Rattle.std.proofs.lemmas.List.{get_or_append_left, get_or_at, length_push, get_or-set_same, get_or-set_other, length-set}
 use Rattle.std.proofs.lemmas.Bool.{false≢true, cases_eq}
 use Rattle.gg_trace.proofs.ListLaws.{next_item}
 use Rattle.gg_flat.specs.declared.ports.Port.{Port}
@@ -18,23 +18,6 @@ pub record ReadsNames (ports : List Port) (header rest : List (List ℕ)) (place
   pub distinct : (g h : ℕ) → g < h → h < length places → get_or places g 0 ≢ get_or places h 0
   pub marked : (i : ℕ) → get_or marks i false ≡ true → IsPlace places i
   pub unmarked : (i : ℕ) → i < length marks → get_or marks i false ≡ false → (g : ℕ) → g < length places → get_or places g 0 ≢ i
-
-all_false : (n i : ℕ) → get_or (replicate n false) i false ≡ false
-all_false zero i = refl
-all_false (suc n) zero = refl
-all_false (suc n) (suc i) = all_false n i
-
-pub reads_cycle : (ports : List Port) (rest : List (List ℕ)) (n : ℕ) → n ≡ length ports → ReadsNames ports (codes "cycle" ∷ rest) rest [] (replicate n false)
-reads_cycle ports rest n e = record {
-  begins = refl;
-  left = refl;
-  enough = omega arith;
-  size = length-replicate n false ∙ e;
-  named = λ g h. absurd (omega arith);
-  distinct = λ g h before within. absurd (omega arith);
-  marked = λ i is. absurd (false≢true (sym (all_false n i) ∙ is));
-  unmarked = λ i within is g h. absurd (omega arith);
-}
 
 -- a name belongs to at most one port
 pub one_port : (ports : List Port) → HasDistinctNames ports → (name : List ℕ) (i j : ℕ) → IsNamed ports name i → IsNamed ports name j → i ≡ j

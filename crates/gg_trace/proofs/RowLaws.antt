@@ -1,5 +1,5 @@
 -- The values of a row, cell by cell.
-use Rattle.std.proofs.Common.{◌≡◌, ℕ, ◌+◌, ◌^◌, ◌<◌, ◌≤◌, List, [], ◌∷◌, length, get_or, set, drop, ◌⊎◌, inl, inr, refl, sym, ap, ◌∙◌, subst, arith, length-drop, decimal}
+use Rattle.std.proofs.Common.{◌≡◌, ℕ, ◌+◌, ◌^◌, ◌<◌, ◌≤◌, List, [], ◌∷◌, length, get_or, set, drop, ◌⊎◌, inl, inr, sym, ap, ◌∙◌, subst, arith, length-drop, decimal}
 use Rattle.std.proofs.lemmas.List.{get_or-set_same, get_or-set_other, length-set}
 use Rattle.std.proofs.lemmas.Bool.{cases_eq}
 use Rattle.gg_flat.specs.declared.ports.Port.{Port}
@@ -20,17 +20,6 @@ pub record ReadsCells (ports : List Port) (places : List ℕ) (cells rest : List
   pub size : length values ≡ length ports
   pub good : AreCells ports places cells at
   pub gives : AreValues places cells values at
-
-pub reads_none : (ports : List Port) (places : List ℕ) (cells : List (List ℕ)) (values : List ℕ) → length cells ≡ length places → length values ≡ length ports
-    → ReadsCells ports places cells cells values 0
-reads_none ports places cells values count size = record {
-  left = refl;
-  count = count;
-  reached = omega arith;
-  size = size;
-  good = record { each = λ g h. absurd (omega arith) };
-  gives = record { each = λ g h. absurd (omega arith) };
-}
 
 -- the next cell is within the row
 pub next_cell : {ports : List Port} {places : List ℕ} {cells more : List (List ℕ)} {x values : List ℕ} {at : ℕ} → ReadsCells ports places cells (x ∷ more) values at → at < length places

@@ -9,7 +9,7 @@ use Rattle.gg_trace.specs.Cells.{IsHexadecimal, hexadecimal, IsCell}
 use Rattle.gg_trace.specs.Fields.{fields}
 use Rattle.gg_trace.specs.Ports.{IsNamed, HasDistinctNames, width_at}
 use Rattle.gg_trace.specs.Header.{field}
-use Rattle.gg_trace.specs.Places.{IsHeading, IfHeaderFault, AreCells, PassesCycle, ReadsRow, HasRowFault}
+use Rattle.gg_trace.specs.Places.{IsHeading, AreCells, PassesCycle, ReadsRow, HasRowFault}
 use Rattle.gg_trace.specs.Table.{row_limit, table_of}
 use Rattle.gg_trace.specs.Trace.{header_of, rows_of, row_at, IsValueField, IsRow, Columns, HasValueAt, ReachesRow, ReachesValue, IfFirstFault}
 use Rattle.gg_trace.proofs.ListLaws.{next_item}
@@ -59,18 +59,6 @@ pub record ReadsRows (ports : List Port) (bytes : List ℕ) (lines : List (List 
   pub size : length values ≡ length ports
   pub room : length cells ≡ rows * length ports
   pub each : (r : ℕ) → r < rows → ReadsRow ports places r (row_at bytes r) (take (length ports) (drop (r * length ports) cells))
-
-pub reads_no_row : (ports : List Port) (bytes : List ℕ) (lines : List (List ℕ)) (places values : List ℕ) → IsHeading ports (header_of bytes) places → rows_of bytes ≡ map fields lines
-    → length values ≡ length ports → ReadsRows ports bytes lines places values [] 0
-reads_no_row ports bytes lines places values heading left size = record {
-  heading = heading;
-  left = left;
-  reached = omega arith;
-  limit = omega arith;
-  size = size;
-  room = omega arith;
-  each = λ r h. absurd (omega arith);
-}
 
 reaches : {ports : List Port} {bytes : List ℕ} {lines : List (List ℕ)} {places values cells : List ℕ} {rows : ℕ} → ReadsRows ports bytes lines places values cells rows → HasDistinctNames ports → ReachesRow ports bytes rows
 reaches {ports} {bytes} {lines} {places} reads distinct = record {
@@ -178,16 +166,6 @@ row_fault ports bytes text lines places values cells rows fault reads distinct h
     let next = next_row reads in
     first_of_row ports bytes places rows fault reads.heading distinct (reaches reads distinct) reads.limit next.1
     (subst (λ line. HasRowFault ports places rows line fault) (sym next.0) h)
-
--- a fault of the header is the text's first
-pub header_fault : (ports : List Port) (bytes : List ℕ) (fault : TraceFault) → IfHeaderFault ports (header_of bytes) fault → IfFirstFault ports bytes fault
-header_fault ports bytes (Heading f) h = (tt, h)
-header_fault ports bytes (RowNumber r) h = absurd h
-header_fault ports bytes (NotHexadecimal r f) h = absurd h
-header_fault ports bytes (TooWide r f) h = absurd h
-header_fault ports bytes (FieldCount r c) h = absurd h
-header_fault ports bytes (TooManyRows r) h = absurd h
-header_fault ports bytes NoMemory h = tt
 
 -- the value of a port in a row that was read is the number in the port's field
 row_value : (ports : List Port) (header line : List (List ℕ)) (places cells : List ℕ) (r f i : ℕ) → IsHeading ports header places → HasDistinctNames ports

@@ -3,7 +3,8 @@ use Rattle.std.proofs.Common.{◌≡◌, ◌⊎◌, inl, inr, ℕ, zero, suc, �
 use Rattle.std.specs.Prelude.{flat_map, Contains, option_map}
 use Rattle.std.specs.Str.{bytes_eq}
 use Rattle.std.proofs.lemmas.List.Elements.{Contains-append_cases}
-use Rattle.std.proofs.lemmas.Slice.Eq.{bytes_eq-Decides}
+use Rattle.std.proofs.lemmas.Option.{same_Some}
+use Rattle.std.proofs.lemmas.Bool.{and_parts}
 use Rattle.gg_ast.specs.declared.expression.Reference.{Reference}
 use Rattle.gg_ast.specs.declared.expression.Reference.TheVariants.{Local, PortOf, FieldOf}
 use Rattle.gg_ast.specs.declared.module.Port.{Port}
@@ -25,6 +26,7 @@ use Rattle.gg_types.specs.declared.sort.Own.{Own}
 use Rattle.gg_types.specs.Named.{find_named}
 use Rattle.gg_types.specs.Owned.{typed, known_sort, sort_of_reference}
 use Rattle.gg_types.specs.Types.{known_in}
+use Rattle.gg_types.proofs.PlaceLemmas.{same_bytes}
 use Rattle.gg_count.specs.Sites.{Held, held, held_by, held_by_kind, module_at}
 use Rattle.gg_digest.specs.Known.{types_of, value_shape}
 use Rattle.gg_digest.proofs.NameLemmas.{Differ}
@@ -99,13 +101,6 @@ pub record MakesChild (modules : List ModuleTree) (kind : StmtKind) (a b : List 
   pub listed : Contains child.ports port
   pub port_name : port.name ≡ b
 
-both : (x y : Bool) → (x && y) ≡ true → (x ≡ true) × (y ≡ true)
-both true y h = (refl, h)
-both false y h = absurd (true≢false (sym h))
-
-equal : (a x : List ℕ) → bytes_eq a x ≡ true → a ≡ x
-equal a x h = (bytes_eq-Decides a x).0 h
-
 not-local : (a b name : List ℕ) (e : Reference × Role) → e.0 ≡ Local name → same_reference (PortOf a b) e.0 ≡ true → ⊥
 not-local a b name e is same = true≢false (sym same ∙ ap (same_reference (PortOf a b)) is)
 
@@ -116,8 +111,8 @@ alone a b name role e (suc k, lt, is) same = absurd (omega (arith, lt))
 child-port : (instance : List ℕ) (ports : List Port) (a b : List ℕ) (e : Reference × Role) → Contains (map (instance_port instance) ports) e → same_reference (PortOf a b) e.0 ≡ true → (a ≡ instance) × (p : Port) × Contains ports p × (p.name ≡ b)
 child-port instance [] a b e c same = absurd (omega (arith, c.1))
 child-port instance (p ∷ ps) a b e (zero, lt, is) same =
-    let parts = both (bytes_eq a instance) (bytes_eq b p.name) (ap (λ (x : Reference × Role). same_reference (PortOf a b) x.0) is ∙ same) in
-    (equal a instance parts.0, p, (0, omega arith, refl), sym (equal b p.name parts.1))
+    let parts = and_parts (bytes_eq a instance) (bytes_eq b p.name) (ap (λ (x : Reference × Role). same_reference (PortOf a b) x.0) is ∙ same) in
+    (same_bytes a instance parts.0, p, (0, omega arith, refl), sym (same_bytes b p.name parts.1))
 child-port instance (p ∷ ps) a b e (suc k, lt, is) same =
     let r = child-port instance ps a b e (k, omega (arith, lt), is) same in
     (r.0, r.1, (suc r.2.0, omega (arith, r.2.1), r.2.2), r.3)
@@ -163,9 +158,6 @@ held-module modules a of_module h e = go (place_of of_module (names_of modules))
     go None e = absurd (cc)
     go (Some k) e = ap (option_map (λ (x : Held). x.number)) e
 
-some-module : (m n : ModuleTree) → Some m ≡ Some n → m ≡ n
-some-module m n e = cc
-
 -- where `i` is an instance, a reference `i.p` that has a type is to a port `p` of its module
 pub child-known : (circuit : CircuitTree) (n : ℕ) (h : Held) (a b : List ℕ) → Differ (flat_map name_by (module_at circuit.modules n).statements) → is_some (types_of circuit n (PortOf a b)) ≡ true → Contains (held_by circuit.modules (module_at circuit.modules n).statements) h → h.name ≡ a → (p : Port) × Contains (module_at circuit.modules h.number).ports p × (p.name ≡ b)
 child-known circuit n h a b differ typed c named = go (Contains-append_cases (map entry_by_port m.ports) (flat_map (entries_by circuit.modules) m.statements) entry.entry entry.among)
@@ -184,7 +176,7 @@ child-known circuit n h a b differ typed c named = go (Contains-append_cases (ma
         let made = made-by (held_by_kind circuit.modules) (module_at circuit.modules n).statements h c in
         let one : made.statement ≡ s.statement = one-statement (module_at circuit.modules n).statements made.place s.place made.statement s.statement a differ made.inside s.inside made.at s.at (held-named circuit.modules made.statement.kind h made.makes ∙ ap (λ x. x ∷ []) named) (ap name_by_kind child.is) in
         let place = held-module circuit.modules a child.of_module h (ap (held_by_kind circuit.modules) (sym child.is) ∙ ap (λ (x : Stmt). held_by_kind circuit.modules x.kind) (sym one) ∙ made.makes) in
-        let same : child.child ≡ module_at circuit.modules h.number = some-module child.child (module_at circuit.modules h.number) (sym child.named ∙ (at-place circuit.modules child.of_module h.number place).named) in
+        let same : child.child ≡ module_at circuit.modules h.number = same_Some child.child (module_at circuit.modules h.number) (sym child.named ∙ (at-place circuit.modules child.of_module h.number place).named) in
         (child.port, subst (λ (x : ModuleTree). Contains x.ports child.port) same child.listed, child.port_name)
 
 -- ---- fields of memories
@@ -204,7 +196,7 @@ no-child instance (p ∷ ps) a b c e (suc k, lt, is) same = no-child instance ps
 one-field : (memory port : List ℕ) (kind : PortKind) (fields : List PortField) (a b c : List ℕ) (e : Reference × Role) → Contains (map (port_field memory port kind) fields) e → same_reference (FieldOf a b c) e.0 ≡ true → a ≡ memory
 one-field memory port kind [] a b c e at same = absurd (omega (arith, at.1))
 one-field memory port kind (f ∷ fs) a b c e (zero, lt, is) same =
-    equal a memory (both (bytes_eq a memory) (bytes_eq b port && bytes_eq c (field_name f)) (ap (λ (x : Reference × Role). same_reference (FieldOf a b c) x.0) is ∙ same)).0
+    same_bytes a memory (and_parts (bytes_eq a memory) (bytes_eq b port && bytes_eq c (field_name f)) (ap (λ (x : Reference × Role). same_reference (FieldOf a b c) x.0) is ∙ same)).0
 one-field memory port kind (f ∷ fs) a b c e (suc k, lt, is) same = one-field memory port kind fs a b c e (k, omega (arith, lt), is) same
 
 of-memory : (memory : List ℕ) (ports : List (List ℕ × PortKind)) (a b c : List ℕ) (e : Reference × Role) → Contains (flat_map (port_entries memory) ports) e → same_reference (FieldOf a b c) e.0 ≡ true → a ≡ memory

@@ -1,8 +1,8 @@
 -- A flat circuit keeps to the scopes of its circuit's tree: what drivers and registers name is visible where they are written.
-use Rattle.std.proofs.Common.{◌≡◌, ◌⊎◌, inl, inr, ℕ, zero, suc, ◌+◌, ◌-◌, ◌<◌, ◌≤◌, Bool, true, false, List, [], ◌∷◌, Option, Some, None, is_some, length, get_or, refl, sym, ap, ◌∙◌, subst, arith, codes, unwrap_or, true≢false, length-append, slice_get, slice_index_or}
+use Rattle.std.proofs.Common.{◌≡◌, ◌⊎◌, inl, inr, ℕ, ◌+◌, ◌-◌, ◌<◌, ◌≤◌, Bool, true, false, List, Option, Some, None, is_some, length, get_or, refl, sym, ap, ◌∙◌, subst, arith, codes, unwrap_or, true≢false, length-append, slice_get, slice_index_or}
 use Rattle.std.specs.Prelude.{flat_map, filter_map, All, IfSome}
 use Rattle.std.proofs.lemmas.Bool.{cases_lt}
-use Rattle.std.proofs.lemmas.List.{get_or-map}
+use Rattle.std.proofs.lemmas.List.{get_or-map, get_or_default}
 use Rattle.std.proofs.lemmas.Option.{get_or_from_slice_get}
 use Rattle.std.proofs.Math.Seq.{get_or-append_right, get_or-append-add}
 use Rattle.std.proofs.lemmas.List.Elements.{Contains-get_or}
@@ -31,6 +31,7 @@ use Rattle.gg_flat.specs.declared.piece.Reset as kept
 use Rattle.gg_flat.specs.declared.tree.InstancePort.{InstancePort}
 use Rattle.gg_flat.specs.Tree.{InstanceTree, IsInnermost, instance_at, joined}
 use Rattle.gg_flat.specs.Scoped.{IsScoped, IsVisible, IsWritten, IsOwnSink, IsChildsInput, IsInputOf}
+use Rattle.gg_flat.proofs.ListLemmas.{some-item}
 use Rattle.gg_names.specs.Scope.{written}
 use Rattle.gg_count.specs.Sites.{Site, site_below, module_at, sites_of}
 use Rattle.gg_digest.specs.Connection.{Connection, ConnectedTo, Zeroed, connection_in}
@@ -40,7 +41,6 @@ use Rattle.gg_tree.specs.IsTreeOf.{IsTreeOf, Pairwise, IsPortFor, signal_paths, 
 use Rattle.gg_digest.specs.Known.{types_of}
 use Rattle.gg_digest.specs.Meaning.{Signals, named_if, TermNames, ConnectionNames}
 use Rattle.gg_digest.specs.Signals.{Cause, FromOutside, Connected, Expressed, Kept, Answered, Own, own_of_port, own_of_kind, cause_of_port, field_name, dotted}
-use Rattle.gg_tree.proofs.ElementLemmas.{element-at}
 use Rattle.gg_tree.proofs.PairwiseLemmas.{Pairwise-length}
 use Rattle.gg_tree.proofs.PlaceLemmas.{Placed, Under}
 use Rattle.gg_tree.proofs.RangeLemmas.{Ranges, count_to}
@@ -212,11 +212,6 @@ module _ (circuit : CircuitTree) (flat : FlatCircuit) (tree : InstanceTree) (top
       sum : length (own_in circuit x) ≡ length (filter_map own_of_port (module_at circuit.modules x.number).ports) + length (flat_map (λ (s : Stmt). own_of_kind (types_of circuit) x.number s.kind) (module_at circuit.modules x.number).statements)
       sum = length-append (filter_map own_of_port (module_at circuit.modules x.number).ports) (flat_map (λ (s : Stmt). own_of_kind (types_of circuit) x.number s.kind) (module_at circuit.modules x.number).statements)
 
-      any : {A : Type 0} (l : List A) (i : ℕ) (a b : A) → i < length l → get_or l i a ≡ get_or l i b
-      any [] i a b below = absurd (omega (arith, below))
-      any (y ∷ ys) zero a b below = refl
-      any (y ∷ ys) (suc i) a b below = any ys i a b (omega (arith, below))
-
       named : AreNamed (HasOwn x) (flat_map (λ (s : Stmt). own_of_kind (types_of circuit) x.number s.kind) (module_at circuit.modules x.number).statements)
       named = statements-cause (HasOwn x) (types_of circuit) x.number (module_at circuit.modules x.number).statements (statements_of x)
           (λ i d inside. (
@@ -224,7 +219,7 @@ module _ (circuit : CircuitTree) (flat : FlatCircuit) (tree : InstanceTree) (top
             omega (arith, inside, sum),
             ap (λ (y : Own). y.name)
                 (get_or-append-add (filter_map own_of_port (module_at circuit.modules x.number).ports) (flat_map (λ (s : Stmt). own_of_kind (types_of circuit) x.number s.kind) (module_at circuit.modules x.number).statements) i no_own
-                ∙ any (flat_map (λ (s : Stmt). own_of_kind (types_of circuit) x.number s.kind) (module_at circuit.modules x.number).statements) i no_own d inside),
+                ∙ get_or_default (flat_map (λ (s : Stmt). own_of_kind (types_of circuit) x.number s.kind) (module_at circuit.modules x.number).statements) i no_own d inside),
           ))
 
       go : (o < length (filter_map own_of_port (module_at circuit.modules x.number).ports)) ⊎ (length (filter_map own_of_port (module_at circuit.modules x.number).ports) ≤ o) → (o < length (signal_ports (module_at circuit.modules x.number))) ⊎ IsNamed (HasOwn x) (get_or (own_in circuit x) o no_own).cause
@@ -261,19 +256,19 @@ module _ (circuit : CircuitTree) (flat : FlatCircuit) (tree : InstanceTree) (top
       driven : Driven s (drive_of circuit.modules o.site (get_or (own_in circuit o.site) o.offset no_own).name (get_or (own_in circuit o.site) o.offset no_own).cause) (driver_at flat s)
       driven = subst (λ i. Driven i (drive_of circuit.modules o.site (get_or (own_in circuit o.site) o.offset no_own).name (get_or (own_in circuit o.site) o.offset no_own).cause) (driver_at flat i)) (sym o.counted) (own-driven k o.site o.placed o.offset o.known)
 
-      port : (lt : o.offset < length (signal_ports (module_at circuit.modules o.site.number))) → (way : Direction) → (get_or (signal_ports (module_at circuit.modules o.site.number)) o.offset (element-at (signal_ports (module_at circuit.modules o.site.number)) o.offset lt)).direction ≡ way → WrittenAs k s
-      port lt direction.Input e = absurd (sink.inner (port-is-input k o.site o.placed o.offset (element-at (signal_ports (module_at circuit.modules o.site.number)) o.offset lt) s o.counted lt e))
+      port : (lt : o.offset < length (signal_ports (module_at circuit.modules o.site.number))) → (way : Direction) → (get_or (signal_ports (module_at circuit.modules o.site.number)) o.offset (some-item (signal_ports (module_at circuit.modules o.site.number)) o.offset lt)).direction ≡ way → WrittenAs k s
+      port lt direction.Input e = absurd (sink.inner (port-is-input k o.site o.placed o.offset (some-item (signal_ports (module_at circuit.modules o.site.number)) o.offset lt) s o.counted lt e))
       port lt direction.Output e = record {
         site = o.site;
         stands = o.placed;
         name = (get_or (own_in circuit o.site) o.offset no_own).name;
         cause = Connected;
         named = tt;
-        driven = subst (λ cause. Driven s (drive_of circuit.modules o.site (get_or (own_in circuit o.site) o.offset no_own).name cause) (driver_at flat s)) (port-own-cause o.site o.offset no_own (element-at (signal_ports (module_at circuit.modules o.site.number)) o.offset lt) lt ∙ ap cause_of_port e) driven;
+        driven = subst (λ cause. Driven s (drive_of circuit.modules o.site (get_or (own_in circuit o.site) o.offset no_own).name cause) (driver_at flat s)) (port-own-cause o.site o.offset no_own (some-item (signal_ports (module_at circuit.modules o.site.number)) o.offset lt) lt ∙ ap cause_of_port e) driven;
       }
 
       go : (o.offset < length (signal_ports (module_at circuit.modules o.site.number))) ⊎ IsNamed (HasOwn o.site) (get_or (own_in circuit o.site) o.offset no_own).cause → WrittenAs k s
-      go (inl lt) = port lt (get_or (signal_ports (module_at circuit.modules o.site.number)) o.offset (element-at (signal_ports (module_at circuit.modules o.site.number)) o.offset lt)).direction refl
+      go (inl lt) = port lt (get_or (signal_ports (module_at circuit.modules o.site.number)) o.offset (some-item (signal_ports (module_at circuit.modules o.site.number)) o.offset lt)).direction refl
       go (inr named) = record {
         site = o.site;
         stands = o.placed;
@@ -322,7 +317,7 @@ module _ (circuit : CircuitTree) (flat : FlatCircuit) (tree : InstanceTree) (top
       inside = omega (arith, input.input.listed.1, Pairwise-length (IsPortFor circuit x) (signal_ports (module_at circuit.modules x.number)) (instance_at tree input.child).ports h)
 
       q : Port
-      q = element-at (signal_ports (module_at circuit.modules x.number)) i inside
+      q = some-item (signal_ports (module_at circuit.modules x.number)) i inside
 
       way : (get_or (signal_ports (module_at circuit.modules x.number)) i q).direction ≡ direction.Input
       way =

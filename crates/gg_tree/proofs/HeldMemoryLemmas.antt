@@ -3,7 +3,7 @@ use Rattle.std.proofs.Common.{◌≡◌, ℕ, suc, ◌+◌, ◌-◌, ◌<◌, Li
 use Rattle.std.specs.Prelude.{flat_map}
 use Rattle.std.proofs.lemmas.List.{length-map, get_or-map, map-append}
 use Rattle.std.proofs.lemmas.List.Concat.{get_or-flat_map}
-use Rattle.std.proofs.lemmas.Option.{slice_get-get_or}
+use Rattle.std.proofs.lemmas.Option.{slice_get-get_or, same_Some}
 use Rattle.gg_ast.specs.Places.{place_of}
 use Rattle.gg_ast.specs.Tree.{ModuleTree, CircuitTree, module_names}
 use Rattle.gg_flat.specs.declared.tree.MemoryInstance.{MemoryInstance}
@@ -14,7 +14,7 @@ use Rattle.gg_digest.specs.IsFlat.{memory_paths}
 use Rattle.gg_tree.specs.IsTreeOf.{site_paths, memories_of, IsMemoryFor, HeldMemory, held_memory, held_memories, IsTreeOf}
 use Rattle.gg_digest.specs.Signals.{OwnBank, own_banks}
 use Rattle.gg_digest.proofs.NameLemmas.{Differ, place_of-at}
-use Rattle.gg_tree.proofs.ElementLemmas.{some-same, element}
+use Rattle.gg_tree.proofs.ElementLemmas.{element}
 use Rattle.gg_tree.proofs.PairwiseLemmas.{Pairwise-length}
 use Rattle.gg_tree.proofs.PlaceLemmas.{Placed}
 use Rattle.gg_tree.proofs.RangeLemmas.{count_to, Owner, owner, placed-at}
@@ -140,11 +140,11 @@ module _ (circuit : CircuitTree) (tree : InstanceTree) (top : ℕ) (known_top : 
 
     -- a memory is held by the instance of its site, and its number is its place
     pub memory-holder : (j : ℕ) → (p : MemoryPlace circuit tree j) → (memory_at tree j).instance ≡ p.holder
-    memory-holder j p = some-same (memory_at tree j).instance p.holder (sym p.is_for.holder.is ∙ path-place circuit tree top known_top is sites_differ p.holder p.site p.placed)
+    memory-holder j p = same_Some (memory_at tree j).instance p.holder (sym p.is_for.holder.is ∙ path-place circuit tree top known_top is sites_differ p.holder p.site p.placed)
 
     pub memory-number : (j : ℕ) → j < length tree.memories → (p : MemoryPlace circuit tree j) → (memory_at tree j).memory ≡ j
     memory-number j lt p =
-        some-same (memory_at tree j).memory j
+        same_Some (memory_at tree j).memory j
         (sym p.is_for.number.is
         ∙ ap (λ (m : FlatMemory). place_of m.path (memory_paths (memories_of circuit))) (sym (p.said (flat_memory p.site p.own)))
         ∙ memory_path-place j (flat_memory p.site p.own) (omega (arith, lt, memory-count)))

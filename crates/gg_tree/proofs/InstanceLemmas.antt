@@ -2,7 +2,7 @@
 use Rattle.std.proofs.Common.{◌≡◌, ℕ, zero, suc, ◌+◌, ◌-◌, ◌<◌, List, [], ◌∷◌, Option, Some, None, length, take, get_or, refl, sym, ap, ◌∙◌, subst, arith, length-append, append-nil}
 use Rattle.std.specs.Prelude.{flat_map}
 use Rattle.std.proofs.lemmas.List.{length-map, get_or-map}
-use Rattle.std.proofs.lemmas.Option.{slice_get-get_or}
+use Rattle.std.proofs.lemmas.Option.{slice_get-get_or, same_Some}
 use Rattle.gg_ast.specs.Places.{place_of}
 use Rattle.gg_ast.specs.Tree.{CircuitTree, module_names}
 use Rattle.gg_flat.specs.declared.tree.Instance.{Instance}
@@ -97,16 +97,13 @@ module _ (circuit : CircuitTree) (tree : InstanceTree) (top : ℕ) (known_top : 
         let h = instance-for k (site_below u.outer u.held) u.at_place in
         parent-is circuit (record { path = u.outer.path; number = u.outer.number; name = u.held.name }) above (instance_at tree k).parent (path-place above u.outer u.at_outer) h.parent
 
-    some-is : (a b : ℕ) → Some a ≡ Some b → a ≡ b
-    some-is a b e = cc
-
     under-at : (k above : ℕ) → k < length (sites_of circuit) → (instance_at tree k).parent ≡ Some above → Under (length circuit.modules) circuit.modules (sites_of circuit) above k
     under-at zero above lt e =
         let never : None ≡ Some above = sym (parent-none circuit (instance_at tree 0).parent (instance-for 0 (top_site top) top_placed).parent) ∙ e in
         absurd (cc)
     under-at (suc k) above lt e =
         let h = held_at-place k lt in
-        subst (λ p. Under (length circuit.modules) circuit.modules (sites_of circuit) p (suc k)) (some-is h.above above (sym (parent-at (suc k) h.above h.under) ∙ e)) h.under
+        subst (λ p. Under (length circuit.modules) circuit.modules (sites_of circuit) p (suc k)) (same_Some h.above above (sym (parent-at (suc k) h.above h.under) ∙ e)) h.under
 
     pub ranges : Ranges (length circuit.modules) circuit.modules (signals_in circuit) (sites_of circuit) tree
     ranges = record {

@@ -1,9 +1,10 @@
 -- How the signals of a circuit's tree are named: just below their instance, or as a field of a memory; and no memory has the path of an
 -- instance.
-use Rattle.std.proofs.Common.{◌≡◌, ◌≢◌, ◌⊎◌, inl, inr, ℕ, zero, suc, ◌+◌, ◌<◌, ◌≤◌, List, Some, length, get_or, map, sym, ap, ap₂, ◌∙◌, subst, arith, take_all, unwrap_or}
+use Rattle.std.proofs.Common.{◌≡◌, ◌≢◌, ◌⊎◌, inl, inr, ℕ, zero, suc, ◌+◌, ◌<◌, ◌≤◌, List, Some, length, get_or, map, sym, ap, ap₂, ◌∙◌, subst, arith, take_all}
 use Rattle.std.specs.Prelude.{flat_map, Contains}
 use Rattle.std.proofs.lemmas.Bool.{cases_lt}
 use Rattle.std.proofs.lemmas.List.{length-map, get_or-map}
+use Rattle.std.proofs.lemmas.Option.{same_Some}
 use Rattle.gg_ast.specs.Places.{place_of}
 use Rattle.gg_ast.specs.Tree.{CircuitTree, module_names}
 use Rattle.gg_flat.specs.Circuit.{FlatCircuit}
@@ -11,10 +12,9 @@ use Rattle.gg_flat.specs.Tree.{InstanceTree, IsInnermost, IsJustBelow, memory_at
 use Rattle.gg_flat.specs.Scoped.{IsMemoryField, memory_fields}
 use Rattle.gg_count.specs.Sites.{Site, site_below, module_at, held_at, sites_of, top_site}
 use Rattle.gg_digest.specs.Flat.{flat_memory, memories_at}
-use Rattle.gg_digest.specs.IsFlat.{IsFlat, number_of}
+use Rattle.gg_digest.specs.IsFlat.{IsFlat}
 use Rattle.gg_tree.specs.IsTreeOf.{IsTreeOf, held_memory, held_memories, signal_paths, site_paths}
 use Rattle.gg_digest.specs.Signals.{Own, OwnBank, memory_signals}
-use Rattle.gg_tree.proofs.ElementLemmas.{some-same}
 use Rattle.gg_tree.proofs.JoinLemmas.{joined-once, joined-some}
 use Rattle.gg_tree.proofs.PlaceLemmas.{Placed}
 use Rattle.gg_tree.proofs.RangeLemmas.{count_to, count-le, placed-at, placed-same}
@@ -23,7 +23,7 @@ use Rattle.gg_tree.proofs.OwnLemmas.{own_in, own-place, placed-known, count-next
 use Rattle.gg_tree.proofs.HeldMemoryLemmas.{banks_in, MemoryPlace, memory-place, memory-count, held-count}
 use Rattle.gg_tree.proofs.TreeLemmas.{HasDistinctPaths, HasPlainNames, no_own, path-is, OwnPlace, own-place-of, memory-path, holder-is}
 use Rattle.gg_tree.proofs.FieldLemmas.{FieldPlace, number_behind}
-use Rattle.gg_tree.proofs.ScopeOfTreeLemmas.{HasApartNames, just-below, fields-are}
+use Rattle.gg_tree.proofs.ScopeOfTreeLemmas.{HasApartNames, just-below, fields-are, number-at}
 
 module _ (circuit : CircuitTree) (tree : InstanceTree) (top : ℕ) (known_top : place_of circuit.name (module_names circuit) ≡ Some top) (is_tree : IsTreeOf circuit tree) where
   abbrev Stands : ℕ → Site → Type 0
@@ -87,9 +87,6 @@ module _ (circuit : CircuitTree) (tree : InstanceTree) (top : ℕ) (known_top : 
       offset = let same : memories_to m.holder ≡ memories_to k = ap memories_to holder in omega (arith, m.counted, same)
 
 module _ (circuit : CircuitTree) (flat : FlatCircuit) (tree : InstanceTree) (top : ℕ) (known_top : place_of circuit.name (module_names circuit) ≡ Some top) (is_flat : IsFlat circuit flat) (is_tree : IsTreeOf circuit tree) (distinct : HasDistinctPaths circuit) (plain : HasPlainNames circuit) (names : HasApartNames circuit) where
-  number-at : (paths : List (List ℕ)) (path : List ℕ) (s : ℕ) → place_of path paths ≡ Some s → number_of paths path ≡ s
-  number-at paths path s e = ap (λ o. unwrap_or o 0) e
-
   -- an own signal that is a field of one of the site's memories is a field of a memory in the tree
   field-here : (k : ℕ) (x : Site) → Placed (length circuit.modules) circuit.modules (sites_of circuit) k x → (o : ℕ) → o < length (own_in circuit x) → FieldPlace (module_at circuit.modules x.number).statements (get_or (own_in circuit x) o no_own) → IsMemoryField flat tree k (count_to (signals_in circuit) (sites_of circuit) k + o)
   field-here k x p o lt f = record {
@@ -152,6 +149,6 @@ module _ (circuit : CircuitTree) (flat : FlatCircuit) (tree : InstanceTree) (top
           let u = h.under in
           let once = joined-once u.outer.path m.site.path u.held.name m.own.name (plain.of_instances u.outer.number u.held u.among) (plain.of_memories m.site m.own listed)
           (sym (path-is circuit flat tree top known_top is_flat is_tree distinct (suc k) (site_below u.outer u.held) u.at_place) ∙ same ∙ path) in
-          let place : h.above ≡ m.holder = some-same h.above m.holder (sym (path-place circuit tree top known_top is_tree distinct.of_sites h.above u.outer u.at_outer) ∙ ap (λ path. place_of path (site_paths circuit)) once.0 ∙ path-place circuit tree top known_top is_tree distinct.of_sites m.holder m.site m.placed) in
+          let place : h.above ≡ m.holder = same_Some h.above m.holder (sym (path-place circuit tree top known_top is_tree distinct.of_sites h.above u.outer u.at_outer) ∙ ap (λ path. place_of path (site_paths circuit)) once.0 ∙ path-place circuit tree top known_top is_tree distinct.of_sites m.holder m.site m.placed) in
           let site : u.outer ≡ m.site = placed-same (length circuit.modules) circuit.modules (sites_of circuit) m.holder u.outer m.site (subst (λ i. Placed (length circuit.modules) circuit.modules (sites_of circuit) i u.outer) place u.at_outer) m.placed in
           names.apart m.site u.held m.own (subst (λ (x : Site). Contains (held_at circuit.modules x.number) u.held) site u.among) listed once.1

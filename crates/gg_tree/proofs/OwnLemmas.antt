@@ -4,7 +4,7 @@ use Rattle.std.specs.Prelude.{flat_map, filter_map}
 use Rattle.std.proofs.lemmas.List.{length-map, get_or-map, get_or_append_left}
 use Rattle.std.proofs.lemmas.List.Concat.{get_or-flat_map}
 use Rattle.std.proofs.lemmas.List.Folds.{length-flat_map-take}
-use Rattle.std.proofs.lemmas.Option.{slice_get-get_or}
+use Rattle.std.proofs.lemmas.Option.{slice_get-get_or, same_Some}
 use Rattle.gg_bits.specs.Shape.{Shape}
 use Rattle.gg_ast.specs.declared.module.Port.{Port}
 use Rattle.gg_ast.specs.declared.statement.Stmt.{Stmt}
@@ -112,13 +112,10 @@ module _ (circuit : CircuitTree) (k : ℕ) (x : Site) (placed : Placed (length c
       ∙ ap Some (own-path o [] e lt))
       differ
 
-  some-same : (a b : ℕ) → Some a ≡ Some b → a ≡ b
-  some-same a b e = cc
-
   -- the signals of a site's ports are its first, in port order
   pub port-signals : Differ (signal_paths circuit) → (ports : List InstancePort) → Pairwise (IsPortFor circuit x) (signal_ports (module_at circuit.modules x.number)) ports → (i : ℕ) (q : InstancePort) (p : Port) (e : Own) → i < length (signal_ports (module_at circuit.modules x.number)) → (get_or ports i q).signal ≡ count_to (signals_in circuit) (sites_of circuit) k + i
   port-signals differ ports each i q p e lt =
       let h = Pairwise-at (IsPortFor circuit x) (signal_ports (module_at circuit.modules x.number)) ports i p q each lt in
       let o = port-own circuit x i p lt in
-      some-same (get_or ports i q).signal (count_to (signals_in circuit) (sites_of circuit) k + i)
+      same_Some (get_or ports i q).signal (count_to (signals_in circuit) (sites_of circuit) k + i)
       (sym h.signal.is ∙ ap (λ name. place_of (joined x.path name) (signal_paths circuit)) (sym (o.1 e)) ∙ own-place differ i e o.0)

@@ -1,5 +1,5 @@
 -- Laws of Pairwise: two lists have the same length, and a relation holds of the elements at each place.
-use Rattle.std.proofs.Common.{◌≡◌, ℕ, zero, suc, ◌<◌, List, [], ◌∷◌, ◌++◌, length, drop, refl, ap, ◌∙◌, arith}
+use Rattle.std.proofs.Common.{◌≡◌, ℕ, zero, suc, ◌<◌, List, [], ◌∷◌, ◌++◌, length, refl, ap, arith}
 use Rattle.std.specs.Prelude.{slice_index_or}
 use Rattle.gg_tree.specs.IsTreeOf.{Pairwise}
 
@@ -19,34 +19,6 @@ Pairwise-append R (x ∷ xs) more (y ∷ ys) others h k = (h.0, Pairwise-append 
 -- it holds with one more element at the end of each list
 pub Pairwise-push : {A B : Type 0} (R : A → B → Type 0) (xs : List A) (x : A) (ys : List B) (y : B) → Pairwise R xs ys → R x y → Pairwise R (xs ++ x ∷ []) (ys ++ y ∷ [])
 Pairwise-push R xs x ys y h k = Pairwise-append R xs (x ∷ []) ys (y ∷ []) h (k, tt)
-
--- it holds without the first n elements of each list
-pub Pairwise-drop : {A B : Type 0} (R : A → B → Type 0) (n : ℕ) (xs : List A) (ys : List B) → Pairwise R xs ys → Pairwise R (drop n xs) (drop n ys)
-Pairwise-drop R zero xs ys h = h
-Pairwise-drop R (suc n) [] [] h = tt
-Pairwise-drop R (suc n) [] (y ∷ ys) h = absurd h
-Pairwise-drop R (suc n) (x ∷ xs) [] h = absurd h
-Pairwise-drop R (suc n) (x ∷ xs) (y ∷ ys) h = Pairwise-drop R n xs ys h.1
-
--- from two relations to the same list follows a relation between the two others
-pub Pairwise-join : {A B C : Type 0} (R : A → B → Type 0) (S : A → C → Type 0) (T : B → C → Type 0) → ((x : A) (y : B) (z : C) → R x y → S x z → T y z) → (xs : List A) (ys : List B) (zs : List C) → Pairwise R xs ys → Pairwise S xs zs → Pairwise T ys zs
-Pairwise-join R S T join [] [] [] h k = tt
-Pairwise-join R S T join [] [] (z ∷ zs) h k = absurd k
-Pairwise-join R S T join [] (y ∷ ys) zs h k = absurd h
-Pairwise-join R S T join (x ∷ xs) [] zs h k = absurd h
-Pairwise-join R S T join (x ∷ xs) (y ∷ ys) [] h k = absurd k
-Pairwise-join R S T join (x ∷ xs) (y ∷ ys) (z ∷ zs) h k = (join x y z h.0 k.0, Pairwise-join R S T join xs ys zs h.1 k.1)
-
--- lists with equal elements at each place are equal
-pub Pairwise-equal : {A : Type 0} (xs ys : List A) → Pairwise (λ x y. x ≡ y) xs ys → xs ≡ ys
-Pairwise-equal [] [] h = refl
-Pairwise-equal [] (y ∷ ys) h = absurd h
-Pairwise-equal (x ∷ xs) [] h = absurd h
-Pairwise-equal (x ∷ xs) (y ∷ ys) h = ap (λ a. a ∷ xs) h.0 ∙ ap (λ rest. y ∷ rest) (Pairwise-equal xs ys h.1)
-
--- if each element is related to at most one, two lists that are related to the same list are equal
-pub Pairwise-unique : {A B : Type 0} (R : A → B → Type 0) → ((x : A) (y z : B) → R x y → R x z → y ≡ z) → (xs : List A) (ys zs : List B) → Pairwise R xs ys → Pairwise R xs zs → ys ≡ zs
-Pairwise-unique R one xs ys zs h k = Pairwise-equal ys zs (Pairwise-join R R (λ y z. y ≡ z) one xs ys zs h k)
 
 -- it holds of lists of the same length if it holds at each place, whatever the defaults are
 pub Pairwise-each : {A B : Type 0} (R : A → B → Type 0) (xs : List A) (ys : List B) → length xs ≡ length ys → ((k : ℕ) (a : A) (b : B) → k < length xs → R (slice_index_or xs k a) (slice_index_or ys k b)) → Pairwise R xs ys

@@ -5,6 +5,7 @@ use Rattle.std.proofs.lemmas.Bool.{cases_lt}
 use Rattle.std.proofs.Math.Seq.{drop-append_seam}
 use Rattle.gg_ast.specs.Tree.{ModuleTree}
 use Rattle.gg_count.specs.Sites.{Held, Site, site_below, sites, held_at}
+use Rattle.gg_flat.proofs.ListLemmas.{further}
 
 -- a site with all sites below it, down to the depth `deepest`
 abbrev pub within : ℕ → List ModuleTree → Site → List Site
@@ -41,16 +42,13 @@ within-some (suc levels) modules site = omega arith
 part : {A : Type 0} (all xs ys : List A) (k : ℕ) → drop k all ≡ xs ++ ys → drop (k + length xs) all ≡ ys
 part all xs ys k h = sym (drop-drop (length xs) k all) ∙ ap (drop (length xs)) h ∙ drop-append_seam xs ys
 
-later : {A : Type 0} (x : A) (xs : List A) (y : A) → Contains xs y → Contains (x ∷ xs) y
-later x xs y c = (suc c.0, omega (arith, c.1), c.2)
-
 module _ (deepest : ℕ) (modules : List ModuleTree) (all : List Site) where
   -- what held_from shows, of sites with n levels below them
   abbrev Known : ℕ → Type 0
   Known n = (k : ℕ) (here : Site) → n ≡ deepest - here.depth → Placed deepest modules all k here → (i : ℕ) → k < i → i < k + length (within deepest modules here) → HeldFrom deepest modules all k i
 
-  further : (a b k i : ℕ) → a ≤ b → HeldFrom deepest modules all b i → HeldFrom deepest modules all a i
-  further a b k i le h = record { above = h.above; from_on = omega (arith, le, h.from_on); under = h.under }
+  earlier : (a b k i : ℕ) → a ≤ b → HeldFrom deepest modules all b i → HeldFrom deepest modules all a i
+  earlier a b k i le h = record { above = h.above; from_on = omega (arith, le, h.from_on); under = h.under }
 
   -- the same of the sites below some of the site's instances
   along : (n k : ℕ) (here : Site) → Known n → n ≡ deepest - suc here.depth → suc here.depth ≤ deepest → Placed deepest modules all k here → (hs : List Held) (j : ℕ) (rest : List Site) → drop j all ≡ flat_map (λ h. sites n modules (site_below here h)) hs ++ rest → ((h : Held) → Contains hs h → Contains (held_at modules here.number) h) → j + length (flat_map (λ h. sites n modules (site_below here h)) hs) ≤ k + length (within deepest modules here) → k < j → (i : ℕ) → j ≤ i → i < j + length (flat_map (λ h. sites n modules (site_below here h)) hs) → HeldFrom deepest modules all k i
@@ -89,10 +87,10 @@ module _ (deepest : ℕ) (modules : List ModuleTree) (all : List Site) where
       })
 
       go : (i < j + length (sites n modules (site_below here h))) ⊎ (j + length (sites n modules (site_below here h)) ≤ i) → (j < i) ⊎ (i ≤ j) → ((j : ℕ) (rest : List Site) → drop j all ≡ flat_map (λ h. sites n modules (site_below here h)) hs ++ rest → ((h : Held) → Contains hs h → Contains (held_at modules here.number) h) → j + length (flat_map (λ h. sites n modules (site_below here h)) hs) ≤ k + length (within deepest modules here) → k < j → (i : ℕ) → j ≤ i → i < j + length (flat_map (λ h. sites n modules (site_below here h)) hs) → HeldFrom deepest modules all k i) → HeldFrom deepest modules all k i
-      go (inl lt) (inl more) next = further k j k i (omega (arith, after)) (known j (site_below here h) level placed_here i more (omega (arith, lt, size)))
+      go (inl lt) (inl more) next = earlier k j k i (omega (arith, after)) (known j (site_below here h) level placed_here i more (omega (arith, lt, size)))
       go (inl lt) (inr here_on) next = under_here (omega (arith, from, here_on))
       go (inr ge) which next =
-          next (j + length (sites n modules (site_below here h))) rest (part all (sites n modules (site_below here h)) (flat_map (λ x. sites n modules (site_below here x)) hs ++ rest) j behind) (λ x c. each x (later h hs x c)) (omega (arith, end, total)) (omega (arith, after)) i ge (omega (arith, to, total))
+          next (j + length (sites n modules (site_below here h))) rest (part all (sites n modules (site_below here h)) (flat_map (λ x. sites n modules (site_below here x)) hs ++ rest) j behind) (λ x c. each x (further h hs x c)) (omega (arith, end, total)) (omega (arith, after)) i ge (omega (arith, to, total))
 
   -- each site below another is held by that one, or by a site below it
   pub held_from : (n : ℕ) → Known n

@@ -15,13 +15,13 @@ use Rattle.gg_flat.specs.declared.memory.Memory.{Memory}
 use Rattle.gg_flat.specs.declared.tree.InstancePort.{InstancePort}
 use Rattle.gg_flat.specs.Tree.{InstanceTree, IsInnermost, IsWithin, IsJustBelow, instance_at, memory_at, path_at, joined}
 use Rattle.gg_flat.specs.Scoped.{IsPort, IsOwnPort, IsOwnField, IsFieldOf, input_signals, output_signals, reader_fields, writer_fields, writers_at, memory_fields}
+use Rattle.gg_flat.proofs.ListLemmas.{filter-cases, some-item}
 use Rattle.gg_count.specs.Sites.{Held, Site, module_at, held_at, sites_of, top_site}
 use Rattle.gg_digest.specs.IsFlat.{IsFlat, number_of, reader_of, writer_of, port_names, top_ports}
 use Rattle.gg_tree.specs.IsTreeOf.{IsTreeOf, IsPortFor, signal_paths, signal_ports, is_input, Pairwise}
 use Rattle.gg_digest.specs.Known.{types_of}
 use Rattle.gg_digest.specs.Memories.{type_shape}
 use Rattle.gg_digest.specs.Signals.{Own, own_of_port, OwnBank, memory_signals}
-use Rattle.gg_tree.proofs.ElementLemmas.{element-at, filter-in}
 use Rattle.gg_tree.proofs.PairwiseLemmas.{Pairwise-length}
 use Rattle.gg_tree.proofs.PlaceLemmas.{Placed}
 use Rattle.gg_tree.proofs.RangeLemmas.{count_to, own-innermost}
@@ -42,7 +42,7 @@ pub record HasApartNames (circuit : CircuitTree) : Type 0 where
 
 -- ---- the circuit's ports
 
-number-at : (paths : List (List ℕ)) (path : List ℕ) (s : ℕ) → place_of path paths ≡ Some s → number_of paths path ≡ s
+pub number-at : (paths : List (List ℕ)) (path : List ℕ) (s : ℕ) → place_of path paths ≡ Some s → number_of paths path ≡ s
 number-at paths path s e = ap (λ o. unwrap_or o 0) e
 
 module _ (circuit : CircuitTree) (top : ℕ) where
@@ -123,9 +123,6 @@ module _ (circuit : CircuitTree) (flat : FlatCircuit) (tree : InstanceTree) (top
   own-is-innermost k x p o lt =
       own-innermost (length circuit.modules) circuit.modules (signals_in circuit) (sites_of circuit) tree (ranges circuit tree top known_top is_tree distinct.of_sites) k (from_site k + o) (placed-known circuit k x p) (omega arith) (omega (arith, lt, own-count circuit k x p))
 
-  pub path-here : (k : ℕ) (x : Site) → Stands k x → path_at tree.paths k ≡ x.path
-  path-here k x p = path-is circuit flat tree top known_top is_flat is_tree distinct k x p
-
   pub path-there : (k : ℕ) (x : Site) → Stands k x → (o : ℕ) (e : Own) → o < length (own_in circuit x) → path_at flat.paths (from_site k + o) ≡ joined x.path (get_or (own_in circuit x) o e).name
   path-there k x p o e lt = signal-path circuit flat tree top known_top is_flat is_tree distinct plain k x p o e lt
 
@@ -134,7 +131,7 @@ module _ (circuit : CircuitTree) (flat : FlatCircuit) (tree : InstanceTree) (top
   just-below k x p o e lt dotless = record {
     name = (get_or (own_in circuit x) o e).name;
     plain = dotless;
-    is = path-there k x p o e lt ∙ ap (λ path. joined path (get_or (own_in circuit x) o e).name) (sym (path-here k x p));
+    is = path-there k x p o e lt ∙ ap (λ path. joined path (get_or (own_in circuit x) o e).name) (sym (path-is circuit flat tree top known_top is_flat is_tree distinct k x p));
   }
 
   pub port-of : (k s : ℕ) → IsPort tree k s → IsOwnPort flat tree k s
@@ -171,7 +168,7 @@ module _ (circuit : CircuitTree) (flat : FlatCircuit) (tree : InstanceTree) (top
       own = port-own circuit x i any inside
 
       dotless : ¬ Contains (get_or (signal_ports (module_at circuit.modules x.number)) i any).name 46
-      dotless = names.of_ports x (get_or (signal_ports (module_at circuit.modules x.number)) i any) (filter-in (λ (q : Port). is_some (type_shape q.ty)) (module_at circuit.modules x.number).ports (get_or (signal_ports (module_at circuit.modules x.number)) i any) (Contains-get_or (signal_ports (module_at circuit.modules x.number)) i any inside))
+      dotless = names.of_ports x (get_or (signal_ports (module_at circuit.modules x.number)) i any) ((filter-cases (λ (q : Port). is_some (type_shape q.ty)) (module_at circuit.modules x.number).ports (get_or (signal_ports (module_at circuit.modules x.number)) i any) (Contains-get_or (signal_ports (module_at circuit.modules x.number)) i any inside)).among)
 
   pub ports_once-of : (k : ℕ) → k < length tree.instances → AllPairs (λ a b. a.signal ≢ b.signal) (instance_at tree k).ports
   ports_once-of k lt i j d before inside same =
@@ -208,7 +205,7 @@ module _ (circuit : CircuitTree) (flat : FlatCircuit) (tree : InstanceTree) (top
       there = omega (arith, lt, flat-memory-count circuit flat tree top known_top is_flat is_tree distinct plain)
 
       memory : Memory
-      memory = element-at flat.memories j there
+      memory = some-item flat.memories j there
 
       readers : readers_at flat j ≡ map (reader_of (signal_paths circuit) (joined p.site.path p.own.name)) p.own.bank.readers
       readers = get_or-map (λ (m : Memory). m.readers) flat.memories j memory [] there ∙ (memory-is circuit flat tree top known_top is_flat is_tree distinct plain j lt p memory).readers

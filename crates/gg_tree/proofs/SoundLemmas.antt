@@ -12,12 +12,13 @@ use Rattle.gg_ast.specs.Tree.{CircuitTree}
 use Rattle.gg_names.specs.Namespace.{name_by, port_names, names_in}
 use Rattle.gg_names.specs.Repetitions.{repetitions}
 use Rattle.gg_count.specs.Sites.{Site, module_at}
+use Rattle.gg_flat.proofs.ListLemmas.{filter-cases}
 use Rattle.gg_tree.specs.IsTreeOf.{signal_ports}
 use Rattle.gg_digest.specs.Known.{types_of}
 use Rattle.gg_digest.specs.Memories.{type_shape}
 use Rattle.gg_digest.specs.Signals.{Own, OwnBank, own_of_port, own_of_kind}
 use Rattle.gg_digest.proofs.NameLemmas.{Differ}
-use Rattle.gg_tree.proofs.ElementLemmas.{element, filter-in}
+use Rattle.gg_tree.proofs.ElementLemmas.{element}
 use Rattle.gg_tree.proofs.CauseLemmas.{name-some, name-dotless, statements-named, port-count}
 use Rattle.gg_tree.proofs.ChildLemmas.{child-known, field-known}
 use Rattle.gg_tree.proofs.DeclaredLemmas.{names-differ, module-declared, Differ-behind, Differ-parts, held-no-bank}
@@ -80,7 +81,7 @@ module _ (circuit : CircuitTree) (are_names : AreNamesOfCircuit circuit) (once :
   port-has x o lt =
       let e = element (signal_ports (module_at circuit.modules x.number)) o lt in
       let own = port-own circuit x o e.0 lt in
-      (e.0, filter-in (λ (q : Port). is_some (type_shape q.ty)) (module_at circuit.modules x.number).ports e.0 e.1, λ d. own.1 d ∙ ap (λ (q : Port). q.name) (e.2 e.0))
+      (e.0, (filter-cases (λ (q : Port). is_some (type_shape q.ty)) (module_at circuit.modules x.number).ports e.0 e.1).among, λ d. own.1 d ∙ ap (λ (q : Port). q.name) (e.2 e.0))
 
   -- a field has a dot in its name
   field-dotted : (x : Site) (o : Own) → FieldPlace (module_at circuit.modules x.number).statements o → Contains o.name 46

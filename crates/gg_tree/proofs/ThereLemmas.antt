@@ -1,13 +1,11 @@
 -- The paths that an instance is made from are among the circuit's: what holds it, the signals of its ports, and its memories.
-use Rattle.std.proofs.Common.{◌≡◌, ◌⊎◌, inl, inr, ℕ, zero, suc, true, false, List, Option, Some, None, is_some, is_none, length, map, refl, sym, ap, ◌∙◌, subst, arith}
-use Rattle.std.specs.Prelude.{Contains, All, IfSome, flat_map, option_map}
-use Rattle.gg_bits.specs.Shape.{Shape, shape}
-use Rattle.gg_bits.specs.declared.types.Ty.{Ty}
-use Rattle.gg_ast.specs.declared.module.GroundType.{GroundType}
+use Rattle.std.proofs.Common.{◌≡◌, ◌⊎◌, inl, inr, ℕ, zero, suc, List, Option, Some, None, length, map, refl, sym, ap, ◌∙◌, subst, arith}
+use Rattle.std.specs.Prelude.{Contains, All, IfSome, flat_map}
 use Rattle.gg_ast.specs.declared.module.Port.{Port}
 use Rattle.gg_ast.specs.Places.{place_of}
 use Rattle.gg_ast.specs.Tree.{ModuleTree, CircuitTree, module_names}
 use Rattle.gg_flat.specs.Tree.{joined}
+use Rattle.gg_flat.proofs.ListLemmas.{further, Contains-map}
 use Rattle.gg_count.specs.Sites.{Held, Site, Outer, top_site, site_below, sites, sites_of, sites_from, held_at, module_at}
 use Rattle.gg_digest.specs.declared.digest.Digest.{Digest}
 use Rattle.gg_digest.specs.declared.digest.OwnMemory.{OwnMemory}
@@ -16,10 +14,9 @@ use Rattle.gg_digest.specs.declared.sites.Place.{Place}
 use Rattle.gg_digest.specs.Flat.{FlatSignal, flat_signal, signals_at, flat_signals, FlatMemory, flat_memory, memories_at}
 use Rattle.gg_digest.specs.IsFlat.{memory_paths}
 use Rattle.gg_digest.specs.Known.{types_of}
-use Rattle.gg_digest.specs.Memories.{type_shape}
 use Rattle.gg_digest.specs.Signals.{Own, OwnBank}
 use Rattle.gg_digest.specs.Views.{IsDigest, outer_of, own_bank_of, site_of}
-use Rattle.gg_digest.proofs.AmongLemmas.{further, in-map, from-map, in-flat_map, from-flat_map}
+use Rattle.gg_digest.proofs.AmongLemmas.{from-map, in-flat_map, from-flat_map}
 use Rattle.gg_tree.specs.IsTreeOf.{site_paths, signal_paths, memories_of, signal_ports}
 use Rattle.gg_tree.proofs.ElementLemmas.{element}
 use Rattle.gg_tree.proofs.HeldMemoryLemmas.{banks_in}
@@ -33,15 +30,15 @@ signal-there circuit x p c k =
     let e = element (own_in circuit x) k.0 own.0 in
     let named : e.0.name ≡ p.name = sym (ap (λ (o : Own). o.name) (e.2 e.0)) ∙ own.1 e.0 ∙ ap (λ (q : Port). q.name) k.2 in
     subst (λ name. Contains (signal_paths circuit) (joined x.path name)) named
-    (in-map (λ (y : FlatSignal). y.path) (flat_signals (types_of circuit) circuit.modules (sites_of circuit)) (flat_signal circuit.modules x e.0)
-    (in-flat_map (signals_at (types_of circuit) circuit.modules) (sites_of circuit) x (flat_signal circuit.modules x e.0) c (in-map (flat_signal circuit.modules x) (own_in circuit x) e.0 e.1)))
+    (Contains-map (λ (y : FlatSignal). y.path) (flat_signals (types_of circuit) circuit.modules (sites_of circuit)) (flat_signal circuit.modules x e.0)
+    (in-flat_map (signals_at (types_of circuit) circuit.modules) (sites_of circuit) x (flat_signal circuit.modules x e.0) c (Contains-map (flat_signal circuit.modules x) (own_in circuit x) e.0 e.1)))
 
 -- ---- memories
 
 pub memory-there : (circuit : CircuitTree) (x : Site) (b : OwnBank) → Contains (sites_of circuit) x → Contains (banks_in circuit x) b → Contains (memory_paths (memories_of circuit)) (joined x.path b.name)
 memory-there circuit x b c k =
-    in-map (λ (y : FlatMemory). y.path) (memories_of circuit) (flat_memory x b)
-    (in-flat_map (memories_at circuit.modules) (sites_of circuit) x (flat_memory x b) c (in-map (flat_memory x) (banks_in circuit x) b k))
+    Contains-map (λ (y : FlatMemory). y.path) (memories_of circuit) (flat_memory x b)
+    (in-flat_map (memories_at circuit.modules) (sites_of circuit) x (flat_memory x b) c (Contains-map (flat_memory x) (banks_in circuit x) b k))
 
 -- the paths of a site's memories, as its digest keeps them, are among the circuit's
 pub memories-there : (circuit : CircuitTree) (place : Place) (digest : Digest) → IsDigest (types_of circuit) circuit.modules place.number digest → Contains (sites_of circuit) (site_of place) → (items : List OwnMemory) → items ≡ digest.memories.items → All (λ (own : OwnMemory). Contains (memory_paths (memories_of circuit)) (joined place.path own.name.now)) items
@@ -49,7 +46,7 @@ memories-there circuit place digest d c items same i any lt =
     let e = element items i lt in
     subst (λ (own : OwnMemory). Contains (memory_paths (memories_of circuit)) (joined place.path own.name.now)) (sym (e.2 any))
     (memory-there circuit (site_of place) (own_bank_of e.0) c
-    (subst (λ (l : List OwnBank). Contains l (own_bank_of e.0)) (ap (map own_bank_of) same ∙ d.memories) (in-map own_bank_of items e.0 e.1)))
+    (subst (λ (l : List OwnBank). Contains l (own_bank_of e.0)) (ap (map own_bank_of) same ∙ d.memories) (Contains-map own_bank_of items e.0 e.1)))
 
 -- ---- what holds an instance
 
@@ -63,7 +60,7 @@ below-among : (n : ℕ) (modules : List ModuleTree) (x : Site) (h : Held) (path 
 below-among n modules x h path c k =
     let m = from-map (λ (s : Site). s.path) (sites n modules (site_below x h)) path k in
     subst (Contains (map (λ (s : Site). s.path) (sites (suc n) modules x))) m.made
-    (in-map (λ (s : Site). s.path) (sites (suc n) modules x) m.of
+    (Contains-map (λ (s : Site). s.path) (sites (suc n) modules x) m.of
     (further x (flat_map (λ h. sites n modules (site_below x h)) (held_at modules x.number)) m.of
     (in-flat_map (λ h. sites n modules (site_below x h)) (held_at modules x.number) h m.of c m.among)))
 
@@ -105,10 +102,3 @@ holder-there circuit place c = go place.outer (turned (outer-there circuit (site
     go None h = tt
     go (Some around) (inl e) = absurd (cc)
     go (Some around) (inr h) = subst (Contains (site_paths circuit)) (sym (ap (path_or around.path) h.1)) h.2
-
--- ---- ports
-
--- a port that has a type is a signal
-pub some-signal : (found : Option Ty) (ty : GroundType) → option_map (λ (t : Ty). shape t) found ≡ type_shape ty → is_none found ≡ false → is_some (type_shape ty) ≡ true
-some-signal None ty is some = absurd (cc)
-some-signal (Some t) ty is some = ap (λ (o : Option Shape). is_some o) (sym is)

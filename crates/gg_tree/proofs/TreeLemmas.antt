@@ -2,7 +2,8 @@
 use Rattle.std.proofs.Common.{◌≡◌, ◌≢◌, ◌⊎◌, inl, inr, ℕ, zero, suc, ◌+◌, ◌-◌, ◌<◌, ◌≤◌, false, List, [], ◌∷◌, Some, length, get_or, refl, sym, ap, ◌∙◌, subst, arith, length-append, take_all, slice_index_or}
 use Rattle.std.specs.Prelude.{flat_map, Contains, AllPairs}
 use Rattle.std.proofs.lemmas.Bool.{cases_lt}
-use Rattle.std.proofs.lemmas.List.{length-map, get_or-map}
+use Rattle.std.proofs.lemmas.List.{length-map, get_or-map, get_or_default}
+use Rattle.std.proofs.lemmas.Option.{same_Some}
 use Rattle.gg_bits.specs.Shape.{uint, shape}
 use Rattle.gg_ast.specs.declared.module.Port.{Port}
 use Rattle.gg_ast.specs.Places.{place_of}
@@ -15,6 +16,7 @@ use Rattle.gg_flat.specs.declared.piece.Signal.{Signal}
 use Rattle.gg_flat.specs.declared.tree.InstancePort.{InstancePort}
 use Rattle.gg_flat.specs.declared.tree.MemoryInstance.{MemoryInstance}
 use Rattle.gg_flat.specs.Tree.{InstanceTree, IsTree, IsTop, IsBelow, IsInstance, IsHeld, IsInnermost, IsWithin, Holds, instance_at, memory_at, parent_place, path_at, joined, port_count}
+use Rattle.gg_flat.proofs.ListLemmas.{some-item}
 use Rattle.gg_count.specs.Sites.{Held, Site, site_below, module_at, held_at, sites_of, top_site}
 use Rattle.gg_digest.specs.Flat.{FlatSignal, FlatMemory, flat_memory, memories_at, flat_signals}
 use Rattle.gg_digest.specs.IsFlat.{IsFlat, IsMemoryOf, signals_of, reader_of, writer_of, memory_paths}
@@ -22,7 +24,6 @@ use Rattle.gg_tree.specs.IsTreeOf.{IsTreeOf, IsInstanceFor, IsPortFor, IsMemoryA
 use Rattle.gg_digest.specs.Known.{types_of}
 use Rattle.gg_digest.specs.Signals.{Own, own, FromOutside, OwnBank}
 use Rattle.gg_digest.proofs.NameLemmas.{Differ, place_of-path}
-use Rattle.gg_tree.proofs.ElementLemmas.{some-same, element-at}
 use Rattle.gg_tree.proofs.PairwiseLemmas.{Pairwise-length}
 use Rattle.gg_tree.proofs.PlaceLemmas.{within, within-some, Placed, Under, held_from}
 use Rattle.gg_tree.proofs.RangeLemmas.{count_to, count-le, Ranges, placed-at, placed-inside, innermost-own}
@@ -155,7 +156,7 @@ module _ (circuit : CircuitTree) (flat : FlatCircuit) (tree : InstanceTree) (top
         go : (j < i + whole (site_at i known_i)) ⊎ (i + whole (site_at i known_i) ≤ j) → ((instance_at tree i).end ≤ (instance_at tree j).first) ⊎ ((instance_at tree j).end ≤ (instance_at tree i).first)
         go (inl among) =
             let r = inner-parent i j (site_at i known_i) (stands_at i known_i) before among in
-            let same : r.0 ≡ above = some-same r.0 above (sym (tells.parent j r.0 r.2) ∙ other) in
+            let same : r.0 ≡ above = same_Some r.0 above (sym (tells.parent j r.0 r.2) ∙ other) in
             let u = tells.under i above known_i one in
             absurd (omega (arith, same, r.1, u.before))
         go (inr behind) = inl (omega (arith, tells.ends i (site_at i known_i) (stands_at i known_i), tells.begins j known_j, count-le (signals_in circuit) (sites_of circuit) (i + whole (site_at i known_i)) j behind))
@@ -308,7 +309,7 @@ module _ (circuit : CircuitTree) (flat : FlatCircuit) (tree : InstanceTree) (top
         number_here : get_or (instance_at tree p.holder).memories p.offset (memory_at tree j).memory ≡ (memory_at tree j).memory
         number_here =
             let at = Pairwise-at (IsMemoryAt circuit) (memories_at circuit.modules p.site) (instance_at tree p.holder).memories p.offset (flat_memory p.site p.own) (memory_at tree j).memory h.memories (omega (arith, p.known, size)) in
-            some-same (get_or (instance_at tree p.holder).memories p.offset (memory_at tree j).memory) (memory_at tree j).memory
+            same_Some (get_or (instance_at tree p.holder).memories p.offset (memory_at tree j).memory) (memory_at tree j).memory
             (sym at.number.is ∙ ap (λ (m : FlatMemory). place_of m.path (memory_paths (memories_of circuit))) said_here ∙ p.is_for.number.is)
 
         listed : Contains (instance_at tree p.holder).memories (memory_at tree j).memory
@@ -318,7 +319,7 @@ module _ (circuit : CircuitTree) (flat : FlatCircuit) (tree : InstanceTree) (top
         there = omega (arith, lt, flat-memory-count)
 
         memory : Memory
-        memory = element-at flat.memories j there
+        memory = some-item flat.memories j there
 
         is_memory : IsMemoryOf (signals_of (flat_signals (types_of circuit) circuit.modules (sites_of circuit))).paths (flat_memory p.site p.own) (get_or flat.memories j memory)
         is_memory = memory-is j lt p memory
@@ -337,12 +338,7 @@ module _ (circuit : CircuitTree) (flat : FlatCircuit) (tree : InstanceTree) (top
 
     -- the memory at a place doesn't depend on the default
     memory-any : (j : ℕ) (d : MemoryInstance) → j < length tree.memories → slice_index_or tree.memories j d ≡ memory_at tree j
-    memory-any j d lt = any tree.memories j d (record { instance = 0; memory = 0; ports = [] }) lt
-      where
-        any : {A : Type 0} (l : List A) (i : ℕ) (a b : A) → i < length l → get_or l i a ≡ get_or l i b
-        any [] i a b below = absurd (omega (arith, below))
-        any (y ∷ ys) zero a b below = refl
-        any (y ∷ ys) (suc i) a b below = any ys i a b (omega (arith, below))
+    memory-any j d lt = get_or_default tree.memories j d (record { instance = 0; memory = 0; ports = [] }) lt
 
     once-of : AllPairs (λ a b. a.memory ≢ b.memory) tree.memories
     once-of i j d before lt same =

@@ -1,9 +1,9 @@
 -- The parts of a tree while it is made.
-use Rattle.std.proofs.Common.{◌≡◌, ℕ, ◌+◌, ◌<◌, ◌≤◌, ◌⊎◌, inl, inr, Bool, List, [], ◌∷◌, ◌++◌, Option, Some, None, length, take, get_or, map, filter, refl, sym, ap, ◌∙◌, subst, arith, length-append, slice_index}
+use Rattle.std.proofs.Common.{◌≡◌, ℕ, ◌+◌, ◌<◌, ◌≤◌, Bool, List, [], ◌∷◌, ◌++◌, Option, Some, None, length, take, get_or, map, filter, sym, ap, ◌∙◌, subst, arith, length-append, slice_index}
 use Rattle.std.specs.Prelude.{flat_map}
-use Rattle.std.proofs.lemmas.Bool.{cases_lt}
 use Rattle.std.proofs.lemmas.List.{take_more, length-map, take-map, get_or-map, map-append}
 use Rattle.std.proofs.lemmas.List.Elements.{filter-append}
+use Rattle.std.proofs.lemmas.Simd.{map-map}
 use Rattle.gg_ast.specs.Places.{place_of}
 use Rattle.gg_ast.specs.Tree.{CircuitTree, module_names}
 use Rattle.gg_flat.specs.declared.tree.Instance.{Instance}
@@ -17,15 +17,14 @@ use Rattle.gg_digest.specs.declared.sites.Place.{Place}
 use Rattle.gg_tree.specs.IsTreeOf.{Pairwise, IsAt, IsParent, IsPortFor, IsMemoryAt, IsInstanceFor, AreInstances, held_memory, held_memories, site_paths, signal_paths, memories_of}
 use Rattle.gg_digest.specs.Known.{types_of}
 use Rattle.gg_tree.specs.TreeParts.{signals_to, IsHolder, IsPortAt, IsNumberAt, signals_among, IsInstanceAt, IsMemoryPart, IsHeldFor, held_at_place}
-use Rattle.gg_digest.specs.Views.{own_of, own_bank_of, outer_of, site_of, IsDigest}
-use Rattle.gg_digest.specs.Flat.{FlatMemory, flat_memory, flat_signal, signals_at, flat_signals, flat_memories}
-use Rattle.gg_digest.proofs.FlatLemmas.{signals-more, memories-more, map-twice, memories-kept, one_more}
+use Rattle.gg_digest.specs.Views.{own_bank_of, outer_of, site_of, IsDigest}
+use Rattle.gg_digest.specs.Flat.{FlatMemory, flat_memory, signals_at, flat_memories}
+use Rattle.gg_digest.proofs.FlatLemmas.{memories-more, memories-kept, one_more}
 use Rattle.gg_digest.specs.IsFlat.{memory_paths}
 use Rattle.gg_tree.proofs.PlaceLemmas.{within, Placed}
 use Rattle.gg_tree.proofs.RangeLemmas.{count_to, placed-at, placed-count}
 use Rattle.gg_tree.proofs.InstanceLemmas.{signals_in, stands}
 use Rattle.gg_tree.proofs.EndLemmas.{ends-at}
-use Rattle.gg_tree.proofs.OwnLemmas.{front}
 use Rattle.gg_tree.proofs.PairwiseLemmas.{Pairwise-push, Pairwise-append}
 
 -- the relation holds with the next element on each side
@@ -39,37 +38,10 @@ Pairwise-filter R test all i a ys more lt is h k =
     subst (λ l. Pairwise R l (ys ++ more)) (sym (filter-append test (take i all) (a ∷ [])) ∙ ap (filter test) (ap (λ x. take i all ++ x ∷ []) is ∙ sym (take_more all i a lt)))
     (Pairwise-append R (filter test (take i all)) (filter test (a ∷ [])) ys more h k)
 
--- the signals of the sites up to the next one
-pub signals_to-more : (circuit : CircuitTree) (places : List Place) (i : ℕ) (p : Place) (digest : Digest) → i < length places → p ≡ get_or places i p → IsDigest (types_of circuit) circuit.modules p.number digest → signals_to circuit places (i + 1) ≡ signals_to circuit places i + length digest.signals.items
-signals_to-more circuit places i p digest lt is d =
-    ap (λ l. length l) (signals-more (types_of circuit) circuit.modules places i p digest lt is d)
-    ∙ length-append (flat_signals (types_of circuit) circuit.modules (map site_of (take i places))) (map (λ o. flat_signal circuit.modules (site_of p) (own_of o)) digest.signals.items)
-    ∙ ap (λ n. signals_to circuit places i + n) (length-map digest.signals.items (λ o. flat_signal circuit.modules (site_of p) (own_of o)))
-
 -- The list has the number of the first signal of each of the first i sites.
 pub record TellsFirsts (circuit : CircuitTree) (places : List Place) (i : ℕ) (firsts : List ℕ) : Type 0 where
   pub size : length firsts ≡ i
   pub each : (k : ℕ) → k < i → slice_index firsts k ≡ signals_to circuit places k
-
-pub firsts-none : (circuit : CircuitTree) (places : List Place) → TellsFirsts circuit places 0 []
-firsts-none circuit places = record { size = refl; each = λ k lt. absurd (omega (arith, lt)) }
-
-pub firsts-more : (circuit : CircuitTree) (places : List Place) (i : ℕ) (firsts new : List ℕ) (next : ℕ) → TellsFirsts circuit places i firsts → next ≡ signals_to circuit places i → new ≡ firsts ++ next ∷ [] → TellsFirsts circuit places (i + 1) new
-firsts-more circuit places i firsts new next h is e = record {
-  size = ap (λ (l : List ℕ). length l) e ∙ length-append firsts (next ∷ []) ∙ omega (arith, h.size);
-  each = λ k lt. ap (λ (l : List ℕ). slice_index l k) e ∙ go k (cases_lt k i) lt;
-}
-  where
-    last : (l : List ℕ) (n : ℕ) → get_or (l ++ n ∷ []) (length l) 0 ≡ n
-    last [] n = refl
-    last (x ∷ xs) n = last xs n
-
-    go : (k : ℕ) → (k < i) ⊎ (i ≤ k) → k < i + 1 → slice_index (firsts ++ next ∷ []) k ≡ signals_to circuit places k
-    go k (inl inside) lt = front firsts (next ∷ []) k 0 (omega (arith, inside, h.size)) ∙ h.each k inside
-    go k (inr behind) lt =
-        let here : k ≡ length firsts = omega (arith, lt, behind, h.size) in
-        let there : i ≡ k = omega (arith, lt, behind) in
-        ap (λ j. get_or (firsts ++ next ∷ []) j 0) here ∙ last firsts next ∙ is ∙ ap (signals_to circuit places) there
 
 -- ---- an instance
 
@@ -102,7 +74,7 @@ holder-parent circuit paths (Some around) (Some p) same h = subst (λ l. IsAt l 
 
 module _ (circuit : CircuitTree) (top : ℕ) (known_top : place_of circuit.name (module_names circuit) ≡ Some top) (places : List Place) (sites : map site_of places ≡ sites_of circuit) where
   pub paths-same : map (λ (p : Place). p.path) places ≡ site_paths circuit
-  paths-same = sym (map-twice (λ (s : Site). s.path) site_of places) ∙ ap (map (λ (s : Site). s.path)) sites
+  paths-same = sym (map-map (λ (s : Site). s.path) site_of places) ∙ ap (map (λ (s : Site). s.path)) sites
 
   pub count-same : (k : ℕ) → signals_to circuit places k ≡ count_to (signals_in circuit) (sites_of circuit) k
   count-same k = ap (λ (l : List Site). length (flat_map (signals_in circuit) l)) (sym (take-map site_of k places) ∙ ap (take k) sites)
@@ -120,7 +92,7 @@ module _ (circuit : CircuitTree) (top : ℕ) (known_top : place_of circuit.name 
 
   depth-is : (i : ℕ) (d : Site) → i < length (sites_of circuit) → slice_index (map (λ (p : Place). p.depth) places) i ≡ (get_or (sites_of circuit) i d).depth
   depth-is i d lt =
-      ap (λ (l : List ℕ). get_or l i 0) (sym (map-twice (λ (s : Site). s.depth) site_of places) ∙ ap (map (λ (s : Site). s.depth)) sites)
+      ap (λ (l : List ℕ). get_or l i 0) (sym (map-map (λ (s : Site). s.depth) site_of places) ∙ ap (map (λ (s : Site). s.depth)) sites)
       ∙ get_or-map (λ (s : Site). s.depth) (sites_of circuit) i d 0 lt
 
   -- the instance that is made is the instance of the site
@@ -164,12 +136,12 @@ memory-is-for circuit paths memories place own made p q h = record {
 -- the memories of the sites up to the next one
 pub held-more : (circuit : CircuitTree) (places : List Place) (i : ℕ) (p : Place) (digest : Digest) → i < length places → p ≡ get_or places i p → IsDigest (types_of circuit) circuit.modules p.number digest → flat_map (held_memories circuit.modules) (map site_of (take i places)) ++ map (held_at_place p) digest.memories.items ≡ flat_map (held_memories circuit.modules) (map site_of (take (i + 1) places))
 held-more circuit places i p digest lt is d =
-    ap (λ l. flat_map (held_memories circuit.modules) (map site_of (take i places)) ++ l) (sym (map-twice (held_memory (site_of p)) (λ m. flat_memory (site_of p) (own_bank_of m)) digest.memories.items) ∙ ap (map (held_memory (site_of p))) (sym (memories-kept (types_of circuit) circuit.modules p digest d)))
+    ap (λ l. flat_map (held_memories circuit.modules) (map site_of (take i places)) ++ l) (sym (map-map (held_memory (site_of p)) (λ m. flat_memory (site_of p) (own_bank_of m)) digest.memories.items) ∙ ap (map (held_memory (site_of p))) (sym (memories-kept (types_of circuit) circuit.modules p digest d)))
     ∙ sym (one_more (held_memories circuit.modules) places i p lt is)
 
 pub held-paths : (places : List Place) (i : ℕ) (circuit : CircuitTree) (p : Place) (digest : Digest) → i < length places → p ≡ get_or places i p → IsDigest (types_of circuit) circuit.modules p.number digest → memory_paths (flat_memories circuit.modules (map site_of (take i places))) ++ map (λ m. joined p.path m.name.now) digest.memories.items ≡ memory_paths (flat_memories circuit.modules (map site_of (take (i + 1) places)))
 held-paths places i circuit p digest lt is d =
-    ap (λ l. memory_paths (flat_memories circuit.modules (map site_of (take i places))) ++ l) (sym (map-twice (λ (m : FlatMemory). m.path) (λ m. flat_memory (site_of p) (own_bank_of m)) digest.memories.items))
+    ap (λ l. memory_paths (flat_memories circuit.modules (map site_of (take i places))) ++ l) (sym (map-map (λ (m : FlatMemory). m.path) (λ m. flat_memory (site_of p) (own_bank_of m)) digest.memories.items))
     ∙ sym (map-append (λ (m : FlatMemory). m.path) (flat_memories circuit.modules (map site_of (take i places))) (map (λ m. flat_memory (site_of p) (own_bank_of m)) digest.memories.items))
     ∙ ap memory_paths (sym (memories-more (types_of circuit) circuit.modules places i p digest lt is d))
 

@@ -4,6 +4,7 @@ use Rattle.std.specs.Prelude.{Contains}
 use Rattle.std.specs.List.{list_all}
 use Rattle.std.proofs.lemmas.List.{length-map}
 use Rattle.std.proofs.lemmas.List.Elements.{Contains-get_or}
+use Rattle.std.proofs.lemmas.Option.{same_Some}
 use Rattle.gg_ast.specs.declared.expression.Reference.{Reference}
 use Rattle.gg_ast.specs.declared.expression.Reference.TheVariants.{Local, PortOf, FieldOf}
 use Rattle.gg_ast.specs.declared.module.Port.{Port}
@@ -20,7 +21,6 @@ use Rattle.gg_tree.specs.IsTreeOf.{IsTreeOf, IsPortFor, signal_paths, signal_por
 use Rattle.gg_digest.specs.Known.{types_of}
 use Rattle.gg_digest.specs.Signals.{Own, OwnBank}
 use Rattle.gg_digest.proofs.NameLemmas.{place_of-path}
-use Rattle.gg_tree.proofs.ElementLemmas.{some-same}
 use Rattle.gg_tree.proofs.PairwiseLemmas.{Pairwise-length}
 use Rattle.gg_tree.proofs.JoinLemmas.{joined-once, joined-some, joined-twice}
 use Rattle.gg_tree.proofs.PlaceLemmas.{Placed, Under}
@@ -72,7 +72,7 @@ module _ (circuit : CircuitTree) (flat : FlatCircuit) (tree : InstanceTree) (top
 
   pub same-path : (k : ℕ) (x : Site) (i : ℕ) (y : Site) → Stands k x → Stands i y → x.path ≡ y.path → Same k x i y
   same-path k x i y p q e =
-      let place : k ≡ i = some-same k i (sym (path-place circuit tree top known_top is_tree distinct.of_sites k x p) ∙ ap (λ path. place_of path (site_paths circuit)) e ∙ path-place circuit tree top known_top is_tree distinct.of_sites i y q) in
+      let place : k ≡ i = same_Some k i (sym (path-place circuit tree top known_top is_tree distinct.of_sites k x p) ∙ ap (λ path. place_of path (site_paths circuit)) e ∙ path-place circuit tree top known_top is_tree distinct.of_sites i y q) in
       record { place = place; site = placed-same (length circuit.modules) circuit.modules (sites_of circuit) i x y (subst (λ n. Stands n x) place p) q }
 
   -- A site whose path ends in a name is held by the site of the path before the name.

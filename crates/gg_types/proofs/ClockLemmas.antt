@@ -5,13 +5,14 @@ use Rattle.std.proofs.lemmas.Slice.Eq.{bytes_eq-Decides}
 use Rattle.std.proofs.lemmas.Bool.{eqb-false}
 use Rattle.std.proofs.lemmas.Bool.Decides.{eqb_tells}
 use Rattle.std.specs.Str.{bytes_eq}
+use Rattle.std.proofs.lemmas.Option.{none-some}
 use Rattle.gg_ast.specs.declared.statement.Stmt.{Stmt}
 use Rattle.gg_types.specs.declared.clocks.Way.{Way}
 use Rattle.gg_types.specs.declared.clocks.Way.TheVariants.{FromOutside, FromDriver, Nowhere}
 use Rattle.gg_types.specs.Clocks.{is_followed, is_outside, driven_by, led_on, lead_from, lead_of, next_of, stay_or, followed, leads}
 use Rattle.gg_types.specs.Named.{find_named, flag_at}
 use Rattle.gg_types.specs.Places.{ArePlaces, TellsNext, Reaches, place_in, next_at, next_place, set_next, with_driven, iterate, way_at}
-use Rattle.gg_types.proofs.PlaceLemmas.{same_bytes, some_apart, place-within, place-same, way-placed, placed-way}
+use Rattle.gg_types.proofs.PlaceLemmas.{same_bytes, place-within, place-same, way-placed, placed-way}
 
 if_same : {A : Type 0} (b : Bool) (x : A) → (if b then x else x) ≡ x
 if_same true x = refl
@@ -65,7 +66,7 @@ follow-tells ways before s next tells = go (driven_by s.kind) refl
           where
             by : (name : List ℕ) (k : ℕ) → place_in name ways ≡ Some k → (b : Bool) → bytes_eq name d.0 ≡ b → next_place ways before name k ≡ next_place ways (before ++ s ∷ []) name k
             by name k u false e = other name k e
-            by name k u true e = absurd (some_apart k (sym v ∙ ap (λ n. place_in n ways) (sym (same_bytes name d.0 e)) ∙ u))
+            by name k u true e = absurd (none-some k (sym v ∙ ap (λ n. place_in n ways) (sym (same_bytes name d.0 e)) ∙ u))
         at (Some p) v = role (is_followed (find_named d.0 ways)) refl
           where
             lt : p < length ways
@@ -115,17 +116,14 @@ follow-tells ways before s next tells = go (driven_by s.kind) refl
 
 -- ---- steps
 
+pub at-map : (n : ℕ) (first second : List ℕ) → ArePlaces n first → (k : ℕ) → k < n → slice_index (map (slice_index second) first) k ≡ slice_index second (slice_index first k)
+at-map n first second f k lt = get_or-map (slice_index second) first k 0 0 (omega (arith, f.length_is))
+
 pub map-places : (n : ℕ) (first second : List ℕ) → ArePlaces n first → ArePlaces n second → ArePlaces n (map (slice_index second) first)
 map-places n first second f s = record {
   length_is = length-map first (slice_index second) ∙ f.length_is;
   within = λ k lt. subst (λ j. j < n) (sym (at-map n first second f k lt)) (s.within (slice_index first k) (f.within k lt));
 }
-  where
-    at-map : (n : ℕ) (first second : List ℕ) → ArePlaces n first → (k : ℕ) → k < n → slice_index (map (slice_index second) first) k ≡ slice_index second (slice_index first k)
-    at-map n first second f k lt = get_or-map (slice_index second) first k 0 0 (omega (arith, f.length_is))
-
-pub at-map : (n : ℕ) (first second : List ℕ) → ArePlaces n first → (k : ℕ) → k < n → slice_index (map (slice_index second) first) k ≡ slice_index second (slice_index first k)
-at-map n first second f k lt = get_or-map (slice_index second) first k 0 0 (omega (arith, f.length_is))
 
 -- m + m steps are m double steps
 halved : (n : ℕ) (jump : List ℕ) → ArePlaces n jump → (m x : ℕ) → x < n → iterate (m + m) jump x ≡ iterate m (map (slice_index jump) jump) x
@@ -177,12 +175,6 @@ module _ (ways : List (List ℕ × Way)) (statements : List Stmt) where
   follows next tells zero name k u = ap is_outside (placed-way name ways k u)
   follows next tells (suc n) name k u = go (is_followed (find_named name ways)) refl (lead_of name statements) refl (follows next tells n)
     where
-      Rest : Type 0
-      Rest = (q : List ℕ) (j : ℕ) → place_in q ways ≡ Some j → is_outside (find_named (followed ways statements n q) ways) ≡ is_outside (way_at ways (iterate n next j))
-
-      goal-at : Option (List ℕ) → ℕ → Type 0
-      goal-at o j = is_outside (find_named (followed ways statements n (stay_or name o)) ways) ≡ is_outside (way_at ways (iterate n next j))
-
       go : (b : Bool) → is_followed (find_named name ways) ≡ b → (o : Option (List ℕ)) → lead_of name statements ≡ o → ((q : List ℕ) (j : ℕ) → place_in q ways ≡ Some j → is_outside (find_named (followed ways statements n q) ways) ≡ is_outside (way_at ways (iterate n next j))) → is_outside (find_named (followed ways statements n (stay_or name (next_of ways statements name))) ways) ≡ is_outside (way_at ways (iterate n next (slice_index next k)))
       go false t o v rest =
           let here : slice_index next k ≡ k = tells.told name k u ∙ ap (λ b. if b then next_at ways k (lead_of name statements) else k) t in

@@ -1,4 +1,3 @@
-pub mod FaultLemmas
 pub mod LiteralLemmas
 mod LiteralRows
 pub mod PlaceLemmas

@@ -5,7 +5,7 @@ use Rattle.std.specs.Bool.{one_answer}
 use Rattle.std.specs.Cmp.{signed_Decides}
 use Rattle.std.specs.Char.{digit_value}
 use Rattle.std.proofs.Math.Nat.{mul-le-mul_left, mod-lt, mod-eq_of_lt}
-use Rattle.std.proofs.lemmas.Bool.{cases_lt, lt-leb, le-leb, ltb-true, ltb-false, leb-true, eqb-true}
+use Rattle.std.proofs.lemmas.Bool.{cases_lt, lt-leb, le-leb, ltb-true, ltb-false, leb-true, eqb-true, and_parts}
 use Rattle.std.proofs.lemmas.Int.{ints}
 use Rattle.std.proofs.lemmas.Nat.{pow_pos}
 use Rattle.std.proofs.lemmas.Grind.{one_shifted}
@@ -15,7 +15,7 @@ use Rattle.gg_bits.specs.declared.types.Kind.TheVariants.{UInt, SInt}
 use Rattle.gg_bits.specs.Value.{number_of, pattern_of}
 use Rattle.gg_bits.specs.Shape.{of_kind}
 use Rattle.gg_ast.specs.declared.expression.Literal.{Literal}
-use Rattle.gg_types.specs.Literal.{digit, digits_number, signed_number, is_number_of, literal_number, literal_value, literal_fits}
+use Rattle.gg_types.specs.Literal.{digit, digits_number, signed_number, is_number_of, literal_number, literal_fits}
 use Rattle.gg_types.specs.Types.{is_width, literal_shape}
 
 -- ---- digits
@@ -46,19 +46,11 @@ abbrev below : (p : ℕ → Bool) (n : ℕ) → Bool
 below p zero = true
 below p (suc n) = p n && below p n
 
-and_left : (a b : Bool) → (a && b) ≡ true → a ≡ true
-and_left true b h = refl
-and_left false b h = absurd (true≢false (sym h))
-
-and_right : (a b : Bool) → (a && b) ≡ true → b ≡ true
-and_right true b h = h
-and_right false b h = absurd (true≢false (sym h))
-
 of_below : (p : ℕ → Bool) (n c : ℕ) → below p n ≡ true → c < n → p c ≡ true
 of_below p zero c h lt = absurd (omega arith)
 of_below p (suc n) c h lt = ⊎_elim
-    (λ (l : c < n). of_below p n c (and_right (p n) (below p n) h) l)
-    (λ (l : n ≤ c). let e : n ≡ c = omega arith in subst (λ k. p k ≡ true) e (and_left (p n) (below p n) h))
+    (λ (l : c < n). of_below p n c (and_parts (p n) (below p n) h).1 l)
+    (λ (l : n ≤ c). let e : n ≡ c = omega arith in subst (λ k. p k ≡ true) e (and_parts (p n) (below p n) h).0)
     (cases_lt c n)
 
 -- the value of a digit by the library's `digit_value`, and 16 for any other byte
@@ -185,10 +177,6 @@ literal_shape-none l e = go (is_width l.width)
 -- no pattern of a literal's type stands for its number if the literal doesn't fit
 pub literal-no_other : (l : Literal) → literal_fits l ≡ false → (p : ℕ) → p < 2 ^ l.width → number_of l.kind l.width p ≢ literal_number l
 literal-no_other l e p small is = true≢false (sym (stands_for l.kind l.width p (literal_number l) small is) ∙ e)
-
--- the pattern of a literal that fits stands for its number
-pub literal-stands : (l : Literal) → literal_fits l ≡ true → number_of l.kind l.width (literal_value l) ≡ literal_number l
-literal-stands l e = (signed_Decides (number_of l.kind l.width (literal_value l)) (literal_number l)).0 e
 
 -- ---- the tests of the code, by kind and sign
 

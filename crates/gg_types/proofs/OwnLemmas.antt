@@ -49,6 +49,10 @@ abbrev rest_of : {A : Type 0} → List A → List A
 rest_of [] = []
 rest_of (x ∷ xs) = xs
 
+pub owned-empty : (ds : List (List ℕ)) → owned ds [] ≡ []
+owned-empty [] = refl
+owned-empty (d ∷ ds) = refl
+
 -- the names with their type data, with one more entry
 pub owned-push : (ds : List (List ℕ)) (ts : List Own) (t : Own) (name : List ℕ) → take (length ts + 1) ds ≡ take (length ts) ds ++ name ∷ [] → owned ds (ts ++ t ∷ []) ≡ owned ds ts ++ (name, Some t) ∷ []
 owned-push [] ts t name next = absurd (omega (arith, ap length next ∙ length-append (take (length ts) []) (name ∷ []), nothing (length ts), nothing (length ts + 1)))
@@ -59,16 +63,8 @@ owned-push [] ts t name next = absurd (omega (arith, ap length next ∙ length-a
 owned-push (d ∷ ds) [] t name next = same (cc)
   where
     same : d ≡ name → (d, Some t) ∷ owned ds [] ≡ (name, Some t) ∷ []
-    same e = ap (λ x. (x, Some t) ∷ owned ds []) e ∙ ap (λ l. (name, Some t) ∷ l) (none ds)
-      where
-        none : (xs : List (List ℕ)) → owned xs [] ≡ []
-        none [] = refl
-        none (x ∷ xs) = refl
+    same e = ap (λ x. (x, Some t) ∷ owned ds []) e ∙ ap (λ l. (name, Some t) ∷ l) (owned-empty ds)
 owned-push (d ∷ ds) (u ∷ us) t name next =
     let more : suc (length us) + 1 ≡ suc (length us + 1) = omega arith in
     let e : take (length us + 1) ds ≡ take (length us) ds ++ name ∷ [] = ap rest_of (sym (ap (λ n. take n (d ∷ ds)) more) ∙ next) in
     ap (λ l. (d, Some u) ∷ l) (owned-push ds us t name e)
-
-pub owned-empty : (ds : List (List ℕ)) → owned ds [] ≡ []
-owned-empty [] = refl
-owned-empty (d ∷ ds) = refl

@@ -1,17 +1,15 @@
 -- Names and their places in a list of names with ways.
-use Rattle.std.proofs.Common.{◌≡◌, ℕ, suc, ◌+◌, ◌<◌, Bool, true, false, List, [], ◌∷◌, length, Option, Some, None, is_some, refl, sym, ap, ◌∙◌, if◌then◌else◌, true≢false, arith}
+use Rattle.std.proofs.Common.{◌≡◌, ℕ, suc, ◌+◌, ◌<◌, Bool, true, false, List, [], ◌∷◌, length, Option, Some, None, refl, sym, ap, ◌∙◌, if◌then◌else◌, arith}
 use Rattle.std.proofs.lemmas.Slice.Eq.{bytes_eq-Decides}
 use Rattle.std.specs.Option.{option_map}
 use Rattle.std.specs.Str.{bytes_eq}
+use Rattle.std.proofs.lemmas.Option.{none-some}
 use Rattle.gg_types.specs.declared.clocks.Way.{Way}
 use Rattle.gg_types.specs.Named.{find_named}
 use Rattle.gg_types.specs.Places.{place_in, way_at}
 
 pub same_bytes : (a b : List ℕ) → bytes_eq a b ≡ true → a ≡ b
 same_bytes a b h = (bytes_eq-Decides a b).0 h
-
-pub some_apart : {A : Type 0} (x : A) → None ≡ Some x → ⊥
-some_apart x e = true≢false (sym (ap is_some e))
 
 pub place-within : (name : List ℕ) (ways : List (List ℕ × Way)) (k : ℕ) → place_in name ways ≡ Some k → k < length ways
 place-within name [] k h = cc
@@ -84,7 +82,7 @@ place-same a b (d ∷ ds) k h g = go (bytes_eq a d.0) refl (bytes_eq b d.0) refl
 
 -- the way of a name is the way at its place
 pub placed-way : (name : List ℕ) (ways : List (List ℕ × Way)) (k : ℕ) → place_in name ways ≡ Some k → find_named name ways ≡ way_at ways k
-placed-way name [] k h = absurd (some_apart k h)
+placed-way name [] k h = absurd (none-some k h)
 placed-way name (d ∷ ds) k h = go (bytes_eq name d.0) refl (place_in name ds) refl (placed-way name ds)
   where
     at : Bool → Option ℕ
@@ -95,7 +93,7 @@ placed-way name (d ∷ ds) k h = go (bytes_eq name d.0) refl (place_in name ds) 
         let e : Some 0 ≡ Some k = sym (ap at t) ∙ h in
         let z : 0 ≡ k = cc in
         ap (λ b. if b then Some d.1 else find_named name ds) t ∙ ap (way_at (d ∷ ds)) z
-    go false t None u rest = absurd (some_apart k (sym (ap at t ∙ ap (option_map (λ k. k + 1)) u) ∙ h))
+    go false t None u rest = absurd (none-some k (sym (ap at t ∙ ap (option_map (λ k. k + 1)) u) ∙ h))
     go false t (Some j) u rest =
         let e : Some (j + 1) ≡ Some k = sym (ap at t ∙ ap (option_map (λ k. k + 1)) u) ∙ h in
         let z : j + 1 ≡ k = cc in

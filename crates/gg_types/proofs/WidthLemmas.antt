@@ -3,6 +3,7 @@ use Rattle.std.proofs.Common.{◌≡◌, ℕ, zero, suc, ◌+◌, ◌≤◌, ◌
 use Rattle.std.proofs.lemmas.Bool.Decides.{nat_tests}
 use Rattle.std.specs.List.{flat_map}
 use Rattle.std.specs.Str.{bytes_eq}
+use Rattle.std.proofs.lemmas.List.{get_or_default, append-nil}
 use Rattle.gg_bits.specs.declared.types.Bad.{Bad}
 use Rattle.gg_bits.specs.Shape.{Shape, of_kind}
 use Rattle.gg_bits.specs.ResultType.{answer, type1, type2, type_const, type_mux, shape1, shape2, shape_const, shape_mux, kinds2, params_const, is_condition, same_kind}
@@ -344,10 +345,6 @@ module _ (rs : List (Reference × Role)) (scope : ScopeWide rs) (traced : List �
 
   after-wide : (start : List (List ℕ × Option Own)) (before rest : List Stmt) → KnownWide (known_after rs traced start before) → along_from (faults_of rs traced start) before rest ≡ [] → KnownWide (known_after rs traced start (before ++ rest))
   after-wide start before [] g h = subst (λ l. KnownWide (known_after rs traced start l)) (sym (append-nil before)) g
-    where
-      append-nil : (xs : List Stmt) → xs ++ [] ≡ xs
-      append-nil [] = refl
-      append-nil (x ∷ xs) = ap (λ l. x ∷ l) (append-nil xs)
   after-wide start before (s ∷ rest) g h =
       let here = own-wide (known_after rs traced start before) g s.line s.kind (none-front (faults_of rs traced start before s) (along_from (faults_of rs traced start) (before ++ s ∷ []) rest) h) in
       let grown = subst KnownWide (sym (known_after-push rs traced start before s)) (known-append (known_after rs traced start before) (own_by rs traced (known_after rs traced start before) s.kind) g here) in
@@ -410,18 +407,13 @@ pub looked_up : (rs : List (Reference × Role)) (known : List (List ℕ × Optio
 looked_up rs known r None h = ap known_sort h
 looked_up rs known r (Some s) h = ap known_sort h
 
-any-default : {A : Type 0} (xs : List A) (i : ℕ) (d e : A) → i < length xs → get_or xs i d ≡ get_or xs i e
-any-default [] i d e lt = absurd (omega arith)
-any-default (x ∷ xs) zero d e lt = refl
-any-default (x ∷ xs) (suc i) d e lt = any-default xs i d e (omega arith)
-
 -- a type that a look-up finds in a typed circuit has a width of 1 to 128, or is a Clock
 pub typing-wide : (circuit : CircuitTree) (order : List ℕ) (lists : List (List Own)) (k : ℕ) (r : Reference) (list : List Own) (found : Option Sort) (s : Sort) → IsTyped circuit order lists → k < length circuit.modules → list ≡ get_or lists k list → option_map (λ x. Some x) found ≡ known_entry (scope_of circuit.modules (module_at circuit.modules k)) (owned (names_in (module_at circuit.modules k)) list) r → found ≡ Some s → IsWide s
 typing-wide circuit order lists k r list found s typed lt is looked there =
     let m = module_at circuit.modules k in
     let rs = scope_of circuit.modules m in
     let within : k < length lists = omega (arith, lt, typed.tells.count) in
-    let list-is : list ≡ get_or lists k [] = is ∙ any-default lists k list [] within in
+    let list-is : list ≡ get_or lists k [] = is ∙ get_or_default lists k list [] within in
     let e : found ≡ sort_named circuit.modules m r =
     looked_up rs (owned (names_in m) list) r found looked
     ∙ ap (λ l. sort_of_reference rs l r) (ap (owned (names_in m)) list-is ∙ (typed.tells.each k lt).told) in

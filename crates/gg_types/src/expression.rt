@@ -52,7 +52,7 @@ pub fn type_of(alloc: Global, known: &Known, line: u64, value: &Expr) -> Result<
 }
 
 // The type of a reference that is read.
-#[tactic(auto, using(crate::proofs::FaultLemmas::refused_first))]
+#[tactic(auto, using(gg_shape::proofs::FlatLemmas::refused_first))]
 fn read(alloc: Global, known: &Known, line: u64, reference: &Reference) -> Result<Sort, Refusal>
     ensures answers { Answers (undeclared (roles_seen known.now) (owned_seen known.now) line reference.now ++ clock_faults (traced_seen known.now) line reference.now (sort_of_reference (roles_seen known.now) (owned_seen known.now) reference.now)) result }
     ensures sort { IfOk result (λ s. read_sort (traced_seen known.now) reference.now (sort_of_reference (roles_seen known.now) (owned_seen known.now) reference.now) ≡ Some s) }

@@ -155,7 +155,7 @@ fn judge_reset(
 }
 
 // Fails with the first fault of a connection.
-#[tactic(auto, using(crate::proofs::FaultLemmas::refused_first))]
+#[tactic(auto, using(gg_shape::proofs::FlatLemmas::refused_first))]
 fn judge_connection(
     alloc: Global,
     known: &Known,
@@ -171,7 +171,7 @@ fn judge_connection(
 }
 
 // Refuses a Clock that is invalid.
-#[tactic(auto, using(crate::proofs::FaultLemmas::refused_first))]
+#[tactic(auto, using(gg_shape::proofs::FlatLemmas::refused_first))]
 fn judge_invalid(alloc: Global, known: &Known, line: u64, sink: &Reference) -> Result<(), Refusal>
     ensures { Answers (undeclared (roles_seen known.now) (owned_seen known.now) line sink.now ++ invalid_faults line sink.now (sort_of_reference (roles_seen known.now) (owned_seen known.now) sink.now)) result }
 {
@@ -186,7 +186,7 @@ fn judge_invalid(alloc: Global, known: &Known, line: u64, sink: &Reference) -> R
 
 // Fails with the first fault of the arguments of `printf`, `assert`, `assume` or `cover`. The first argument is a
 // clock.
-#[tactic(auto, using(crate::proofs::FaultLemmas::refused_first))]
+#[tactic(auto, using(gg_shape::proofs::FlatLemmas::refused_first))]
 fn judge_report(
     alloc: Global,
     known: &Known,

@@ -3,4 +3,4 @@ pub mod RotationLemmas
 pub mod StageLemmas
 pub mod StepLemmas
 pub mod ListLemmas
-mod WorkedRows
+pub mod WorkedRows

@@ -1,9 +1,9 @@
 -- The stages of nodes, and lists that grow by one node.
-use Rattle.std.proofs.Common.{◌≡◌, ◌≢◌, ℕ, zero, suc, ◌<◌, List, [], ◌∷◌, ◌++◌, length, set, take, replicate, refl, sym, ap, ◌∙◌, subst, inl, inr, ◌⊎◌, arith, below_more, length-append}
+use Rattle.std.proofs.Common.{◌≡◌, ◌≢◌, ℕ, ◌<◌, List, [], ◌∷◌, ◌++◌, length, set, take, refl, sym, ap, ◌∙◌, subst, inl, inr, ◌⊎◌, arith, below_more, length-append}
 use Rattle.std.specs.Prelude.{Contains, AllPairs, sum_by}
 use Rattle.std.proofs.lemmas.Bool.{cases_lt}
 use Rattle.std.proofs.lemmas.List.{get_or-set_same, get_or-set_other, get_or_append_left, get_or_push, get_or_default, get_or_past, take-append-le, take_all}
-use Rattle.std.proofs.lemmas.List.Elements.{Contains-append_left, Contains-append_right}
+use Rattle.std.proofs.lemmas.List.Elements.{Contains-push_cases}
 use Rattle.std.proofs.lemmas.List.Sums.{sum_by-set}
 use Rattle.gg_walk.specs.Graph.{node_at}
 use Rattle.gg_walk.specs.Walk.{stage_at, weight, StandsAfter}
@@ -36,16 +36,6 @@ stage_set-cases stages s t x z lt is =
       ]
     ]
 
-pub stage_replicate : (n s : ℕ) → stage_at (replicate n New) s ≡ New
-stage_replicate zero s = refl
-stage_replicate (suc n) zero = refl
-stage_replicate (suc n) (suc s) = stage_replicate n s
-
-pub place_replicate : (n s : ℕ) → node_at (replicate n 0) s ≡ 0
-place_replicate zero s = refl
-place_replicate (suc n) zero = refl
-place_replicate (suc n) (suc s) = place_replicate n s
-
 -- a node that goes on to a later stage leaves less to do
 pub weight-smaller : (stages : List Stage) (s : ℕ) (x y : Stage) → s < length stages → stage_at stages s ≡ y → weight x < weight y → sum_by weight (set stages s x) < sum_by weight stages
 weight-smaller stages s x y lt at less =
@@ -53,18 +43,8 @@ weight-smaller stages s x y lt at less =
 
 -- ---- a list with one more node
 
-pub contains_old : (xs : List ℕ) (y s : ℕ) → Contains xs s → Contains (xs ++ y ∷ []) s
-contains_old xs y s h = Contains-append_left xs (y ∷ []) s h
-
-pub contains_new : (xs : List ℕ) (y : ℕ) → Contains (xs ++ y ∷ []) y
-contains_new xs y = Contains-append_right xs (y ∷ []) y (0, omega arith, refl)
-
 pub contains_cases : (xs : List ℕ) (y s : ℕ) → Contains (xs ++ y ∷ []) s → Contains xs s ⊎ (s ≡ y)
-contains_cases xs y s h =
-    elim (cases_lt h.0 (length xs)) [
-      | inl lt ↦ inl (h.0, lt, sym (get_or_append_left xs (y ∷ []) s h.0 lt) ∙ h.2)
-      | inr ge ↦ inr (sym h.2 ∙ get_or_push xs y s h.0 (omega (arith, ge, h.1, length-append xs (y ∷ []))))
-    ]
+contains_cases xs y s h = elim (Contains-push_cases xs y s h) [ inl old ↦ inl old | inr new ↦ inr (sym new) ]
 
 pub contains_at : (xs : List ℕ) (i : ℕ) → i < length xs → Contains xs (node_at xs i)
 contains_at xs i lt = (i, lt, get_or_default xs i (node_at xs i) 0 lt)

@@ -1,30 +1,16 @@
 -- The steps of a walk.
-use Rattle.std.proofs.Common.{◌≡◌, ◌≢◌, ℕ, ◌+◌, ◌<◌, List, [], ◌∷◌, ◌++◌, length, get_or, set, drop, replicate, refl, sym, ap, ◌∙◌, subst, inl, inr, arith}
+use Rattle.std.proofs.Common.{◌≡◌, ◌≢◌, ℕ, ◌+◌, ◌<◌, List, [], ◌∷◌, ◌++◌, length, get_or, set, drop, refl, sym, ap, ◌∙◌, subst, inl, inr, arith}
 use Rattle.std.specs.Prelude.{Contains}
 use Rattle.std.proofs.lemmas.Bool.{cases_lt}
-use Rattle.std.proofs.lemmas.List.{length-set, length-replicate, get_or-set_same, get_or-set_other, get_or_default, get_or-drop, length-drop}
+use Rattle.std.proofs.lemmas.List.{length-set, get_or-set_same, get_or-set_other, get_or_default, get_or-drop, length-drop}
 use Rattle.std.proofs.lemmas.List.Quantifiers.{all_pairs_push}
+use Rattle.std.proofs.lemmas.List.Elements.{Contains-push, Contains-append_left}
 use Rattle.gg_walk.specs.Graph.{node_at, IsOrderOf, IsRing}
-use Rattle.gg_walk.specs.Walk.{stage_at, StaysMet, IsChain, Walks, IsEndFrom}
+use Rattle.gg_walk.specs.Walk.{stage_at, IsChain, Walks, IsEndFrom}
 use Rattle.gg_walk.specs.declared.state.Stage.{Stage}
 use Rattle.gg_walk.specs.declared.state.Stage.TheVariants.{New, Open, Done}
 use Rattle.gg_walk.proofs.RingLemmas.{IsChain-pop, GoesRound-end, once-drop}
-use Rattle.gg_walk.proofs.StageLemmas.{stage-within, stage_set-same, stage_set-other, stage_set-cases, stage_replicate, place_replicate, contains_old, contains_new, contains_cases, contains_at, last-new, once-pop, after-push}
-
-pub Walks-none : (Edge : ℕ → ℕ → Type 0) (Below : ℕ → ℕ → ℕ → Type 0) (count : ℕ) → ((s t : ℕ) → Below s 0 t → ⊥) → Walks Edge Below count [] (replicate count New) (replicate count 0) []
-Walks-none Edge Below count none = record {
-  stage_count = length-replicate count New;
-  place_count = length-replicate count 0;
-  finished = λ s is. let e : New ≡ Done = sym (stage_replicate count s) ∙ is in cc;
-  ordered = λ s h. absurd (omega (arith, h.1));
-  on_path = λ s is. let e : New ≡ Open = sym (stage_replicate count s) ∙ is in cc;
-  opened = λ s h. absurd (omega (arith, h.1));
-  order_once = λ i j d lt within. absurd (omega (arith, within));
-  path_once = λ i j d lt within. absurd (omega (arith, within));
-  after = λ i t lt edge. absurd (omega (arith, lt));
-  chain = tt;
-  scanned = λ s t below. absurd (none s t (subst (λ (p : ℕ). Below s p t) (place_replicate count s) below));
-}
+use Rattle.gg_walk.proofs.StageLemmas.{stage-within, stage_set-same, stage_set-other, stage_set-cases, contains_cases, contains_at, last-new, once-pop, after-push}
 
 -- a new node joins the path
 pub Walks-enter : {Edge : ℕ → ℕ → Type 0} {Below : ℕ → ℕ → ℕ → Type 0} {count : ℕ} {path : List ℕ} {stages : List Stage} {places order : List ℕ} (t : ℕ) → Walks Edge Below count path stages places order → t < count → stage_at stages t ≡ New → IsChain Edge (path ++ t ∷ []) → Walks Edge Below count (path ++ t ∷ []) (set stages t Open) places order
@@ -37,8 +23,8 @@ Walks-enter {Edge = Edge} {Below = Below} {count = count} {path = path} {stages 
   ];
   ordered = λ s h. stage_set-other stages s t Open New Done fresh (w.ordered s h) (λ e. cc);
   on_path = λ s is. elim (stage_set-cases stages s t Open Open within is) [
-    | inl h ↦ subst (Contains (path ++ t ∷ [])) (sym h.0) (contains_new path t)
-    | inr h ↦ contains_old path t s (w.on_path s h.1)
+    | inl h ↦ subst (Contains (path ++ t ∷ [])) (sym h.0) (Contains-push path t)
+    | inr h ↦ Contains-append_left path (t ∷ []) s (w.on_path s h.1)
   ];
   opened = λ s h. elim (contains_cases path t s h) [
     | inl old ↦ stage_set-other stages s t Open New Open fresh (w.opened s old) (λ e. cc)
@@ -101,8 +87,8 @@ Walks-leave {Edge = Edge} {Below = Below} {count = count} path {stages = stages}
   stage_count = length-set stages s Done ∙ w.stage_count;
   place_count = w.place_count;
   finished = λ a is. elim (stage_set-cases stages a s Done Done within is) [
-    | inl h ↦ subst (Contains (order ++ s ∷ [])) (sym h.0) (contains_new order s)
-    | inr h ↦ contains_old order s a (w.finished a h.1)
+    | inl h ↦ subst (Contains (order ++ s ∷ [])) (sym h.0) (Contains-push order s)
+    | inr h ↦ Contains-append_left order (s ∷ []) a (w.finished a h.1)
   ];
   ordered = λ a h. elim (contains_cases order s a h) [
     | inl old ↦ stage_set-other stages a s Done Open Done at (w.ordered a old) (λ e. cc)
@@ -112,7 +98,7 @@ Walks-leave {Edge = Edge} {Below = Below} {count = count} path {stages = stages}
     | inl h ↦ let e : Done ≡ Open = h.1 in cc
     | inr h ↦ elim (contains_cases path s a (w.on_path a h.1)) [ inl old ↦ old | inr same ↦ absurd (h.0 same) ]
   ];
-  opened = λ a h. get_or-set_other stages s a Done New (λ same. last-new path s w.path_once (subst (Contains path) same h)) ∙ w.opened a (contains_old path s a h);
+  opened = λ a h. get_or-set_other stages s a Done New (λ same. last-new path s w.path_once (subst (Contains path) same h)) ∙ w.opened a (Contains-append_left path (s ∷ []) a h);
   order_once = all_pairs_push (λ (a b : ℕ). a ≢ b) order s w.order_once (λ k d less is. clash k d less is);
   path_once = once-pop path s w.path_once;
   after = after-push Edge order s w.after (λ t edge. w.finished t (done t edge));
@@ -121,7 +107,7 @@ Walks-leave {Edge = Edge} {Below = Below} {count = count} path {stages = stages}
 }
   where
     at : stage_at stages s ≡ Open
-    at = w.opened s (contains_new path s)
+    at = w.opened s (Contains-push path s)
 
     within : s < length stages
     within = stage-within stages s (λ fresh. let e : Open ≡ New = sym at ∙ fresh in cc)
@@ -174,15 +160,6 @@ IsOrderOf-walked {Edge = Edge} {Below = Below} {count = count} {stages = stages}
     done s New is met = absurd (met is)
     done s Open is met = absurd (none_open s is)
     done s Done is met = is
-
--- when a node gets a stage that isn't New, all nodes that were met stay met
-pub StaysMet-set : (stages : List Stage) (s : ℕ) (x : Stage) → x ≢ New → StaysMet stages (set stages s x)
-StaysMet-set stages s x old a met is =
-    let lt = stage-within stages a met in
-    elim (cases_lt s (length stages)) [
-      | inl less ↦ elim (stage_set-cases stages a s x New less is) [ inl h ↦ old h.1 | inr h ↦ met h.1 ]
-      | inr ge ↦ met (sym (get_or-set_other stages s a x New (λ e. omega (arith, lt, ge, e))) ∙ is)
-    ]
 
 -- a walk with equal lists is the same walk
 pub Walks-same : {Edge : ℕ → ℕ → Type 0} {Below : ℕ → ℕ → ℕ → Type 0} {count : ℕ} {p q : List ℕ} {a b : List Stage} {c d x y : List ℕ} → p ≡ q → a ≡ b → c ≡ d → x ≡ y → Walks Edge Below count p a c x → Walks Edge Below count q b d y

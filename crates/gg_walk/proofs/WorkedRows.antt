@@ -9,11 +9,11 @@ use Rattle.gg_walk.specs.Lists.{HasTarget}
 use Rattle.gg_walk.proofs.RingLemmas.{no_ring}
 
 -- a fact that is shown at each place of a list of one, two, four or five elements holds at every place below its length
-one : (P : ℕ → Type 0) → P 0 → (k : ℕ) → k < 1 → P k
+pub one : (P : ℕ → Type 0) → P 0 → (k : ℕ) → k < 1 → P k
 one P a zero lt = a
 one P a (suc k) lt = absurd (omega arith)
 
-two : (P : ℕ → Type 0) → P 0 → P 1 → (k : ℕ) → k < 2 → P k
+pub two : (P : ℕ → Type 0) → P 0 → P 1 → (k : ℕ) → k < 2 → P k
 two P a b zero lt = a
 two P a b (suc k) lt = one (λ i. P (suc i)) b k (omega arith)
 
@@ -22,7 +22,7 @@ four P a b c d zero lt = a
 four P a b c d (suc zero) lt = b
 four P a b c d (suc (suc k)) lt = two (λ i. P (suc (suc i))) c d k (omega arith)
 
-five : (P : ℕ → Type 0) → P 0 → P 1 → P 2 → P 3 → P 4 → (k : ℕ) → k < 5 → P k
+pub five : (P : ℕ → Type 0) → P 0 → P 1 → P 2 → P 3 → P 4 → (k : ℕ) → k < 5 → P k
 five P a b c d e zero lt = a
 five P a b c d e (suc k) lt = four (λ i. P (suc i)) b c d e k (omega arith)
 
@@ -39,7 +39,7 @@ each P xs all t h = each-at P xs t h.0 all h.1 h.2
 absent : (xs : List ℕ) (t : ℕ) → AllByRecursion (λ x. eqb x t ≡ false) xs → ¬ Contains xs t
 absent xs t none h = true≢false (sym (eq-eqb t t refl) ∙ each-at (λ x. eqb x t ≡ false) xs t h.0 none h.1 h.2)
 
-distinct : (xs : List ℕ) → IsDistinct eqb xs → AllPairs (λ a b. a ≢ b) xs
+pub distinct : (xs : List ℕ) → IsDistinct eqb xs → AllPairs (λ a b. a ≢ b) xs
 distinct xs h = AllPairs-from_IsDistinct Decides-eqb xs h
 
 -- ---- rings

@@ -4,6 +4,7 @@ use Rattle.std.specs.Prelude.{◌&&◌, ⊤, encode_utf8, find, fold, slice_get}
 use Rattle.std.specs.List.{list_all}
 use Rattle.std.specs.Str.{bytes_eq, chars}
 use Rattle.std.proofs.lemmas.Slice.Eq.{bytes_eq-Decides}
+use Rattle.std.proofs.lemmas.Option.{same_Some}
 use Rattle.clap.specs.Lexer.{long_of, short_of}
 use Rattle.clap.specs.Matches.{count_text}
 use Rattle.clap.specs.Walk.{Held, Names, Outcome, Row, Rule, Step, Text, Waiting, Walk, after_flag, after_step, arg_by_id, arg_by_index, arg_by_long, arg_by_short, at_row, bundle, bundle_met, bundle_step, count_of, counted, default_rows, finished, flag_met, has_row, idle, long_met, long_or_other, more_values, new_count, next, option, option_met, option_word, plain, plain_word, positional, positional_held, pushed, reacted, reading_by, refused, settled, settled_rows, short_or_plain, started, subcommand, subcommand_met, subcommand_or_other, takes_values, to_positional, trailing, used, used_as, used_by_id, value, values_or_missing, waits, walked, walked_from, with_count, with_default, with_values, without, word_met, done, action_of, is_pending, takes_several}
@@ -41,15 +42,12 @@ value-back (x ∷ xs) y = refl
 pub same-text : (xs ys : Text) → bytes_eq xs ys ≡ true → xs ≡ ys
 same-text xs ys h = (bytes_eq-Decides xs ys).0 h
 
-some-same : {X : Type 0} (x y : X) → Some x ≡ Some y → x ≡ y
-some-same x y h = cc
-
 pub find-passes : {X : Type 0} (p : X → Bool) (xs : List X) (x : X) → find p xs ≡ Some x → p x ≡ true
 find-passes p [] x e = absurd (true≢false (sym (ap is_some e)))
 find-passes p (y ∷ ys) x e = go (p y) refl (find-passes p ys x) e
   where
     go : (b : Bool) → p y ≡ b → (find p ys ≡ Some x → p x ≡ true) → cond b (Some y) (find p ys) ≡ Some x → p x ≡ true
-    go true is later found = subst (λ z. p z ≡ true) (some-same y x found) is
+    go true is later found = subst (λ z. p z ≡ true) (same_Some y x found) is
     go false is later found = later found
 
 -- if all elements pass a test, so does the one that is found
@@ -60,7 +58,7 @@ find-all p t (y ∷ ys) x e all = go (p y) (t y) refl (find-all p t ys x) e all
     go : (b d : Bool) → t y ≡ d → (find p ys ≡ Some x → list_all t ys ≡ true → t x ≡ true)
         → cond b (Some y) (find p ys) ≡ Some x → (d && list_all t ys) ≡ true → t x ≡ true
     go b false is later found every = absurd (true≢false (sym every))
-    go true true is later found every = subst (λ z. t z ≡ true) (some-same y x found) is
+    go true true is later found every = subst (λ z. t z ≡ true) (same_Some y x found) is
     go false true is later found every = later found every
 
 module _ (id : Text) where

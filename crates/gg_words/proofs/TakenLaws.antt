@@ -4,6 +4,7 @@ use Rattle.std.specs.Prelude.{◌&&◌, ◌||◌, find, option_and_then, option_
 use Rattle.std.specs.List.{list_all}
 use Rattle.std.specs.Option.{option_map_or}
 use Rattle.std.specs.Str.{bytes_eq}
+use Rattle.std.proofs.lemmas.Bool.{and_parts, or_parts, not-false}
 use Rattle.clap.specs.Walk.{Held, Names, Row, Rule, Text, arg_by_long, arg_by_short, first_of, finished, has_long, nothing_held, settled, stop_after, walk, walk_from}
 use Rattle.clap.specs.Simple.{App, Shape, argument_words, built, entered, label_of, names_of, rows_at, subcommand_of}
 use Rattle.clap.specs.Takes.{is_given}
@@ -25,18 +26,6 @@ cons≢nil k ks e = true≢false (ap (λ (xs : Kinds). some xs) e)
 none-both : (a b : Kinds) → or_else a b ≡ [] → (a ≡ []) × (b ≡ [])
 none-both [] b e = (refl, e)
 none-both (k ∷ ks) b e = absurd (cons≢nil k ks e)
-
-either-false : (a b : Bool) → (a || b) ≡ false → (a ≡ false) × (b ≡ false)
-either-false true b e = absurd (true≢false e)
-either-false false b e = (refl, e)
-
-both-true : (a b : Bool) → (a && b) ≡ true → (a ≡ true) × (b ≡ true)
-both-true true b e = (refl, e)
-both-true false b e = absurd (true≢false (sym e))
-
-not-false : (b : Bool) → not b ≡ false → b ≡ true
-not-false true e = refl
-not-false false e = absurd (true≢false e)
 
 is-there : (b : Bool) → (not b && true) ≡ false → b ≡ true
 is-there true e = refl
@@ -127,8 +116,8 @@ file-texts : (c : List Rule) → ((x : ℕ) → arg_by_short c x ≡ None) → (
     → lacks (finished c (walk c [] nothing_held words).held) ids ≡ false → HaveTexts ids (finished c (walk c [] nothing_held words).held)
 file-texts c no_short words [] all none = tt
 file-texts c no_short words (id ∷ ids) all none =
-    let apart = both-true (list_all (is_apart id) c) (are_apart c ids) all in
-    let given = either-false (not (is_given id (finished c (walk c [] nothing_held words).held))) (lacks (finished c (walk c [] nothing_held words).held) ids) none in
+    let apart = and_parts (list_all (is_apart id) c) (are_apart c ids) all in
+    let given = or_parts (not (is_given id (finished c (walk c [] nothing_held words).held))) (lacks (finished c (walk c [] nothing_held words).held) ids) none in
     (file-text id c apart.0 no_short [] words (not-false _ given.0), file-texts c no_short words ids apart.1 given.1)
 
 -- if a command refuses nothing, none of its files is missing

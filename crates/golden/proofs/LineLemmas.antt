@@ -27,9 +27,6 @@ pub record LinesTo {A : Type 0} (f : A → List ℕ) (xs : List A) (before now :
   pub faults_stay_or_rise : faults ≤ faults'
   pub refused_stay_or_rise : refused ≤ refused'
 
-pub lines-begin : {A : Type 0} (f : A → List ℕ) (xs : List A) (before : Option (List ℕ)) (faults refused : ℕ) → LinesTo f xs before before faults faults refused refused 0
-lines-begin f xs before faults refused = record { written = sym (append_known-nil before); faults_stay_or_rise = omega arith; refused_stay_or_rise = omega arith }
-
 module _ {A : Type 0} (f : A → List ℕ) (xs : List A) (before now now' : Option (List ℕ)) (b b' b'' r r' r'' i : ℕ) (x d : A) where
   pub lines-next : i < length xs → get_or xs i d ≡ x → LinesTo f xs before now b b' r r' i → now' ≡ append_known now (f x) → b' ≤ b'' → r' ≤ r''
       → LinesTo f xs before now' b b'' r r'' (i + 1)

@@ -2,6 +2,7 @@
 use Rattle.std.proofs.Common.{◌≡◌, ◌≢◌, ℕ, Bool, List, [], ◌≤◌, length, refl, ap, sym, ◌∙◌, subst, inl, inr, arith, ◌⊎◌}
 use Rattle.std.specs.Prelude.{Option, Some, Result, Ok, Err}
 use Rattle.std.specs.Io.KnownBytes.{append_known}
+use Rattle.std.proofs.lemmas.Option.{same_Some}
 use Rattle.gg_io.specs.Told.{Told, Holds}
 use Rattle.gg_read.specs.Text.{HasReadFault}
 use Rattle.gg_read.specs.declared.text.ReadFault.{ReadFault}
@@ -99,10 +100,6 @@ unjudged-8 (inl e) = absurd (omega arith)
 unjudged-8 (inr (inl e)) = absurd (omega arith)
 unjudged-8 (inr (inr (inl e))) = absurd (omega arith)
 unjudged-8 (inr (inr (inr e))) = absurd (omega arith)
-
--- names are equal if they are equal as optional names
-some-name : (one other : List ℕ) → Some one ≡ Some other → one ≡ other
-some-name one other e = cc
 
 -- each command's order is exact
 abbrev pub ExactOrders : Type 0
@@ -370,7 +367,7 @@ module _ {words : List (List ℕ)} {files : List ℕ → Told} {lost cut unwritt
           → Tells err err' trouble status (trace_fault (fault_words fault)) ⊎ (status ≡ 5)
       tells-traced unique (Run circuit partition own capacity workers mono) c p t trace flat fault asks named hc lc means hp lp fits held lt first =
           let command : Command = Run circuit partition own capacity workers mono in
-          let ht : files own ≡ Holds t = ap files (some-name own trace named) ∙ held in
+          let ht : files own ≡ Holds t = ap files (same_Some own trace named) ∙ held in
           let said : Said = trace_fault (fault_words fault) in
           let refuses : TellsTraceFor c t said = (flat, means, (fault, first, refl)) in
           let accepted = means.text in
@@ -383,7 +380,7 @@ module _ {words : List (List ℕ)} {files : List ℕ → Told} {lost cut unwritt
           (tells-due command said asks (c, hc, inr (lc, accepted, (p, hp, inr (lp, fits, (t, ht, inl (inr (lt, refuses))))))))
       tells-traced unique (Replay circuit partition own steps capacity) c p t trace flat fault asks named hc lc means hp lp fits held lt first =
           let command : Command = Replay circuit partition own steps capacity in
-          let ht : files own ≡ Holds t = ap files (some-name own trace named) ∙ held in
+          let ht : files own ≡ Holds t = ap files (same_Some own trace named) ∙ held in
           let said : Said = trace_fault (fault_words fault) in
           let refuses : TellsTraceFor c t said = (flat, means, (fault, first, refl)) in
           let accepted = means.text in

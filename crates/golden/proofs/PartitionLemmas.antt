@@ -1,6 +1,7 @@
 -- A partition has at most one fault, whichever design the circuit's bytes are taken to mean.
 use Rattle.std.proofs.Common.{◌≡◌, ℕ, ◌++◌, List, None, Some, refl, sym, ap, ◌∙◌, subst, inl, inr}
 use Rattle.std.specs.Prelude.{codes}
+use Rattle.std.proofs.lemmas.Option.{same_Some}
 use Rattle.gg_cut.specs.Fault.{first_fault}
 use Rattle.gg_cut.specs.Fault as cut
 use Rattle.gg_cut.specs.declared.fault.CutFault.{CutFault}
@@ -12,7 +13,7 @@ use Rattle.gg_front.specs.Meaning.{Means, MeansDesign}
 use Rattle.gg_io.specs.Told.{Told}
 use Rattle.gg_order.specs.Design.{Ordered}
 use Rattle.gg_partfile.specs.Fault as file
-use Rattle.gg_partfile.proofs.OnceLemmas.{request-once, some-same}
+use Rattle.gg_partfile.proofs.OnceLemmas.{request-once}
 use Rattle.gg_partfile.specs.Partition.{IsPartition}
 use Rattle.gg_partfile.specs.declared.fault.PartFault.TheVariants as file_fault
 use Rattle.gg_partfile.specs.declared.request.Request.{Request}
@@ -58,7 +59,7 @@ designs-agree trees paths shapes ins outs reads memories = λ bytes one other a 
 }
 
 cut-once : (design : Ordered) (a b : Request) (one other : CutFault) → a ≡ b → first_fault design a ≡ Some one → first_fault design b ≡ Some other → one ≡ other
-cut-once design a b one other e p q = some-same one other (sym p ∙ ap (first_fault design) e ∙ q)
+cut-once design a b one other e p q = same_Some one other (sym p ∙ ap (first_fault design) e ∙ q)
 
 fault-once : FileApart → OneKey → (design : Ordered) (bytes text other : List ℕ) → HasFault design bytes text → HasFault design bytes other → text ≡ other
 fault-once apart key design bytes text other (OfFile k wrong is) (OfFile k' wrong' is') =

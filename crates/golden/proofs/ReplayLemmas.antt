@@ -1,18 +1,18 @@
 -- How `replay` ends: from the network of a plan to the setting of its design, and from there to the order of refusals.
-use Rattle.std.proofs.Common.{◌≡◌, ℕ, zero, suc, ◌+◌, ◌<◌, ◌≤◌, List, [], ◌∷◌, ◌++◌, length, map, refl, sym, ap, ◌∙◌, subst, inr, arith}
+use Rattle.std.proofs.Common.{◌≡◌, ℕ, suc, ◌+◌, ◌<◌, ◌≤◌, List, [], ◌∷◌, length, map, refl, sym, ap, ◌∙◌, subst, inr, arith}
 use Rattle.std.specs.Prelude.{Option, None, Result, Ok, Err, flat_map, slice_index_or, take}
 use Rattle.std.specs.List.{range_with_len}
 use Rattle.std.proofs.lemmas.List.{get_or-map}
 use Rattle.gg_bits.specs.Shape.{Shape}
-use Rattle.gg_flat.specs.Circuit.{FlatCircuit, signal_shapes}
+use Rattle.gg_flat.specs.Circuit.{signal_shapes}
 use Rattle.gg_flat.specs.Line.{shape_at}
 use Rattle.gg_flat.specs.Order.{IsOrder}
-use Rattle.gg_flat.specs.Ports.{in_ports}
 use Rattle.gg_flat.specs.Along.{rows_along}
-use Rattle.gg_flat.specs.Run.{IsColumns, IsRun, column}
+use Rattle.gg_flat.specs.Run.{IsColumns, column}
 use Rattle.gg_flat.proofs.AlongLemmas.{IsRun-along}
 use Rattle.gg_flat.specs.Tree.{path_at}
-use Rattle.gg_front.specs.Meaning.{Means, MeansDesign}
+use Rattle.gg_flat.proofs.ListLemmas.{some-item}
+use Rattle.gg_front.specs.Meaning.{MeansDesign}
 use Rattle.gg_io.specs.Told.{Told}
 use Rattle.gg_order.specs.Design.{IsDesign, Ordered}
 use Rattle.gg_partfile.specs.declared.request.Request.{Request}
@@ -27,6 +27,7 @@ use Rattle.gg_cut.specs.declared.plan.Machine as planned
 use Rattle.gg_cut.specs.declared.plan.Plan.{Plan}
 use Rattle.gg_cut.specs.declared.wires.Wire.{Wire}
 use Rattle.gg_check.specs.CheckText.{channel_name}
+use Rattle.gg_check.proofs.SameCutLemmas.{lines-same}
 use Rattle.gg_node.specs.Machine.{Machine, cycle_limit}
 use Rattle.gg_net.specs.declared.event.Event.{Event}
 use Rattle.gg_net.specs.Kept.{list_at}
@@ -60,6 +61,7 @@ use Rattle.golden.proofs.EndingLemmas.{printed-ends, refused-ends}
 use Rattle.golden.proofs.PartitionLemmas.{DesignsAgree}
 use Rattle.golden.proofs.ReadingLemmas.{IfRefused-map}
 use Rattle.golden.proofs.SettingLemmas.{designs-alike, layouts-same, leads-same, ok-same, requests-same, rows-same, texts-same}
+use Rattle.golden.proofs.TextLemmas.{InsAgree, RunsAgree, OneRun}
 
 -- ---- lists by number
 
@@ -75,18 +77,6 @@ map-range f g (x ∷ xs) a h =
 
 map-numbers : {A B : Type 0} (f : A → B) (g : ℕ → B) (xs : List A) → ((k : ℕ) (any : A) → k < length xs → f (slice_index_or xs k any) ≡ g k) → map f xs ≡ map g (range_with_len 0 (length xs))
 map-numbers f g xs h = map-range f g xs 0 (λ k any lt. h k any lt ∙ ap g (let e : k ≡ 0 + k = omega arith in e))
-
--- functions that give the same lines for each number give the same text
-lines-on : (f g : ℕ → List ℕ) (a n : ℕ) → ((k : ℕ) → a ≤ k → k < a + n → f k ≡ g k) → flat_map f (range_with_len a n) ≡ flat_map g (range_with_len a n)
-lines-on f g a zero h = refl
-lines-on f g a (suc n) h =
-    let head : f a ≡ g a = h a (omega arith) (omega arith) in
-    let rest = lines-on f g (a + 1) n (λ k le lt. h k (omega (arith, le)) (omega (arith, lt))) in
-    ap (λ l. l ++ flat_map f (range_with_len (a + 1) n)) head ∙ ap (λ l. g a ++ l) rest
-
-some-item : {A : Type 0} (xs : List A) (k : ℕ) → k < length xs → A
-some-item [] k lt = absurd (omega (arith, lt))
-some-item (x ∷ xs) k lt = x
 
 module _ (design : Ordered) (request : Request) (default : ℕ) (plan : Plan) (columns : List (List ℕ)) (n : ℕ) (rows : List (List ℕ)) (given : IsGiven design request default plan columns n rows) where
   abbrev the_listed : Listed
@@ -152,7 +142,7 @@ module _ (design : Ordered) (request : Request) (default : ℕ) (plan : Plan) (c
 
     text-is : net_text plan lists net ≡ replay_text the_setting (marking_of net)
     text-is =
-        lines-on (net_line plan lists net) (channel_told the_setting (marking_of net) the_wires) 0 (length plan.channels) (λ c le lt. line-is c (omega (arith, lt)))
+        lines-same (net_line plan lists net) (channel_told the_setting (marking_of net) the_wires) 0 (length plan.channels) (λ c le lt. line-is c (omega (arith, lt)))
         ∙ ap (λ k. flat_map (channel_told the_setting (marking_of net) the_wires) (range_with_len 0 k)) given.planned.channel_total
 
   -- ---- the steps
@@ -223,10 +213,7 @@ module _ (design : Ordered) (request : Request) (default : ℕ) (plan : Plan) (c
 -- ---- the order of refusals
 
 module _ (agree : DesignsAgree)
-    (ins : (bytes : List ℕ) (one other : FlatCircuit) → Means bytes one → Means bytes other → in_ports one ≡ in_ports other)
-    (runs : (bytes : List ℕ) (one other : FlatCircuit) (columns : List (List ℕ)) (n : ℕ) (rows : List (List ℕ)) → Means bytes one → Means bytes other → IsRun one columns n rows → IsRun other columns n rows)
-    (once : (circuit : FlatCircuit) (order : List ℕ) (columns : List (List ℕ)) (n : ℕ) (rows others : List (List ℕ)) → IsOrder circuit order → IsRun circuit columns n rows → IsRun circuit columns n others → rows ≡ others)
-    (circuit partition trace : List ℕ) (capacity : ℕ) (design : Ordered) (request : Request) (n : ℕ) (columns : List (List ℕ))
+    (ins : InsAgree) (runs : RunsAgree) (once : OneRun) (circuit partition trace : List ℕ) (capacity : ℕ) (design : Ordered) (request : Request) (n : ℕ) (columns : List (List ℕ))
     (ordered : IsOrder design.circuit design.order) (means : MeansDesign circuit design) (cuts : Cuts design partition request) (feeds : FeedsOnly design.circuit trace n columns) where
   own-setting : (rows : List (List ℕ)) (layout : Layout) → AreSet design request capacity n columns rows layout → IsSetting circuit partition trace capacity (setting_of design request n columns rows layout)
   own-setting rows layout are = record { means = means; cuts = cuts; feeds = feeds.feeds; run = are.run; laid = are.laid }

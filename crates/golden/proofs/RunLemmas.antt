@@ -1,8 +1,6 @@
 -- The orders of the commands.
 use Rattle.std.proofs.Common.{◌≡◌, ℕ, List, refl, sym, ap, ◌∙◌, subst, inl, inr}
-use Rattle.gg_flat.specs.Circuit.{FlatCircuit}
 use Rattle.gg_flat.specs.declared.ports.Port.{Port}
-use Rattle.gg_front.specs.Meaning.{Means}
 use Rattle.gg_flat.specs.Ports.{in_ports}
 use Rattle.gg_trace.specs.FaultText.{fault_words}
 use Rattle.gg_trace.specs.Trace.{Columns, IsFirstFault}
@@ -14,10 +12,7 @@ use Rattle.golden.specs.Words.{Command, Run, Replay, Check, order_behind, order_
 use Rattle.golden.proofs.FrontLemmas.{NoFaultAccepted, circuit_file-exact}
 use Rattle.golden.proofs.PartitionLemmas.{DesignsAgree, FileApart, OneKey, partition_file-exact, partition_file-unique}
 use Rattle.golden.proofs.SettingLemmas.{steps_file-exact, steps_file-unique}
-
--- all flat circuits that some bytes mean have the same inputs
-abbrev pub InsAgree : Type 0
-InsAgree = (bytes : List ℕ) (one other : FlatCircuit) → Means bytes one → Means bytes other → in_ports one ≡ in_ports other
+use Rattle.golden.proofs.TextLemmas.{InsAgree}
 
 -- a trace has at most one first fault
 abbrev pub OneFirstFault : Type 0

@@ -6,10 +6,8 @@ use Rattle.gg_bits.specs.Shape.{Shape}
 use Rattle.gg_flat.specs.Circuit.{FlatCircuit, signal_shapes}
 use Rattle.gg_flat.specs.Line.{shape_at}
 use Rattle.gg_flat.specs.Order.{IsOrder}
-use Rattle.gg_flat.specs.Ports.{in_ports}
 use Rattle.gg_flat.specs.Run.{IsRun, column}
 use Rattle.gg_flat.specs.Tree.{InstanceTree, path_at}
-use Rattle.gg_flat.specs.declared.ports.Port.{Port}
 use Rattle.gg_front.specs.Meaning.{Means}
 use Rattle.gg_order.specs.Design.{Ordered}
 use Rattle.gg_partfile.proofs.OnceLemmas.{request-once}
@@ -27,12 +25,12 @@ use Rattle.gg_layout.proofs.OneLemmas.{one-layout}
 use Rattle.gg_steps.specs.Naming.{Naming}
 use Rattle.gg_steps.specs.Steps.{steps_of}
 use Rattle.gg_replay.specs.ReplayText.{channel_line}
-use Rattle.gg_trace.specs.Trace.{Columns}
 use Rattle.golden.specs.Lines.{Said}
 use Rattle.golden.specs.Order.{IsExactFile, IsUniqueFile}
 use Rattle.golden.specs.Replay.{AreDone, IsSetting, Setting, TellsSteps, naming_of, port_names, replay_text, replayed, steps_file_for, stopped_by, stopped_said}
-use Rattle.golden.specs.RunText.{Feeds, FeedsOnly}
+use Rattle.golden.specs.RunText.{FeedsOnly}
 use Rattle.golden.proofs.PartitionLemmas.{DesignsAgree}
+use Rattle.golden.proofs.TextLemmas.{InsAgree, RunsAgree, OneRun, same-run}
 
 -- ---- names
 
@@ -157,16 +155,8 @@ texts-same a b one other s requests layouts rows same =
     ∙ ap (λ (w : List Wire). text_from b.design.circuit.paths (signal_shapes b.design.circuit) b.layout other b.rows w) (wires-alike a.design b.design s b.request)
 
 -- each setting of the same circuit and trace has the rows of this run
-pub rows-same : ((bytes : List ℕ) (one other : FlatCircuit) → Means bytes one → Means bytes other → in_ports one ≡ in_ports other)
-    → ((bytes : List ℕ) (one other : FlatCircuit) (columns : List (List ℕ)) (n : ℕ) (rows : List (List ℕ)) → Means bytes one → Means bytes other → IsRun one columns n rows → IsRun other columns n rows)
-    → ((circuit : FlatCircuit) (order : List ℕ) (columns : List (List ℕ)) (n : ℕ) (rows others : List (List ℕ)) → IsOrder circuit order → IsRun circuit columns n rows → IsRun circuit columns n others → rows ≡ others)
-    → (circuit partition trace : List ℕ) (capacity : ℕ) (flat : FlatCircuit) (order : List ℕ) → IsOrder flat order → Means circuit flat
+pub rows-same : InsAgree → RunsAgree → OneRun → (circuit partition trace : List ℕ) (capacity : ℕ) (flat : FlatCircuit) (order : List ℕ) → IsOrder flat order → Means circuit flat
     → (n : ℕ) (columns rows : List (List ℕ)) → IsRun flat columns n rows → FeedsOnly flat trace n columns
     → (other : Setting) → IsSetting circuit partition trace capacity other → other.rows ≡ rows
 rows-same ins runs once circuit partition trace capacity flat order ordered means n columns rows run feeds other y =
-    let fed : Feeds flat trace other.cycles other.columns = subst (λ (p : List Port). Columns p trace other.cycles other.columns) (ins circuit other.design.circuit flat y.means.means means) y.feeds in
-    let same = feeds.only other.cycles other.columns fed in
-    let carried : IsRun flat other.columns other.cycles other.rows = runs circuit other.design.circuit flat other.columns other.cycles other.rows y.means.means means y.run in
-    let turned : IsRun flat columns n other.rows =
-    subst (λ (k : ℕ). IsRun flat columns k other.rows) (sym same.0) (subst (λ (c : List (List ℕ)). IsRun flat c other.cycles other.rows) (sym same.1) carried) in
-    sym (once flat order columns n rows other.rows ordered run turned)
+    (same-run ins runs once circuit trace flat order ordered means n columns rows run feeds other.design.circuit y.means.means other.cycles other.columns other.rows y.feeds y.run).1

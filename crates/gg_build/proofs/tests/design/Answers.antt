@@ -1,11 +1,8 @@
-use Rattle.std.proofs.Common.{◌≡◌, ℕ, zero, suc, ◌<◌, List, [], ◌∷◌, length, refl, sym, ◌∙◌, ap, subst, arith, rules, lit<}
-use Rattle.std.specs.Prelude.{Contains, None, false}
-use Rattle.gg_flat.specs.declared.tree.Instance.{Instance}
-use Rattle.gg_flat.specs.Circuit.{FlatCircuit}
+use Rattle.std.proofs.Common.{sym, subst, rules}
 use Rattle.gg_flat.specs.Tree.{IsTree}
 use Rattle.gg_flat.specs.Scoped.{IsScoped}
 use Rattle.gg_flat.specs.WellFormed.{IsWellFormed}
-use Rattle.gg_order.proofs.TopLemmas.{IsLone, IsTree-lone, IsScoped-lone}
+use Rattle.gg_order.proofs.TopLemmas.{IsTree-lone, IsScoped-lone}
 use Rattle.gg_build.specs.Fixture.{IsFixture}
 use Rattle.gg_build.proofs.FixtureLemmas.{top, IsLone-fixture}
 use Rattle.gg_build.proofs.tests.design.Goals as goal

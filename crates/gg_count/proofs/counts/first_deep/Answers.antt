@@ -1,4 +1,4 @@
-use Rattle.std.proofs.Common.{◌≡◌, List, ◌∙◌, ap, length}
+use Rattle.std.proofs.Common.{List, ◌∙◌, ap, length}
 use Rattle.gg_ast.specs.Tree.{ModuleTree}
 use Rattle.gg_count.specs.Counts.{deep_at, deep_places}
 use Rattle.gg_count.proofs.CountLemmas.{deep-found, length-deep_places}

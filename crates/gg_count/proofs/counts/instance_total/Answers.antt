@@ -1,7 +1,7 @@
-use Rattle.std.proofs.Common.{◌≡◌, ℕ, List, [], get_or, replicate, ◌∙◌, ap, arith, length}
+use Rattle.std.proofs.Common.{◌≡◌, List, [], get_or, replicate, ◌∙◌, ap, length}
 use Rattle.std.proofs.lemmas.List.{get_or_default}
 use Rattle.gg_ast.specs.Tree.{ModuleTree, empty_module}
-use Rattle.gg_count.specs.Sites.{module_at, held_by}
+use Rattle.gg_count.specs.Sites.{module_at}
 use Rattle.gg_count.specs.declared.pass.Gathering.TheVariants.{Sum}
 use Rattle.gg_count.proofs.PassLemmas.{gathered-lent}
 use Rattle.gg_count.proofs.CountLemmas.{instances-found}

@@ -1,8 +1,7 @@
 use Rattle.std.proofs.Common.{◌≡◌, ℕ, ◌+◌, ◌<◌, List, [], ◌∙◌, ap, sym, subst, arith, get_or, set, length}
 use Rattle.std.proofs.lemmas.List.{get_or_default}
 use Rattle.gg_ast.specs.Tree.{ModuleTree, empty_module}
-use Rattle.gg_count.specs.Sites.{held_at, module_at}
-use Rattle.gg_count.specs.Graph.{gathered_over}
+use Rattle.gg_count.specs.Sites.{module_at}
 use Rattle.gg_count.proofs.PassLemmas.{IsGathered, gathered-more, gathered-all, gathered-from}
 use Rattle.gg_count.proofs.pass.gather.Goals as goal
 

@@ -1,5 +1,6 @@
 use Rattle.std.proofs.Common.{◌≡◌, ◌+◌, ◌<◌, List, ◌++◌, map, take, length, sym, ap, ap₂, ◌∙◌, subst, arith}
 use Rattle.std.proofs.lemmas.List.{map-append}
+use Rattle.std.proofs.lemmas.Simd.{map-map}
 use Rattle.gg_bits.specs.Shape.{shape}
 use Rattle.gg_flat.specs.Tree.{joined}
 use Rattle.gg_digest.specs.Flat.{FlatSignal, flat_signal, signals_at, flat_signals, FlatMemory, flat_memory, memories_at, flat_memories}
@@ -10,7 +11,7 @@ use Rattle.gg_digest.specs.Meaning.{Signals}
 use Rattle.gg_digest.specs.declared.digest.OwnMemory.{OwnMemory}
 use Rattle.gg_digest.specs.declared.own.OwnSignal.{OwnSignal}
 use Rattle.gg_digest.specs.declared.sites.Place.{Place}
-use Rattle.gg_digest.proofs.FlatLemmas.{map-twice, signals-more, memories-more, digest-at, table-more, memory_paths-more}
+use Rattle.gg_digest.proofs.FlatLemmas.{signals-more, memories-more, digest-at, table-more, memory_paths-more}
 use Rattle.gg_digest.proofs.FreshLemmas.{parts-front}
 use Rattle.gg_digest.proofs.NameLemmas.{Differ}
 use Rattle.gg_digest.proofs.table.table_of.Goals as goal
@@ -56,7 +57,7 @@ add_signals-requires c =
     let more : map (λ (x : FlatSignal). x.path) (flat_signals types modules (map site_of (take (i + 1) places))) ≡ c.loop-place.table.paths ++ map (λ (s : OwnSignal). joined p.path s.name) c.as_slice.result.now =
     ap (λ (l : List FlatSignal). map (λ (x : FlatSignal). x.path) l) (signals-more types modules places i p digest within c.place-item.is d)
     ∙ map-append (λ (x : FlatSignal). x.path) (flat_signals types modules (map site_of (take i places))) (map (λ (o : OwnSignal). flat_signal modules (site_of p) (own_of o)) digest.signals.items)
-    ∙ ap₂ (λ xs ys. xs ++ ys) (sym (ap (λ (s : Signals). s.paths) c.loop-place.invariant.0)) (map-twice (λ (x : FlatSignal). x.path) (λ (o : OwnSignal). flat_signal modules (site_of p) (own_of o)) digest.signals.items)
+    ∙ ap₂ (λ xs ys. xs ++ ys) (sym (ap (λ (s : Signals). s.paths) c.loop-place.invariant.0)) (map-map (λ (x : FlatSignal). x.path) (λ (o : OwnSignal). flat_signal modules (site_of p) (own_of o)) digest.signals.items)
     ∙ ap (λ (l : List OwnSignal). c.loop-place.table.paths ++ map (λ s. joined p.path s.name) l) (sym c.as_slice.ensures.value) in
     record { distinct = subst Differ more (parts-front (λ (x : FlatSignal). x.path) (signals_at types modules) site_of places (i + 1) c.requires.signals) }
 
@@ -74,6 +75,6 @@ add_memories-requires c =
     let more : memory_paths (flat_memories modules (map site_of (take (i + 1) places))) ≡ c.add_signals.new.table.memories ++ map (λ (m : OwnMemory). joined p.path m.name.now) c.as_slice-in-loop-place.result.now =
     ap memory_paths (memories-more types modules places i p digest within c.place-item.is d)
     ∙ map-append (λ (x : FlatMemory). x.path) (flat_memories modules (map site_of (take i places))) (map (λ (m : OwnMemory). flat_memory (site_of p) (own_bank_of m)) digest.memories.items)
-    ∙ ap₂ (λ xs ys. xs ++ ys) (sym (c.in_ok-add_signals.ensures.memories ∙ c.loop-place.invariant.1)) (map-twice (λ (x : FlatMemory). x.path) (λ (m : OwnMemory). flat_memory (site_of p) (own_bank_of m)) digest.memories.items)
+    ∙ ap₂ (λ xs ys. xs ++ ys) (sym (c.in_ok-add_signals.ensures.memories ∙ c.loop-place.invariant.1)) (map-map (λ (x : FlatMemory). x.path) (λ (m : OwnMemory). flat_memory (site_of p) (own_bank_of m)) digest.memories.items)
     ∙ ap (λ (l : List OwnMemory). c.add_signals.new.table.memories ++ map (λ m. joined p.path m.name.now) l) (sym c.as_slice-in-loop-place.ensures.value) in
     record { distinct = subst Differ more (parts-front (λ (x : FlatMemory). x.path) (memories_at modules) site_of places (i + 1) c.requires.memories) }

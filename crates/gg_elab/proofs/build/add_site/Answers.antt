@@ -1,6 +1,7 @@
 use Rattle.std.proofs.Common.{◌≡◌, ℕ, List, [], ◌∷◌, ◌++◌, take, map, ◌∙◌, ap, sym, subst, arith}
 use Rattle.std.specs.Prelude.{Contains}
 use Rattle.std.proofs.lemmas.List.{append-nil, take_all}
+use Rattle.std.proofs.lemmas.Simd.{map-map}
 use Rattle.gg_flat.specs.Tree.{joined}
 use Rattle.gg_elab.specs.Building.{IsSoFar}
 use Rattle.gg_digest.specs.Flat.{FlatSignal, flat_signal, signals_at}
@@ -8,7 +9,7 @@ use Rattle.gg_digest.specs.Views.{table_signals, own_of, site_of}
 use Rattle.gg_digest.specs.Known.{types_of}
 use Rattle.gg_digest.specs.declared.digest.Digest.{Digest}
 use Rattle.gg_digest.specs.declared.own.OwnSignal.{OwnSignal}
-use Rattle.gg_digest.proofs.FlatLemmas.{map-twice, seam, signals-kept, digest-at}
+use Rattle.gg_digest.proofs.FlatLemmas.{seam, signals-kept, digest-at}
 use Rattle.gg_digest.proofs.FreshLemmas.{next-new}
 use Rattle.gg_digest.proofs.NameLemmas.{Differ}
 use Rattle.gg_elab.proofs.build.add_site.Goals as goal
@@ -40,7 +41,7 @@ add_signal-requires-clause-fresh c = λ h.
     let d = digest-at types modules c.args.digests.now place.number digest c.requires.digests c.requires.number c.index-digests-place.is in
     let all : map (λ (x : FlatSignal). x.path) (signals_at types modules (site_of place)) ≡ map (λ (o : OwnSignal). joined place.path o.name) items =
     ap (map (λ (x : FlatSignal). x.path)) (signals-kept types modules place digest d)
-    ∙ map-twice (λ (x : FlatSignal). x.path) (λ (o : OwnSignal). flat_signal modules (site_of place) (own_of o)) digest.signals.items
+    ∙ map-map (λ (x : FlatSignal). x.path) (λ (o : OwnSignal). flat_signal modules (site_of place) (own_of o)) digest.signals.items
     ∙ ap (λ (l : List OwnSignal). map (λ o. joined place.path o.name) l) (sym (c.as_slice-signals.ensures.value ∙ ap (λ (x : Digest). x.signals.items) (sym c.index-digests-place.is))) in
     next-new (λ (o : OwnSignal). joined place.path o.name) c.args.piece.now.paths items c.loop-signal.signal-index c.signal-item.result
     (subst (λ (l : List (List ℕ)). Differ (c.args.piece.now.paths ++ l)) all c.requires.distinct) (omega arith) c.signal-item.is

@@ -1,9 +1,9 @@
 use Rattle.std.proofs.Common.{◌≡◌, ◌+◌, ◌<◌, ◌≤◌, ◌∷◌, [], ◌∙◌, sym, ap, arith, length, drop, length-drop}
 use Rattle.std.proofs.lemmas.Bool.Decides.{nat_tests}
-use Rattle.std.proofs.lemmas.List.{take_all, drop-drop}
+use Rattle.std.proofs.lemmas.List.{take_all, drop-drop, nil_from_length}
 use Rattle.std.specs.Str.Lines.{strip_carriage_return}
 use Rattle.gg_trace.specs.Fields.{text_lines}
-use Rattle.gg_trace.proofs.LineLaws.{text_lines-last, text_lines-first, text_lines-nil, no_bytes}
+use Rattle.gg_trace.proofs.LineLaws.{text_lines-last, text_lines-first, text_lines-nil}
 use Rattle.gg_trace.proofs.line_cuts.cut_line.Goals as goal
 
 pub returns-then-is_empty : goal.returns-then-is_empty
@@ -14,7 +14,7 @@ returns-then-is_empty c =
     let long : length text ≤ n = omega (arith, length-drop n text, ap length c.split_at.ensures.back) in
     text_lines-last text c.requires (λ k h. c.line_len.ensures.before k (omega arith))
     ∙ ap (λ line. line ∷ []) (sym (take_all n text long) ∙ sym c.split_at.ensures.front)
-    ∙ ap (λ rest. c.split_at.result.0.now ∷ rest) (sym (ap text_lines (no_bytes _ none) ∙ text_lines-nil))
+    ∙ ap (λ rest. c.split_at.result.0.now ∷ rest) (sym (ap text_lines (nil_from_length _ none) ∙ text_lines-nil))
 
 pub returns : goal.returns
 returns c =

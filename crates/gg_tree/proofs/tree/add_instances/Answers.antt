@@ -3,6 +3,7 @@ use Rattle.std.specs.Prelude.{All, Contains, IfSome}
 use Rattle.std.proofs.lemmas.List.{length-map}
 use Rattle.std.proofs.lemmas.Grind.{get_or_default_zero}
 use Rattle.gg_flat.specs.Tree.{InstanceTree, joined}
+use Rattle.gg_flat.proofs.ListLemmas.{Contains-map}
 use Rattle.gg_ast.specs.declared.module.Port.{Port}
 use Rattle.gg_ast.specs.Places.{place_of}
 use Rattle.gg_ast.specs.Tree.{ModuleTree, module_names}
@@ -15,7 +16,6 @@ use Rattle.gg_digest.specs.Views.{IsPlaceIn, site_of}
 use Rattle.gg_digest.specs.Known.{types_of}
 use Rattle.gg_tree.specs.TreeParts.{IsInstanceAt, signals_to, signals_among}
 use Rattle.gg_tree.specs.IsTreeOf.{site_paths, signal_paths}
-use Rattle.gg_digest.proofs.AmongLemmas.{in-map}
 use Rattle.gg_digest.proofs.FlatLemmas.{digest-at}
 use Rattle.gg_digest.proofs.FreshLemmas.{next-new}
 use Rattle.gg_tree.proofs.ElementLemmas.{element, some-of}
@@ -61,7 +61,7 @@ pub instance-requires-clause-holder : goal.instance-requires-clause-holder
 instance-requires-clause-holder c =
     let circuit = c.args.typed.now.circuit in
     let lt : c.loop-i.i < length c.args.places.now = omega arith in
-    let there : Contains (sites_of circuit) (site_of c.index-places-i.result) = subst (λ (l : List Site). Contains l (site_of c.index-places-i.result)) c.requires.sites (in-map site_of c.args.places.now c.index-places-i.result (c.loop-i.i, lt, sym c.index-places-i.is)) in
+    let there : Contains (sites_of circuit) (site_of c.index-places-i.result) = subst (λ (l : List Site). Contains l (site_of c.index-places-i.result)) c.requires.sites (Contains-map site_of c.args.places.now c.index-places-i.result (c.loop-i.i, lt, sym c.index-places-i.is)) in
     let top = some-of (place_of circuit.name (module_names circuit)) c.requires.top in
     let same : c.args.paths.now ≡ site_paths circuit = c.requires.paths ∙ paths-same circuit top.0 top.1 c.args.places.now c.requires.sites in
     subst (λ (l : List (List ℕ)). IfSome c.index-places-i.result.outer (λ (around : Around). Contains l around.path)) (sym same) (holder-there circuit c.index-places-i.result there)
@@ -70,7 +70,7 @@ pub instance-requires-clause-ports : goal.instance-requires-clause-ports
 instance-requires-clause-ports c =
     let circuit = c.args.typed.now.circuit in
     let lt : c.loop-i.i < length c.args.places.now = omega arith in
-    let there : Contains (sites_of circuit) (site_of c.index-places-i.result) = subst (λ (l : List Site). Contains l (site_of c.index-places-i.result)) c.requires.sites (in-map site_of c.args.places.now c.index-places-i.result (c.loop-i.i, lt, sym c.index-places-i.is)) in
+    let there : Contains (sites_of circuit) (site_of c.index-places-i.result) = subst (λ (l : List Site). Contains l (site_of c.index-places-i.result)) c.requires.sites (Contains-map site_of c.args.places.now c.index-places-i.result (c.loop-i.i, lt, sym c.index-places-i.is)) in
     let inside : IsPlaceIn (length circuit.modules) c.index-places-i.result = subst (λ (x : Place). IsPlaceIn (length circuit.modules) x) (sym c.index-places-i.is) (c.requires.within c.loop-i.i c.index-places-i.result lt) in
     let modules : c.modules-modules.result.now ≡ circuit.modules = cc in
     let here : module_at circuit.modules c.index-places-i.result.number ≡ c.index-modules-number.result = module-at circuit.modules c.index-places-i.result.number c.index-modules-number.result inside.own (c.index-modules-number.is ∙ ap (λ (l : List ModuleTree). get_or l c.index-places-i.result.number c.index-modules-number.result) modules) in
@@ -85,7 +85,7 @@ pub instance-requires-clause-memories : goal.instance-requires-clause-memories
 instance-requires-clause-memories c =
     let circuit = c.args.typed.now.circuit in
     let lt : c.loop-i.i < length c.args.places.now = omega arith in
-    let there : Contains (sites_of circuit) (site_of c.index-places-i.result) = subst (λ (l : List Site). Contains l (site_of c.index-places-i.result)) c.requires.sites (in-map site_of c.args.places.now c.index-places-i.result (c.loop-i.i, lt, sym c.index-places-i.is)) in
+    let there : Contains (sites_of circuit) (site_of c.index-places-i.result) = subst (λ (l : List Site). Contains l (site_of c.index-places-i.result)) c.requires.sites (Contains-map site_of c.args.places.now c.index-places-i.result (c.loop-i.i, lt, sym c.index-places-i.is)) in
     let inside : IsPlaceIn (length circuit.modules) c.index-places-i.result = subst (λ (x : Place). IsPlaceIn (length circuit.modules) x) (sym c.index-places-i.is) (c.requires.within c.loop-i.i c.index-places-i.result lt) in
     let d = digest-at (types_of circuit) circuit.modules c.args.digests.now c.index-places-i.result.number c.index-digests-number.result c.requires.digests inside.own c.index-digests-number.is in
     subst (λ (l : List (List ℕ)). All (λ (own : OwnMemory). Contains l (joined c.index-places-i.result.path own.name.now)) c.index-digests-number.result.memories.items) (sym c.requires.memories)

@@ -2,6 +2,7 @@ use Rattle.std.proofs.Common.{◌≡◌, ℕ, ◌+◌, ◌<◌, List, ◌++◌, 
 use Rattle.std.specs.Prelude.{All, Contains}
 use Rattle.gg_count.specs.Sites.{Site, sites_of}
 use Rattle.gg_flat.specs.Tree.{joined}
+use Rattle.gg_flat.proofs.ListLemmas.{Contains-map}
 use Rattle.gg_digest.specs.declared.digest.OwnMemory.{OwnMemory}
 use Rattle.gg_digest.specs.declared.sites.Place.{Place}
 use Rattle.gg_digest.specs.Views.{IsPlaceIn, site_of}
@@ -10,7 +11,6 @@ use Rattle.gg_digest.specs.Known.{types_of}
 use Rattle.gg_tree.specs.TreeParts.{IsHeldFor, held_at_place}
 use Rattle.gg_digest.specs.Flat.{FlatMemory, memories_at, flat_memories}
 use Rattle.gg_digest.specs.IsFlat.{memory_paths}
-use Rattle.gg_digest.proofs.AmongLemmas.{in-map}
 use Rattle.gg_tree.proofs.ThereLemmas.{memories-there}
 use Rattle.gg_digest.proofs.FlatLemmas.{digest-at}
 use Rattle.gg_digest.proofs.FreshLemmas.{parts-front}
@@ -54,8 +54,8 @@ pub add_site_memories-requires-clause-holder : goal.add_site_memories-requires-c
 add_site_memories-requires-clause-holder c =
     let circuit = c.args.typed.now.circuit in
     subst (λ (l : List (List ℕ)). Contains l c.place-item.result.path) (sym c.requires.paths)
-    (in-map (λ (s : Site). s.path) (sites_of circuit) (site_of c.place-item.result)
-    (subst (λ (l : List Site). Contains l (site_of c.place-item.result)) c.requires.sites (in-map site_of c.args.places.now c.place-item.result (c.loop-place.place-index, omega arith, sym c.place-item.is))))
+    (Contains-map (λ (s : Site). s.path) (sites_of circuit) (site_of c.place-item.result)
+    (subst (λ (l : List Site). Contains l (site_of c.place-item.result)) c.requires.sites (Contains-map site_of c.args.places.now c.place-item.result (c.loop-place.place-index, omega arith, sym c.place-item.is))))
 
 pub add_site_memories-requires-clause-numbers : goal.add_site_memories-requires-clause-numbers
 add_site_memories-requires-clause-numbers c =
@@ -63,6 +63,6 @@ add_site_memories-requires-clause-numbers c =
     let lt : c.loop-place.place-index < length c.args.places.now = omega arith in
     let inside : IsPlaceIn (length circuit.modules) c.place-item.result = subst (λ (x : Place). IsPlaceIn (length circuit.modules) x) (sym c.place-item.is) (c.requires.within c.loop-place.place-index c.place-item.result lt) in
     let d = digest-at (types_of circuit) circuit.modules c.args.digests.now c.place-item.result.number c.index-digests-place.result c.requires.digests inside.own c.index-digests-place.is in
-    let there : Contains (sites_of circuit) (site_of c.place-item.result) = subst (λ (l : List Site). Contains l (site_of c.place-item.result)) c.requires.sites (in-map site_of c.args.places.now c.place-item.result (c.loop-place.place-index, lt, sym c.place-item.is)) in
+    let there : Contains (sites_of circuit) (site_of c.place-item.result) = subst (λ (l : List Site). Contains l (site_of c.place-item.result)) c.requires.sites (Contains-map site_of c.args.places.now c.place-item.result (c.loop-place.place-index, lt, sym c.place-item.is)) in
     subst (λ (l : List (List ℕ)). All (λ (own : OwnMemory). Contains l (joined c.place-item.result.path own.name.now)) c.as_slice.result.now) (sym c.requires.memories)
     (memories-there circuit c.place-item.result c.index-digests-place.result d there c.as_slice.result.now c.as_slice.ensures.value)

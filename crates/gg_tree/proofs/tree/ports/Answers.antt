@@ -3,8 +3,8 @@ use Rattle.std.specs.Prelude.{Contains}
 use Rattle.std.proofs.lemmas.List.Elements.{All-contains}
 use Rattle.gg_ast.specs.declared.module.Port.{Port}
 use Rattle.gg_flat.specs.Tree.{joined}
-use Rattle.gg_tree.proofs.ElementLemmas.{filter-keeps}
 use Rattle.gg_flat.specs.declared.tree.InstancePort.{InstancePort}
+use Rattle.gg_flat.proofs.ListLemmas.{Contains-filter}
 use Rattle.gg_tree.specs.IsTreeOf.{Pairwise}
 use Rattle.gg_tree.specs.TreeParts.{IsPortAt, is_signal, signals_among}
 use Rattle.gg_tree.proofs.TreePartLemmas.{Pairwise-filter}
@@ -19,5 +19,5 @@ pub port-requires : goal.port-requires
 port-requires c = record {
   there = λ signal.
       All-contains (λ (p : Port). Contains c.args.paths.now (joined c.args.outer.now p.name)) (signals_among c.args.ports.now) c.one-item.result c.requires.there
-      (filter-keeps is_signal c.args.ports.now c.one-item.result (c.loop-one.one-index, omega arith, sym c.one-item.is) signal);
+      (Contains-filter is_signal c.args.ports.now c.one-item.result (c.loop-one.one-index, omega arith, sym c.one-item.is) signal);
 }

@@ -1,7 +1,7 @@
 use Rattle.std.proofs.Common.{◌≡◌, map, OnOk, ap, subst, ◌∙◌}
 use Rattle.gg_names.specs.Along.{along}
 use Rattle.gg_shape.specs.Faults.{Answers}
-use Rattle.gg_types.proofs.FaultLemmas.{decided_next}
+use Rattle.gg_shape.proofs.FlatLemmas.{decided_next}
 use Rattle.gg_types.specs.Known.{roles_seen, traced_seen, owned_seen}
 use Rattle.gg_types.specs.Owned.{port_own}
 use Rattle.gg_types.specs.Types.{port_faults, faults_of, known_after}

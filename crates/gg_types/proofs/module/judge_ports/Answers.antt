@@ -1,7 +1,7 @@
 use Rattle.std.proofs.Common.{◌≡◌, ◌+◌, ◌&&◌, ◌||◌, [], ◌∷◌, ◌++◌, length, map, take, Some, refl, sym, ap, subst, ◌∙◌, rules}
 use Rattle.gg_shape.specs.Faults.{Refuses}
+use Rattle.gg_shape.proofs.FlatLemmas.{along-refused}
 use Rattle.gg_names.proofs.AlongLemmas.{left-more}
-use Rattle.gg_types.proofs.FaultLemmas.{left-refused}
 use Rattle.gg_types.specs.declared.sort.Own.TheVariants.{Single}
 use Rattle.gg_types.specs.Known.{names_seen}
 use Rattle.gg_types.specs.Named.{owned}
@@ -22,7 +22,7 @@ returns-in_err-judge_port-clause-answers c =
     let inv = c.loop-port.invariant in
     let here : Refuses (port_faults c.args.is_top (take c.loop-port.port-index c.args.ports.now) c.port-item.result) c.in_err-judge_port.field-0.0 =
     subst (λ b. Refuses (port_judged (c.args.is_top && b) c.port-item.result) c.in_err-judge_port.field-0.0) inv.3 c.in_err-judge_port.ensures in
-    let h = left-refused (port_faults c.args.is_top) c.args.ports.now c.loop-port.port-index c.port-item.result c.in_err-judge_port.field-0.0 c.loop-port-test.true c.port-item.is inv.6 here in
+    let h = along-refused (port_faults c.args.is_top) c.args.ports.now c.loop-port.port-index c.port-item.result c.in_err-judge_port.field-0.0 c.loop-port-test.true c.port-item.is inv.6 here in
     search (rules, h)
 
 pub loop-port-preserved : goal.loop-port-preserved

@@ -1,8 +1,8 @@
 use Rattle.std.proofs.Common.{◌≡◌, [], ◌+◌, ◌++◌, length, map, take, sym, ap, subst, ◌∙◌, rules}
 use Rattle.gg_names.specs.Namespace.{name_by}
 use Rattle.gg_shape.specs.Faults.{Refuses}
+use Rattle.gg_shape.proofs.FlatLemmas.{along-refused}
 use Rattle.gg_names.proofs.AlongLemmas.{left-more}
-use Rattle.gg_types.proofs.FaultLemmas.{left-refused}
 use Rattle.gg_types.specs.Known.{roles_seen, traced_seen, owned_seen, names_seen}
 use Rattle.gg_types.specs.Owned.{port_own}
 use Rattle.gg_types.specs.Types.{faults_of, faults_of_kind, own_by}
@@ -35,7 +35,7 @@ returns-in_err-judge-clause-answers c =
     ∙ ap (λ y. faults_of_kind r y (owned_seen k) x.line x.kind) (traced-same k old inv.0 inv.1 inv.2)
     ∙ ap (λ y. faults_of_kind r t y x.line x.kind) inv.4 in
     let here = subst (λ l. Refuses l c.in_err-judge.field-0.0) same c.in_err-judge.ensures.answers in
-    let h = left-refused (faults_of r t start) xs i x c.in_err-judge.field-0.0 c.loop-statement-test.true c.statement-item.is inv.5 here in
+    let h = along-refused (faults_of r t start) xs i x c.in_err-judge.field-0.0 c.loop-statement-test.true c.statement-item.is inv.5 here in
     search (rules, h)
 
 pub loop-statement-preserved : goal.loop-statement-preserved

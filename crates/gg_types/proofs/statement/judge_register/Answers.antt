@@ -1,7 +1,7 @@
 use Rattle.std.proofs.Common.{◌≡◌, [], ◌∷◌, ◌++◌, Some, ap, subst, ◌∙◌}
 use Rattle.gg_shape.specs.declared.fault.Word.TheVariants as words
 use Rattle.gg_shape.specs.Faults.{Answers}
-use Rattle.gg_types.proofs.FaultLemmas.{decided_next}
+use Rattle.gg_shape.proofs.FlatLemmas.{decided_next}
 use Rattle.gg_types.specs.declared.sort.Own.TheVariants.{Single}
 use Rattle.gg_types.specs.Known.{roles_seen, traced_seen, owned_seen}
 use Rattle.gg_types.specs.Sorts.{sort_of}
