@@ -14,6 +14,9 @@ use Rattle.gg_digest.specs.Flat.{Drive, Outside, Gets, Holds, Answers, FlatSigna
 use Rattle.gg_digest.specs.IsFlat.{IsComputed, IsRegisterOf, IsDrivenBy, answer, number_of, is_outside, is_register, drive_at, count_before, IsMemoryOf}
 use Rattle.gg_digest.specs.Meaning.{Signals}
 use Rattle.gg_digest.specs.Signals.{Types}
+use Rattle.gg_digest.specs.Known.{types_of}
+use Rattle.gg_digest.specs.Views.{table_signals}
+use Rattle.gg_elab.specs.declared.site.Site.{Site}
 
 -- A driver and a register, if there is one, are made for a signal with this drive.
 abbrev pub IsMade : Types → Signals → List (List ℕ) → ℕ → ℕ → Shape → Drive → Driver → Option Register → Type 0
@@ -52,6 +55,10 @@ pub record IsSoFar (types : Types) (signals : Signals) (memories : List (List �
   pub no_memories : flat.memories ≡ []
   pub no_ins : flat.ins ≡ []
   pub no_outs : flat.outs ≡ []
+
+-- the same, in the circuit of a site
+abbrev pub IsSoFarAt : Site → List FlatSignal → FlatCircuit → ℕ → Type 0
+IsSoFarAt site = IsSoFar (types_of site.typed.now.circuit) (table_signals site.table.now) site.table.now.memories
 
 -- These memories, and nothing else, were added to a flat circuit.
 pub record HasMemories (paths : List (List ℕ)) (said : List FlatMemory) (old new : FlatCircuit) : Type 0 where

@@ -12,14 +12,15 @@ ghost use Rattle.gg_digest.specs.Views.{table_signals, seen, cause_of, own_of, s
 ghost use Rattle.gg_elab.specs.Growing.{where_of};
 ghost use Rattle.gg_digest.specs.IsFlat.{IsRegisterOf, HasReset, HasNext, number_of, answer as answer_of};
 ghost use Rattle.gg_digest.specs.Known.{types_of};
-ghost use Rattle.gg_elab.specs.Building.{IsMade, with_made, is_input_driver, IsSoFar};
+ghost use Rattle.gg_elab.specs.Building.{IsMade, with_made, is_input_driver, IsSoFar, IsSoFarAt};
 
 use crate::lines::{condition_line, source_line, value_line};
 use crate::scope::Scope;
+use crate::site::Site;
 use gg_ast::Reset;
 use gg_bits::{Name, Ty};
 use gg_digest::{
-    Around, Digest, Origin, OwnSignal, Place, Source, Table, dotted, field_name, joined, number,
+    Digest, Origin, OwnSignal, Place, Source, Table, dotted, field_name, joined, number,
 };
 use gg_flat::{AddError, Driver, Latency, Line, Piece, Register, Signal};
 use gg_types::Typed;
@@ -108,23 +109,22 @@ fn computed(
 // The driver of a reader's data.
 fn answer(
     alloc: Global,
-    table: &Table,
-    path: &Name,
+    scope: &Scope,
     memory: &Name,
     port: &Name,
     reader: u32,
     latency: Latency,
 ) -> Result<Driver, AllocError>
     ensures fits { IfOk result (λ driver. (shapes : List Shape) (sink : Shape) → FitsDriver shapes sink driver) }
-    ensures answer { IfOk result (λ driver. driver ≡ answer_of latency (number_of table.now.memories (joined_text path.now memory.now)) reader (number_of table.now.paths (joined_text path.now (field_text memory.now port.now (codes "addr")))) (number_of table.now.paths (joined_text path.now (field_text memory.now port.now (codes "en"))))) }
+    ensures answer { IfOk result (λ driver. driver ≡ answer_of latency (number_of scope.now.table.now.memories (joined_text scope.now.path.now memory.now)) reader (number_of scope.now.table.now.paths (joined_text scope.now.path.now (field_text memory.now port.now (codes "addr")))) (number_of scope.now.table.now.paths (joined_text scope.now.path.now (field_text memory.now port.now (codes "en"))))) }
 {
-    let memory_number = number(&table.memories, &joined(alloc, path, memory)?);
+    let memory_number = number(&scope.table.memories, &joined(alloc, scope.path, memory)?);
     match latency {
         Latency::Zero => {
-            let addr = joined(alloc, path, &field_name(alloc, memory, port, "addr")?)?;
-            let en = joined(alloc, path, &field_name(alloc, memory, port, "en")?)?;
-            let addr = number(&table.paths, &addr);
-            let en = number(&table.paths, &en);
+            let addr = joined(alloc, scope.path, &field_name(alloc, memory, port, "addr")?)?;
+            let en = joined(alloc, scope.path, &field_name(alloc, memory, port, "en")?)?;
+            let addr = number(&scope.table.paths, &addr);
+            let en = number(&scope.table.paths, &en);
             Ok(Driver::MemoryWord(memory_number, reader, addr, en))
         }
         Latency::One(_) => Ok(Driver::ReadRegister(memory_number, reader)),
@@ -132,37 +132,31 @@ fn answer(
 }
 
 // The driver of an input port with this name, of the top or of an instance.
-fn input<'a>(
+fn input(
     alloc: Global,
-    typed: &Typed,
-    table: &Table,
-    digests: &[Digest<'a>],
-    place: &Place<'a>,
+    site: &Site,
     name: &Name,
     ty: Ty,
     inputs: u32,
     states: u32,
 ) -> Result<Made, AllocError>
-    requires even { length table.now.types.items ≡ length table.now.paths }
-    requires digests { AreDigests (types_of typed.now.circuit) typed.now.circuit.modules digests.now }
-    requires around { IfSome place.now.outer (λ around. around.number < length typed.now.circuit.modules) }
-    ensures fits { IfOk result (λ made. IsFitting (table_signals table.now).shapes (shape ty) made.driver made.register) }
-    ensures made { IfOk result (λ made. IsMade (types_of typed.now.circuit) (table_signals table.now) table.now.memories inputs states (shape ty) (input_drive typed.now.circuit.modules (site_of place.now).outer name.now) made.driver made.register) }
+    ensures fits { IfOk result (λ made. IsFitting (table_signals site.now.table.now).shapes (shape ty) made.driver made.register) }
+    ensures made { IfOk result (λ made. IsMade (types_of site.now.typed.now.circuit) (table_signals site.now.table.now) site.now.table.now.memories inputs states (shape ty) (input_drive site.now.typed.now.circuit.modules (site_of site.now.place.now).outer name.now) made.driver made.register) }
 {
-    match &place.outer {
+    match &site.place.outer {
         None => Ok(Made {
             driver: Driver::Input(inputs),
             register: None,
         }),
         Some(around) => {
             let scope = Scope {
-                typed,
-                table,
+                typed: site.typed,
+                table: site.table,
                 path: &around.path,
                 number: around.number,
             };
             let sink = dotted(alloc, around.name.as_str(), name.as_str())?;
-            let source = digests[around.number as usize].sinks.source(&sink);
+            let source = site.digests[around.number as usize].sinks.source(&sink);
             computed(alloc, &scope, source, ty, inputs, states)
         }
     }
@@ -170,37 +164,25 @@ fn input<'a>(
 
 // The driver and the register of a signal of a site. `inputs` is the number of earlier signals that are driven from
 // outside, `states` the number of earlier signals that hold a register.
-fn make<'a>(
+fn make(
     alloc: Global,
-    typed: &Typed,
-    table: &Table,
-    digests: &[Digest<'a>],
-    place: &Place<'a>,
-    signal: &OwnSignal<'a>,
+    site: &Site,
+    signal: &OwnSignal,
     inputs: u32,
     states: u32,
 ) -> Result<Made, AllocError>
-    requires even { length table.now.types.items ≡ length table.now.paths }
-    requires digests { AreDigests (types_of typed.now.circuit) typed.now.circuit.modules digests.now }
-    requires number { place.now.number < length typed.now.circuit.modules }
-    requires around { IfSome place.now.outer (λ around. around.number < length typed.now.circuit.modules) }
-    ensures fits { IfOk result (λ made. IsFitting (table_signals table.now).shapes (shape signal.now.ty) made.driver made.register) }
-    ensures made { IfOk result (λ made. IsMade (types_of typed.now.circuit) (table_signals table.now) table.now.memories inputs states (shape signal.now.ty) (drive_of typed.now.circuit.modules (site_of place.now) signal.now.name (cause_of signal.now.origin)) made.driver made.register) }
+    ensures fits { IfOk result (λ made. IsFitting (table_signals site.now.table.now).shapes (shape signal.now.ty) made.driver made.register) }
+    ensures made { IfOk result (λ made. IsMade (types_of site.now.typed.now.circuit) (table_signals site.now.table.now) site.now.table.now.memories inputs states (shape signal.now.ty) (drive_of site.now.typed.now.circuit.modules (site_of site.now.place.now) signal.now.name (cause_of signal.now.origin)) made.driver made.register) }
 {
     let scope = Scope {
-        typed,
-        table,
-        path: &place.path,
-        number: place.number,
+        typed: site.typed,
+        table: site.table,
+        path: &site.place.path,
+        number: site.place.number,
     };
-    let sinks = &digests[place.number as usize].sinks;
+    let sinks = &site.digests[scope.number as usize].sinks;
     match signal.origin {
-        Origin::FromOutside => {
-            let name = &signal.name;
-            input(
-                alloc, typed, table, digests, place, name, signal.ty, inputs, states,
-            )
-        }
+        Origin::FromOutside => input(alloc, site, &signal.name, signal.ty, inputs, states),
         Origin::Connected => {
             let source = sinks.source(&signal.name);
             computed(alloc, &scope, source, signal.ty, inputs, states)
@@ -217,7 +199,7 @@ fn make<'a>(
             })
         }
         Origin::Answered(memory, port, reader, latency) => Ok(Made {
-            driver: answer(alloc, table, &place.path, memory, port, reader, latency)?,
+            driver: answer(alloc, &scope, memory, port, reader, latency)?,
             register: None,
         }),
     }
@@ -260,23 +242,16 @@ fn with_input(inputs: u32, driver: &Driver) -> u32
 }
 
 // Adds a signal of a site. Returns the number of signals so far that are driven from outside.
-fn add_signal<'a>(
+fn add_signal(
     alloc: Global,
-    typed: &Typed,
-    table: &Table,
-    digests: &[Digest<'a>],
-    place: &Place<'a>,
-    signal: &OwnSignal<'a>,
+    site: &Site,
+    signal: &OwnSignal,
     inputs: u32,
     piece: &mut Piece,
 ) -> Result<u32, AllocError>
-    requires even { length table.now.types.items ≡ length table.now.paths }
-    requires digests { AreDigests (types_of typed.now.circuit) typed.now.circuit.modules digests.now }
-    requires number { place.now.number < length typed.now.circuit.modules }
-    requires around { IfSome place.now.outer (λ around. around.number < length typed.now.circuit.modules) }
-    requires fresh { ¬ Contains piece.old.paths (joined_text place.now.path signal.now.name) }
-    ensures paths { IfOk result (λ _. piece.new.paths ≡ piece.old.paths ++ joined_text place.now.path signal.now.name ∷ []) }
-    ensures so_far { IfOk result (λ more. (xs : List FlatSignal) → IsSoFar (types_of typed.now.circuit) (table_signals table.now) table.now.memories xs piece.old inputs → IsSoFar (types_of typed.now.circuit) (table_signals table.now) table.now.memories (xs ++ flat_signal typed.now.circuit.modules (site_of place.now) (own_of signal.now) ∷ []) piece.new more) }
+    requires { ¬ Contains piece.old.paths (joined_text site.now.place.now.path signal.now.name) }
+    ensures paths { IfOk result (λ _. piece.new.paths ≡ piece.old.paths ++ joined_text site.now.place.now.path signal.now.name ∷ []) }
+    ensures so_far { IfOk result (λ more. (xs : List FlatSignal) → IsSoFarAt site.now xs piece.old inputs → IsSoFarAt site.now (xs ++ flat_signal site.now.typed.now.circuit.modules (site_of site.now.place.now) (own_of signal.now) ∷ []) piece.new more) }
 {
     let states = match u32::try_from(piece.registers().len()) {
         Ok(states) => states,
@@ -285,34 +260,22 @@ fn add_signal<'a>(
     if inputs == u32::MAX || piece.signal_count() >= u32::MAX as usize {
         return Err(AllocError);
     }
-    let made = make(alloc, typed, table, digests, place, signal, inputs, states)?;
+    let made = make(alloc, site, signal, inputs, states)?;
     let more = with_input(inputs, &made.driver);
-    let path = joined(alloc, &place.path, &signal.name)?;
+    let path = joined(alloc, &site.place.path, &signal.name)?;
     add_made(piece, path, signal.ty, made)?;
     Ok(more)
 }
 
 // Adds the signals of a site.
-fn add_site<'a>(
-    alloc: Global,
-    typed: &Typed,
-    table: &Table,
-    digests: &[Digest<'a>],
-    place: &Place<'a>,
-    inputs: u32,
-    piece: &mut Piece,
-) -> Result<u32, AllocError>
-    requires even { length table.now.types.items ≡ length table.now.paths }
-    requires digests { AreDigests (types_of typed.now.circuit) typed.now.circuit.modules digests.now }
-    requires number { place.now.number < length typed.now.circuit.modules }
-    requires around { IfSome place.now.outer (λ around. around.number < length typed.now.circuit.modules) }
-    requires distinct { AllPairs (λ a b. a ≢ b) (piece.old.paths ++ map (λ x. x.path) (signals_at (types_of typed.now.circuit) typed.now.circuit.modules (site_of place.now))) }
-    ensures { IfOk result (λ more. (xs : List FlatSignal) → IsSoFar (types_of typed.now.circuit) (table_signals table.now) table.now.memories xs piece.old inputs → IsSoFar (types_of typed.now.circuit) (table_signals table.now) table.now.memories (xs ++ signals_at (types_of typed.now.circuit) typed.now.circuit.modules (site_of place.now)) piece.new more) }
+fn add_site(alloc: Global, site: &Site, inputs: u32, piece: &mut Piece) -> Result<u32, AllocError>
+    requires { AllPairs (λ a b. a ≢ b) (piece.old.paths ++ map (λ x. x.path) (signals_at (types_of site.now.typed.now.circuit) site.now.typed.now.circuit.modules (site_of site.now.place.now))) }
+    ensures { IfOk result (λ more. (xs : List FlatSignal) → IsSoFarAt site.now xs piece.old inputs → IsSoFarAt site.now (xs ++ signals_at (types_of site.now.typed.now.circuit) site.now.typed.now.circuit.modules (site_of site.now.place.now)) piece.new more) }
 {
     let mut inputs = inputs;
-    let signals = digests[place.number as usize].signals.as_slice();
+    let signals = site.digests[site.place.number as usize].signals.as_slice();
     for signal in signals {
-        inputs = add_signal(alloc, typed, table, digests, place, signal, inputs, piece)?;
+        inputs = add_signal(alloc, site, signal, inputs, piece)?;
     }
     Ok(inputs)
 }
@@ -320,7 +283,7 @@ fn add_site<'a>(
 /// Adds the signals of all sites.
 pub(crate) fn add_sites<'a>(
     alloc: Global,
-    typed: &Typed,
+    typed: &Typed<'a>,
     table: &Table,
     digests: &[Digest<'a>],
     places: &[Place<'a>],
@@ -335,7 +298,13 @@ pub(crate) fn add_sites<'a>(
 {
     let mut inputs = 0u32;
     for place in places {
-        inputs = add_site(alloc, typed, table, digests, place, inputs, piece)?;
+        let site = Site {
+            typed,
+            table,
+            digests,
+            place,
+        };
+        inputs = add_site(alloc, &site, inputs, piece)?;
     }
     Ok(())
 }

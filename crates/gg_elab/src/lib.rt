@@ -19,6 +19,7 @@ mod lines;
 mod lookup;
 mod ports;
 mod scope;
+mod site;
 
 pub use elaborate::flatten;
 pub use fault::{ElabFault, limit_of};

@@ -10,13 +10,13 @@ use Rattle.gg_elab.proofs.build.add_signal.Goals as goal
 
 pub returns-clause-so_far : goal.returns-clause-so_far
 returns-clause-so_far c = λ xs h.
-    let circuit = c.args.typed.now.circuit in
+    let circuit = c.args.site.now.typed.now.circuit in
     let types = types_of circuit in
-    let signals = table_signals c.args.table.now in
-    let memories = c.args.table.now.memories in
+    let signals = table_signals c.args.site.now.table.now in
+    let memories = c.args.site.now.table.now.memories in
     let old = c.args.piece.now in
     let made = c.in_ok-made.made in
-    let x : FlatSignal = flat_signal circuit.modules (site_of c.args.place.now) (own_of c.args.signal.now) in
+    let x : FlatSignal = flat_signal circuit.modules (site_of c.args.site.now.place.now) (own_of c.args.signal.now) in
     let states : c.in-Ok.states ≡ length old.registers = omega (arith, c.in-Ok.ensures, ap (λ l. length l) c.registers.ensures) in
     subst (λ (f : FlatCircuit). IsSoFar types signals memories (xs ++ x ∷ []) f c.with_input-more.result) (sym c.in_ok-add_made.ensures)
     (so_far-more types signals memories xs x old c.args.inputs c.with_input-more.result c.in_ok-path.path c.args.signal.now.ty made.driver made.register h c.in_ok-path.ensures refl

@@ -8,8 +8,8 @@ use Rattle.gg_digest.proofs.FreshLemmas.{parts-front}
 use Rattle.gg_digest.proofs.NameLemmas.{Differ}
 use Rattle.gg_elab.proofs.build.add_sites.Goals as goal
 
-pub add_site-requires-clause-distinct : goal.add_site-requires-clause-distinct
-add_site-requires-clause-distinct c =
+pub add_site-requires : goal.add_site-requires
+add_site-requires c =
     let modules = c.args.typed.now.circuit.modules in
     let types = types_of c.args.typed.now.circuit in
     let places = c.args.places.now in
