@@ -8,6 +8,7 @@ use Rattle.std.proofs.lemmas.Iterator.Adapters.{position_from-zero}
 use Rattle.std.proofs.lemmas.Slice.Eq.{bytes_eq-Decides}
 use Rattle.gg_trace.specs.Fields.{is_blank}
 use Rattle.gg_trace.specs.Parted.{HasNoBlank}
+use Rattle.gg_trace.proofs.PartedLaws.{no_byte, more_plain}
 use Rattle.gg_steps.specs.Naming.{first_place}
 use Rattle.gg_steps.specs.Words.{words}
 use Rattle.gg_steps.specs.Spelling.{GoesBy, StartsWith}
@@ -74,19 +75,12 @@ AreWordsOf line [] = ⊥
 AreWordsOf line (x ∷ []) = (line ≡ x) × HasNoBlank x
 AreWordsOf line (x ∷ y ∷ more) = (rest : List ℕ) × StartsWith line x rest × HasNoBlank x × AreWordsOf rest (y ∷ more)
 
-no_byte : HasNoBlank []
-no_byte k h = absurd (omega arith)
-
-plain-cons : (b : ℕ) (x : List ℕ) → is_blank b ≡ false → HasNoBlank x → HasNoBlank (b ∷ x)
-plain-cons b x other plain zero h = other
-plain-cons b x other plain (suc k) h = plain k (omega arith)
-
 words-onto : (b : ℕ) (line : List ℕ) (parts : List (List ℕ)) → is_blank b ≡ false → AreWordsOf line parts → AreWordsOf (b ∷ line) (onto_first b parts)
 words-onto b line [] other are = absurd are
-words-onto b line (x ∷ []) other are = (ap (λ t. b ∷ t) are.0, plain-cons b x other are.1)
+words-onto b line (x ∷ []) other are = (ap (λ t. b ∷ t) are.0, more_plain b x other are.1)
 words-onto b line (x ∷ y ∷ more) other are =
     let start = are.1 in
-    (are.0, record { blank = start.blank; splits = start.splits; whole = ap (λ t. b ∷ t) start.whole }, plain-cons b x other are.2, are.3)
+    (are.0, record { blank = start.blank; splits = start.splits; whole = ap (λ t. b ∷ t) start.whole }, more_plain b x other are.2, are.3)
 
 words-behind : (b : ℕ) (line : List ℕ) (parts : List (List ℕ)) → is_blank b ≡ true → AreWordsOf line parts → AreWordsOf (b ∷ line) ([] ∷ parts)
 words-behind b line [] splits are = absurd are

@@ -68,10 +68,10 @@ more_blanks b gap h is = record { some = omega arith; blanks = blanks }
     blanks zero _ = h
     blanks (suc k) small = is.blanks k (omega arith)
 
-no_byte : HasNoBlank []
+pub no_byte : HasNoBlank []
 no_byte k h = absurd (omega arith)
 
-more_plain : (b : ℕ) (text : List ℕ) → is_blank b ≡ false → HasNoBlank text → HasNoBlank (b ∷ text)
+pub more_plain : (b : ℕ) (text : List ℕ) → is_blank b ≡ false → HasNoBlank text → HasNoBlank (b ∷ text)
 more_plain b text h is zero _ = h
 more_plain b text h is (suc k) small = is k (omega arith)
 
