@@ -1,10 +1,10 @@
 //! The words of one line, from left to right.
 
-ghost use Rattle.std.specs.Prelude.{◌≡◌, ℕ, ◌∷◌, [], ◌<◌, ◌≤◌, true, false, MatchOption, length, slice_index};
+ghost use Rattle.std.specs.Prelude.{◌≡◌, ◌∷◌, [], MatchOption};
 ghost use Rattle.std.specs.Option.{option_copied};
-ghost use Rattle.gg_trace.specs.Fields.{is_blank};
 ghost use Rattle.gg_steps.specs.Words.{words, words_left};
 
+use gg_trace::run_len;
 use std::marker::Model;
 
 /// The words of a line that are still to be read. A contract sees the list of them.
@@ -25,32 +25,11 @@ impl<'a> Model for Words<'a> {
     ghost view = { λ a. words_left (option_copied a.rest) };
 }
 
-/// Whether a byte is a blank: a space or a tab.
-fn is_blank(byte: u8) -> bool
-    ensures { result ≡ is_blank byte }
-{
-    byte == b' ' || byte == b'\t'
-}
-
-/// The number of bytes before the first blank.
-fn word_len(line: &[u8]) -> usize
-    ensures within { result ≤ length line.now }
-    ensures before { (k : ℕ) → k < result → is_blank (slice_index line.now k) ≡ false }
-    ensures ends { result < length line.now → is_blank (slice_index line.now result) ≡ true }
-{
-    for (i, byte) in line.iter().enumerate() {
-        if is_blank(*byte) {
-            return i;
-        }
-    }
-    line.len()
-}
-
 /// The first word, and what follows the blank after it, if there is a blank.
 fn cut_word(line: &[u8]) -> (&[u8], Option<&[u8]>)
     ensures { words line.now ≡ result.0.now ∷ words_left (option_copied result.1) }
 {
-    let (word, after) = line.split_at(word_len(line));
+    let (word, after) = line.split_at(run_len(line, false));
     if after.is_empty() {
         return (word, None);
     }

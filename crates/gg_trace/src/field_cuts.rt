@@ -32,7 +32,7 @@ fn is_blank(byte: u8) -> bool
 }
 
 /// The number of bytes before the first byte that isn't a blank, or before the first blank if `blank` is false.
-fn run_len(text: &[u8], blank: bool) -> usize
+pub fn run_len(text: &[u8], blank: bool) -> usize
     ensures within { result ≤ length text.now }
     ensures same { (k : ℕ) → k < result → is_blank (slice_index text.now k) ≡ blank }
     ensures ends { result < length text.now → is_blank (slice_index text.now result) ≡ not blank }

@@ -4,7 +4,7 @@
 //! the whole text gives, or the first fault. Unless an allocation fails, a text that has columns is read, and a text
 //! that has a fault is refused with its first fault. `header_text` and `row_text` return the exact bytes of the lines
 //! of an output trace. A value that is printed is read again as the same value. `Lines` gives the lines of any text,
-//! one after another.
+//! one after another. `run_len` gives the length of the run of blanks, or of other bytes, with which a text begins.
 #![tactic(auto)]
 
 mod cells;
@@ -21,7 +21,7 @@ mod texts;
 mod trace_table;
 
 pub use faults::TraceFault;
-pub use field_cuts::fields_part_their_line;
+pub use field_cuts::{fields_part_their_line, run_len};
 pub use laws::one_first_fault;
 pub use line_cuts::{Lines, lines_part_their_text};
 pub use printing::{header_text, printed_values_are_read, row_text};
