@@ -79,8 +79,8 @@ next-is program cycle state next latches flags held row once same all have is si
 -- ---- what a unit holds
 
 -- an empty latch holds no token
-none-some : (latch : Option ℕ) → latch ≡ None → ¬ IsSome latch
-none-some latch is some = true≢false (sym (subst (λ (l : Option ℕ). IsSome l) is some))
+empty-latch : (latch : Option ℕ) → latch ≡ None → ¬ IsSome latch
+empty-latch latch is some = true≢false (sym (subst (λ (l : Option ℕ). IsSome l) is some))
 
 -- the latches that hold a token after one was put into one of them
 latched-at : (latches : List (Option ℕ)) (place token i : ℕ) → place < length latches → IsSome (latch_at (slice_set latches place (Some token)) i) ↔ (IsSome (latch_at latches i) ⊎ (place ≡ i))
@@ -168,6 +168,6 @@ kept-empty piece state slots n flags typed cycle none count outs =
       cycle = cycle;
       ins = length-replicate n None ∙ count;
       outs = outs;
-      put = λ i within. (λ has. absurd (none (value_at piece.ins i) has), λ some. absurd (none-some (latch_at (replicate n None) i) (empty-after n i) some));
+      put = λ i within. (λ has. absurd (none (value_at piece.ins i) has), λ some. absurd (empty-latch (latch_at (replicate n None) i) (empty-after n i) some));
       tokens = λ i value is. absurd (none-some value (sym (empty-after n i) ∙ is));
     }
