@@ -1,16 +1,18 @@
 -- Lines that are put one by one.
-use Rattle.std.proofs.Common.{◌≡◌, ℕ, zero, suc, ◌+◌, ◌<◌, ◌≤◌, List, [], ◌∷◌, ◌++◌, length, take, get_or, refl, sym, ap, ◌∙◌, subst, arith, append_assoc, append-nil}
+use Rattle.std.proofs.Common.{◌≡◌, ℕ, zero, suc, ◌+◌, ◌<◌, ◌≤◌, List, [], ◌∷◌, ◌++◌, length, take, get_or, refl, sym, ap, ◌∙◌, subst, append_assoc, append-nil}
 use Rattle.std.specs.Prelude.{Option, Result, Ok, Err, flat_map}
 use Rattle.std.specs.Io.KnownBytes.{append_known}
 use Rattle.gg_io.specs.Count.{Rose}
+use Rattle.gg_io.specs.declared.output.Sink
 use Rattle.golden.specs.declared.endings.Ending.{Ending}
 use Rattle.gg_cut.specs.declared.plan.Machine.{Machine}
 use Rattle.gg_cut.specs.declared.plan.Plan.{Plan}
 use Rattle.gg_check.specs.PlanText.{channel_names, line_of_channel, line_of_machine, machine_names, plan_text}
 use Rattle.golden.specs.Outcome.{IsFront}
 use Rattle.gg_check.proofs.LineLemmas.{lines-more}
-use Rattle.golden.specs.Endings.{Prints}
-use Rattle.golden.proofs.PrintingLemmas.{rose-earlier, stop-within}
+use Rattle.golden.specs.Endings.{Prints, PrintsOn}
+use Rattle.golden.specs.WentOn.{SinkWentOn}
+use Rattle.golden.proofs.PrintingLemmas.{on-then, rose-earlier, stop-within}
 use Rattle.golden.proofs.WritingLemmas.{append_known-append, append_known-nil}
 
 -- the first lines are a front part of all lines
@@ -22,27 +24,29 @@ lines-front f (x ∷ xs) (suc i) =
     (front.0, append_assoc (f x) (flat_map f (take i xs)) front.0 ∙ ap (λ l. f x ++ l) front.1)
 
 -- the first i lines are on the output sink, after what was there before
-pub record LinesTo {A : Type 0} (f : A → List ℕ) (xs : List A) (before now : Option (List ℕ)) (faults faults' refused refused' i : ℕ) : Type 0 where
-  pub written : now ≡ append_known before (flat_map f (take i xs))
-  pub faults_stay_or_rise : faults ≤ faults'
-  pub refused_stay_or_rise : refused ≤ refused'
+pub record LinesTo {A K : Type 0} (f : A → List ℕ) (xs : List A) (sink : Sink.Ghosts K) (out out' : K) (i : ℕ) : Type 0 where
+  pub written : sink.written out' ≡ append_known (sink.written out) (flat_map f (take i xs))
+  pub on : SinkWentOn sink out out'
 
-module _ {A : Type 0} (f : A → List ℕ) (xs : List A) (before now now' : Option (List ℕ)) (b b' b'' r r' r'' i : ℕ) (x d : A) where
-  pub lines-next : i < length xs → get_or xs i d ≡ x → LinesTo f xs before now b b' r r' i → now' ≡ append_known now (f x) → b' ≤ b'' → r' ≤ r''
-      → LinesTo f xs before now' b b'' r r'' (i + 1)
-  lines-next lt is so puts bs rs = record {
+module _ {A K : Type 0} {f : A → List ℕ} {xs : List A} {sink : Sink.Ghosts K} {out out' : K} {i : ℕ} (x : A) (lt : i < length xs) (is : get_or xs i x ≡ x) (so : LinesTo f xs sink out out' i) where
+  lines-one : flat_map f (take i xs) ++ f x ≡ flat_map f (take (i + 1) xs)
+  lines-one = ap (λ y. flat_map f (take i xs) ++ f y) (sym is) ∙ lines-more f xs i x lt
+
+  -- one more line
+  pub lines-next : {out'' : K} → sink.written out'' ≡ append_known (sink.written out') (f x) → SinkWentOn sink out' out'' → LinesTo f xs sink out out'' (i + 1)
+  lines-next puts on = record {
     written =
-        puts ∙ ap (λ w. append_known w (f x)) so.written ∙ append_known-append before (flat_map f (take i xs)) (f x)
-        ∙ ap (append_known before) (ap (λ y. flat_map f (take i xs) ++ f y) (sym is) ∙ lines-more f xs i d lt);
-    faults_stay_or_rise = let s = so.faults_stay_or_rise in omega arith;
-    refused_stay_or_rise = let s = so.refused_stay_or_rise in omega arith;
+        puts ∙ ap (λ w. append_known w (f x)) so.written ∙ append_known-append (sink.written out) (flat_map f (take i xs)) (f x)
+        ∙ ap (append_known (sink.written out)) lines-one;
+    on = on-then so.on on;
   }
 
-  pub lines-stop : (T : Type 0) (ending : Ending) → i < length xs → get_or xs i d ≡ x → LinesTo f xs before now b b' r r' i
-      → Prints {T = T} now now' (Rose b' b'') (f x) (Err ending) → Prints {T = T} before now' (Rose b b'') (flat_map f xs) (Err ending)
-  lines-stop T ending lt is so prints =
-      stop-within T before now now' (Rose b' b'') (Rose b b'') (flat_map f (take i xs)) (f x) (flat_map f xs) ending so.written (rose-earlier b b' b'' so.faults_stay_or_rise)
-      (subst (λ l. IsFront l (flat_map f xs)) (sym (ap (λ y. flat_map f (take i xs) ++ f y) (sym is) ∙ lines-more f xs i d lt)) (lines-front f xs (i + 1))) prints
+  -- if a line stops, all lines stop there
+  pub lines-stop : (out'' : K) {T : Type 0} {r : Result T Ending} {ending : Ending} → r ≡ Err ending → PrintsOn {T = T} sink out' out'' (f x) (Err ending)
+      → PrintsOn sink out out'' (flat_map f xs) r
+  lines-stop out'' {T = T} {ending = ending} e prints =
+      rw e (stop-within T _ _ _ _ _ (flat_map f (take i xs)) (f x) (flat_map f xs) ending so.written (rose-earlier _ _ _ so.on.faults_stay_or_rise)
+      (subst (λ l. IsFront l (flat_map f xs)) (sym lines-one) (lines-front f xs (i + 1))) prints)
 
 -- if a text was printed after another, both together were printed
 pub prints-then : (T : Type 0) (before now now' : Option (List ℕ)) (b b' b'' : ℕ) (one other : List ℕ) (r : Result T Ending) → b ≤ b' → now ≡ append_known before one

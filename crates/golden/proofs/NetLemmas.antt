@@ -7,6 +7,7 @@ use Rattle.std.proofs.lemmas.List.FromFn.{get_or-range_with_len, length-range_wi
 use Rattle.gg_build.specs.Build.{IsOpeningOf}
 use Rattle.gg_cut.specs.declared.plan.Channel.{Channel}
 use Rattle.gg_cut.specs.declared.plan.Plan.{Plan}
+use Rattle.gg_io.specs.declared.output.Sink
 use Rattle.gg_net.specs.declared.event.Event.{Event}
 use Rattle.gg_net.specs.Kept.{Kept, list_at}
 use Rattle.gg_net.specs.Net.{opening_net}
@@ -25,7 +26,7 @@ use Rattle.gg_steps.specs.Steps.{steps_of}
 use Rattle.golden.specs.declared.endings.Ending.{Ending}
 use Rattle.golden.specs.declared.endings.Ending.TheVariants.{NoMemory}
 use Rattle.golden.specs.Lines.{Said, line_of, step_fault}
-use Rattle.golden.specs.Endings.{IfRefused, Prints}
+use Rattle.golden.specs.Endings.{IfRefused, PrintsOn}
 use Rattle.golden.specs.Replay.{stopped_by}
 use Rattle.golden.specs.Replayed.{NetEnds, NetWent, NetStops, name_in, net_line, net_text, width_in}
 use Rattle.golden.proofs.ReadingLemmas.{IfRefused-map}
@@ -46,28 +47,27 @@ module _ (plan : Plan) (columns : List (List ℕ)) (n : ℕ) (lists : List (List
   wires-stay events new steps =
       ap (λ (f : Frame). length f.wires) (steps-frame net events new steps) ∙ ap (λ (x : Network). length x.wires) opens.is ∙ length-from plan 0 plan.channels
 
-  module _ (T : Type 0) (runs : List (List (List ℕ))) (kept : Kept lists runs net) (naming : Naming) (events : List (Option Event)) (new : Network) (before now : Option (List ℕ)) (failed : Type 0) where
+  module _ (runs : List (List (List ℕ))) (kept : Kept lists runs net) (naming : Naming) (events : List (Option Event)) (new : Network) where
     abbrev opening : Network
     opening = opening_net opens.machines (wires_of_plan plan) n
 
     opening-kept : Kept lists runs opening
     opening-kept = subst (λ (x : Network). Kept lists runs x) opens.is kept
 
-    pub net-went : (r : Result T Ending) → Steps net events new → Prints before now failed (net_text plan lists new) r → NetEnds plan columns n lists runs naming events before now failed r
+    pub net-went : {T K : Type 0} {sink : Sink.Ghosts K} {out out' : K} (r : Result T Ending) → Steps net events new → PrintsOn sink out out' (net_text plan lists new) r
+        → NetEnds plan columns n lists runs naming events sink out out' r
     net-went r steps prints = NetWent opens.machines (record { built = opens.built; kept = opening-kept }) new (subst (λ (x : Network). Steps x events new) opens.is steps) prints
 
-    pub net-stops : (stopped : Stopped) (ending : Ending) → StopsAt 1 net events new stopped → IfRefused (λ said. said ≡ stopped_by naming events stopped) ending
-        → NetEnds {T = T} plan columns n lists runs naming events before before failed (Err ending)
+    pub net-stops : {T K : Type 0} {sink : Sink.Ghosts K} {out : K} (stopped : Stopped) (ending : Ending) → StopsAt 1 net events new stopped → IfRefused (λ said. said ≡ stopped_by naming events stopped) ending
+        → NetEnds {T = T} plan columns n lists runs naming events sink out out (Err ending)
     net-stops stopped ending stops says =
         NetStops opens.machines (record { built = opens.built; kept = opening-kept }) new stopped (subst (λ (x : Network). StopsAt 1 x events new stopped) opens.is stops) ending refl says refl
 
 -- how the steps end, for equal names and equal steps
-pub net-named : (plan : Plan) (columns : List (List ℕ)) (n : ℕ) (lists : List (List ℕ)) (runs : List (List (List ℕ))) (names own : Naming) (events : List (Option Event)) (text : List ℕ) (T : Type 0) (before now : Option (List ℕ)) (failed : Type 0) (r : Result T Ending)
-    → names ≡ own → events ≡ steps_of names text
-    → NetEnds plan columns n lists runs names events before now failed r → NetEnds plan columns n lists runs own (steps_of own text) before now failed r
-net-named plan columns n lists runs names own events text T before now failed r same is ended =
-    subst (λ (x : Naming). NetEnds plan columns n lists runs x (steps_of x text) before now failed r) same
-    (subst (λ (e : List (Option Event)). NetEnds plan columns n lists runs names e before now failed r) is ended)
+pub net-named : {plan : Plan} {columns : List (List ℕ)} {n : ℕ} {lists : List (List ℕ)} {runs : List (List (List ℕ))} {names own : Naming} {events : List (Option Event)}
+    {T K : Type 0} {sink : Sink.Ghosts K} {out out' : K} {r : Result T Ending} (text : List ℕ) → names ≡ own → events ≡ steps_of names text
+    → NetEnds plan columns n lists runs names events sink out out' r → NetEnds plan columns n lists runs own (steps_of own text) sink out out' r
+net-named text same is ended = rw (← same) (rw (← is) ended)
 
 -- ---- lines
 

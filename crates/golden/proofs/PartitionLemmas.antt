@@ -101,10 +101,10 @@ module _ (agree : DesignsAgree) (apart : FileApart) (key : OneKey) (circuit : Li
   partition_file-unique name = partition-once
 
 -- a partition that is refused for a design that some bytes mean is refused for these bytes
-pub partition-refused : (files : List ℕ → Told) (lost cut : Type 0) (circuit : List ℕ) (design : Ordered) (name : List ℕ) → MeansDesign circuit design
+pub partition-refused : (files : List ℕ → Told) {lost cut : Type 0} {circuit : List ℕ} {design : Ordered} {name : List ℕ} → MeansDesign circuit design
     → (said : Said) → IsRefused files lost cut (partition_file_of design name) said → IsRefused files lost cut (partition_file_for circuit name) said
-partition-refused files lost cut circuit design name means said (inl load) = inl load
-partition-refused files lost cut circuit design name means said (inr (bytes, can, tells)) = inr (bytes, record { held = can.held; within = can.within }, (design, means, tells))
+partition-refused files means said (inl load) = inl load
+partition-refused files {design = design} means said (inr (bytes, can, tells)) = inr (bytes, record { held = can.held; within = can.within }, (design, means, tells))
 
 -- ---- what is reported for a fault
 

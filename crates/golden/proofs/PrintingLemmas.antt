@@ -11,6 +11,7 @@ use Rattle.gg_flat.specs.Run.{IsRun, row_at, opening_start, state_at, inputs_at,
 use Rattle.gg_flat.specs.Settled.{Settled}
 use Rattle.gg_flat.specs.State.{State, next_state}
 use Rattle.gg_io.specs.Count.{Rose}
+use Rattle.gg_io.specs.declared.output.Sink
 use Rattle.gg_refsim.specs.Cycle.{Simulation, Cycle, outputs}
 use Rattle.gg_flat.specs.declared.ports.Port.{Port}
 use Rattle.gg_trace.specs.Printing.{header_line, row_line, trace_text}
@@ -20,19 +21,19 @@ use Rattle.golden.specs.declared.endings.Ending.TheVariants.{Refused, Unwritten,
 use Rattle.golden.specs.Outcome.{IsFront, StandsFront}
 use Rattle.gg_flat.specs.Ports.{out_ports}
 use Rattle.golden.specs.RunText.{out_columns}
-use Rattle.golden.specs.Endings.{Prints}
+use Rattle.golden.specs.Endings.{Prints, PrintsOn}
+use Rattle.golden.specs.WentOn.{SinkWentOn}
 use Rattle.golden.proofs.WritingLemmas.{append_known-append, append_known-nil}
 
 -- the first `cycle` rows are on the output sink after the header, and the simulator is in the state before the next, in any run
-pub record PrintedTo (circuit : FlatCircuit) (inputs : Table) (ports : List Port) (before now : Option (List ℕ)) (faults faults' refused refused' : ℕ) (cycle : ℕ) (mono : Simulation) (outs : List ℕ) : Type 0 where
+pub record PrintedTo {K : Type 0} (circuit : FlatCircuit) (inputs : Table) (ports : List Port) (sink : Sink.Ghosts K) (out out' : K) (cycle : ℕ) (mono : Simulation) (outs : List ℕ) : Type 0 where
   pub same : mono.circuit ≡ circuit
   pub count : length outs ≡ length circuit.outs
   pub state : (rows : List (List ℕ)) → IsRun circuit inputs.columns inputs.rows rows → mono.state ≡ state_at circuit (opening_start circuit) rows cycle
   pub written : (rows : List (List ℕ)) (base : Option (List ℕ)) → IsRun circuit inputs.columns inputs.rows rows
-      → before ≡ append_known base (trace_text ports (out_columns circuit rows) 0)
-      → now ≡ append_known base (trace_text ports (out_columns circuit rows) cycle)
-  pub faults_stay_or_rise : faults ≤ faults'
-  pub refused_stay_or_rise : refused ≤ refused'
+      → sink.written out ≡ append_known base (trace_text ports (out_columns circuit rows) 0)
+      → sink.written out' ≡ append_known base (trace_text ports (out_columns circuit rows) cycle)
+  pub on : SinkWentOn sink out out'
 
 -- the outputs of a row of a run are a row of their columns
 pub outputs-row : (circuit : FlatCircuit) (rows : List (List ℕ)) (t : ℕ) → t < length rows → (signals : List ℕ)
@@ -97,6 +98,15 @@ cycle-follows once circuit order columns n rows t before after inputs printed or
 pub rose-earlier : (a b c : ℕ) → a ≤ b → Rose b c → Rose a c
 rose-earlier a b c le rose = omega arith
 
+-- an output that went on, and then went on, went on
+pub on-then : {K : Type 0} {sink : Sink.Ghosts K} {a b c : K} → SinkWentOn sink a b → SinkWentOn sink b c → SinkWentOn sink a c
+on-then one other =
+    let f = one.faults_stay_or_rise in
+    let g = other.faults_stay_or_rise in
+    let x = one.refused_stay_or_rise in
+    let y = other.refused_stay_or_rise in
+    record { faults_stay_or_rise = omega arith; refused_stay_or_rise = omega arith }
+
 -- a front part of a row, after a text, is a front part of the whole text
 pub stands-within : (base now now' : Option (List ℕ)) (text row whole : List ℕ) → now ≡ append_known base text → IsFront (text ++ row) whole
     → StandsFront now now' row → StandsFront base now' whole
@@ -118,48 +128,40 @@ stop-within T base now now' failed failed' text row whole (Refused said) is more
 stop-within T base now now' failed failed' text row whole Unwritten is more front prints = (more prints.0, stands-within base now now' text row whole is front prints.1)
 stop-within T base now now' failed failed' text row whole NoMemory is more front prints = stands-within base now now' text row whole is front prints
 
-module _ (circuit : FlatCircuit) (inputs : Table) (ports : List Port) (before now now' : Option (List ℕ)) (f f' f'' r r' r'' t : ℕ) (mono mono' : Simulation) (outs outs' : List ℕ) where
+module _ {K : Type 0} {circuit : FlatCircuit} {inputs : Table} {ports : List Port} {sink : Sink.Ghosts K} {out out' : K} {t : ℕ} {mono : Simulation} {outs outs' : List ℕ}
+    (once : SettledOnce) (order : List ℕ) (ordered : IsOrder circuit order) (lt : t < inputs.rows) (row : List ℕ) (given : row ≡ row_of inputs.columns t)
+    (printed : PrintedTo circuit inputs ports sink out out' t mono outs) (mono' : Simulation) (cycle : Cycle mono.circuit mono.state row outs' mono'.state) where
+  follows-so : (rows : List (List ℕ)) → IsRun circuit inputs.columns inputs.rows rows → Follows circuit rows t mono'.state outs'
+  follows-so rows run =
+      cycle-follows once circuit order inputs.columns inputs.rows rows t mono.state mono'.state row outs' ordered run lt (printed.state rows run) given
+      (subst (λ (c : FlatCircuit). Cycle c mono.state row outs' mono'.state) printed.same cycle)
+
   -- one more cycle
-  pub printed-next : SettledOnce → (order : List ℕ) → IsOrder circuit order → t < inputs.rows → (row : List ℕ) → row ≡ row_of inputs.columns t
-      → PrintedTo circuit inputs ports before now f f' r r' t mono outs
-      → mono'.circuit ≡ mono.circuit → Cycle mono.circuit mono.state row outs' mono'.state → now' ≡ append_known now (row_line ports t outs')
-      → f' ≤ f'' → r' ≤ r'' → length outs' ≡ length outs
-      → PrintedTo circuit inputs ports before now' f f'' r r'' (t + 1) mono' outs'
-  printed-next once order ordered lt row given printed same cycle puts fs rs counted =
-      let here : Cycle circuit mono.state row outs' mono'.state = subst (λ (c : FlatCircuit). Cycle c mono.state row outs' mono'.state) printed.same cycle in
-      let follows : (rows : List (List ℕ)) → IsRun circuit inputs.columns inputs.rows rows → Follows circuit rows t mono'.state outs' =
-      λ rows run. cycle-follows once circuit order inputs.columns inputs.rows rows t mono.state mono'.state row outs' ordered run lt (printed.state rows run) given here in
-      let fs' = printed.faults_stay_or_rise in
-      let rs' = printed.refused_stay_or_rise in
-      record {
-        same = same ∙ printed.same;
-        count = counted ∙ printed.count;
-        state = λ rows run. (follows rows run).state;
-        written = λ rows base run begins.
-            puts ∙ ap (λ (w : Option (List ℕ)). append_known w (row_line ports t outs')) (printed.written rows base run begins)
-            ∙ append_known-append base (trace_text ports (out_columns circuit rows) t) (row_line ports t outs')
-            ∙ ap (append_known base) (trace_text-more ports (out_columns circuit rows) t outs' (follows rows run).row);
-        faults_stay_or_rise = omega arith;
-        refused_stay_or_rise = omega arith;
-      }
+  pub printed-next : {out'' : K} → mono'.circuit ≡ mono.circuit → sink.written out'' ≡ append_known (sink.written out') (row_line ports t outs')
+      → SinkWentOn sink out' out'' → length outs' ≡ length outs → PrintedTo circuit inputs ports sink out out'' (t + 1) mono' outs'
+  printed-next same puts on counted = record {
+    same = same ∙ printed.same;
+    count = counted ∙ printed.count;
+    state = λ rows run. (follows-so rows run).state;
+    written = λ rows base run begins.
+        puts ∙ ap (λ (w : Option (List ℕ)). append_known w (row_line ports t outs')) (printed.written rows base run begins)
+        ∙ append_known-append base (trace_text ports (out_columns circuit rows) t) (row_line ports t outs')
+        ∙ ap (append_known base) (trace_text-more ports (out_columns circuit rows) t outs' (follows-so rows run).row);
+    on = on-then printed.on on;
+  }
 
   -- if the row of a cycle stops, a front part of the whole text is there
-  pub printed-stop : SettledOnce → (order : List ℕ) → IsOrder circuit order → t < inputs.rows → (row : List ℕ) → row ≡ row_of inputs.columns t
-      → PrintedTo circuit inputs ports before now f f' r r' t mono outs
-      → Cycle mono.circuit mono.state row outs' mono'.state → (T : Type 0) (ending : Ending) → Prints {T = T} now now' (Rose f' f'') (row_line ports t outs') (Err ending)
+  pub printed-stop : (out'' : K) {T : Type 0} {r : Result T Ending} {ending : Ending} → r ≡ Err ending → PrintsOn {T = T} sink out' out'' (row_line ports t outs') (Err ending)
       → (rows : List (List ℕ)) (base : Option (List ℕ)) → IsRun circuit inputs.columns inputs.rows rows
-      → before ≡ append_known base (trace_text ports (out_columns circuit rows) 0)
-      → Prints {T = T} base now' (Rose f f'') (trace_text ports (out_columns circuit rows) inputs.rows) (Err ending)
-  printed-stop once order ordered lt row given printed cycle T ending prints rows base run begins =
-      let here : Cycle circuit mono.state row outs' mono'.state = subst (λ (c : FlatCircuit). Cycle c mono.state row outs' mono'.state) printed.same cycle in
-      let follows : Follows circuit rows t mono'.state outs' =
-      cycle-follows once circuit order inputs.columns inputs.rows rows t mono.state mono'.state row outs' ordered run lt (printed.state rows run) given here in
+      → sink.written out ≡ append_known base (trace_text ports (out_columns circuit rows) 0)
+      → Prints base (sink.written out'') (Rose (sink.faults out) (sink.faults out'')) (trace_text ports (out_columns circuit rows) inputs.rows) r
+  printed-stop out'' {T = T} {ending = ending} e prints rows base run begins =
+      let whole = trace_text ports (out_columns circuit rows) inputs.rows in
       let front = trace_text-front ports (out_columns circuit rows) inputs.rows (t + 1) (omega arith) in
-      stop-within T base now now' (Rose f' f'') (Rose f f'') (trace_text ports (out_columns circuit rows) t) (row_line ports t outs')
-      (trace_text ports (out_columns circuit rows) inputs.rows) ending (printed.written rows base run begins)
-      (rose-earlier f f' f'' printed.faults_stay_or_rise)
-      (subst (λ (x : List ℕ). IsFront x (trace_text ports (out_columns circuit rows) inputs.rows)) (sym (trace_text-more ports (out_columns circuit rows) t outs' follows.row)) front)
-      prints
+      rw e (stop-within T base _ _ _ _ (trace_text ports (out_columns circuit rows) t) (row_line ports t outs') whole ending (printed.written rows base run begins)
+      (rose-earlier _ _ _ printed.on.faults_stay_or_rise)
+      (subst (λ (x : List ℕ). IsFront x whole) (sym (trace_text-more ports (out_columns circuit rows) t outs' (follows-so rows run).row)) front)
+      prints)
 
 -- if the header stops, a front part of the whole text is there
 pub header-stop : (T : Type 0) (before now : Option (List ℕ)) (failed : Type 0) (ports : List Port) (columns : List (List ℕ)) (n : ℕ) (piece : List ℕ) (ending : Ending)

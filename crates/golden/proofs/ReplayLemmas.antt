@@ -13,7 +13,8 @@ use Rattle.gg_flat.proofs.AlongLemmas.{IsRun-along}
 use Rattle.gg_flat.specs.Tree.{path_at}
 use Rattle.gg_flat.proofs.ListLemmas.{some-item}
 use Rattle.gg_front.specs.Meaning.{MeansDesign}
-use Rattle.gg_io.specs.Told.{Told}
+use Rattle.gg_io.specs.declared.files.Shelf
+use Rattle.gg_io.specs.declared.output.Sink
 use Rattle.gg_order.specs.Design.{IsDesign, Ordered}
 use Rattle.gg_partfile.specs.declared.request.Request.{Request}
 use Rattle.gg_cut.specs.Channels.{capacity_of, machine_count, wires_of}
@@ -50,14 +51,13 @@ use Rattle.gg_steps.specs.Naming.{Naming}
 use Rattle.gg_steps.specs.Steps.{steps_of}
 use Rattle.gg_replay.specs.ReplayText.{channel_line}
 use Rattle.golden.specs.declared.endings.Ending.{Ending}
-use Rattle.golden.specs.declared.endings.Ending.TheVariants.{NoMemory}
-use Rattle.golden.specs.Endings.{EndedOn, Prints}
-use Rattle.golden.specs.Order.{CanBe, Write}
+use Rattle.golden.specs.Endings.{EndedOn}
+use Rattle.golden.specs.Order.{CanBe}
 use Rattle.golden.specs.Partition.{Cuts}
-use Rattle.golden.specs.Replay.{IsOnlyReplayText, IsReplayText, IsSetting, Setting, channel_told, naming_of, port_names, replay_text, replayed, steps_file_for, steps_order}
+use Rattle.golden.specs.Replay.{IsReplayText, IsSetting, Setting, channel_told, naming_of, port_names, replay_text, replayed, steps_file_for, steps_order}
 use Rattle.golden.specs.Replayed.{AreSet, IsToReplay, NetEnds, NetWent, NetStops, NetWants, Opened, ReplayEnds, Went, Stops, Wants, lists_along, name_in, net_line, net_text, plan_naming, runs_along_rows, setting_of, width_in}
 use Rattle.golden.specs.RunText.{FeedsOnly}
-use Rattle.golden.proofs.EndingLemmas.{printed-ends, refused-ends}
+use Rattle.golden.proofs.EndingLemmas.{printed-ends, refused-ends, wants-ends}
 use Rattle.golden.proofs.PartitionLemmas.{DesignsAgree}
 use Rattle.golden.proofs.ReadingLemmas.{IfRefused-map}
 use Rattle.golden.proofs.SettingLemmas.{designs-alike, layouts-same, leads-same, ok-same, requests-same, rows-same, texts-same}
@@ -174,22 +174,21 @@ module _ (design : Ordered) (request : Request) (default : ℕ) (plan : Plan) (c
     stopped-so events net stopped stops =
         ap (λ m. replayed_from laid.0 1 m events) (sym opens) ∙ stops-at lists runs laid.0 1 opening events net stopped opened.kept laid.1.1 stops
 
-  module _ (T : Type 0) (steps : List ℕ) (before now : Option (List ℕ)) (failed : Type 0) (r : Result T Ending) where
-    abbrev events_in : List (Option Event)
-    events_in = steps_of (naming_of design request) steps
-
-    net-ends : NetEnds plan columns n lists runs (naming_of design request) events_in before now failed r → ReplayEnds design request default n columns steps before now failed r
+  module _ {T K : Type 0} {sink : Sink.Ghosts K} {out out' : K} {r : Result T Ending} (steps : List ℕ) where
+    net-ends : NetEnds plan columns n lists runs (naming_of design request) (steps_of (naming_of design request) steps) sink out out' r
+        → ReplayEnds design request default n columns steps sink out out' r
     net-ends (NetWent machines opened net done prints) =
+        let events = steps_of (naming_of design request) steps in
         let layout = (laid machines opened).0 in
-        Went rows layout (are-set machines opened) (marking_of net) (went machines opened events_in net done)
-        (subst (λ (t : List ℕ). Prints before now failed t r) (text-is layout net (frame-has machines opened events_in net done) (wires-count machines opened events_in net done)) prints)
+        Went rows layout (are-set machines opened) (marking_of net) (went machines opened events net done)
+        (rw (← text-is layout net (frame-has machines opened events net done) (wires-count machines opened events net done)) prints)
     net-ends (NetStops machines opened net stopped stops ending ends says none) =
-        Stops rows (laid machines opened).0 (are-set machines opened) stopped (stopped-so machines opened events_in net stopped stops) ending ends says none
+        Stops rows (laid machines opened).0 (are-set machines opened) stopped (stopped-so machines opened (steps_of (naming_of design request) steps) net stopped stops) ending ends says none
     net-ends (NetWants ends none) = Wants ends none
 
-    pub request-ends : NetEnds plan columns n lists runs (plan_naming plan design.tree the_listed) (steps_of (plan_naming plan design.tree the_listed) steps) before now failed r
-        → ReplayEnds design request default n columns steps before now failed r
-    request-ends ended = net-ends (subst (λ (names : Naming). NetEnds plan columns n lists runs names (steps_of names steps) before now failed r) naming-is ended)
+    pub request-ends : NetEnds plan columns n lists runs (plan_naming plan design.tree the_listed) (steps_of (plan_naming plan design.tree the_listed) steps) sink out out' r
+        → ReplayEnds design request default n columns steps sink out out' r
+    request-ends ended = net-ends (subst (λ (names : Naming). NetEnds plan columns n lists runs names (steps_of names steps) sink out out' r) naming-is ended)
 
 -- ---- the run of a design's circuit, along its order
 
@@ -203,12 +202,12 @@ module _ (design : Ordered) (request : Request) (default : ℕ) (plan : Plan) (c
   pub to-replay : IsToReplay design plan columns n
   to-replay = record { design = design; request = request; default = default; rows = run_rows; given = given-of; carried = refl; done = refl }
 
-  pub along-ends : (T : Type 0) (listed : Listed) → listed ≡ listed_of design.tree request → (steps : List ℕ) (before now : Option (List ℕ)) (failed : Type 0) (r : Result T Ending)
-      → NetEnds plan columns n (lists_along design plan columns n) (runs_along_rows design plan columns n) (plan_naming plan design.tree listed) (steps_of (plan_naming plan design.tree listed) steps) before now failed r
-      → ReplayEnds design request default n columns steps before now failed r
-  along-ends T listed same steps before now failed r ended =
-      request-ends design request default plan columns n run_rows given-of T steps before now failed r
-      (subst (λ (l : Listed). NetEnds plan columns n (lists_along design plan columns n) (runs_along_rows design plan columns n) (plan_naming plan design.tree l) (steps_of (plan_naming plan design.tree l) steps) before now failed r) same ended)
+  pub along-ends : {T K : Type 0} {sink : Sink.Ghosts K} {out out' : K} {r : Result T Ending} (listed : Listed) → listed ≡ listed_of design.tree request → (steps : List ℕ)
+      → NetEnds plan columns n (lists_along design plan columns n) (runs_along_rows design plan columns n) (plan_naming plan design.tree listed) (steps_of (plan_naming plan design.tree listed) steps) sink out out' r
+      → ReplayEnds design request default n columns steps sink out out' r
+  along-ends {sink = sink} {out = out} {out' = out'} {r = r} listed same steps ended =
+      request-ends design request default plan columns n run_rows given-of steps
+      (subst (λ (l : Listed). NetEnds plan columns n (lists_along design plan columns n) (runs_along_rows design plan columns n) (plan_naming plan design.tree l) (steps_of (plan_naming plan design.tree l) steps) sink out out' r) same ended)
 
 -- ---- the order of refusals
 
@@ -230,32 +229,23 @@ module _ (agree : DesignsAgree)
       (layouts-same agree circuit partition trace capacity b a y x)
       (rows-same ins runs once circuit partition trace capacity design.circuit design.order ordered means.means n columns rows are.run feeds b y) same
 
-  module _ (files : List ℕ → Told) (lost cut unwritten : Type 0) (T : Type 0) (before now : Option (List ℕ)) (name bytes : List ℕ) (can : CanBe files (steps_file_for circuit partition trace capacity name) bytes) (r : Result T Ending) where
-    stays-ends : (other : Result T Ending) → r ≡ other → now ≡ before
-        → EndedOn files lost cut unwritten before before (steps_order circuit partition trace capacity name) other
-        → EndedOn files lost cut unwritten before now (steps_order circuit partition trace capacity name) r
-    stays-ends other e same ended =
-        subst (λ (w : Option (List ℕ)). EndedOn files lost cut unwritten before w (steps_order circuit partition trace capacity name) r) (sym same)
-        (subst (λ (q : Result T Ending). EndedOn files lost cut unwritten before before (steps_order circuit partition trace capacity name) q) (sym e) ended)
-
-    pub steps-ends : ReplayEnds design request capacity n columns bytes before now unwritten r
-        → EndedOn files lost cut unwritten before now (steps_order circuit partition trace capacity name) r
-    steps-ends (Went rows layout are marking leads prints) =
-        let a = setting_of design request n columns rows layout in
-        let x = own-setting rows layout are in
-        printed-ends files lost cut unwritten T before now (steps_order circuit partition trace capacity name) (replay_text a marking) r (
-          bytes,
-          can,
-          (a, x, (marking, leads)),
-          record { is = (a, x, (marking, leads, refl)); only = only-replay-text rows layout are bytes marking leads },
-        )
-        prints
-    steps-ends (Stops rows layout are stopped leads ending ends says none) =
-        let a = setting_of design request n columns rows layout in
-        let x = own-setting rows layout are in
-        stays-ends (Err ending) ends none
-        (refused-ends files lost cut unwritten T before (steps_file_for circuit partition trace capacity name) (λ s. Write (IsOnlyReplayText circuit partition trace capacity s)) ending
-        (IfRefused-map (λ said e. inr (bytes, can, (a, x, (stopped, leads, e)))) ending says))
-    steps-ends (Wants ends none) =
-        stays-ends (Err NoMemory) ends none
-        (refused-ends files lost cut unwritten T before (steps_file_for circuit partition trace capacity name) (λ s. Write (IsOnlyReplayText circuit partition trace capacity s)) NoMemory tt)
+  -- the text was printed, a step was refused, or memory ran out before anything was printed
+  pub steps-ends : {S K T : Type 0} {shelf : Shelf.Ghosts S} {sink : Sink.Ghosts K} {s s' : S} {out out' : K} {name bytes : List ℕ} {r : Result T Ending}
+      → CanBe (shelf.files s) (steps_file_for circuit partition trace capacity name) bytes
+      → ReplayEnds design request capacity n columns bytes sink out out' r
+      → EndedOn shelf sink s s' out out' (steps_order circuit partition trace capacity name) r
+  steps-ends {bytes = bytes} {r = r} can (Went rows layout are marking leads prints) =
+      let a = setting_of design request n columns rows layout in
+      let x = own-setting rows layout are in
+      printed-ends (replay_text a marking) r (
+        bytes,
+        can,
+        (a, x, (marking, leads)),
+        record { is = (a, x, (marking, leads, refl)); only = only-replay-text rows layout are bytes marking leads },
+      )
+      prints
+  steps-ends {bytes = bytes} can (Stops rows layout are stopped leads ending ends says none) =
+      let a = setting_of design request n columns rows layout in
+      let x = own-setting rows layout are in
+      refused-ends none ends (IfRefused-map (λ said e. inr (bytes, can, (a, x, (stopped, leads, e)))) ending says)
+  steps-ends can (Wants ends none) = wants-ends none ends

@@ -1,5 +1,5 @@
 -- Two settings of the same bytes: the same steps may be done, and the same is reported for a step that isn't.
-use Rattle.std.proofs.Common.{◌≡◌, ℕ, ◌+◌, ◌-◌, List, ◌∷◌, ◌++◌, length, map, refl, sym, ap, ◌∙◌, subst, inr}
+use Rattle.std.proofs.Common.{◌≡◌, ℕ, ◌+◌, List, ◌∷◌, ◌++◌, length, map, refl, sym, ap, ◌∙◌, subst, inr}
 use Rattle.std.specs.Prelude.{Result, Ok, Err, codes, flat_map, take}
 use Rattle.std.specs.List.{range_with_len}
 use Rattle.gg_bits.specs.Shape.{Shape}

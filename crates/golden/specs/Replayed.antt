@@ -11,6 +11,7 @@ use Rattle.gg_partfile.specs.declared.request.Request.{Request}
 use Rattle.gg_cut.specs.Solves.{columns_of}
 use Rattle.gg_cut.specs.declared.listed.Listed.{Listed}
 use Rattle.gg_cut.specs.declared.plan.Plan.{Plan}
+use Rattle.gg_io.specs.declared.output.Sink
 use Rattle.gg_node.specs.Machine.{Machine}
 use Rattle.gg_net.specs.declared.event.Event.{Event}
 use Rattle.gg_net.specs.Kept.{Kept, list_at}
@@ -26,7 +27,7 @@ use Rattle.gg_steps.specs.Naming.{Naming}
 use Rattle.gg_replay.specs.ReplayText.{channel_line}
 use Rattle.golden.specs.declared.endings.Ending.{Ending}
 use Rattle.golden.specs.declared.endings.Ending.TheVariants.{NoMemory}
-use Rattle.golden.specs.Endings.{IfRefused, Prints}
+use Rattle.golden.specs.Endings.{IfRefused, PrintsOn}
 use Rattle.golden.specs.Replay.{Setting, port_names, replay_text, replayed, stopped_by, stopped_said}
 
 -- ---- names
@@ -81,11 +82,11 @@ pub record Opened (plan : Plan) (columns : List (List ℕ)) (n : ℕ) (lists : L
   pub kept : Kept lists runs (opening_net machines (wires_of_plan plan) n)
 
 -- How these steps of a plan's network have ended. They are done, and the text of the network that they lead to was
--- printed (`Prints`); or they stopped at one, which is reported; or an allocation failed before anything was written.
-pub data NetEnds {T : Type 0} (plan : Plan) (columns : List (List ℕ)) (n : ℕ) (lists : List (List ℕ)) (runs : List (List (List ℕ))) (naming : Naming) (events : List (Option Event)) (before now : Option (List ℕ)) (failed : Type 0) (result : Result T Ending) : Type 0 where
-  NetWent : (machines : List Machine) (opened : Opened plan columns n lists runs machines) (net : Network) (steps : Steps (opening_net machines (wires_of_plan plan) n) events net) (prints : Prints before now failed (net_text plan lists net) result) → NetEnds plan columns n lists runs naming events before now failed result
-  NetStops : (machines : List Machine) (opened : Opened plan columns n lists runs machines) (net : Network) (stopped : Stopped) (stops : StopsAt 1 (opening_net machines (wires_of_plan plan) n) events net stopped) (ending : Ending) (ends : result ≡ Err ending) (says : IfRefused (λ said. said ≡ stopped_by naming events stopped) ending) (none : now ≡ before) → NetEnds plan columns n lists runs naming events before now failed result
-  NetWants : (ends : result ≡ Err NoMemory) (none : now ≡ before) → NetEnds plan columns n lists runs naming events before now failed result
+-- printed (`PrintsOn`); or they stopped at one, which is reported; or an allocation failed before anything was written.
+pub data NetEnds {T K : Type 0} (plan : Plan) (columns : List (List ℕ)) (n : ℕ) (lists : List (List ℕ)) (runs : List (List (List ℕ))) (naming : Naming) (events : List (Option Event)) (sink : Sink.Ghosts K) (out out' : K) (result : Result T Ending) : Type 0 where
+  NetWent : (machines : List Machine) (opened : Opened plan columns n lists runs machines) (net : Network) (steps : Steps (opening_net machines (wires_of_plan plan) n) events net) (prints : PrintsOn sink out out' (net_text plan lists net) result) → NetEnds plan columns n lists runs naming events sink out out' result
+  NetStops : (machines : List Machine) (opened : Opened plan columns n lists runs machines) (net : Network) (stopped : Stopped) (stops : StopsAt 1 (opening_net machines (wires_of_plan plan) n) events net stopped) (ending : Ending) (ends : result ≡ Err ending) (says : IfRefused (λ said. said ≡ stopped_by naming events stopped) ending) (none : sink.written out' ≡ sink.written out) → NetEnds plan columns n lists runs naming events sink out out' result
+  NetWants : (ends : result ≡ Err NoMemory) (none : sink.written out' ≡ sink.written out) → NetEnds plan columns n lists runs naming events sink out out' result
 
 -- ---- a design, a request and the columns of a trace
 
@@ -99,7 +100,7 @@ pub record AreSet (design : Ordered) (request : Request) (default n : ℕ) (colu
   pub laid : IsLayoutOf design request default n layout
 
 -- How `replay` of a steps file has ended for these.
-pub data ReplayEnds {T : Type 0} (design : Ordered) (request : Request) (default n : ℕ) (columns : List (List ℕ)) (steps : List ℕ) (before now : Option (List ℕ)) (failed : Type 0) (result : Result T Ending) : Type 0 where
-  Went : (rows : List (List ℕ)) (layout : Layout) (are : AreSet design request default n columns rows layout) (marking : Marking) (leads : replayed (setting_of design request n columns rows layout) steps ≡ Ok marking) (prints : Prints before now failed (replay_text (setting_of design request n columns rows layout) marking) result) → ReplayEnds design request default n columns steps before now failed result
-  Stops : (rows : List (List ℕ)) (layout : Layout) (are : AreSet design request default n columns rows layout) (stopped : Stopped) (leads : replayed (setting_of design request n columns rows layout) steps ≡ Err stopped) (ending : Ending) (ends : result ≡ Err ending) (says : IfRefused (λ said. said ≡ stopped_said (setting_of design request n columns rows layout) steps stopped) ending) (none : now ≡ before) → ReplayEnds design request default n columns steps before now failed result
-  Wants : (ends : result ≡ Err NoMemory) (none : now ≡ before) → ReplayEnds design request default n columns steps before now failed result
+pub data ReplayEnds {T K : Type 0} (design : Ordered) (request : Request) (default n : ℕ) (columns : List (List ℕ)) (steps : List ℕ) (sink : Sink.Ghosts K) (out out' : K) (result : Result T Ending) : Type 0 where
+  Went : (rows : List (List ℕ)) (layout : Layout) (are : AreSet design request default n columns rows layout) (marking : Marking) (leads : replayed (setting_of design request n columns rows layout) steps ≡ Ok marking) (prints : PrintsOn sink out out' (replay_text (setting_of design request n columns rows layout) marking) result) → ReplayEnds design request default n columns steps sink out out' result
+  Stops : (rows : List (List ℕ)) (layout : Layout) (are : AreSet design request default n columns rows layout) (stopped : Stopped) (leads : replayed (setting_of design request n columns rows layout) steps ≡ Err stopped) (ending : Ending) (ends : result ≡ Err ending) (says : IfRefused (λ said. said ≡ stopped_said (setting_of design request n columns rows layout) steps stopped) ending) (none : sink.written out' ≡ sink.written out) → ReplayEnds design request default n columns steps sink out out' result
+  Wants : (ends : result ≡ Err NoMemory) (none : sink.written out' ≡ sink.written out) → ReplayEnds design request default n columns steps sink out out' result

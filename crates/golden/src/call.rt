@@ -27,11 +27,9 @@ fn do_command<S: Shelf, K: Sink>(
     out: &mut K,
 ) -> Result<(), Ending>
     requires { (words : List (List ℕ)) × command_line.IsCommand words cmd.now }
-    ensures ended { (words : List (List ℕ)) → command_line.IsCommand words cmd.now → CallEnded (S.files shelf.old)
-        (Rose (S.faults shelf.old) (S.faults shelf.new)) (Rose (S.cuts shelf.old) (S.cuts shelf.new)) (Rose (K.faults out.old) (K.faults out.new))
-        (K.written out.old) (K.written out.new) words result }
-    ensures shelf { ShelfWentOn (S.files shelf.old) (S.files shelf.new) (S.faults shelf.old) (S.faults shelf.new) (S.cuts shelf.old) (S.cuts shelf.new) }
-    ensures out { SinkWentOn (K.faults out.old) (K.faults out.new) (K.refused out.old) (K.refused out.new) }
+    ensures ended { (words : List (List ℕ)) → command_line.IsCommand words cmd.now → CallEnded S.Shelf K.Sink shelf.old shelf.new out.old out.new words result }
+    ensures shelf { ShelfWentOn S.Shelf shelf.old shelf.new }
+    ensures out { SinkWentOn K.Sink out.old out.new }
 {
     numbers_are_in_range();
     match cmd {
@@ -86,11 +84,9 @@ fn command<S: Shelf, K: Sink>(
     shelf: &mut S,
     out: &mut K,
 ) -> Result<(), Ending>
-    ensures ended { CallEnded (S.files shelf.old)
-        (Rose (S.faults shelf.old) (S.faults shelf.new)) (Rose (S.cuts shelf.old) (S.cuts shelf.new)) (Rose (K.faults out.old) (K.faults out.new))
-        (K.written out.old) (K.written out.new) (texts given.now) result }
-    ensures shelf { ShelfWentOn (S.files shelf.old) (S.files shelf.new) (S.faults shelf.old) (S.faults shelf.new) (S.cuts shelf.old) (S.cuts shelf.new) }
-    ensures out { SinkWentOn (K.faults out.old) (K.faults out.new) (K.refused out.old) (K.refused out.new) }
+    ensures ended { CallEnded S.Shelf K.Sink shelf.old shelf.new out.old out.new (texts given.now) result }
+    ensures shelf { ShelfWentOn S.Shelf shelf.old shelf.new }
+    ensures out { SinkWentOn K.Sink out.old out.new }
 {
     match words(alloc, given) {
         Ok(cmd) => do_command(alloc, &cmd, shelf, out),
@@ -103,7 +99,7 @@ fn command<S: Shelf, K: Sink>(
 fn status_of<E: Sink>(ended: &Result<(), Ending>, err: &mut E) -> u8
     ensures status { result ≡ (said_by ended.now).status }
     ensures line { Reports (E.written err.old) (E.written err.new) (HasTrouble (E.faults err.old) (E.faults err.new) (E.refused err.old) (E.refused err.new)) (said_by ended.now).line }
-    ensures err { SinkWentOn (E.faults err.old) (E.faults err.new) (E.refused err.old) (E.refused err.new) }
+    ensures err { SinkWentOn E.Sink err.old err.new }
 {
     match ended {
         Ok(()) => 0,
@@ -123,9 +119,9 @@ fn answer<S: Shelf, K: Sink, E: Sink>(
         (Rose (S.faults shelf.old) (S.faults shelf.new)) (Rose (S.cuts shelf.old) (S.cuts shelf.new)) (Rose (K.faults out.old) (K.faults out.new))
         (HasTrouble (E.faults err.old) (E.faults err.new) (E.refused err.old) (E.refused err.new))
         (K.written out.old) (K.written out.new) (E.written err.old) (E.written err.new) result }
-    ensures shelf { ShelfWentOn (S.files shelf.old) (S.files shelf.new) (S.faults shelf.old) (S.faults shelf.new) (S.cuts shelf.old) (S.cuts shelf.new) }
-    ensures out { SinkWentOn (K.faults out.old) (K.faults out.new) (K.refused out.old) (K.refused out.new) }
-    ensures err { SinkWentOn (E.faults err.old) (E.faults err.new) (E.refused err.old) (E.refused err.new) }
+    ensures shelf { ShelfWentOn S.Shelf shelf.old shelf.new }
+    ensures out { SinkWentOn K.Sink out.old out.new }
+    ensures err { SinkWentOn E.Sink err.old err.new }
 {
     let ended = command(alloc, words, shelf, out);
     status_of(&ended, err)
@@ -167,9 +163,9 @@ pub fn golden<S: Shelf, K: Sink, E: Sink, G: Gate>(
         (Rose (S.faults shelf.old) (S.faults shelf.new)) (Rose (S.cuts shelf.old) (S.cuts shelf.new)) (Rose (K.faults out.old) (K.faults out.new))
         (HasTrouble (E.faults err.old) (E.faults err.new) (E.refused err.old) (E.refused err.new))
         (K.written out.old) (K.written out.new) (E.written err.old) (E.written err.new) result }
-    ensures shelf { ShelfWentOn (S.files shelf.old) (S.files shelf.new) (S.faults shelf.old) (S.faults shelf.new) (S.cuts shelf.old) (S.cuts shelf.new) }
-    ensures out { SinkWentOn (K.faults out.old) (K.faults out.new) (K.refused out.old) (K.refused out.new) }
-    ensures err { SinkWentOn (E.faults err.old) (E.faults err.new) (E.refused err.old) (E.refused err.new) }
+    ensures shelf { ShelfWentOn S.Shelf shelf.old shelf.new }
+    ensures out { SinkWentOn K.Sink out.old out.new }
+    ensures err { SinkWentOn E.Sink err.old err.new }
 {
     let _ = gate;
     refusals_are_exact();

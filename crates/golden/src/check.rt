@@ -3,9 +3,8 @@ ghost use Rattle.std.specs.Prelude.{◌≡◌, ◌<◌, ◌≤◌, ◌⊎◌, �
 ghost use Rattle.gg_check.specs.CheckText.{IsTextOfCut};
 ghost use Rattle.gg_cut.specs.Fault.{IsSmall, first_fault};
 ghost use Rattle.gg_front.specs.Meaning.{MeansDesign};
-ghost use Rattle.gg_io.specs.Count.{Rose};
 ghost use Rattle.golden.specs.Check.{check_order, cut_order};
-ghost use Rattle.golden.specs.Endings.{EndedOn, Prints};
+ghost use Rattle.golden.specs.Endings.{EndedOn, PrintsOn};
 ghost use Rattle.golden.specs.WentOn.{ShelfWentOn, SinkWentOn};
 ghost use Rattle.golden.specs.declared.endings.Ending.TheVariants.{NoMemory};
 
@@ -35,9 +34,9 @@ fn print_cut<K: Sink>(
     requires some { 0 < capacity }
     requires bounded { capacity ≤ 4096 }
     ensures prints { ((text : List ℕ) × IsTextOfCut design.now request.now capacity text
-        × Prints (K.written out.old) (K.written out.new) (Rose (K.faults out.old) (K.faults out.new)) text result)
+        × PrintsOn K.Sink out.old out.new text result)
         ⊎ ((result ≡ Err NoMemory) × (K.written out.new ≡ K.written out.old)) }
-    ensures out { SinkWentOn (K.faults out.old) (K.faults out.new) (K.refused out.old) (K.refused out.new) }
+    ensures out { SinkWentOn K.Sink out.old out.new }
 {
     plan_is_told();
     match cut(alloc, design, request, capacity) {
@@ -57,11 +56,9 @@ fn check_design<S: Shelf, K: Sink>(
 ) -> Result<(), Ending>
     requires some { 0 < capacity }
     requires bounded { capacity ≤ 4096 }
-    ensures ended { (circuit : List ℕ) → MeansDesign circuit design.now → EndedOn (S.files shelf.old)
-        (Rose (S.faults shelf.old) (S.faults shelf.new)) (Rose (S.cuts shelf.old) (S.cuts shelf.new)) (Rose (K.faults out.old) (K.faults out.new))
-        (K.written out.old) (K.written out.new) (cut_order circuit partition.now capacity) result }
-    ensures shelf { ShelfWentOn (S.files shelf.old) (S.files shelf.new) (S.faults shelf.old) (S.faults shelf.new) (S.cuts shelf.old) (S.cuts shelf.new) }
-    ensures out { SinkWentOn (K.faults out.old) (K.faults out.new) (K.refused out.old) (K.refused out.new) }
+    ensures ended { (circuit : List ℕ) → MeansDesign circuit design.now → EndedOn S.Shelf K.Sink shelf.old shelf.new out.old out.new (cut_order circuit partition.now capacity) result }
+    ensures shelf { ShelfWentOn S.Shelf shelf.old shelf.new }
+    ensures out { SinkWentOn K.Sink out.old out.new }
 {
     designs_agree();
     one_run();
@@ -81,11 +78,9 @@ pub(crate) fn check<S: Shelf, K: Sink>(
 ) -> Result<(), Ending>
     requires some { 0 < capacity }
     requires bounded { capacity ≤ 4096 }
-    ensures ended { EndedOn (S.files shelf.old)
-        (Rose (S.faults shelf.old) (S.faults shelf.new)) (Rose (S.cuts shelf.old) (S.cuts shelf.new)) (Rose (K.faults out.old) (K.faults out.new))
-        (K.written out.old) (K.written out.new) (check_order circuit.now partition.now capacity) result }
-    ensures shelf { ShelfWentOn (S.files shelf.old) (S.files shelf.new) (S.faults shelf.old) (S.faults shelf.new) (S.cuts shelf.old) (S.cuts shelf.new) }
-    ensures out { SinkWentOn (K.faults out.old) (K.faults out.new) (K.refused out.old) (K.refused out.new) }
+    ensures ended { EndedOn S.Shelf K.Sink shelf.old shelf.new out.old out.new (check_order circuit.now partition.now capacity) result }
+    ensures shelf { ShelfWentOn S.Shelf shelf.old shelf.new }
+    ensures out { SinkWentOn K.Sink out.old out.new }
 {
     let design = read_circuit(alloc, shelf, circuit)?;
     check_design(alloc, &design, partition, capacity, shelf, out)

@@ -1,8 +1,7 @@
 //! Printing of a plan: a line for each machine, then a line for each channel.
 ghost use Rattle.std.specs.Prelude.{ℕ, flat_map};
 ghost use Rattle.gg_check.specs.PlanText.{channel_names, line_of_channel, line_of_machine, machine_names, plan_text};
-ghost use Rattle.gg_io.specs.Count.{Rose};
-ghost use Rattle.golden.specs.Endings.{Prints};
+ghost use Rattle.golden.specs.Endings.{PrintsOn};
 ghost use Rattle.golden.specs.WentOn.{SinkWentOn};
 
 use crate::endings::Ending;
@@ -14,8 +13,8 @@ use std::alloc::Global;
 
 // Writes the line of a machine.
 fn print_machine<K: Sink>(alloc: Global, machine: &Machine, out: &mut K) -> Result<(), Ending>
-    ensures prints { Prints (K.written out.old) (K.written out.new) (Rose (K.faults out.old) (K.faults out.new)) (line_of_machine machine.now) result }
-    ensures out { SinkWentOn (K.faults out.old) (K.faults out.new) (K.refused out.old) (K.refused out.new) }
+    ensures prints { PrintsOn K.Sink out.old out.new (line_of_machine machine.now) result }
+    ensures out { SinkWentOn K.Sink out.old out.new }
 {
     let line = machine_line(alloc, machine)?;
     put(out, line.as_bytes())
@@ -29,8 +28,8 @@ fn print_channel<K: Sink>(
     channel: &Channel,
     out: &mut K,
 ) -> Result<(), Ending>
-    ensures prints { Prints (K.written out.old) (K.written out.new) (Rose (K.faults out.old) (K.faults out.new)) (line_of_channel (machine_names machines.now) (channel_names channels.now) channel.now) result }
-    ensures out { SinkWentOn (K.faults out.old) (K.faults out.new) (K.refused out.old) (K.refused out.new) }
+    ensures prints { PrintsOn K.Sink out.old out.new (line_of_channel (machine_names machines.now) (channel_names channels.now) channel.now) result }
+    ensures out { SinkWentOn K.Sink out.old out.new }
 {
     let line = channel_line(alloc, machines, channels, channel)?;
     put(out, line.as_bytes())
@@ -38,8 +37,8 @@ fn print_channel<K: Sink>(
 
 // Writes the lines of all machines.
 fn print_machines<K: Sink>(alloc: Global, machines: &[Machine], out: &mut K) -> Result<(), Ending>
-    ensures prints { Prints (K.written out.old) (K.written out.new) (Rose (K.faults out.old) (K.faults out.new)) (flat_map line_of_machine machines.now) result }
-    ensures out { SinkWentOn (K.faults out.old) (K.faults out.new) (K.refused out.old) (K.refused out.new) }
+    ensures prints { PrintsOn K.Sink out.old out.new (flat_map line_of_machine machines.now) result }
+    ensures out { SinkWentOn K.Sink out.old out.new }
 {
     for machine in machines {
         print_machine(alloc, machine, out)?;
@@ -54,8 +53,8 @@ fn print_channels<K: Sink>(
     channels: &[Channel],
     out: &mut K,
 ) -> Result<(), Ending>
-    ensures prints { Prints (K.written out.old) (K.written out.new) (Rose (K.faults out.old) (K.faults out.new)) (flat_map (line_of_channel (machine_names machines.now) (channel_names channels.now)) channels.now) result }
-    ensures out { SinkWentOn (K.faults out.old) (K.faults out.new) (K.refused out.old) (K.refused out.new) }
+    ensures prints { PrintsOn K.Sink out.old out.new (flat_map (line_of_channel (machine_names machines.now) (channel_names channels.now)) channels.now) result }
+    ensures out { SinkWentOn K.Sink out.old out.new }
 {
     for channel in channels {
         print_channel(alloc, machines, channels, channel, out)?;
@@ -65,8 +64,8 @@ fn print_channels<K: Sink>(
 
 /// Prints a plan: the lines of its machines, then the lines of its channels.
 pub(crate) fn print_plan<K: Sink>(alloc: Global, plan: &Plan, out: &mut K) -> Result<(), Ending>
-    ensures prints { Prints (K.written out.old) (K.written out.new) (Rose (K.faults out.old) (K.faults out.new)) (plan_text plan.now) result }
-    ensures out { SinkWentOn (K.faults out.old) (K.faults out.new) (K.refused out.old) (K.refused out.new) }
+    ensures prints { PrintsOn K.Sink out.old out.new (plan_text plan.now) result }
+    ensures out { SinkWentOn K.Sink out.old out.new }
 {
     let machines = plan.machines.as_slice();
     print_machines(alloc, machines, out)?;

@@ -23,7 +23,7 @@ pub(crate) fn load<S: Shelf>(
     ensures refused { IfErr result (IfRefused (λ said.
         (Rose (S.faults shelf.old) (S.faults shelf.new) × (said ≡ cannot_load name.now))
         ⊎ (Rose (S.cuts shelf.old) (S.cuts shelf.new) × CanBeOver (S.files shelf.old name.now) limit × (said ≡ is_over name.now limit)))) }
-    ensures shelf { ShelfWentOn (S.files shelf.old) (S.files shelf.new) (S.faults shelf.old) (S.faults shelf.new) (S.cuts shelf.old) (S.cuts shelf.new) }
+    ensures shelf { ShelfWentOn S.Shelf shelf.old shelf.new }
 {
     match shelf.load(alloc, name, limit) {
         Ok(bytes) => Ok(bytes),

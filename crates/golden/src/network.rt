@@ -1,10 +1,9 @@
 //! The network of a plan: its steps, and the line of each channel.
 ghost use Rattle.std.specs.Prelude.{◌≡◌, ◌-◌, ◌<◌, ◌^◌, ◌++◌, IfOk, None, codes, decimal, length, slice_index_or, string_bytes};
 ghost use Rattle.gg_build.specs.Build.{IsToRun};
-ghost use Rattle.gg_io.specs.Count.{Rose};
 ghost use Rattle.gg_replay.specs.Log.{AreFronts};
 ghost use Rattle.gg_steps.specs.Cause.{cause_text};
-ghost use Rattle.golden.specs.Endings.{IfRefused, Prints};
+ghost use Rattle.golden.specs.Endings.{IfRefused, PrintsOn};
 ghost use Rattle.golden.specs.Replay.{stopped_by};
 ghost use Rattle.golden.specs.Replayed.{NetEnds, net_line, net_text};
 ghost use Rattle.golden.specs.WentOn.{SinkWentOn};
@@ -33,8 +32,8 @@ fn print_channel<Z: Streams, K: Sink>(
     requires known { channel < length plan.now.channels }
     requires wires { length net.now.wires ≡ length plan.now.channels }
     requires logged { AreFronts Z.lists net.now log.now }
-    ensures prints { Prints (K.written out.old) (K.written out.new) (Rose (K.faults out.old) (K.faults out.new)) (net_line plan.now Z.lists net.now channel) result }
-    ensures out { SinkWentOn (K.faults out.old) (K.faults out.new) (K.refused out.old) (K.refused out.new) }
+    ensures prints { PrintsOn K.Sink out.old out.new (net_line plan.now Z.lists net.now channel) result }
+    ensures out { SinkWentOn K.Sink out.old out.new }
 {
     let own = &plan.channels.as_slice()[channel as usize];
     let line = channel_line(
@@ -59,8 +58,8 @@ fn print_net<Z: Streams, K: Sink>(
     requires few { length plan.now.channels < 2 ^ 32 }
     requires wires { length net.now.wires ≡ length plan.now.channels }
     requires logged { AreFronts Z.lists net.now log.now }
-    ensures prints { Prints (K.written out.old) (K.written out.new) (Rose (K.faults out.old) (K.faults out.new)) (net_text plan.now Z.lists net.now) result }
-    ensures out { SinkWentOn (K.faults out.old) (K.faults out.new) (K.refused out.old) (K.refused out.new) }
+    ensures prints { PrintsOn K.Sink out.old out.new (net_text plan.now Z.lists net.now) result }
+    ensures out { SinkWentOn K.Sink out.old out.new }
 {
     for channel in 0..plan.channels.as_slice().len() {
         print_channel(alloc, plan, net, log, channel as u32, out)?;
@@ -121,8 +120,8 @@ pub(crate) fn replay_net<Z: Streams, K: Sink>(
 ) -> Result<(), Ending>
     requires few { length plan.now.channels < 2 ^ 32 }
     requires run { IsToRun plan.now inputs.now.columns inputs.now.rows Z.lists Z.runs }
-    ensures ended { NetEnds plan.now inputs.now.columns inputs.now.rows Z.lists Z.runs names.now events.now (K.written out.old) (K.written out.new) (Rose (K.faults out.old) (K.faults out.new)) result }
-    ensures out { SinkWentOn (K.faults out.old) (K.faults out.new) (K.refused out.old) (K.refused out.new) }
+    ensures ended { NetEnds plan.now inputs.now.columns inputs.now.rows Z.lists Z.runs names.now events.now K.Sink out.old out.new result }
+    ensures out { SinkWentOn K.Sink out.old out.new }
 {
     let _ = design;
     let mut net = build::<Z>(alloc, plan, inputs)?;

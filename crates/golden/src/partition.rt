@@ -3,13 +3,12 @@ ghost use Rattle.std.specs.Prelude.{◌≡◌, ◌≢◌, ◌≤◌, ◌++◌, �
 ghost use Rattle.gg_cut.specs.Fault as cut;
 ghost use Rattle.gg_cut.specs.declared.fault.CutFault.{CutFault};
 ghost use Rattle.gg_cut.specs.declared.fault.CutFault.TheVariants as cut_fault;
-ghost use Rattle.gg_io.specs.Count.{Rose};
 ghost use Rattle.gg_partfile.specs.Fault as file;
 ghost use Rattle.gg_partfile.specs.Partition.{IsPartition};
 ghost use Rattle.gg_partfile.specs.declared.fault.PartFault.TheVariants as file_fault;
-ghost use Rattle.golden.specs.Endings.{IfRefused};
+ghost use Rattle.golden.specs.Endings.{IfRefused, IsRefusedBy};
 ghost use Rattle.golden.specs.Lines.{partition_fault};
-ghost use Rattle.golden.specs.Order.{CanBe, IsRefused};
+ghost use Rattle.golden.specs.Order.{CanBe};
 ghost use Rattle.golden.specs.Partition.{Cuts, partition_file_of};
 ghost use Rattle.golden.specs.WentOn.{ShelfWentOn};
 
@@ -105,9 +104,8 @@ pub(crate) fn read_partition<S: Shelf>(
 ) -> Result<Request, Ending>
     ensures accepted { IfOk result (λ request. (bytes : List ℕ) × CanBe (S.files shelf.old) (partition_file_of design.now name.now) bytes × Cuts design.now bytes request) }
     ensures small { IfOk result cut.IsSmall }
-    ensures refused { IfErr result (IfRefused (IsRefused (S.files shelf.old)
-        (Rose (S.faults shelf.old) (S.faults shelf.new)) (Rose (S.cuts shelf.old) (S.cuts shelf.new)) (partition_file_of design.now name.now))) }
-    ensures shelf { ShelfWentOn (S.files shelf.old) (S.files shelf.new) (S.faults shelf.old) (S.faults shelf.new) (S.cuts shelf.old) (S.cuts shelf.new) }
+    ensures refused { IfErr result (IfRefused (IsRefusedBy S.Shelf shelf.old shelf.new (partition_file_of design.now name.now))) }
+    ensures shelf { ShelfWentOn S.Shelf shelf.old shelf.new }
 {
     let bytes = load(alloc, shelf, name, PARTITION_LIMIT)?;
     let request = request_of(alloc, bytes.as_slice())?;

@@ -10,7 +10,7 @@ ghost use Rattle.gg_refsim.specs.Cycle.{Cycle};
 ghost use Rattle.gg_trace.specs.Printing.{row_line, trace_text};
 ghost use Rattle.gg_flat.specs.Ports.{out_ports};
 ghost use Rattle.golden.specs.RunText.{out_columns};
-ghost use Rattle.golden.specs.Endings.{Prints};
+ghost use Rattle.golden.specs.Endings.{Prints, PrintsOn};
 ghost use Rattle.golden.specs.WentOn.{SinkWentOn};
 
 use crate::endings::Ending;
@@ -37,8 +37,8 @@ fn print_row<K: Sink>(
     requires ports { length ports.now ≡ length mono.old.circuit.outs }
     ensures circuit { mono.new.circuit ≡ mono.old.circuit }
     ensures cycle { Cycle mono.old.circuit mono.old.state inputs.now outs.new mono.new.state }
-    ensures prints { Prints (K.written out.old) (K.written out.new) (Rose (K.faults out.old) (K.faults out.new)) (row_line ports.now cycle outs.new) result }
-    ensures out { SinkWentOn (K.faults out.old) (K.faults out.new) (K.refused out.old) (K.refused out.new) }
+    ensures prints { PrintsOn K.Sink out.old out.new (row_line ports.now cycle outs.new) result }
+    ensures out { SinkWentOn K.Sink out.old out.new }
 {
     mono.cycle(inputs, outs);
     let text = row_text(alloc, ports, cycle, outs)?;
@@ -62,7 +62,7 @@ fn print_rows<K: Sink>(
     ensures prints { (rows : List (List ℕ)) (base : Option (List ℕ)) → IsRun mono.old.circuit inputs.now.columns inputs.now.rows rows
         → K.written out.old ≡ append_known base (trace_text ports.now (out_columns mono.old.circuit rows) 0)
         → Prints base (K.written out.new) (Rose (K.faults out.old) (K.faults out.new)) (trace_text ports.now (out_columns mono.old.circuit rows) inputs.now.rows) result }
-    ensures out { SinkWentOn (K.faults out.old) (K.faults out.new) (K.refused out.old) (K.refused out.new) }
+    ensures out { SinkWentOn K.Sink out.old out.new }
 {
     settled_once();
     for cycle in 0..inputs.rows() {
@@ -83,8 +83,8 @@ fn print_all<K: Sink>(
     requires fed { IsColumns mono.old.circuit inputs.now.rows inputs.now.columns }
     requires ports { length ports.now ≡ length mono.old.circuit.outs }
     ensures prints { (rows : List (List ℕ)) → IsRun mono.old.circuit inputs.now.columns inputs.now.rows rows
-        → Prints (K.written out.old) (K.written out.new) (Rose (K.faults out.old) (K.faults out.new)) (trace_text ports.now (out_columns mono.old.circuit rows) inputs.now.rows) result }
-    ensures out { SinkWentOn (K.faults out.old) (K.faults out.new) (K.refused out.old) (K.refused out.new) }
+        → PrintsOn K.Sink out.old out.new (trace_text ports.now (out_columns mono.old.circuit rows) inputs.now.rows) result }
+    ensures out { SinkWentOn K.Sink out.old out.new }
 {
     let mut outs = vec![in alloc; 0u128; mono.piece().outs().len()]?;
     let header = header_text(alloc, ports)?;
@@ -101,8 +101,8 @@ pub(crate) fn print_run<K: Sink>(
 ) -> Result<(), Ending>
     requires fed { IsColumns design.now.circuit inputs.now.rows inputs.now.columns }
     ensures prints { (rows : List (List ℕ)) × IsRun design.now.circuit inputs.now.columns inputs.now.rows rows
-        × Prints (K.written out.old) (K.written out.new) (Rose (K.faults out.old) (K.faults out.new)) (trace_text (out_ports design.now.circuit) (out_columns design.now.circuit rows) inputs.now.rows) result }
-    ensures out { SinkWentOn (K.faults out.old) (K.faults out.new) (K.refused out.old) (K.refused out.new) }
+        × PrintsOn K.Sink out.old out.new (trace_text (out_ports design.now.circuit) (out_columns design.now.circuit rows) inputs.now.rows) result }
+    ensures out { SinkWentOn K.Sink out.old out.new }
 {
     runs_along();
     // for the design's invariant on its order

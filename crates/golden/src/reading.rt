@@ -1,6 +1,5 @@
 //! Reading of a circuit and a trace.
 ghost use Rattle.std.specs.Prelude.{◌≡◌, ◌≢◌, ℕ, List, IfOk, IfErr, string_bytes};
-ghost use Rattle.gg_io.specs.Count.{Rose};
 ghost use Rattle.gg_front.specs.Fault.{front_text};
 ghost use Rattle.gg_front.specs.Meaning.{MeansDesign};
 ghost use Rattle.gg_front.specs.declared.fault.FrontFault.TheVariants as front;
@@ -8,10 +7,10 @@ ghost use Rattle.gg_flat.specs.Run.{IsColumns};
 ghost use Rattle.gg_trace.specs.declared.faults.TraceFault.TheVariants.{NoMemory};
 ghost use Rattle.gg_trace.specs.FaultText.{fault_words};
 ghost use Rattle.golden.specs.Lines.{circuit_fault, trace_fault};
-ghost use Rattle.golden.specs.Order.{CanBe, IsRefused};
+ghost use Rattle.golden.specs.Order.{CanBe};
 ghost use Rattle.golden.specs.Run.{circuit_file, trace_file_of};
 ghost use Rattle.golden.specs.RunText.{FeedsOnly};
-ghost use Rattle.golden.specs.Endings.{IfRefused};
+ghost use Rattle.golden.specs.Endings.{IfRefused, IsRefusedBy};
 ghost use Rattle.golden.specs.WentOn.{ShelfWentOn};
 
 use crate::endings::{Ending, end_with, make_refusal};
@@ -54,9 +53,8 @@ pub(crate) fn read_circuit<S: Shelf>(
     name: &str,
 ) -> Result<Design, Ending>
     ensures accepted { IfOk result (λ design. (bytes : List ℕ) × CanBe (S.files shelf.old) (circuit_file name.now) bytes × MeansDesign bytes design) }
-    ensures refused { IfErr result (IfRefused (IsRefused (S.files shelf.old)
-        (Rose (S.faults shelf.old) (S.faults shelf.new)) (Rose (S.cuts shelf.old) (S.cuts shelf.new)) (circuit_file name.now))) }
-    ensures shelf { ShelfWentOn (S.files shelf.old) (S.files shelf.new) (S.faults shelf.old) (S.faults shelf.new) (S.cuts shelf.old) (S.cuts shelf.new) }
+    ensures refused { IfErr result (IfRefused (IsRefusedBy S.Shelf shelf.old shelf.new (circuit_file name.now))) }
+    ensures shelf { ShelfWentOn S.Shelf shelf.old shelf.new }
 {
     let bytes = load(alloc, shelf, name, CIRCUIT_LIMIT)?;
     match front(alloc, bytes.as_slice()) {
@@ -88,9 +86,8 @@ pub(crate) fn read_inputs<S: Shelf>(
     ensures accepted { IfOk result (λ trace. (bytes : List ℕ) × CanBe (S.files shelf.old) (trace_file_of design.now.circuit name.now) bytes
         × FeedsOnly design.now.circuit bytes trace.rows trace.columns) }
     ensures fed { IfOk result (λ trace. IsColumns design.now.circuit trace.rows trace.columns) }
-    ensures refused { IfErr result (IfRefused (IsRefused (S.files shelf.old)
-        (Rose (S.faults shelf.old) (S.faults shelf.new)) (Rose (S.cuts shelf.old) (S.cuts shelf.new)) (trace_file_of design.now.circuit name.now))) }
-    ensures shelf { ShelfWentOn (S.files shelf.old) (S.files shelf.new) (S.faults shelf.old) (S.faults shelf.new) (S.cuts shelf.old) (S.cuts shelf.new) }
+    ensures refused { IfErr result (IfRefused (IsRefusedBy S.Shelf shelf.old shelf.new (trace_file_of design.now.circuit name.now))) }
+    ensures shelf { ShelfWentOn S.Shelf shelf.old shelf.new }
 {
     let bytes = load(alloc, shelf, name, TRACE_LIMIT)?;
     let piece = design.piece();

@@ -3,7 +3,6 @@ ghost use Rattle.std.specs.Prelude.{◌≡◌, ◌<◌, ◌≤◌, ℕ, List, No
 ghost use Rattle.gg_cut.specs.Fault.{IsSmall, first_fault};
 ghost use Rattle.gg_flat.specs.Run.{IsColumns};
 ghost use Rattle.gg_front.specs.Meaning.{MeansDesign};
-ghost use Rattle.gg_io.specs.Count.{Rose};
 ghost use Rattle.gg_partfile.specs.Partition.{IsPartition};
 ghost use Rattle.gg_steps.specs.Steps.{steps_of};
 ghost use Rattle.golden.specs.Endings.{EndedOn};
@@ -47,8 +46,8 @@ fn replay_plan<K: Sink>(
     requires run { IsToReplay design.now plan.now inputs.now.columns inputs.now.rows }
     ensures ended { NetEnds plan.now inputs.now.columns inputs.now.rows (lists_along design.now plan.now inputs.now.columns inputs.now.rows) (runs_along_rows design.now plan.now inputs.now.columns inputs.now.rows)
         (plan_naming plan.now design.now.tree listed.now) (steps_of (plan_naming plan.now design.now.tree listed.now) steps.now)
-        (K.written out.old) (K.written out.new) (Rose (K.faults out.old) (K.faults out.new)) result }
-    ensures out { SinkWentOn (K.faults out.old) (K.faults out.new) (K.refused out.old) (K.refused out.new) }
+        K.Sink out.old out.new result }
+    ensures out { SinkWentOn K.Sink out.old out.new }
 {
     let names = names_of(alloc, design.tree(), listed, plan)?;
     let events = read_steps(alloc, &names, steps)?;
@@ -70,8 +69,8 @@ fn replay_request<K: Sink>(
     requires some { 0 < capacity }
     requires bounded { capacity ≤ 4096 }
     requires fed { IsColumns design.now.circuit inputs.now.rows inputs.now.columns }
-    ensures ended { ReplayEnds design.now request.now capacity inputs.now.rows inputs.now.columns steps.now (K.written out.old) (K.written out.new) (Rose (K.faults out.old) (K.faults out.new)) result }
-    ensures out { SinkWentOn (K.faults out.old) (K.faults out.new) (K.refused out.old) (K.refused out.new) }
+    ensures ended { ReplayEnds design.now request.now capacity inputs.now.rows inputs.now.columns steps.now K.Sink out.old out.new result }
+    ensures out { SinkWentOn K.Sink out.old out.new }
 {
     // for the design's invariant on its parts
     let _ = design.order();
@@ -104,11 +103,9 @@ fn replay_steps<S: Shelf, K: Sink>(
     requires bounded { capacity ≤ 4096 }
     requires fed { IsColumns design.now.circuit inputs.now.rows inputs.now.columns }
     ensures ended { (circuit partition trace : List ℕ) → MeansDesign circuit design.now → IsPartition partition request.now → FeedsOnly design.now.circuit trace inputs.now.rows inputs.now.columns
-        → EndedOn (S.files shelf.old)
-        (Rose (S.faults shelf.old) (S.faults shelf.new)) (Rose (S.cuts shelf.old) (S.cuts shelf.new)) (Rose (K.faults out.old) (K.faults out.new))
-        (K.written out.old) (K.written out.new) (steps_order circuit partition trace capacity steps.now) result }
-    ensures shelf { ShelfWentOn (S.files shelf.old) (S.files shelf.new) (S.faults shelf.old) (S.faults shelf.new) (S.cuts shelf.old) (S.cuts shelf.new) }
-    ensures out { SinkWentOn (K.faults out.old) (K.faults out.new) (K.refused out.old) (K.refused out.new) }
+        → EndedOn S.Shelf K.Sink shelf.old shelf.new out.old out.new (steps_order circuit partition trace capacity steps.now) result }
+    ensures shelf { ShelfWentOn S.Shelf shelf.old shelf.new }
+    ensures out { SinkWentOn K.Sink out.old out.new }
 {
     designs_agree();
     one_run();
@@ -143,11 +140,9 @@ fn replay_trace<S: Shelf, K: Sink>(
     requires faultless { first_fault design.now request.now ≡ None }
     requires some { 0 < capacity }
     requires bounded { capacity ≤ 4096 }
-    ensures ended { (circuit partition : List ℕ) → MeansDesign circuit design.now → IsPartition partition request.now → EndedOn (S.files shelf.old)
-        (Rose (S.faults shelf.old) (S.faults shelf.new)) (Rose (S.cuts shelf.old) (S.cuts shelf.new)) (Rose (K.faults out.old) (K.faults out.new))
-        (K.written out.old) (K.written out.new) (fed_order circuit partition trace.now steps.now capacity) result }
-    ensures shelf { ShelfWentOn (S.files shelf.old) (S.files shelf.new) (S.faults shelf.old) (S.faults shelf.new) (S.cuts shelf.old) (S.cuts shelf.new) }
-    ensures out { SinkWentOn (K.faults out.old) (K.faults out.new) (K.refused out.old) (K.refused out.new) }
+    ensures ended { (circuit partition : List ℕ) → MeansDesign circuit design.now → IsPartition partition request.now → EndedOn S.Shelf K.Sink shelf.old shelf.new out.old out.new (fed_order circuit partition trace.now steps.now capacity) result }
+    ensures shelf { ShelfWentOn S.Shelf shelf.old shelf.new }
+    ensures out { SinkWentOn K.Sink out.old out.new }
 {
     let inputs = read_inputs(alloc, shelf, trace, design)?;
     replay_steps(alloc, design, request, capacity, &inputs, steps, shelf, out)
@@ -166,11 +161,9 @@ fn replay_design<S: Shelf, K: Sink>(
 ) -> Result<(), Ending>
     requires some { 0 < capacity }
     requires bounded { capacity ≤ 4096 }
-    ensures ended { (circuit : List ℕ) → MeansDesign circuit design.now → EndedOn (S.files shelf.old)
-        (Rose (S.faults shelf.old) (S.faults shelf.new)) (Rose (S.cuts shelf.old) (S.cuts shelf.new)) (Rose (K.faults out.old) (K.faults out.new))
-        (K.written out.old) (K.written out.new) (network_order circuit partition.now trace.now steps.now capacity) result }
-    ensures shelf { ShelfWentOn (S.files shelf.old) (S.files shelf.new) (S.faults shelf.old) (S.faults shelf.new) (S.cuts shelf.old) (S.cuts shelf.new) }
-    ensures out { SinkWentOn (K.faults out.old) (K.faults out.new) (K.refused out.old) (K.refused out.new) }
+    ensures ended { (circuit : List ℕ) → MeansDesign circuit design.now → EndedOn S.Shelf K.Sink shelf.old shelf.new out.old out.new (network_order circuit partition.now trace.now steps.now capacity) result }
+    ensures shelf { ShelfWentOn S.Shelf shelf.old shelf.new }
+    ensures out { SinkWentOn K.Sink out.old out.new }
 {
     let request = read_partition(alloc, shelf, partition, design)?;
     replay_trace(alloc, design, &request, trace, steps, capacity, shelf, out)
@@ -190,11 +183,9 @@ pub(crate) fn replay<S: Shelf, K: Sink>(
 ) -> Result<(), Ending>
     requires some { 0 < capacity }
     requires bounded { capacity ≤ 4096 }
-    ensures ended { EndedOn (S.files shelf.old)
-        (Rose (S.faults shelf.old) (S.faults shelf.new)) (Rose (S.cuts shelf.old) (S.cuts shelf.new)) (Rose (K.faults out.old) (K.faults out.new))
-        (K.written out.old) (K.written out.new) (replay_order circuit.now partition.now trace.now steps.now capacity) result }
-    ensures shelf { ShelfWentOn (S.files shelf.old) (S.files shelf.new) (S.faults shelf.old) (S.faults shelf.new) (S.cuts shelf.old) (S.cuts shelf.new) }
-    ensures out { SinkWentOn (K.faults out.old) (K.faults out.new) (K.refused out.old) (K.refused out.new) }
+    ensures ended { EndedOn S.Shelf K.Sink shelf.old shelf.new out.old out.new (replay_order circuit.now partition.now trace.now steps.now capacity) result }
+    ensures shelf { ShelfWentOn S.Shelf shelf.old shelf.new }
+    ensures out { SinkWentOn K.Sink out.old out.new }
 {
     let design = read_circuit(alloc, shelf, circuit)?;
     replay_design(

@@ -1,6 +1,5 @@
 //! The command `run`.
 ghost use Rattle.std.specs.Prelude.{◌≡◌, ℕ, List};
-ghost use Rattle.gg_io.specs.Count.{Rose};
 ghost use Rattle.gg_front.specs.Meaning.{Means, MeansDesign};
 ghost use Rattle.golden.specs.Run.{run_order, partition_order, trace_order};
 ghost use Rattle.golden.specs.Endings.{EndedOn};
@@ -24,11 +23,9 @@ fn run_trace<S: Shelf, K: Sink>(
     shelf: &mut S,
     out: &mut K,
 ) -> Result<(), Ending>
-    ensures ended { (circuit : List ℕ) → Means circuit design.now.circuit → EndedOn (S.files shelf.old)
-        (Rose (S.faults shelf.old) (S.faults shelf.new)) (Rose (S.cuts shelf.old) (S.cuts shelf.new)) (Rose (K.faults out.old) (K.faults out.new))
-        (K.written out.old) (K.written out.new) (trace_order circuit trace.now) result }
-    ensures shelf { ShelfWentOn (S.files shelf.old) (S.files shelf.new) (S.faults shelf.old) (S.faults shelf.new) (S.cuts shelf.old) (S.cuts shelf.new) }
-    ensures out { SinkWentOn (K.faults out.old) (K.faults out.new) (K.refused out.old) (K.refused out.new) }
+    ensures ended { (circuit : List ℕ) → Means circuit design.now.circuit → EndedOn S.Shelf K.Sink shelf.old shelf.new out.old out.new (trace_order circuit trace.now) result }
+    ensures shelf { ShelfWentOn S.Shelf shelf.old shelf.new }
+    ensures out { SinkWentOn K.Sink out.old out.new }
 {
     ports_agree();
     one_run();
@@ -48,11 +45,9 @@ fn run_design<S: Shelf, K: Sink>(
     shelf: &mut S,
     out: &mut K,
 ) -> Result<(), Ending>
-    ensures ended { (circuit : List ℕ) → MeansDesign circuit design.now → EndedOn (S.files shelf.old)
-        (Rose (S.faults shelf.old) (S.faults shelf.new)) (Rose (S.cuts shelf.old) (S.cuts shelf.new)) (Rose (K.faults out.old) (K.faults out.new))
-        (K.written out.old) (K.written out.new) (partition_order circuit partition.now trace.now) result }
-    ensures shelf { ShelfWentOn (S.files shelf.old) (S.files shelf.new) (S.faults shelf.old) (S.faults shelf.new) (S.cuts shelf.old) (S.cuts shelf.new) }
-    ensures out { SinkWentOn (K.faults out.old) (K.faults out.new) (K.refused out.old) (K.refused out.new) }
+    ensures ended { (circuit : List ℕ) → MeansDesign circuit design.now → EndedOn S.Shelf K.Sink shelf.old shelf.new out.old out.new (partition_order circuit partition.now trace.now) result }
+    ensures shelf { ShelfWentOn S.Shelf shelf.old shelf.new }
+    ensures out { SinkWentOn K.Sink out.old out.new }
 {
     let _request = read_partition(alloc, shelf, partition, design)?;
     run_trace(alloc, design, trace, shelf, out)
@@ -67,11 +62,9 @@ pub(crate) fn run<S: Shelf, K: Sink>(
     shelf: &mut S,
     out: &mut K,
 ) -> Result<(), Ending>
-    ensures ended { EndedOn (S.files shelf.old)
-        (Rose (S.faults shelf.old) (S.faults shelf.new)) (Rose (S.cuts shelf.old) (S.cuts shelf.new)) (Rose (K.faults out.old) (K.faults out.new))
-        (K.written out.old) (K.written out.new) (run_order circuit.now partition.now trace.now) result }
-    ensures shelf { ShelfWentOn (S.files shelf.old) (S.files shelf.new) (S.faults shelf.old) (S.faults shelf.new) (S.cuts shelf.old) (S.cuts shelf.new) }
-    ensures out { SinkWentOn (K.faults out.old) (K.faults out.new) (K.refused out.old) (K.refused out.new) }
+    ensures ended { EndedOn S.Shelf K.Sink shelf.old shelf.new out.old out.new (run_order circuit.now partition.now trace.now) result }
+    ensures shelf { ShelfWentOn S.Shelf shelf.old shelf.new }
+    ensures out { SinkWentOn K.Sink out.old out.new }
 {
     let design = read_circuit(alloc, shelf, circuit)?;
     run_design(alloc, &design, partition, trace, shelf, out)

@@ -1,7 +1,6 @@
 //! Writing of text.
 ghost use Rattle.std.specs.Prelude.{◌≡◌};
-ghost use Rattle.gg_io.specs.Count.{Rose};
-ghost use Rattle.golden.specs.Endings.{Prints, said_of};
+ghost use Rattle.golden.specs.Endings.{PrintsOn, said_of};
 ghost use Rattle.golden.specs.Outcome.{Reports, HasTrouble};
 ghost use Rattle.golden.specs.WentOn.{SinkWentOn};
 
@@ -10,8 +9,8 @@ use gg_io::{PutFail, Sink};
 
 /// Writes one part of the text.
 pub(crate) fn put<K: Sink>(out: &mut K, piece: &[u8]) -> Result<(), Ending>
-    ensures prints { Prints (K.written out.old) (K.written out.new) (Rose (K.faults out.old) (K.faults out.new)) piece.now result }
-    ensures out { SinkWentOn (K.faults out.old) (K.faults out.new) (K.refused out.old) (K.refused out.new) }
+    ensures prints { PrintsOn K.Sink out.old out.new piece.now result }
+    ensures out { SinkWentOn K.Sink out.old out.new }
 {
     match out.put(piece) {
         Ok(()) => Ok(()),
@@ -24,7 +23,7 @@ pub(crate) fn put<K: Sink>(out: &mut K, piece: &[u8]) -> Result<(), Ending>
 pub(crate) fn report<E: Sink>(ending: &Ending, err: &mut E) -> u8
     ensures status { result ≡ (said_of ending.now).status }
     ensures line { Reports (E.written err.old) (E.written err.new) (HasTrouble (E.faults err.old) (E.faults err.new) (E.refused err.old) (E.refused err.new)) (said_of ending.now).line }
-    ensures err { SinkWentOn (E.faults err.old) (E.faults err.new) (E.refused err.old) (E.refused err.new) }
+    ensures err { SinkWentOn E.Sink err.old err.new }
 {
     let _ = err.put(ending.line());
     ending.status()

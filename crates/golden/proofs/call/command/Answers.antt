@@ -7,7 +7,7 @@ use Rattle.golden.proofs.call.command.Goals as goal
 
 pub returns-in-Err-clause-ended : goal.returns-in-Err-clause-ended
 returns-in-Err-clause-ended g c =
-    unasked-ends _ _ _ _ (Unit {0}) _ (texts c.args.given.now) c.end_at_words.result
+    unasked-ends c.end_at_words.result
     (IfRefused-map
     (λ said h. (
       (λ t. c.in-Err.ensures.none h.0 (cmd_of t.0) t.1),

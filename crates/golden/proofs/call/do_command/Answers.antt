@@ -2,8 +2,8 @@ use Rattle.std.proofs.Common.{arith, subst}
 use Rattle.gg_words.specs.Meaning as command_line
 use Rattle.gg_words.specs.Range.{AreInRange}
 use Rattle.gg_words.specs.declared.command.Cmd.{Cmd}
-use Rattle.golden.specs.Outcome.{Asked}
 use Rattle.golden.specs.Words.{Run, Replay, Check}
+use Rattle.golden.proofs.EndingLemmas.{asked-ends}
 use Rattle.golden.proofs.OutcomeLemmas.{asks-same, asks-replay, asks-check}
 use Rattle.golden.proofs.call.do_command.Goals as goal
 
@@ -27,33 +27,20 @@ replay-requires-clause-bounded g c =
 
 pub returns-in-Run-clause-ended : goal.returns-in-Run-clause-ended
 returns-in-Run-clause-ended g c = λ words asks.
-    let ended = c.run.ensures.ended in (
-      ended.0,
-      ended.1,
-      Asked (Run c.as_str.result.now c.as_str-in-Run.result.now c.as_str-in-Run-2.result.now c.in-Run.capacity c.in-Run.workers c.in-Run.mono)
-          (asks-same words _ _ _ _ _ _ c.in-Run.capacity c.in-Run.workers c.in-Run.mono c.as_str.ensures c.as_str-in-Run.ensures c.as_str-in-Run-2.ensures
-          (subst (λ (k : Cmd). command_line.IsCommand words k) c.in-Run.is asks))
-          ended.2,
-    )
+    asked-ends (Run c.as_str.result.now c.as_str-in-Run.result.now c.as_str-in-Run-2.result.now c.in-Run.capacity c.in-Run.workers c.in-Run.mono)
+    (asks-same words _ _ _ _ _ _ c.in-Run.capacity c.in-Run.workers c.in-Run.mono c.as_str.ensures c.as_str-in-Run.ensures c.as_str-in-Run-2.ensures
+    (subst (λ (k : Cmd). command_line.IsCommand words k) c.in-Run.is asks))
+    c.run.ensures.ended
 
 pub returns-in-Replay-clause-ended : goal.returns-in-Replay-clause-ended
 returns-in-Replay-clause-ended g c = λ words asks.
-    let ended = c.replay.ensures.ended in (
-      ended.0,
-      ended.1,
-      Asked (Replay c.as_str-in-Replay.result.now c.as_str-in-Replay-2.result.now c.as_str-in-Replay-3.result.now c.as_str-in-Replay-4.result.now c.in-Replay.capacity)
-          (asks-replay words _ _ _ _ _ _ _ _ c.in-Replay.capacity c.as_str-in-Replay.ensures c.as_str-in-Replay-2.ensures c.as_str-in-Replay-3.ensures c.as_str-in-Replay-4.ensures
-          (subst (λ (k : Cmd). command_line.IsCommand words k) c.in-Replay.is asks))
-          ended.2,
-    )
+    asked-ends (Replay c.as_str-in-Replay.result.now c.as_str-in-Replay-2.result.now c.as_str-in-Replay-3.result.now c.as_str-in-Replay-4.result.now c.in-Replay.capacity)
+    (asks-replay words _ _ _ _ _ _ _ _ c.in-Replay.capacity c.as_str-in-Replay.ensures c.as_str-in-Replay-2.ensures c.as_str-in-Replay-3.ensures c.as_str-in-Replay-4.ensures
+    (subst (λ (k : Cmd). command_line.IsCommand words k) c.in-Replay.is asks))
+    c.replay.ensures.ended
 
 pub returns-in-Check-clause-ended : goal.returns-in-Check-clause-ended
 returns-in-Check-clause-ended g c = λ words asks.
-    let ended = c.check.ensures.ended in (
-      ended.0,
-      ended.1,
-      Asked (Check c.as_str-in-Check.result.now c.as_str-in-Check-2.result.now c.in-Check.capacity)
-          (asks-check words _ _ _ _ c.in-Check.capacity c.as_str-in-Check.ensures c.as_str-in-Check-2.ensures
-          (subst (λ (k : Cmd). command_line.IsCommand words k) c.in-Check.is asks))
-          ended.2,
-    )
+    asked-ends (Check c.as_str-in-Check.result.now c.as_str-in-Check-2.result.now c.in-Check.capacity)
+    (asks-check words _ _ _ _ c.in-Check.capacity c.as_str-in-Check.ensures c.as_str-in-Check-2.ensures (subst (λ (k : Cmd). command_line.IsCommand words k) c.in-Check.is asks))
+    c.check.ensures.ended

@@ -4,5 +4,4 @@ use Rattle.golden.proofs.checking.print_channels.Given as goal
 
 abbrev pub invariant-loop-channel : goal.invariant-loop-channel
 invariant-loop-channel g l =
-    LinesTo (line_of_channel (machine_names l.machines) (channel_names l.channels)) l.channels (g.K.Sink.written l.initial.out) (g.K.Sink.written l.out)
-    (g.K.Sink.faults l.initial.out) (g.K.Sink.faults l.out) (g.K.Sink.refused l.initial.out) (g.K.Sink.refused l.out) l.channel-index
+    LinesTo (line_of_channel (machine_names l.machines) (channel_names l.channels)) l.channels g.K.Sink l.initial.out l.out l.channel-index

@@ -4,5 +4,4 @@ use Rattle.golden.proofs.checking.print_machines.Given as goal
 
 abbrev pub invariant-loop-machine : goal.invariant-loop-machine
 invariant-loop-machine g l =
-    LinesTo line_of_machine l.machines (g.K.Sink.written l.initial.out) (g.K.Sink.written l.out)
-    (g.K.Sink.faults l.initial.out) (g.K.Sink.faults l.out) (g.K.Sink.refused l.initial.out) (g.K.Sink.refused l.out) l.machine-index
+    LinesTo line_of_machine l.machines g.K.Sink l.initial.out l.out l.machine-index

@@ -1,11 +1,10 @@
-use Rattle.std.proofs.lemmas.Result.{err_from_is_err_and}
+use Rattle.golden.proofs.EndingLemmas.{exit-is}
 use Rattle.golden.proofs.LineLemmas.{plan-first, prints-then}
 use Rattle.golden.proofs.checking.print_plan.Goals as goal
 
 pub returns-in_err-print_machines-clause-prints : goal.returns-in_err-print_machines-clause-prints
 returns-in_err-print_machines-clause-prints g c =
-    let p = err_from_is_err_and c.from_residual.result c.from_residual.ensures.1 in
-    rw (p.1, p.2)
+    rw (exit-is c.from_residual.ensures.1)
     (plan-first (Unit {0}) _ _ _ c.as_slice-machines.result.now c.args.plan.now c.in_err-print_machines.field-0.0 c.as_slice-machines.ensures c.in_err-print_machines.ensures.prints)
 
 pub returns-clause-prints : goal.returns-clause-prints

@@ -1,21 +1,19 @@
 use Rattle.std.proofs.Common.{List, ℕ, refl, ap, ◌∙◌, subst}
-use Rattle.std.proofs.lemmas.Result.{err_from_is_err_and}
 use Rattle.gg_cut.specs.declared.plan.Channel.{Channel}
-use Rattle.gg_io.specs.Count.{Rose}
-use Rattle.golden.specs.Endings.{Prints}
+use Rattle.golden.specs.Endings.{PrintsOn}
+use Rattle.golden.proofs.EndingLemmas.{exit-is}
 use Rattle.golden.proofs.NetLemmas.{line-of}
 use Rattle.golden.proofs.WritingLemmas.{none-front}
 use Rattle.golden.proofs.network.print_channel.Goals as goal
 
 pub returns-in_err-line-clause-prints : goal.returns-in_err-line-clause-prints
 returns-in_err-line-clause-prints g c =
-    let p = err_from_is_err_and c.from_residual.result c.from_residual.ensures.1 in
-    rw (p.1, p.2) (none-front _ _ _ refl)
+    rw (exit-is c.from_residual.ensures.1) (none-front _ _ _ refl)
 
 pub returns-clause-prints : goal.returns-clause-prints
 returns-clause-prints g c =
     subst
-    (λ (t : List ℕ). Prints (g.K.Sink.written c.args.out.now) (g.K.Sink.written c.put.new.out) (Rose (g.K.Sink.faults c.args.out.now) (g.K.Sink.faults c.put.new.out)) t c.put.result)
+    (λ (t : List ℕ). PrintsOn g.K.Sink c.args.out.now c.put.new.out t c.put.result)
     (c.as_bytes.ensures.value ∙ c.in_ok-line.ensures
     ∙ line-of c.args.plan.now g.Z.Streams.lists c.args.log.now c.args.net.now c.args.channel c.as_slice.result.now c.index-as_slice-channel.result c.as_str.result.now c.tokens.result.now _ c.puts.result c.takes.result
     c.as_slice.ensures c.requires.known c.requires.wires c.requires.logged (c.as_str.ensures ∙ ap (λ (x : Channel). x.name) c.index-as_slice-channel.is) (ap (λ (x : Channel). x.ty.width) c.index-as_slice-channel.is) c.puts.ensures c.takes.ensures c.tokens.ensures)

@@ -17,12 +17,11 @@ print_net-requires-clause-wires g c κs within =
 pub returns-in-Ok-clause-ended : goal.returns-in-Ok-clause-ended
 returns-in-Ok-clause-ended g c =
     net-went c.args.plan.now c.args.inputs.now.columns c.args.inputs.now.rows g.Z.Streams.lists c.in_ok-net.net c.in_ok-net.ensures
-    (Unit {0}) g.Z.Streams.runs c.kept.ensures c.args.names.now c.args.events.now c.replay.new.net _ _ _
-    c.print_net.result c.in-Ok.ensures.done.0 c.print_net.ensures.prints
+    g.Z.Streams.runs c.kept.ensures c.args.names.now c.args.events.now c.replay.new.net c.print_net.result c.in-Ok.ensures.done.0 c.print_net.ensures.prints
 
 pub returns-in-Err-Refused-clause-ended : goal.returns-in-Err-Refused-clause-ended
 returns-in-Err-Refused-clause-ended g c =
     net-stops c.args.plan.now c.args.inputs.now.columns c.args.inputs.now.rows g.Z.Streams.lists c.in_ok-net.net c.in_ok-net.ensures
-    (Unit {0}) g.Z.Streams.runs c.kept.ensures c.args.names.now c.args.events.now c.replay.new.net _ (g.K.Sink.written c.args.out.now) _
+    g.Z.Streams.runs c.kept.ensures c.args.names.now c.args.events.now c.replay.new.net
     (record { step = c.in-Err-Refused.step; cause = c.in-Err-Refused.cause }) c.end_at_step.result
     (subst (λ (s : Stop). IsStop c.in_ok-net.net c.args.events.now c.replay.new.net s) c.in-Err-Refused.field-0-is c.in-Err-Refused.ensures.refused) c.end_at_step.ensures

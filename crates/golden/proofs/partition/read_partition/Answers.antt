@@ -1,13 +1,12 @@
 use Rattle.std.proofs.Common.{inr}
-use Rattle.std.proofs.lemmas.Result.{err_from_is_err_and}
+use Rattle.golden.proofs.EndingLemmas.{exit-is}
 use Rattle.golden.proofs.PartitionLemmas.{file-refused, request-refused}
 use Rattle.golden.proofs.ReadingLemmas.{IfRefused-map}
 use Rattle.golden.proofs.partition.read_partition.Goals as goal
 
 pub returns-in_err-request-clause-refused : goal.returns-in_err-request-clause-refused
 returns-in_err-request-clause-refused g c =
-    let p = err_from_is_err_and c.from_residual-in_err-request.result c.from_residual-in_err-request.ensures.1 in
-    rw (p.1, p.2)
+    rw (exit-is c.from_residual-in_err-request.ensures.1)
     (IfRefused-map
     (λ said h. inr (
       c.in_ok-bytes.bytes.items,
@@ -18,8 +17,7 @@ returns-in_err-request-clause-refused g c =
 
 pub returns-in_err-judge_request-clause-refused : goal.returns-in_err-judge_request-clause-refused
 returns-in_err-judge_request-clause-refused g c =
-    let p = err_from_is_err_and c.from_residual-in_err-judge_request.result c.from_residual-in_err-judge_request.ensures.1 in
-    rw (p.1, p.2)
+    rw (exit-is c.from_residual-in_err-judge_request.ensures.1)
     (IfRefused-map
     (λ said h. inr (
       c.in_ok-bytes.bytes.items,

@@ -1,6 +1,6 @@
 use Rattle.std.proofs.Common.{ap, ◌∙◌, refl}
 use Rattle.std.specs.Io.KnownBytes.{append_known}
-use Rattle.std.proofs.lemmas.Result.{err_from_is_err_and}
+use Rattle.golden.proofs.EndingLemmas.{exit-is}
 use Rattle.golden.proofs.PrintingLemmas.{header-stop, prints-more, rose-earlier}
 use Rattle.golden.proofs.WritingLemmas.{none-front}
 use Rattle.golden.specs.RunText.{out_columns}
@@ -8,13 +8,11 @@ use Rattle.golden.proofs.printing.print_all.Goals as goal
 
 pub returns-in_err-outs-clause-prints : goal.returns-in_err-outs-clause-prints
 returns-in_err-outs-clause-prints g c =
-    let p = err_from_is_err_and c.from_residual.result c.from_residual.ensures.1 in
-    λ rows run. rw (p.1, p.2) (none-front _ _ _ refl)
+    λ rows run. rw (exit-is c.from_residual.ensures.1) (none-front _ _ _ refl)
 
 pub returns-in_err-put-clause-prints : goal.returns-in_err-put-clause-prints
 returns-in_err-put-clause-prints g c =
-    let p = err_from_is_err_and c.from_residual-in_err-put.result c.from_residual-in_err-put.ensures.1 in
-    λ rows run. rw (p.1, p.2)
+    λ rows run. rw (exit-is c.from_residual-in_err-put.ensures.1)
     (header-stop (Unit {0}) _ _ _ c.args.ports.now (out_columns c.args.mono.now.circuit rows) c.args.inputs.now.rows c.as_bytes.result.now c.in_err-put.field-0.0 (c.as_bytes.ensures ∙ c.in_ok-header.ensures) c.in_err-put.ensures.prints)
 
 pub returns-clause-prints : goal.returns-clause-prints

@@ -1,7 +1,7 @@
 use Rattle.std.proofs.Common.{◌≡◌, ◌<◌, ℕ, List, sym, subst, arith}
-use Rattle.std.proofs.lemmas.Result.{err_from_is_err_and}
 use Rattle.gg_flat.specs.Circuit.{FlatCircuit}
 use Rattle.gg_flat.specs.Settled.{IsInputs}
+use Rattle.golden.proofs.EndingLemmas.{exit-is}
 use Rattle.golden.proofs.PrintingLemmas.{printed-next, printed-stop}
 use Rattle.golden.proofs.printing.print_rows.Goals as goal
 
@@ -18,19 +18,16 @@ returns-in_err-print_row-clause-prints g c =
     let below = c.loop-cycle-test.true in
     let count = c.rows-cycle-end.ensures.count in
     let lt : c.loop-cycle.cycle < c.args.inputs.now.rows = omega arith in
-    let p = err_from_is_err_and c.from_residual.result c.from_residual.ensures.1 in
-    rw (p.1, p.2)
-    (printed-stop _ _ _ _ _ _ _ _ _ _ _ 0 _ _ c.print_row.new.mono c.loop-cycle.outs _ c.settled_once.ensures c.requires.ordered.0 c.requires.ordered.1 lt c.row.result.now c.row.ensures.values
-    c.loop-cycle.invariant c.print_row.ensures.cycle (Unit {0}) c.in_err-print_row.field-0.0 c.in_err-print_row.ensures.prints)
+    printed-stop c.settled_once.ensures c.requires.ordered.0 c.requires.ordered.1 lt c.row.result.now c.row.ensures.values c.loop-cycle.invariant c.print_row.new.mono c.print_row.ensures.cycle
+    _ (exit-is c.from_residual.ensures.1) c.in_err-print_row.ensures.prints
 
 pub loop-cycle-preserved : goal.loop-cycle-preserved
 loop-cycle-preserved g c =
     let below = c.loop-cycle-test.true in
     let count = c.rows-cycle-end.ensures.count in
     let lt : c.loop-cycle.cycle < c.args.inputs.now.rows = omega arith in
-    printed-next _ _ _ _ _ _ _ _ _ _ _ _ _ _ _ _ _ c.settled_once.ensures c.requires.ordered.0 c.requires.ordered.1 lt c.row.result.now c.row.ensures.values
-    c.loop-cycle.invariant c.print_row.ensures.circuit c.print_row.ensures.cycle c.in_ok-print_row.ensures.prints
-    c.print_row.ensures.out.faults_stay_or_rise c.print_row.ensures.out.refused_stay_or_rise c.print_row.auto.outs
+    printed-next c.settled_once.ensures c.requires.ordered.0 c.requires.ordered.1 lt c.row.result.now c.row.ensures.values c.loop-cycle.invariant c.print_row.new.mono c.print_row.ensures.cycle
+    c.print_row.ensures.circuit c.in_ok-print_row.ensures.prints c.print_row.ensures.out c.print_row.auto.outs
 
 pub returns-clause-prints : goal.returns-clause-prints
 returns-clause-prints g c =

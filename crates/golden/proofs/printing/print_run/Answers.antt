@@ -1,5 +1,5 @@
 use Rattle.std.proofs.Common.{refl}
-use Rattle.std.proofs.lemmas.Result.{err_from_is_err_and}
+use Rattle.golden.proofs.EndingLemmas.{exit-is}
 use Rattle.golden.proofs.PrintingLemmas.{run-prints}
 use Rattle.golden.proofs.WritingLemmas.{none-front}
 use Rattle.golden.proofs.ReadingLemmas.{outs-are, outs-count}
@@ -7,8 +7,7 @@ use Rattle.golden.proofs.printing.print_run.Goals as goal
 
 pub returns-in_err-ports-clause-prints : goal.returns-in_err-ports-clause-prints
 returns-in_err-ports-clause-prints g c =
-    let p = err_from_is_err_and c.from_residual.result c.from_residual.ensures.1 in
-    rw (p.1, p.2) (
+    rw (exit-is c.from_residual.ensures.1) (
       _,
       c.runs_along.ensures.opening c.args.design.now.circuit c.args.design.now.order c.args.inputs.now.columns c.args.inputs.now.rows c.piece-piece.ensures.formed c.order.ensures.ordered c.requires.fed,
       none-front _ _ _ refl,
@@ -16,8 +15,7 @@ returns-in_err-ports-clause-prints g c =
 
 pub returns-in_err-mono-clause-prints : goal.returns-in_err-mono-clause-prints
 returns-in_err-mono-clause-prints g c =
-    let p = err_from_is_err_and c.from_residual-in_err-mono.result c.from_residual-in_err-mono.ensures.1 in
-    rw (p.1, p.2) (
+    rw (exit-is c.from_residual-in_err-mono.ensures.1) (
       _,
       c.runs_along.ensures.opening c.args.design.now.circuit c.args.design.now.order c.args.inputs.now.columns c.args.inputs.now.rows c.piece-piece.ensures.formed c.order.ensures.ordered c.requires.fed,
       none-front _ _ _ refl,

@@ -22,4 +22,4 @@ returns-in-Ok-cut-clause-ended g c =
     along-ends c.args.design.now c.args.request.now c.args.capacity c.in-Ok-cut.plan c.args.inputs.now.columns c.args.inputs.now.rows
     (record { formed = c.piece.ensures.formed; fitting = c.tree.ensures.fitting; scoped = c.tree.ensures.scoped; ordered = c.order.ensures.ordered }) c.requires.faultless c.in-Ok-cut.ensures.plan
     (omega (arith, c.rows.ensures.limit, c.rows.ensures.count)) c.requires.fed
-    (Unit {0}) c.in-Ok.listed c.in-Ok.ensures.listed c.args.steps.now _ _ _ c.replay_plan.result c.replay_plan.ensures.ended
+    c.in-Ok.listed c.in-Ok.ensures.listed c.args.steps.now c.replay_plan.ensures.ended

@@ -1,36 +1,19 @@
 use Rattle.std.proofs.Common.{refl}
-use Rattle.std.proofs.lemmas.Result.{err_from_is_err_and}
-use Rattle.gg_io.specs.Count.{Rose}
-use Rattle.golden.specs.Order.{Write}
-use Rattle.golden.specs.Run.{trace_file_for, trace_order, IsOnlyText}
-use Rattle.golden.proofs.EndingLemmas.{refused-ends, printed-ends, trace-refused}
+use Rattle.golden.proofs.EndingLemmas.{exit-is, refused-ends, printed-ends, trace-refused}
 use Rattle.golden.proofs.ReadingLemmas.{IfRefused-map}
 use Rattle.golden.proofs.TextLemmas.{only-text}
 use Rattle.golden.proofs.run.run_trace.Goals as goal
 
 pub returns-in_err-inputs-clause-ended : goal.returns-in_err-inputs-clause-ended
-returns-in_err-inputs-clause-ended g c =
-    let p = err_from_is_err_and c.from_residual.result c.from_residual.ensures.1 in
-    λ circuit means. rw (p.1, p.2)
-    (refused-ends (g.S.Shelf.files c.args.shelf.now)
-    (Rose (g.S.Shelf.faults c.args.shelf.now) (g.S.Shelf.faults c.read_inputs.new.shelf)) (Rose (g.S.Shelf.cuts c.args.shelf.now) (g.S.Shelf.cuts c.read_inputs.new.shelf))
-    (Rose (g.K.Sink.faults c.args.out.now) (g.K.Sink.faults c.args.out.now)) (Unit {0}) (g.K.Sink.written c.args.out.now)
-    (trace_file_for circuit c.args.trace.now) (λ t. Write (IsOnlyText circuit t)) c.in_err-inputs.field-0.0
-    (IfRefused-map
-    (trace-refused (g.S.Shelf.files c.args.shelf.now)
-    (Rose (g.S.Shelf.faults c.args.shelf.now) (g.S.Shelf.faults c.read_inputs.new.shelf)) (Rose (g.S.Shelf.cuts c.args.shelf.now) (g.S.Shelf.cuts c.read_inputs.new.shelf))
-    circuit c.args.design.now.circuit c.args.trace.now means)
-    c.in_err-inputs.field-0.0 c.in_err-inputs.ensures.refused))
+returns-in_err-inputs-clause-ended g c = λ circuit means.
+    refused-ends refl (exit-is c.from_residual.ensures.1) (IfRefused-map (trace-refused (g.S.Shelf.files c.args.shelf.now) means) c.in_err-inputs.field-0.0 c.in_err-inputs.ensures.refused)
 
 pub returns-clause-ended : goal.returns-clause-ended
 returns-clause-ended g c =
     let accepted = c.in_ok-inputs.ensures.accepted in
     let prints = c.print_run.ensures.prints in
     λ circuit means.
-    printed-ends (g.S.Shelf.files c.args.shelf.now)
-    (Rose (g.S.Shelf.faults c.args.shelf.now) (g.S.Shelf.faults c.read_inputs.new.shelf)) (Rose (g.S.Shelf.cuts c.args.shelf.now) (g.S.Shelf.cuts c.read_inputs.new.shelf))
-    (Rose (g.K.Sink.faults c.args.out.now) (g.K.Sink.faults c.print_run.new.out)) (Unit {0}) (g.K.Sink.written c.args.out.now) (g.K.Sink.written c.print_run.new.out)
-    (trace_order circuit c.args.trace.now) _ c.print_run.result (
+    printed-ends _ c.print_run.result (
       accepted.0,
       record { held = accepted.1.held; within = accepted.1.within },
       (c.args.design.now.circuit, means, (c.in_ok-inputs.inputs.rows, c.in_ok-inputs.inputs.columns, accepted.2.feeds)),
