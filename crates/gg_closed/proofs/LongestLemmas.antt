@@ -1,5 +1,5 @@
 -- The machine of an instance, of a signal and of a memory is that of the longest listed path that covers or holds it.
-use Rattle.std.proofs.Common.{◌≡◌, ◌≢◌, ℕ, zero, suc, ◌+◌, ◌-◌, ◌<◌, ◌≤◌, List, length, get_or, true, true≢false, refl, sym, ◌∙◌, ap, subst, Some, None, inl, inr, ◌⊎◌, eq-eqb, true-eqb, arith}
+use Rattle.std.proofs.Common.{◌≡◌, ◌≢◌, ℕ, zero, suc, ◌+◌, ◌-◌, ◌<◌, ◌≤◌, List, [], length, get_or, true, true≢false, refl, sym, ◌∙◌, ap, subst, Some, None, inl, inr, ◌⊎◌, eq-eqb, true-eqb, arith}
 use Rattle.std.specs.Prelude.{Option, ◌==◌}
 use Rattle.std.proofs.lemmas.Bool.{cases_lt, cases_eq}
 use Rattle.std.proofs.lemmas.List.Folds.{list_any_at}

@@ -1,5 +1,5 @@
 -- The capacities of channels by their signals.
-use Rattle.std.proofs.Common.{◌≡◌, ◌≢◌, ℕ, ◌<◌, List, length, set, get_or, slice_get, Bool, true, false, refl, sym, ◌∙◌, ap, Some, arith}
+use Rattle.std.proofs.Common.{◌≡◌, ◌≢◌, ℕ, ◌<◌, List, [], length, set, get_or, slice_get, Bool, true, false, refl, sym, ◌∙◌, ap, Some, arith}
 use Rattle.std.specs.Prelude.{AllPairs, bytes_eq, if◌then◌else◌}
 use Rattle.std.proofs.lemmas.List.{get_or-set_other}
 use Rattle.std.proofs.lemmas.Grind.{get_or-set_at}
