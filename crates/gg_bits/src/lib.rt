@@ -22,8 +22,6 @@ mod parametric;
 mod patterns;
 mod shifts;
 mod spelling;
-#[cfg(test)]
-mod tests;
 mod types;
 mod unary;
 

@@ -4,4 +4,3 @@ pub mod WireLemmas
 pub mod SeatLemmas
 pub mod ReadyLemmas
 pub mod OpenLemmas
-pub mod FixtureLemmas

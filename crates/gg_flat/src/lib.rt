@@ -51,6 +51,3 @@ pub use ports::{Port, Ports};
 pub use state::State;
 pub use streams::Streams;
 pub use tree::{Instance, InstancePort, MemoryInstance, Tree};
-
-#[cfg(test)]
-mod tests;

@@ -15,17 +15,9 @@
 //! - `faults_apart`: an accepted text has no fault, and a text with a fault of reading has no fault of a circuit.
 #![tactic(auto)]
 
-#[cfg(test)]
-mod count_tests;
 mod fault;
-#[cfg(test)]
-mod fixtures;
 mod front_end;
 mod laws;
-#[cfg(test)]
-mod reader_tests;
-#[cfg(test)]
-mod tests;
 
 pub use fault::FrontFault;
 pub use front_end::front;

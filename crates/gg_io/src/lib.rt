@@ -12,9 +12,10 @@
 //!   bytes may have been written. It returns `NoMemory` only if the refused puts rose; then nothing was written.
 //!
 //! [`MemShelf`] and [`MemSink`] are in memory. Such a shelf returns `Failed` exactly if its list says so or it has no
-//! file of that name, such an output exactly if its list says so. [`SureShelf`] and [`SureSink`] never return `Failed`.
-//! [`FileShelf`] and [`StreamSink`] are the system's files and streams. Their contents are unknown to contracts, and
-//! what the system reads and writes is trusted. Only a load or a put can change their counts.
+//! file of that name. Such an output returns `Failed` only if its list says so; a put that is listed never succeeds, but
+//! may return `NoMemory`. [`SureShelf`] and [`SureSink`] never return `Failed`. [`FileShelf`] and [`StreamSink`] are the
+//! system's files and streams. Their contents are unknown to contracts, and what the system reads and writes is trusted.
+//! Only a load or a put can change their counts.
 #![tactic(auto)]
 
 mod counts;

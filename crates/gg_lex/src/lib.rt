@@ -11,8 +11,6 @@ mod fronts;
 mod line;
 mod longest;
 mod symbols;
-#[cfg(test)]
-mod tests;
 mod token;
 
 pub use line::{every_line, lex, one_reading, tokens};

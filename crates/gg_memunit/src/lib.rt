@@ -18,6 +18,3 @@ mod unit;
 
 pub use laws::served_through;
 pub use unit::MemUnit;
-
-#[cfg(test)]
-mod tests;

@@ -13,8 +13,6 @@
 mod groups;
 mod marks;
 mod needs;
-#[cfg(test)]
-mod tests;
 mod walk;
 
 pub use needs::needs_of;

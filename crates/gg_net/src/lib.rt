@@ -34,6 +34,3 @@ pub use net::Net;
 pub use parts::Parts;
 pub use queue::Queue;
 pub use shape::{ServedPort, Shape, Station, Wire};
-
-#[cfg(test)]
-mod tests;

@@ -19,6 +19,3 @@ mod tray;
 pub use host::Host;
 pub use source::Source;
 pub use tray::Tray;
-
-#[cfg(test)]
-mod tests;

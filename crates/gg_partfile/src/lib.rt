@@ -12,8 +12,6 @@ mod laws;
 mod reader;
 mod request;
 mod shapes;
-#[cfg(test)]
-mod tests;
 
 pub use fault::PartFault;
 pub use laws::{capacities_in_order, least_unknown, one_answer};

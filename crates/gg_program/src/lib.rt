@@ -2,8 +2,7 @@
 //!
 //! A [`Program`] is a well-formed circuit in an order of evaluation, with the needs of each out-signal. [`Slots`]
 //! hold the values of one cycle. A signal is done if its value of this cycle is in its place. An input is put into
-//! its place, and each signal is evaluated at most once a cycle, regardless of how many out-signals reach it. The
-//! crate promises:
+//! its place, and a signal that is done isn't evaluated again; no clause counts evaluations yet. The crate promises:
 //!
 //! - `Program::needs` is exactly the in-signals to which a path of reads leads from the out-signal;
 //! - `Program::run_cone` gives the value that the out-signal has in every settled row of the state that has the

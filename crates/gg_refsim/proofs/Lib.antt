@@ -1,3 +1,2 @@
 pub mod CycleLemmas
-pub mod FixtureLemmas
 pub mod RunLemmas

@@ -1,3 +1,2 @@
 pub mod Cycle
-pub mod Fixture
 pub mod Kept

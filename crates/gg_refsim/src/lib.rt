@@ -11,6 +11,3 @@ mod mono;
 
 pub use laws::{run_begins, run_continues};
 pub use mono::{Mono, NoMemory};
-
-#[cfg(test)]
-mod tests;

@@ -24,6 +24,3 @@ pub use line::channel_line;
 pub use log::Log;
 pub use steps::replay;
 pub use stop::Stop;
-
-#[cfg(test)]
-mod tests;

@@ -16,8 +16,6 @@ mod laws;
 mod naming;
 mod steps;
 mod table;
-#[cfg(test)]
-mod tests;
 mod words;
 
 pub use cause::cause_text;

@@ -27,6 +27,3 @@ pub use line_cuts::{Lines, lines_part_their_text};
 pub use printing::{header_text, printed_values_are_read, row_text};
 pub use reading::read_trace;
 pub use trace_table::Trace;
-
-#[cfg(test)]
-mod tests;

@@ -15,8 +15,6 @@ mod fault;
 mod nodes;
 mod scan;
 mod state;
-#[cfg(test)]
-mod tests;
 
 pub use descent::walk;
 pub use fault::WalkFault;

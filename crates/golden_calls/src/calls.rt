@@ -8,6 +8,9 @@ use std::collections::BTreeMap;
 /// The words of `run`.
 pub const RUN: &str = "golden run k1.fir p.json k1.trace";
 
+/// The words of `check`.
+pub const CHECK: &str = "golden check k1.fir p.json";
+
 /// These files under the names that a call gives.
 pub fn files_of(
     alloc: Global,

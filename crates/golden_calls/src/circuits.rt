@@ -33,7 +33,11 @@ pub const TWO: &str =
 pub const TILES: &str =
     "circuit Top :\nmodule Core :\noutput o : UInt<4>\no <= UInt<4>(10)\nmodule Tile :\noutput o : UInt<4>\ninst core of Core\no <= core.o\nmodule Top :\noutput o : UInt<4>\ninst tile of Tile\no <= tile.o\n";
 
-/// Two instances of a module with a memory.
+/// Two instances of a module with a memory, one of which feeds the other.
+pub const BOTH: &str =
+    "circuit Both :\nmodule Cell :\ninput clock : Clock\ninput a : UInt<2>\noutput d : UInt<2>\nmem m :\ndata-type => UInt<2>\ndepth => 4\nread-latency => 0\nwrite-latency => 1\nreader => r\nread-under-write => undefined\nm.r.addr <= a\nm.r.en <= UInt<1>(\"h1\")\nm.r.clk <= clock\nd <= m.r.data\nmodule Both :\ninput clock : Clock\noutput z : UInt<2>\ninst c of Cell\ninst d of Cell\nc.clock <= clock\nd.clock <= clock\nc.a <= UInt<2>(\"h1\")\nd.a <= c.d\nz <= d.d\n";
+
+/// Two instances of a module with a memory that has no ports.
 pub const BANKS: &str =
     "circuit Banks :\nmodule Bank :\nmem m :\ndata-type => UInt<1>\ndepth => 1\nread-latency => 0\nwrite-latency => 1\nmodule Banks :\ninst u of Bank\ninst v of Bank\n";
 

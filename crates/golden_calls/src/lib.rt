@@ -7,7 +7,7 @@
 mod calls;
 mod circuits;
 
-pub use calls::{Answer, RUN, ask, ask_of, call, counter_files, files_of, run, words_of};
+pub use calls::{Answer, CHECK, RUN, ask, ask_of, call, counter_files, files_of, run, words_of};
 pub use circuits::{
-    BANKS, COUNTER, LATE, LOOP, MEMORY, PAIR, TEXT, TILES, TRACE, TWO, WIDE, counter, edited,
+    BANKS, BOTH, COUNTER, LATE, LOOP, MEMORY, PAIR, TEXT, TILES, TRACE, TWO, WIDE, counter, edited,
 };

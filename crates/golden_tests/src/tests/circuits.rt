@@ -215,7 +215,7 @@ fn operations_one_inside_the_other(rt: HostRuntime) -> Result<(), Fail> {
 }
 
 // Circuits with a line changed, counted from 1 (0: none), and the fault that is told.
-static FAULTS: [(&str, usize, &str, &str); 20] = [
+static FAULTS: [(&str, usize, &str, &str); 21] = [
     (
         COUNTER,
         9,
@@ -291,6 +291,12 @@ static FAULTS: [(&str, usize, &str, &str); 20] = [
         26,
         "c.clock is invalid",
         "golden: circuit: F14 line 26 c.clock\n",
+    ),
+    (
+        PAIR,
+        20,
+        "a.clock is invalid",
+        "golden: circuit: F14 line 20 a.clock\n",
     ),
     (
         MEMORY,

@@ -1,6 +1,6 @@
 //! What `check` prints.
 use super::check;
-use golden_calls::{BANKS, LATE, PAIR, TILES, TWO, ask_of};
+use golden_calls::{BANKS, BOTH, CHECK, LATE, PAIR, TILES, TWO, ask_of};
 use std::test::Fail;
 
 // A memory, and beside it an instance that works its address out.
@@ -173,16 +173,54 @@ fn cuts_are_printed(rt: HostRuntime) -> Result<(), Fail> {
     Ok(())
 }
 
-#[test]
-fn a_fault_of_the_partition(rt: HostRuntime) -> Result<(), Fail> {
-    let alloc = rt.alloc();
-    let answer = ask_of(
-        alloc,
-        "golden check k1.fir p.json",
+// A circuit, a partition with a fault for it, and the line that tells the first.
+static REFUSED: [(&str, &str, &str); 9] = [
+    (TILES, "[]", "golden: partition: P1 -\n"),
+    (TILES, "{\"unit\":[]}", "golden: partition: P1 unit\n"),
+    (
+        TILES,
+        "{\"units\":[\"tile.cor\"]}",
+        "golden: partition: P2 tile.cor\n",
+    ),
+    (
         TILES,
         "{\"units\":[\"tile\",\"tile.core\"]}",
-        "",
-    )?;
-    check(&rt, &answer, 6, 2, "", "golden: partition: P3 tile.core\n");
+        "golden: partition: P3 tile.core\n",
+    ),
+    (
+        PAIR,
+        "{\"units\":[\"a\",\"b\"],\"share\":[[\"a\",\"b\"]]}",
+        "golden: partition: P4 b\n",
+    ),
+    (
+        TILES,
+        "{\"memories\":[\"tile.m\"]}",
+        "golden: partition: P5 tile.m\n",
+    ),
+    // a unit that shares its host has a memory that the other one doesn't list
+    (
+        BOTH,
+        "{\"units\":[\"c\",\"d\"],\"share\":[[\"c\",\"d\"]],\"memories\":[\"c.m\"]}",
+        "golden: partition: P6 c.m\n",
+    ),
+    (
+        TILES,
+        "{\"capacity\":{\"oo\":1}}",
+        "golden: partition: P7 oo\n",
+    ),
+    (
+        TILES,
+        "{\"capacity\":{\"o\":0}}",
+        "golden: partition: P8 o 0\n",
+    ),
+];
+
+#[test]
+fn each_fault_of_a_cut(rt: HostRuntime) -> Result<(), Fail> {
+    let alloc = rt.alloc();
+    for (circuit, partition, err) in &REFUSED {
+        let answer = ask_of(alloc, CHECK, circuit, partition, "")?;
+        check(&rt, &answer, 6, 2, "", err);
+    }
     Ok(())
 }

@@ -1,6 +1,6 @@
 //! Partitions: those that are accepted change nothing that is printed, and of the others the first fault is told.
 use super::check;
-use golden_calls::{Answer, BANKS, LATE, MEMORY, PAIR, TILES, TWO, run};
+use golden_calls::{Answer, BANKS, CHECK, LATE, MEMORY, PAIR, RUN, TILES, TWO, ask_of, run};
 use itoa::Buffer;
 use std::alloc::{AllocError, Global};
 use std::test::Fail;
@@ -199,24 +199,32 @@ fn push_numbered(
     Ok(())
 }
 
-// `run` on so many instances, and a partition that lists them all.
-fn run_units(alloc: Global, count: u64) -> Result<Answer, AllocError> {
+// A call with these words on so many instances, and a partition that lists them all.
+fn ask_units(alloc: Global, line: &str, count: u64) -> Result<Answer, AllocError> {
     let mut circuit = String::from_str(alloc, "circuit Top :\nmodule A :\nmodule Top :\n")?;
     push_numbered(&mut circuit, 0, count, "inst i", " of A\n")?;
     let mut partition = String::from_str(alloc, "{\"units\":[\"i0\"")?;
     push_numbered(&mut partition, 1, count, ",\"i", "\"")?;
     partition.push_str("]}")?;
-    run(alloc, circuit.as_str(), partition.as_str(), "cycle\n0\n")
+    ask_of(
+        alloc,
+        line,
+        circuit.as_str(),
+        partition.as_str(),
+        "cycle\n0\n",
+    )
 }
 
 #[test]
 fn units_up_to_the_limit(rt: HostRuntime) -> Result<(), Fail> {
     let alloc = rt.alloc();
-    for (count, status, loads, out, err) in [
-        (256, 0, 3, "cycle\n0\n", ""),
-        (257, 6, 2, "", "golden: partition: P9 units 257\n"),
+    for (line, count, status, loads, out, err) in [
+        (RUN, 256, 0, 3, "cycle\n0\n", ""),
+        (RUN, 257, 6, 2, "", "golden: partition: P9 units 257\n"),
+        (CHECK, 257, 6, 2, "", "golden: partition: P9 units 257\n"),
     ] {
-        check(&rt, &run_units(alloc, count)?, status, loads, out, err);
+        let answer = ask_units(alloc, line, count)?;
+        check(&rt, &answer, status, loads, out, err);
     }
     Ok(())
 }

@@ -1,6 +1,0 @@
-use Rattle.std.proofs.Common.{ℕ, ◌<◌, take}
-use Rattle.std.specs.Prelude.{Contains}
-use Rattle.gg_walk.proofs.tests.first_below.Given as goal
-
-abbrev pub invariant-loop-i : goal.invariant-loop-i
-invariant-loop-i l = (t : ℕ) → t < l.count → Contains (take l.i l.targets) t → Contains (take l.place l.targets) t

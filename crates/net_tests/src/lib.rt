@@ -1,0 +1,22 @@
+//! Tests of the crates from the flat circuit to its network: what no contract says, namely that each public call succeeds with ample memory,
+//! and what circuits do that were worked out by hand. Circuits, partitions and traces are texts. golden_tests and replay_tests have the
+//! tests of the program.
+//!
+//! A value of a design, a piece, a plan or a network makes a proof long: it is dropped once for each way out of the function that owns it.
+//! So a function that owns one has a single way out, and all others take references.
+#![tactic(auto)]
+
+#[cfg(test)]
+mod files;
+#[cfg(test)]
+mod logs;
+#[cfg(test)]
+mod networks;
+#[cfg(test)]
+mod pieces;
+#[cfg(test)]
+mod simulators;
+#[cfg(test)]
+mod texts;
+#[cfg(test)]
+mod trays;

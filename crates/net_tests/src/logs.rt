@@ -1,0 +1,46 @@
+//! gg_replay: a log can be built and a line can be written with ample memory.
+use gg_replay::{Log, channel_line};
+use std::alloc::{AllocError, Global};
+use std::test::Fail;
+
+// Name, width, counts and tokens of a channel, and its line.
+static LINES: [(&str, u32, (u64, u64), &[u128], &str); 2] = [
+    ("reset", 1, (1, 1), &[1], "reset 1/1 1\n"),
+    ("out", 8, (2, 1), &[0, 0], "out 2/1 00 00\n"),
+];
+
+// Whether the line of a channel is this text.
+fn is_line(
+    alloc: Global,
+    name: &str,
+    width: u32,
+    counts: (u64, u64),
+    tokens: &[u128],
+    text: &str,
+) -> Result<bool, AllocError> {
+    let line = channel_line(alloc, name, width, counts.0, counts.1, tokens)?;
+    Ok(line.as_str() == text)
+}
+
+#[test]
+fn lines_of_channels(rt: HostRuntime) -> Result<(), Fail> {
+    for (name, width, counts, tokens, text) in &LINES {
+        assert!(rt;
+            is_line(rt.alloc(), name, *width, *counts, tokens, text)?,
+            "{text}"
+        );
+    }
+    Ok(())
+}
+
+// Whether a log for three channels has no token in the last.
+fn is_empty_log(alloc: Global) -> Result<bool, AllocError> {
+    let log = Log::new(alloc, 3)?;
+    Ok(log.tokens(2).is_empty())
+}
+
+#[test]
+fn a_log_is_made(rt: HostRuntime) -> Result<(), Fail> {
+    assert!(rt; is_empty_log(rt.alloc())?);
+    Ok(())
+}

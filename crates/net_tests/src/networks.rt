@@ -1,0 +1,246 @@
+//! gg_plan, gg_build, gg_net and gg_memunit: networks are built, and run to their end.
+ghost use Rattle.std.specs.Prelude.{◌≡◌, ◌<◌, length};
+ghost use Rattle.gg_build.specs.Build.{IsToRun};
+ghost use Rattle.gg_cut.specs.Fault.{IsSmall};
+ghost use Rattle.gg_flat.specs.Run.{IsColumns};
+
+use crate::files::{design_of, inputs_of, request_of};
+use crate::texts::{COUNTER, COUNTER_TRACE, THREE_CYCLES, memory};
+use gg_build::{Node, build};
+use gg_cut::Plan;
+use gg_net::{Event, Net, Refusal, Streams};
+use gg_order::Design;
+use gg_partfile::Request;
+use gg_plan::cut;
+use gg_trace::Trace;
+use std::alloc::{AllocError, Global};
+use std::marker::Brand;
+use std::test::Fail;
+
+// What is expected of a network.
+struct Case {
+    // the numbers of machines, channels and cycles
+    machines: u32,
+    channels: u32,
+    end: u64,
+    // a step that is refused before the first cycle, and why
+    refused: Event,
+    cause: Refusal,
+    // the steps of a cycle
+    steps: &'static [Event],
+    // of machine 1: the numbers of its memory's ports, of those that are served in a cycle, and of all times that one was served
+    ports: u32,
+    dues: u32,
+    serves: u64,
+}
+
+// The counter: its output goes ahead of its input.
+static COUNTING: Case = Case {
+    machines: 3,
+    channels: 2,
+    end: 4,
+    refused: Event::Latch { channel: 0 },
+    cause: Refusal::NoToken { channel: 0 },
+    steps: &[
+        Event::Fire { channel: 1 },
+        Event::Latch { channel: 1 },
+        Event::Finish { machine: 2 },
+        Event::Fire { channel: 0 },
+        Event::Latch { channel: 0 },
+        Event::Finish { machine: 0 },
+        Event::Finish { machine: 1 },
+    ],
+    ports: 0,
+    dues: 0,
+    serves: 0,
+};
+
+// A memory of latency 0 that is a machine of its own: its data waits for its address.
+static SERVING: Case = Case {
+    machines: 3,
+    channels: 8,
+    end: 3,
+    refused: Event::Fire { channel: 2 },
+    cause: Refusal::NeedsInput { channel: 0 },
+    steps: &[
+        Event::Fire { channel: 0 },
+        Event::Latch { channel: 0 },
+        Event::Fire { channel: 1 },
+        Event::Latch { channel: 1 },
+        Event::Fire { channel: 2 },
+        Event::Latch { channel: 2 },
+        Event::Fire { channel: 3 },
+        Event::Latch { channel: 3 },
+        Event::Fire { channel: 4 },
+        Event::Latch { channel: 4 },
+        Event::Fire { channel: 5 },
+        Event::Latch { channel: 5 },
+        Event::Fire { channel: 6 },
+        Event::Latch { channel: 6 },
+        Event::Fire { channel: 7 },
+        Event::Latch { channel: 7 },
+        Event::Serve {
+            machine: 1,
+            port: 1,
+        },
+        Event::Finish { machine: 0 },
+        Event::Finish { machine: 1 },
+        Event::Finish { machine: 2 },
+    ],
+    ports: 2,
+    dues: 1,
+    serves: 3,
+};
+
+// Whether these steps can be done so many times.
+fn goes<Z: Streams>(net: &mut Net<Node<'_>, Z>, steps: &[Event], times: u64) -> bool {
+    for _ in 0..times {
+        for step in steps {
+            if net.step(*step).is_err() {
+                return false;
+            }
+        }
+    }
+    true
+}
+
+// The network, taken apart and put together again.
+fn joined<'a, Z: Streams>(net: Net<Node<'a>, Z>) -> Net<Node<'a>, Z> {
+    Net::of(net.parts())
+}
+
+// Whether a network is as expected before its first cycle.
+fn opens<Z: Streams>(net: &Net<Node<'_>, Z>, case: &Case) -> bool {
+    net.machines() == case.machines as usize
+        && net.channels() == case.channels as usize
+        && net.shape().stations.len() == case.machines as usize
+        && net.end() == case.end
+        && net.test(case.refused) == Err(case.cause)
+}
+
+// Whether all cycles of a machine are done.
+fn has_ended<Z: Streams>(net: &Net<Node<'_>, Z>, machine: u32) -> bool
+    requires { machine < length net.now.machines }
+{
+    net.cycle(machine) == net.end()
+        && net.served(machine) == 0
+        && net.test(Event::Finish { machine }) == Err(Refusal::Ended)
+}
+
+// Whether a channel has a token put and taken in each cycle.
+fn is_spent<Z: Streams>(net: &Net<Node<'_>, Z>, channel: u32) -> bool
+    requires { channel < length net.now.wires }
+{
+    net.puts(channel) == net.end()
+        && net.takes(channel) == net.end()
+        && net.newest(channel).is_none()
+}
+
+// Whether machine 1 serves as expected.
+fn serves<Z: Streams>(net: &Net<Node<'_>, Z>, case: &Case) -> bool {
+    1 < net.machines()
+        && net.port_count(1) == case.ports
+        && net.dues(1) == case.dues
+        && net.serves(1) == case.serves
+}
+
+// Whether a network is as expected behind its last cycle.
+fn closes<Z: Streams>(net: &Net<Node<'_>, Z>, case: &Case) -> bool {
+    for machine in 0..case.machines {
+        if machine as usize >= net.machines() || !has_ended(net, machine) {
+            return false;
+        }
+    }
+    for channel in 0..case.channels {
+        if channel as usize >= net.channels() || !is_spent(net, channel) {
+            return false;
+        }
+    }
+    serves(net, case)
+}
+
+// Whether a network runs as expected, where it is taken apart behind its first cycle.
+fn runs<Z: Streams>(mut net: Net<Node<'_>, Z>, case: &Case) -> bool {
+    let begins = opens(&net, case) && goes(&mut net, case.steps, 1);
+    let mut net = joined(net);
+    begins && goes(&mut net, case.steps, case.end.saturating_sub(1)) && closes(&net, case)
+}
+
+// Whether the network of a plan runs as expected.
+fn is_built<Z: Streams>(
+    alloc: Global,
+    design: &Design,
+    plan: &Plan,
+    inputs: &Trace,
+    case: &Case,
+) -> bool
+    requires { IsToRun plan.now inputs.now.columns inputs.now.rows Z.lists Z.runs }
+{
+    let _ = design;
+    match build::<Z>(alloc, plan, inputs) {
+        Ok(net) => runs(net, case),
+        Err(_) => false,
+    }
+}
+
+// Whether the network of a design and a request runs as expected, for channels of capacity 2.
+fn is_cut(alloc: Global, design: &Design, request: &Request, inputs: &Trace, case: &Case) -> bool
+    requires small { IsSmall request.now }
+    requires fed { IsColumns design.now.circuit inputs.now.rows inputs.now.columns }
+{
+    // for the design's invariant on its parts
+    let _ = design.order();
+    let _ = design.piece();
+    let _ = design.tree();
+    let _ = inputs.rows();
+    match cut(alloc, design, request, 2) {
+        Ok(plan) => is_built::<Brand>(alloc, design, &plan, inputs, case),
+        Err(fault) => {
+            drop(fault);
+            false
+        }
+    }
+}
+
+// Whether the network of a design and a partition runs as expected on a trace.
+fn is_fed(alloc: Global, design: &Design, partition: &str, trace: &str, case: &Case) -> bool {
+    match request_of(alloc, partition) {
+        Some(request) => match inputs_of(alloc, design, trace) {
+            Some(inputs) => is_cut(alloc, design, &request, &inputs, case),
+            None => false,
+        },
+        None => false,
+    }
+}
+
+// Whether the network of a circuit and a partition runs as expected on a trace.
+fn is_network(alloc: Global, circuit: &str, partition: &str, trace: &str, case: &Case) -> bool {
+    match design_of(alloc, circuit) {
+        Some(design) => is_fed(alloc, &design, partition, trace, case),
+        None => false,
+    }
+}
+
+#[test]
+fn the_counter_runs(rt: HostRuntime) -> Result<(), Fail> {
+    assert!(rt; is_network(rt.alloc(), COUNTER, "{}", COUNTER_TRACE, &COUNTING));
+    Ok(())
+}
+
+// Whether the memory of latency 0 runs as a machine of its own.
+fn is_served(alloc: Global) -> Result<bool, AllocError> {
+    let circuit = memory(alloc, "read-latency => 0", "read-under-write => undefined")?;
+    Ok(is_network(
+        alloc,
+        circuit.as_str(),
+        "{\"memories\":[\"m\"]}",
+        THREE_CYCLES,
+        &SERVING,
+    ))
+}
+
+#[test]
+fn a_memory_is_served(rt: HostRuntime) -> Result<(), Fail> {
+    assert!(rt; is_served(rt.alloc())?);
+    Ok(())
+}

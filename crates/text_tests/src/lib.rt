@@ -1,0 +1,21 @@
+//! Tests of crates that read or write texts and files, and of the walk over graphs: gg_trace, gg_steps, gg_partfile, gg_io and
+//! gg_walk, a module each. They show what no contract says: that with ample memory there is an answer, and that the answers are those
+//! worked out by hand.
+#![tactic(auto)]
+
+#[cfg(test)]
+mod fakes;
+#[cfg(test)]
+mod partitions;
+#[cfg(test)]
+mod ports;
+#[cfg(test)]
+mod shelves;
+#[cfg(test)]
+mod sinks;
+#[cfg(test)]
+mod step_files;
+#[cfg(test)]
+mod traces;
+#[cfg(test)]
+mod walks;
