@@ -36,7 +36,12 @@ fn add_toggle(alloc: Global, piece: &mut Piece) -> Result<(), Fail>
     piece.add_signal(name(alloc)?, Signal { ty, driver })?;
     let next = Some(complement(alloc)?);
     let reset = None;
-    piece.add_register(Register { ty, reset, next })?;
+    piece.add_register(Register {
+        ty,
+        reset,
+        next,
+        clock: None,
+    })?;
     piece.add_out(0)?;
     Ok(())
 }
@@ -67,7 +72,7 @@ fn toggles(alloc: Global, piece: &Piece) -> Result<bool, AllocError>
     let mut signals = piece.zeros(alloc)?;
     piece.settle(&[0], &state, &[], &mut signals, &mut scratch);
     let first = signals[0];
-    state.advance(piece, &signals, &mut scratch);
+    state.advance(piece, &[], &signals, &mut scratch);
     piece.settle(&[0], &state, &[], &mut signals, &mut scratch);
     Ok(first == 0 && signals[0] == 1)
 }

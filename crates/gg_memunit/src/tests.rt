@@ -1,5 +1,5 @@
 //! What no contract says: a memory unit can be built with ample memory.
-ghost use Rattle.std.specs.Prelude.{◌≡◌, ◌∷◌, [], map, IfOk};
+ghost use Rattle.std.specs.Prelude.{◌≡◌, ◌∷◌, [], None, map, IfOk};
 ghost use Rattle.gg_flat.specs.Circuit.{no_circuit};
 
 use super::*;
@@ -16,13 +16,14 @@ fn name(alloc: Global, text: &str) -> Result<Name, AllocError> {
 
 // A memory of two words, with one reader.
 fn memory(alloc: Global) -> Result<Memory, AllocError>
-    ensures readers { IfOk result (λ memory. memory.readers ≡ record { addr = 0; en = 1; word = 2 } ∷ []) }
+    ensures readers { IfOk result (λ memory. memory.readers ≡ record { addr = 0; en = 1; word = 2; clock = None } ∷ []) }
     ensures writers { IfOk result (λ memory. memory.writers ≡ []) }
 {
     let reader = Reader {
         addr: 0,
         en: 1,
         word: 2,
+        clock: None,
     };
     Ok(Memory {
         word: Ty::new(Kind::UInt, 8),
@@ -39,7 +40,7 @@ fn add_memory(alloc: Global, piece: &mut Piece) -> Result<(), Fail>
     ensures registers { IfOk result (λ _. piece.new.registers ≡ []) }
     ensures ins { IfOk result (λ _. piece.new.ins ≡ 0 ∷ 1 ∷ []) }
     ensures outs { IfOk result (λ _. piece.new.outs ≡ 2 ∷ []) }
-    ensures readers { IfOk result (λ _. map (λ memory. memory.readers) piece.new.memories ≡ (record { addr = 0; en = 1; word = 2 } ∷ []) ∷ []) }
+    ensures readers { IfOk result (λ _. map (λ memory. memory.readers) piece.new.memories ≡ (record { addr = 0; en = 1; word = 2; clock = None } ∷ []) ∷ []) }
     ensures writers { IfOk result (λ _. map (λ memory. memory.writers) piece.new.memories ≡ [] ∷ []) }
 {
     let (bit, word) = (Ty::new(Kind::UInt, 1), Ty::new(Kind::UInt, 8));

@@ -157,6 +157,7 @@ fn shape(alloc: Global) -> Result<Shape, AllocError>
         consumer: 1,
         place: 0,
         capacity: 1,
+        first: None,
     };
     Ok(Shape {
         stations: vec![in alloc; source, tray]?,
@@ -193,7 +194,7 @@ fn tells_the_end<Z: Streams>(net: &Net<Edge, Z>) -> bool {
 
 // Whether the network can be run to its end, taken apart and put together again.
 fn runs<Z: Streams>(alloc: Global, hosts: Vec<Edge>, shape: Shape) -> Result<bool, AllocError>
-    requires { IsFed Z.lists Z.runs (map (λ edge. machine_of edge.host ∷ []) hosts.items) shape.stations.items shape.wires.items shape.end }
+    requires { IsFed Z.flow (map (λ edge. machine_of edge.host ∷ []) hosts.items) shape.stations.items shape.wires.items shape.end }
 {
     let mut net = Net::<Edge, Z>::new(alloc, hosts, shape)?;
     if !does_a_cycle(&mut net) {

@@ -23,10 +23,10 @@ abbrev pub fixture_paths : List (List ℕ)
 fixture_paths = (111 ∷ []) ∷ map (joined (109 ∷ [])) field_names
 
 abbrev pub fixture_reader : Reader
-fixture_reader = record { addr = 1; en = 2; word = 3 }
+fixture_reader = record { addr = 1; en = 2; word = 3; clock = None }
 
 abbrev pub fixture_writer : Writer
-fixture_writer = record { addr = 4; en = 5; word = 6; mask = 7 }
+fixture_writer = record { addr = 4; en = 5; word = 6; mask = 7; clock = None }
 
 -- Signals with these paths, and nothing else.
 pub record HasSignals (circuit : FlatCircuit) (paths : List (List ℕ)) : Type 0 where

@@ -89,12 +89,14 @@ fn memory(alloc: Global, latency: Latency) -> Result<Memory, AllocError>
         addr: 1,
         en: 2,
         word: 3,
+        clock: None,
     };
     let writer = Writer {
         addr: 4,
         en: 5,
         word: 6,
         mask: 7,
+        clock: None,
     };
     Ok(Memory {
         word: Ty::new(Kind::UInt, 8),
