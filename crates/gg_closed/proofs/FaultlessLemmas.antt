@@ -1,8 +1,8 @@
 -- What a request without a fault lists is apart: no unit lies in another (AreApart).
 use Rattle.std.proofs.Common.{◌≡◌, ℕ, zero, suc, ◌+◌, ◌<◌, ◌≤◌, List, [], ◌∷◌, ◌++◌, length, get_or, Bool, true, false, not, refl, sym, ◌∙◌, ap, Some, None, inl, inr, ◌⊎◌, arith}
-use Rattle.std.specs.Prelude.{Option, ◌||◌, find, cond, if◌then◌else◌, option_map, unwrap_or, nat_lt, All, AllPairs}
+use Rattle.std.specs.Prelude.{Option, ◌||◌, ◌==◌, find, cond, if◌then◌else◌, option_map, unwrap_or, nat_lt, All, AllPairs}
 use Rattle.std.specs.List.{list_any, range_with_len}
-use Rattle.std.proofs.lemmas.Bool.{cases_Bool, cases_lt, lt-ltb, or_parts}
+use Rattle.std.proofs.lemmas.Bool.{cases_Bool, cases_lt, lt-ltb, ltb-false, or_parts}
 use Rattle.std.proofs.lemmas.List.{length-map}
 use Rattle.std.proofs.lemmas.List.Folds.{list_any-append}
 use Rattle.std.proofs.lemmas.List.Kept.{AllPairs-filter, AllPairs-cons}
@@ -10,12 +10,12 @@ use Rattle.std.proofs.lemmas.List.FromFn.{get_or-range_with_len, length-range_wi
 use Rattle.gg_flat.specs.Tree.{InstanceTree, IsTree, path_at}
 use Rattle.gg_partfile.specs.declared.request.Request.{Request}
 use Rattle.gg_order.specs.Design.{Ordered}
-use Rattle.gg_cut.specs.declared.fault.CutFault.TheVariants.{UnknownUnit, Doubled, UnknownChannel, TooManyUnits, TooManyChannels}
+use Rattle.gg_cut.specs.declared.fault.CutFault.TheVariants.{UnknownUnit, Doubled, UnknownChannel, OutOfRange, TooManyUnits, TooManyChannels}
 use Rattle.gg_cut.specs.declared.listed.Listed.{Listed}
 use Rattle.gg_cut.specs.Listed.{is_among, is_lower, is_instance_path, instance_of, place_of, lies, listed_of}
-use Rattle.gg_cut.specs.Channels.{wires_of, channel_signals}
+use Rattle.gg_cut.specs.Channels.{wires_of, channel_signals, capacity_of}
 use Rattle.gg_cut.specs.declared.wires.Wire.{Wire}
-use Rattle.gg_cut.specs.Fault.{or_else, unknown_unit, unshared, overlap, overlapping, first_clash, repeated, entries, unknown_channel, range_fault, too_many_units, too_many_channels, most_units, most_channels, entry_fault, kind_fault, channel_fault, first_fault}
+use Rattle.gg_cut.specs.Fault.{or_else, unknown_unit, unshared, overlap, overlapping, first_clash, repeated, entries, unknown_channel, most_capacity, out_of_range, range_fault, too_many_units, too_many_channels, most_units, most_channels, entry_fault, kind_fault, channel_fault, first_fault}
 use Rattle.gg_cut.specs.Channels.{channel_names}
 use Rattle.gg_cut.proofs.ChannelLemmas.{wires-signals}
 use Rattle.gg_cut.proofs.PathLemmas.{first_place-Some}
@@ -210,3 +210,42 @@ module _ (design : Ordered) (request : Request) (none : first_fault design reque
         units = over most_units (length listed.units + length listed.memories) (length listed.units + length listed.memories) (none-map TooManyUnits (too_many_units listed) (none-first units channels late));
         channels = omega (arith, many, count);
       }
+
+-- ---- capacities
+
+-- the capacities of a request without a fault are in range
+pub range-free : (design : Ordered) (request : Request) → first_fault design request ≡ None → range_fault request.capacity ≡ None
+range-free design request none =
+    let circuit = design.circuit in
+    let tree = design.tree in
+    let listed = listed_of tree request in
+    let signals = channel_signals circuit tree listed in
+    let last = channel_fault circuit request listed signals in
+    let limits = or_else (option_map (λ n. TooManyUnits n) (too_many_units listed)) (option_map (λ n. TooManyChannels n) (too_many_channels signals)) in
+    none-first (range_fault request.capacity) limits
+    (none-second (option_map (λ p. UnknownChannel p) (unknown_channel (channel_names circuit signals) request.capacity)) (or_else (range_fault request.capacity) limits)
+    (none-second (kind_fault tree request) last (none-second (entry_fault tree request) (or_else (kind_fault tree request) last) none)))
+
+-- what holds of each number in the range of capacities, and of the default, holds of the capacity of a channel
+capacity-in-range : (P : ℕ → Type 0) → ((n : ℕ) → 0 < n → n ≤ most_capacity → P n) → (capacities : List (List ℕ × ℕ)) (default : ℕ) (name : List ℕ) → out_of_range capacities ≡ None → P default → P (capacity_of capacities default name)
+capacity-in-range P range [] default name none own = own
+capacity-in-range P range (pair ∷ capacities) default name none own =
+    by ((pair.1 == 0) || nat_lt most_capacity pair.1) refl none (λ more. capacity-in-range P range capacities default name more own)
+  where
+    some : (n : ℕ) → (n == 0) ≡ false → 0 < n
+    some zero e = absurd (cc)
+    some (suc n) e = omega arith
+
+    either : (b : Bool) → P pair.1 → P (capacity_of capacities default name) → P (unwrap_or (option_map (λ pair. pair.1) (cond b (Some pair) (find (λ pair. bytes_eq pair.0 name) capacities))) default)
+    either true here rest = here
+    either false here rest = rest
+
+    by : (b : Bool) → ((pair.1 == 0) || nat_lt most_capacity pair.1) ≡ b → cond b (Some pair) (out_of_range capacities) ≡ None → (out_of_range capacities ≡ None → P (capacity_of capacities default name)) → P (capacity_of (pair ∷ capacities) default name)
+    by true e none rest = absurd (cc)
+    by false e none rest =
+        either (bytes_eq pair.0 name)
+        (range pair.1 (some pair.1 (or_parts (pair.1 == 0) (nat_lt most_capacity pair.1) e).0) (ltb-false most_capacity pair.1 (or_parts (pair.1 == 0) (nat_lt most_capacity pair.1) e).1))
+        (rest none)
+
+pub capacity-is : (P : ℕ → Type 0) → ((n : ℕ) → 0 < n → n ≤ most_capacity → P n) → (capacities : List (List ℕ × ℕ)) (default : ℕ) (name : List ℕ) → range_fault capacities ≡ None → P default → P (capacity_of capacities default name)
+capacity-is P range capacities default name none own = capacity-in-range P range capacities default name (none-map (λ pair. OutOfRange pair.0 pair.1) (out_of_range capacities) none) own

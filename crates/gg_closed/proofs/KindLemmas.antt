@@ -1,6 +1,6 @@
 -- The kinds of channels: of a top input, of a unit's port, of a listed memory's field, of a top output.
 use Rattle.std.proofs.Common.{◌≡◌, ℕ, zero, suc, ◌+◌, ◌<◌, List, [], ◌∷◌, ◌++◌, length, get_or, true, refl, sym, ap, subst, inl, inr, ◌⊎◌, arith}
-use Rattle.std.specs.Prelude.{flat_map, Contains}
+use Rattle.std.specs.Prelude.{flat_map, Contains, None}
 use Rattle.std.proofs.lemmas.List.{get_or_default}
 use Rattle.std.proofs.lemmas.List.Elements.{Contains-append_left, Contains-append_right, Contains-append_cases, Contains-get_or}
 use Rattle.gg_flat.specs.declared.tree.InstancePort.{InstancePort}
@@ -57,17 +57,17 @@ abbrev wires-for : ℕ → ℕ → List Reader → List Writer → List Wire
 wires-for outside number readers writers = flattened (reader_wires outside number) readers ++ flattened (writer_wires outside number) writers
 
 some-reader : Reader
-some-reader = record { addr = 0; en = 0; word = 0 }
+some-reader = record { addr = 0; en = 0; word = 0; clock = None }
 
 some-writer : Writer
-some-writer = record { addr = 0; en = 0; word = 0; mask = 0 }
+some-writer = record { addr = 0; en = 0; word = 0; mask = 0; clock = None }
 
 module _ (readers : List Reader) (writers : List Writer) (outside number : ℕ) where
   reader-field : (s i : ℕ) → i < length readers → Contains (reader_fields (reader_at readers i)) s → Contains (fields-of readers writers) s
   reader-field s i lt h =
       Contains-append_left (flat_map (λ reader. reader_fields reader) readers) (flat_map (λ writer. writer_fields writer) writers) s
       (subst (λ (l : List ℕ). Contains l s) (sym (flat_map-is (λ (reader : Reader). reader_fields reader) readers)) (flattened-in (λ (reader : Reader). reader_fields reader) readers i some-reader s lt
-      (subst (λ (r : Reader). Contains (reader_fields r) s) (get_or_default readers i (record { addr = 0; en = 0; word = 0 }) some-reader lt) h)))
+      (subst (λ (r : Reader). Contains (reader_fields r) s) (get_or_default readers i (record { addr = 0; en = 0; word = 0; clock = None }) some-reader lt) h)))
 
   writer-field : (s i : ℕ) → i < length writers → Contains (writer_fields (get_or writers i some-writer)) s → Contains (fields-of readers writers) s
   writer-field s i lt h =
@@ -78,7 +78,7 @@ module _ (readers : List Reader) (writers : List Writer) (outside number : ℕ) 
   fields-cases w h = by (Contains-append_cases (flattened (reader_wires outside number) readers) (flattened (writer_wires outside number) writers) w h)
     where
       by : Contains (flattened (reader_wires outside number) readers) w ⊎ Contains (flattened (writer_wires outside number) writers) w → IsInto (fields-of readers writers) outside number w ⊎ IsWordWire readers outside number w
-      by (inl r) = at (reader-case outside number (reader_at readers s.place) w (s.holds (record { addr = 0; en = 0; word = 0 })))
+      by (inl r) = at (reader-case outside number (reader_at readers s.place) w (s.holds (record { addr = 0; en = 0; word = 0; clock = None })))
         where
           s : Somewhere (λ reader. Contains (reader_wires outside number reader) w) readers
           s = flattened-cases (reader_wires outside number) readers w r
@@ -94,17 +94,17 @@ module _ (readers : List Reader) (writers : List Writer) (outside number : ℕ) 
   pub word-wire : (i : ℕ) → i < length readers → Contains (wires-for outside number readers writers) (wire (reader_at readers i).word number outside)
   word-wire i lt =
       Contains-append_left (flattened (reader_wires outside number) readers) (flattened (writer_wires outside number) writers) (wire (reader_at readers i).word number outside)
-      (flattened-in (reader_wires outside number) readers i (record { addr = 0; en = 0; word = 0 }) (wire (reader_at readers i).word number outside) lt (2, omega arith, refl))
+      (flattened-in (reader_wires outside number) readers i (record { addr = 0; en = 0; word = 0; clock = None }) (wire (reader_at readers i).word number outside) lt (2, omega arith, refl))
 
   pub address-wire : (i : ℕ) → i < length readers → Contains (wires-for outside number readers writers) (wire (reader_at readers i).addr outside number)
   address-wire i lt =
       Contains-append_left (flattened (reader_wires outside number) readers) (flattened (writer_wires outside number) writers) (wire (reader_at readers i).addr outside number)
-      (flattened-in (reader_wires outside number) readers i (record { addr = 0; en = 0; word = 0 }) (wire (reader_at readers i).addr outside number) lt (0, omega arith, refl))
+      (flattened-in (reader_wires outside number) readers i (record { addr = 0; en = 0; word = 0; clock = None }) (wire (reader_at readers i).addr outside number) lt (0, omega arith, refl))
 
   pub enable-wire : (i : ℕ) → i < length readers → Contains (wires-for outside number readers writers) (wire (reader_at readers i).en outside number)
   enable-wire i lt =
       Contains-append_left (flattened (reader_wires outside number) readers) (flattened (writer_wires outside number) writers) (wire (reader_at readers i).en outside number)
-      (flattened-in (reader_wires outside number) readers i (record { addr = 0; en = 0; word = 0 }) (wire (reader_at readers i).en outside number) lt (1, omega arith, refl))
+      (flattened-in (reader_wires outside number) readers i (record { addr = 0; en = 0; word = 0; clock = None }) (wire (reader_at readers i).en outside number) lt (1, omega arith, refl))
 
   -- each field has its channel
   pub field-wire : (s : ℕ) → Contains (fields-of readers writers) s → Contains (wires-for outside number readers writers) (wire s outside number) ⊎ Contains (wires-for outside number readers writers) (wire s number outside)
@@ -130,7 +130,7 @@ module _ (readers : List Reader) (writers : List Writer) (outside number : ℕ) 
       by : Contains (flat_map (λ reader. reader_fields reader) readers) s ⊎ Contains (flat_map (λ writer. writer_fields writer) writers) s → Contains (wires-for outside number readers writers) (wire s outside number) ⊎ Contains (wires-for outside number readers writers) (wire s number outside)
       by (inl r) =
           let at = flattened-cases (λ (reader : Reader). reader_fields reader) readers s (subst (λ (l : List ℕ). Contains l s) (flat_map-is (λ (reader : Reader). reader_fields reader) readers) r) in
-          let c = at.holds (record { addr = 0; en = 0; word = 0 }) in
+          let c = at.holds (record { addr = 0; en = 0; word = 0; clock = None }) in
           one c.0 at.place at.within c.1 c.2
       by (inr r) =
           let at = flattened-cases (λ (writer : Writer). writer_fields writer) writers s (subst (λ (l : List ℕ). Contains l s) (flat_map-is (λ (writer : Writer). writer_fields writer) writers) r) in

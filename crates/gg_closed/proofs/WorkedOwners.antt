@@ -48,7 +48,7 @@ above = record { rest = codes "m.r.addr"; is = refl }
 -- ---- the circuit
 
 abbrev memory : ℕ → Memory
-memory s = record { word = eight; depth = 4; latency = Zero; readers = record { addr = s; en = s + 1; word = s + 2 } ∷ []; writers = [] }
+memory s = record { word = eight; depth = 4; latency = Zero; readers = record { addr = s; en = s + 1; word = s + 2; clock = None } ∷ []; writers = [] }
 
 abbrev circuit : FlatCircuit
 circuit =

@@ -26,7 +26,7 @@ cell_paths cell = map (λ name. cell ++ codes name) (".o" ∷ ".m.r.addr" ∷ ".
 
 -- a cell's memory, whose fields begin at this signal
 abbrev cell_memory : ℕ → Memory
-cell_memory s = record { word = eight; depth = 4; latency = Zero; readers = record { addr = s; en = s + 1; word = s + 2 } ∷ []; writers = record { addr = s + 3; en = s + 4; word = s + 5; mask = s + 6 } ∷ [] }
+cell_memory s = record { word = eight; depth = 4; latency = Zero; readers = record { addr = s; en = s + 1; word = s + 2; clock = None } ∷ []; writers = record { addr = s + 3; en = s + 4; word = s + 5; mask = s + 6; clock = None } ∷ [] }
 
 abbrev pub circuit : FlatCircuit
 circuit =

@@ -107,6 +107,7 @@ register =
       ty = four;
       reset = Some (record { condition = node one (does.Ref 0) ∷ []; init = node four (does.Literal (value 0)) ∷ [] });
       next = Some next_line;
+      clock = None;
     }
 
 abbrev flat_with : List Register → FlatCircuit
@@ -192,7 +193,7 @@ condition_is = record {
 }
 
 register_is : IsRegisterOf (types_of circuit) listed here (shape four) (Some reset) (Some (ConnectedTo next)) register
-register_is = record { typed = refl; reset_is = (condition_is, init_is); next_is = next_is }
+register_is = record { typed = refl; reset_is = (condition_is, init_is); next_is = next_is; clocked = refl }
 
 -- ---- rows
 

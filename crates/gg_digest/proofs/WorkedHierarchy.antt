@@ -77,11 +77,11 @@ of_b =
     ∷ []
 
 abbrev register : ℕ → Register
-register s = record { ty = one; reset = None; next = Some (node one (does.Ref s) ∷ []) }
+register s = record { ty = one; reset = None; next = Some (node one (does.Ref s) ∷ []); clock = None }
 
 abbrev memory_of_parent : Memory
 memory_of_parent =
-    record { word = three; depth = 4; latency = One New; readers = record { addr = 1; en = 2; word = 3 } ∷ []; writers = [] }
+    record { word = three; depth = 4; latency = One New; readers = record { addr = 1; en = 2; word = 3; clock = None } ∷ []; writers = [] }
 
 abbrev memory_of_a : Memory
 memory_of_a =
@@ -89,8 +89,8 @@ memory_of_a =
       word = one;
       depth = 2;
       latency = Zero;
-      readers = record { addr = 6; en = 7; word = 8 } ∷ [];
-      writers = record { addr = 9; en = 10; word = 11; mask = 12 } ∷ [];
+      readers = record { addr = 6; en = 7; word = 8; clock = None } ∷ [];
+      writers = record { addr = 9; en = 10; word = 11; mask = 12; clock = None } ∷ [];
     }
 
 abbrev memory_of_b : Memory
@@ -99,8 +99,8 @@ memory_of_b =
       word = one;
       depth = 2;
       latency = Zero;
-      readers = record { addr = 16; en = 17; word = 18 } ∷ [];
-      writers = record { addr = 19; en = 20; word = 21; mask = 22 } ∷ [];
+      readers = record { addr = 16; en = 17; word = 18; clock = None } ∷ [];
+      writers = record { addr = 19; en = 20; word = 21; mask = 22; clock = None } ∷ [];
     }
 
 abbrev flat : FlatCircuit
@@ -180,6 +180,7 @@ register_of scope s known is typed = record {
   reset_is = refl;
   next_is = line_of_name (types_of circuit) listed scope (shape one) (Local (codes "i")) (node one (does.Ref s)) s
       (record { does = refl; names = names scope (Local (codes "i")) s known is; typed = typed; fits = refl });
+  clocked = refl;
 }
 
 held_by_a : IsHeld (types_of circuit) listed a (shape one) None (Some (ConnectedTo (NamedTerm (Local (codes "i"))))) registers 0 (Held 0)

@@ -66,6 +66,7 @@ pub record IsRegisterOf (types : Types) (signals : Signals) (scope : Scope) (sin
   pub typed : shape register.ty ≡ sink
   pub reset_is : HasReset types signals scope sink reset register.reset
   pub next_is : HasNext types signals scope sink next register.next
+  pub clocked : register.clock ≡ None
 
 -- ---- numbers
 
@@ -132,6 +133,7 @@ reader_of paths memory port =
       addr = field_number paths memory port (codes "addr");
       en = field_number paths memory port (codes "en");
       word = field_number paths memory port (codes "data");
+      clock = None;
     }
 
 abbrev pub writer_of : List (List ℕ) → List ℕ → List ℕ → Writer
@@ -141,6 +143,7 @@ writer_of paths memory port =
       en = field_number paths memory port (codes "en");
       word = field_number paths memory port (codes "data");
       mask = field_number paths memory port (codes "mask");
+      clock = None;
     }
 
 pub record IsMemoryOf (paths : List (List ℕ)) (said : FlatMemory) (memory : Memory) : Type 0 where

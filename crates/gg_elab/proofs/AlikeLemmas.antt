@@ -1,5 +1,5 @@
 -- Drivers, registers and memories of two flat circuits do the same if they stand for the same part of a circuit.
-use Rattle.std.proofs.Common.{◌≡◌, ℕ, List, Option, None, Some, refl, sym, ap, ◌∙◌, subst, ◌==◌, if◌then◌else◌}
+use Rattle.std.proofs.Common.{◌≡◌, ℕ, List, Bool, Option, None, Some, refl, sym, ap, ◌∙◌, subst, ◌==◌, if◌then◌else◌}
 use Rattle.std.specs.Prelude.{slice_index_or}
 use Rattle.gg_bits.specs.Shape.{Shape, shape}
 use Rattle.gg_ast.specs.declared.statement.Reset as given
@@ -8,6 +8,7 @@ use Rattle.gg_flat.specs.declared.memory.Memory.{Memory}
 use Rattle.gg_flat.specs.declared.piece.Driver.{Driver}
 use Rattle.gg_flat.specs.declared.piece.Register.{Register}
 use Rattle.gg_flat.specs.declared.piece.Reset as kept
+use Rattle.gg_flat.specs.Clock.{ticks}
 use Rattle.gg_flat.specs.Line.{line_value, connected_value}
 use Rattle.gg_flat.specs.Memory.{Bank, next_bank, opening_bank}
 use Rattle.gg_flat.specs.Reads.{NamesSignal}
@@ -50,9 +51,9 @@ drivers_alike types signals memories rs qs inputs states sink (Answers memory pl
 
 -- ---- registers
 
--- Two registers get the same next value.
+-- Two registers get the same next value, whatever the edges are.
 pub record AlikeRegisters (a b : Register) : Type 0 where
-  pub next : (values : List ℕ) (own : ℕ) → next_register values a own ≡ next_register values b own
+  pub next : (edges : List Bool) (values : List ℕ) (own : ℕ) → next_register edges values a own ≡ next_register edges values b own
 
 nexts_alike : (types : Types) (signals : Signals) (scope : Scope) (sink : Shape) (values : List ℕ) (own : ℕ) (asked : Option Connection) (a b : Option (List Node)) → HasNext types signals scope sink asked a → HasNext types signals scope sink asked b → connected_or values sink a own ≡ connected_or values sink b own
 nexts_alike types signals scope sink values own None a b h k = ap (λ (x : Option (List Node)). connected_or values sink x own) (h ∙ sym k)
@@ -72,16 +73,18 @@ resets_alike types signals scope sink values x y (Some asked) (Some a) (Some b) 
     ∙ ap (λ (v : ℕ). if line_value values b.condition == 1 then v else x) init
     ∙ ap (λ (v : ℕ). if line_value values b.condition == 1 then connected_value values sink b.init else v) e
 
-at_shape : (sink : Shape) (values : List ℕ) (own : ℕ) (a : Register) → shape a.ty ≡ sink → next_register values a own ≡ reset_or values sink a.reset (connected_or values sink a.next own)
-at_shape sink values own a e = ap (λ (s : Shape). reset_or values s a.reset (connected_or values s a.next own)) e
+at_shape : (edges : List Bool) (sink : Shape) (values : List ℕ) (own : ℕ) (a : Register) → shape a.ty ≡ sink → a.clock ≡ None → next_register edges values a own ≡ reset_or values sink a.reset (connected_or values sink a.next own)
+at_shape edges sink values own a e every =
+    ap (λ (clock : Option ℕ). if ticks edges clock then reset_or values (shape a.ty) a.reset (connected_or values (shape a.ty) a.next own) else own) every
+    ∙ ap (λ (s : Shape). reset_or values s a.reset (connected_or values s a.next own)) e
 
 registers_alike : (types : Types) (signals : Signals) (scope : Scope) (sink : Shape) (reset : Option given.Reset) (next : Option Connection) (a b : Register) → IsRegisterOf types signals scope sink reset next a → IsRegisterOf types signals scope sink reset next b → AlikeRegisters a b
 registers_alike types signals scope sink reset next a b h k = record {
-  next = λ values own.
-      at_shape sink values own a h.typed
+  next = λ edges values own.
+      at_shape edges sink values own a h.typed h.clocked
       ∙ resets_alike types signals scope sink values _ _ reset a.reset b.reset h.reset_is k.reset_is
       (nexts_alike types signals scope sink values own next a.next b.next h.next_is k.next_is)
-      ∙ sym (at_shape sink values own b k.typed);
+      ∙ sym (at_shape edges sink values own b k.typed k.clocked);
 }
 
 -- the registers that a signal holds in two circuits are alike
@@ -93,10 +96,10 @@ held_alike types signals scope sink reset next rs qs r d e h k = λ a b. registe
 
 -- ---- memories
 
--- Two memories hold the same at the opening, and the same after each cycle.
+-- Two memories hold the same at the opening, and the same after each cycle, whatever the edges are.
 pub record AlikeMemories (a b : Memory) : Type 0 where
   pub opens : opening_bank a ≡ opening_bank b
-  pub next : (values : List ℕ) (bank : Bank) → next_bank values a bank ≡ next_bank values b bank
+  pub next : (edges : List Bool) (values : List ℕ) (bank : Bank) → next_bank edges values a bank ≡ next_bank edges values b bank
 
 pub memories_alike : (paths : List (List ℕ)) (said : FlatMemory) (a b : Memory) → IsMemoryOf paths said a → IsMemoryOf paths said b → AlikeMemories a b
 memories_alike paths said a b h k =
@@ -106,5 +109,5 @@ memories_alike paths said a b h k =
     let writers : a.writers ≡ b.writers = h.writers ∙ sym k.writers in
     record {
       opens = rw (depth, late, readers) refl;
-      next = λ values bank. rw (late, readers, writers) refl;
+      next = λ edges values bank. rw (late, readers, writers) refl;
     }

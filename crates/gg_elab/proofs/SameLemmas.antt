@@ -1,5 +1,5 @@
 -- Flat circuits that do the same part by part have the same runs and the same reads.
-use Rattle.std.proofs.Common.{◌≡◌, ℕ, zero, suc, ◌<◌, List, [], ◌∷◌, length, map, refl, ap, ◌∙◌, subst, arith}
+use Rattle.std.proofs.Common.{◌≡◌, ℕ, zero, suc, ◌<◌, List, [], ◌∷◌, Bool, length, map, refl, ap, ◌∙◌, subst, arith}
 use Rattle.std.specs.Prelude.{replicate}
 use Rattle.gg_bits.specs.Shape.{Shape}
 use Rattle.gg_ast.specs.Tree.{CircuitTree}
@@ -33,23 +33,23 @@ settled_same f g state inputs values h settled = record {
       ∙ (h.drivers s within).value state inputs values;
 }
 
-registers_same : (values : List ℕ) (xs ys : List Register) (own : List ℕ) → Pairwise AlikeRegisters xs ys → next_registers values xs own ≡ next_registers values ys own
-registers_same values [] [] own h = refl
-registers_same values [] (y ∷ ys) own h = absurd h
-registers_same values (x ∷ xs) [] own h = absurd h
-registers_same values (x ∷ xs) (y ∷ ys) [] h = refl
-registers_same values (x ∷ xs) (y ∷ ys) (v ∷ own) h =
-    ap (λ (n : ℕ). n ∷ next_registers values xs own) (h.0.next values v)
-    ∙ ap (λ (ns : List ℕ). next_register values y v ∷ ns) (registers_same values xs ys own h.1)
+registers_same : (edges : List Bool) (values : List ℕ) (xs ys : List Register) (own : List ℕ) → Pairwise AlikeRegisters xs ys → next_registers edges values xs own ≡ next_registers edges values ys own
+registers_same edges values [] [] own h = refl
+registers_same edges values [] (y ∷ ys) own h = absurd h
+registers_same edges values (x ∷ xs) [] own h = absurd h
+registers_same edges values (x ∷ xs) (y ∷ ys) [] h = refl
+registers_same edges values (x ∷ xs) (y ∷ ys) (v ∷ own) h =
+    ap (λ (n : ℕ). n ∷ next_registers edges values xs own) (h.0.next edges values v)
+    ∙ ap (λ (ns : List ℕ). next_register edges values y v ∷ ns) (registers_same edges values xs ys own h.1)
 
-banks_same : (values : List ℕ) (xs ys : List Memory) (banks : List Bank) → Pairwise AlikeMemories xs ys → next_banks values xs banks ≡ next_banks values ys banks
-banks_same values [] [] banks h = refl
-banks_same values [] (y ∷ ys) banks h = absurd h
-banks_same values (x ∷ xs) [] banks h = absurd h
-banks_same values (x ∷ xs) (y ∷ ys) [] h = refl
-banks_same values (x ∷ xs) (y ∷ ys) (bank ∷ banks) h =
-    ap (λ (b : Bank). b ∷ next_banks values xs banks) (h.0.next values bank)
-    ∙ ap (λ (bs : List Bank). next_bank values y bank ∷ bs) (banks_same values xs ys banks h.1)
+banks_same : (edges : List Bool) (values : List ℕ) (xs ys : List Memory) (banks : List Bank) → Pairwise AlikeMemories xs ys → next_banks edges values xs banks ≡ next_banks edges values ys banks
+banks_same edges values [] [] banks h = refl
+banks_same edges values [] (y ∷ ys) banks h = absurd h
+banks_same edges values (x ∷ xs) [] banks h = absurd h
+banks_same edges values (x ∷ xs) (y ∷ ys) [] h = refl
+banks_same edges values (x ∷ xs) (y ∷ ys) (bank ∷ banks) h =
+    ap (λ (b : Bank). b ∷ next_banks edges values xs banks) (h.0.next edges values bank)
+    ∙ ap (λ (bs : List Bank). next_bank edges values y bank ∷ bs) (banks_same edges values xs ys banks h.1)
 
 open_same : (xs ys : List Memory) → Pairwise AlikeMemories xs ys → map (λ memory. opening_bank memory) xs ≡ map (λ memory. opening_bank memory) ys
 open_same [] [] h = refl
@@ -62,10 +62,10 @@ open_same (x ∷ xs) (y ∷ ys) h =
 abbrev state_of : List ℕ → List Bank → State
 state_of registers banks = record { registers = registers; banks = banks }
 
-next_same : (f g : FlatCircuit) (state : State) (values : List ℕ) → AlikeCircuits f g → next_state f state values ≡ next_state g state values
-next_same f g state values h =
-    ap (λ (rs : List ℕ). state_of rs (next_banks values f.memories state.banks)) (registers_same values f.registers g.registers state.registers h.registers)
-    ∙ ap (λ (bs : List Bank). state_of (next_registers values g.registers state.registers) bs) (banks_same values f.memories g.memories state.banks h.memories)
+next_same : (edges : List Bool) (f g : FlatCircuit) (state : State) (values : List ℕ) → AlikeCircuits f g → next_state edges f state values ≡ next_state edges g state values
+next_same edges f g state values h =
+    ap (λ (rs : List ℕ). state_of rs (next_banks edges values f.memories state.banks)) (registers_same edges values f.registers g.registers state.registers h.registers)
+    ∙ ap (λ (bs : List Bank). state_of (next_registers edges values g.registers state.registers) bs) (banks_same edges values f.memories g.memories state.banks h.memories)
 
 opening_same : (f g : FlatCircuit) → AlikeCircuits f g → opening f ≡ opening g
 opening_same f g h =
@@ -77,8 +77,8 @@ opening_same f g h =
 states_same : (f g : FlatCircuit) (rows : List (List ℕ)) → AlikeCircuits f g → (t : ℕ) → state_at f (opening_start f) rows t ≡ state_at g (opening_start g) rows t
 states_same f g rows h zero = opening_same f g h
 states_same f g rows h (suc t) =
-    ap (λ (s : State). next_state f s (row_at rows t)) (states_same f g rows h t)
-    ∙ next_same f g (state_at g (opening_start g) rows t) (row_at rows t) h
+    ap (λ (s : State). next_state [] f s (row_at rows t)) (states_same f g rows h t)
+    ∙ next_same [] f g (state_at g (opening_start g) rows t) (row_at rows t) h
 
 pub runs_same : (circuit : CircuitTree) (f g : FlatCircuit) (columns : List (List ℕ)) (n : ℕ) (rows : List (List ℕ)) → IsFlat circuit f → IsFlat circuit g → IsRun f columns n rows → IsRun g columns n rows
 runs_same circuit f g columns n rows one other run =

@@ -48,6 +48,7 @@ fn register(
         ty,
         reset: reset_lines(alloc, scope, reset, ty)?,
         next: next_line(alloc, scope, next, ty)?,
+        clock: None,
     })
 }
 

@@ -37,6 +37,7 @@ fn reader(alloc: Global, paths: &Paths, memory: &Name, port: &Name) -> Result<Re
         addr: field(alloc, paths, memory, port, "addr")?,
         en: field(alloc, paths, memory, port, "en")?,
         word: field(alloc, paths, memory, port, "data")?,
+        clock: None,
     })
 }
 
@@ -49,6 +50,7 @@ fn writer(alloc: Global, paths: &Paths, memory: &Name, port: &Name) -> Result<Wr
         en: field(alloc, paths, memory, port, "en")?,
         word: field(alloc, paths, memory, port, "data")?,
         mask: field(alloc, paths, memory, port, "mask")?,
+        clock: None,
     })
 }
 

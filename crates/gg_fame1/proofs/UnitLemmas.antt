@@ -4,6 +4,7 @@ use Rattle.std.specs.Prelude.{All, Contains, IsSome, slice_index_or, slice_set}
 use Rattle.std.proofs.lemmas.Bool.Decides.{Decides-eqb}
 use Rattle.std.proofs.lemmas.List.{get_or-set_same, get_or-set_other, length-map, length-replicate, length-set}
 use Rattle.std.proofs.lemmas.Option.{none-some}
+use Rattle.gg_flat.specs.Clock.{Ratio, edges_at}
 use Rattle.gg_flat.specs.Line.{value_at}
 use Rattle.gg_flat.specs.Circuit.{FlatCircuit}
 use Rattle.gg_flat.specs.WellFormed.{IsWellFormed}
@@ -59,9 +60,9 @@ all-inputs (latch ∷ latches) (input ∷ inputs) same all have = by latch (all 
 -- ---- tokens
 
 -- the value that is worked out for an out-signal is its out's token
-pub token-is : (program : Programmed) (cycle : ℕ) (state : State) (latches : List (Option ℕ)) (flags : List Bool) (held : List ℕ) (out value : ℕ) → IsWellFormed program.circuit → AreNeedsOfOuts program.circuit program.needs → out < length program.circuit.outs → HaveTokens latches held
-    → first_empty latches (needs_at program.needs out) ≡ None → IsConeValue program.circuit state held (value_at program.circuit.outs out) value → IsTokenOf (RunsPiece program.circuit) (unit_machine program cycle state latches flags) out value
-token-is program cycle state latches flags held out value formed needs below have none cone inputs signals settled agrees =
+pub token-is : (program : Programmed) (ratios : List Ratio) (cycle : ℕ) (state : State) (latches : List (Option ℕ)) (flags : List Bool) (held : List ℕ) (out value : ℕ) → IsWellFormed program.circuit → AreNeedsOfOuts program.circuit program.needs → out < length program.circuit.outs → HaveTokens latches held
+    → first_empty latches (needs_at program.needs out) ≡ None → IsConeValue program.circuit state held (value_at program.circuit.outs out) value → IsTokenOf (RunsPiece program.circuit) (unit_machine program ratios cycle state latches flags) out value
+token-is program ratios cycle state latches flags held out value formed needs below have none cone inputs signals settled agrees =
     cone.every inputs signals settled (λ place within reaches.
     let has : Contains (needs_at program.needs out) place = ((needs.each out below).exact place).1 (within, reaches) in
     let token : latch_at latches place ≡ Some (latched_value (latch_at latches place)) = subst (λ i. latch_at latches i ≡ Some (latched_value (latch_at latches i))) has.2 (has-token latches (needs_at program.needs out) none has.0 place has.1) in
@@ -71,10 +72,10 @@ token-is program cycle state latches flags held out value formed needs below hav
 
 -- ---- the next state
 
-pub next-is : (program : Programmed) (cycle : ℕ) (state next : State) (latches : List (Option ℕ)) (flags : List Bool) (held row : List ℕ) → ((signals : List ℕ) → Settled program.circuit state held signals → row ≡ signals)
-    → length latches ≡ length held → All (λ latch. IsSome latch) latches → HaveTokens latches held → next ≡ next_state program.circuit state row → IsNextOf (RunsPiece program.circuit) [] (unit_machine program cycle state latches flags) next
-next-is program cycle state next latches flags held row once same all have is signals settled =
-    is ∙ ap (next_state program.circuit state) (once signals (subst (λ inputs. Settled program.circuit state inputs signals) (all-inputs latches held same all have) settled))
+pub next-is : (program : Programmed) (ratios : List Ratio) (cycle : ℕ) (state next : State) (latches : List (Option ℕ)) (flags : List Bool) (held row : List ℕ) → ((signals : List ℕ) → Settled program.circuit state held signals → row ≡ signals)
+    → length latches ≡ length held → All (λ latch. IsSome latch) latches → HaveTokens latches held → next ≡ next_state (edges_at ratios cycle) program.circuit state row → IsNextOf (RunsPiece program.circuit) [] (unit_machine program ratios cycle state latches flags) next
+next-is program ratios cycle state next latches flags held row once same all have is signals settled =
+    is ∙ ap (next_state (edges_at ratios cycle) program.circuit state) (once signals (subst (λ inputs. Settled program.circuit state inputs signals) (all-inputs latches held same all have) settled))
 
 -- ---- what a unit holds
 

@@ -32,7 +32,7 @@ module _ (program : Programmed) (order : List ℕ) where
 
   -- a machine in its next cycle
   abbrev next : List (List ℕ) → Machine → Machine
-  next columns machine = finished (whole columns machine) (next_state program.circuit machine.state (row (whole columns machine)))
+  next columns machine = finished (whole columns machine) (next_state [] program.circuit machine.state (row (whole columns machine)))
 
   -- a machine after n cycles from the opening
   abbrev after : List (List ℕ) → ℕ → Machine
@@ -67,7 +67,7 @@ late-old = refl
 late-undefined : five (late_program Undefined) late_order late_inputs ≡ (0 ∷ []) ∷ (0 ∷ []) ∷ (0 ∷ []) ∷ (0 ∷ []) ∷ (34 ∷ []) ∷ []
 late-undefined = refl
 
-late-end : after (late_program New) late_order late_inputs 5 ≡ unit_machine (late_program New) 5 (holds (0 ∷ 68 ∷ 0 ∷ []) (0 ∷ [])) (None ∷ None ∷ None ∷ []) (false ∷ [])
+late-end : after (late_program New) late_order late_inputs 5 ≡ unit_machine (late_program New) [] 5 (holds (0 ∷ 68 ∷ 0 ∷ []) (0 ∷ [])) (None ∷ None ∷ None ∷ []) (false ∷ [])
 late-end = refl
 
 -- ---- readers of latency 0: an out needs the ins that the address and the enable of its reader need
@@ -91,5 +91,5 @@ second-needs-v = refl
 ports-given : five ports_program ports_order ports_inputs ≡ (0 ∷ 0 ∷ []) ∷ (240 ∷ 240 ∷ []) ∷ (0 ∷ 0 ∷ []) ∷ (222 ∷ 0 ∷ []) ∷ (0 ∷ 0 ∷ []) ∷ []
 ports-given = refl
 
-ports-end : after ports_program ports_order ports_inputs 5 ≡ unit_machine ports_program 5 (holds (0 ∷ 255 ∷ 248 ∷ []) []) (None ∷ None ∷ []) (false ∷ false ∷ [])
+ports-end : after ports_program ports_order ports_inputs 5 ≡ unit_machine ports_program [] 5 (holds (0 ∷ 255 ∷ 248 ∷ []) []) (None ∷ None ∷ []) (false ∷ false ∷ [])
 ports-end = refl

@@ -19,7 +19,7 @@ abbrev program : Programmed
 program = record { circuit = unit; needs = (0 ∷ []) ∷ (0 ∷ 1 ∷ []) ∷ [] }
 
 abbrev a : List (Option ℕ) → List Bool → Machine
-a latches flags = unit_machine program 0 no_state latches flags
+a latches flags = unit_machine program [] 0 no_state latches flags
 
 opens : opening_unit program ≡ a (None ∷ None ∷ []) (false ∷ false ∷ [])
 opens = refl
@@ -104,5 +104,5 @@ with-all =
       below = lit< tt;
     }
 
-cleaned : finished (a (Some 5 ∷ Some 3 ∷ []) (true ∷ true ∷ [])) no_state ≡ unit_machine program 1 no_state (None ∷ None ∷ []) (false ∷ false ∷ [])
+cleaned : finished (a (Some 5 ∷ Some 3 ∷ []) (true ∷ true ∷ [])) no_state ≡ unit_machine program [] 1 no_state (None ∷ None ∷ []) (false ∷ false ∷ [])
 cleaned = refl

@@ -2,6 +2,7 @@
 -- Source: MEMOCODE 2009 (a node with a latch for each input and a flag for each output); ICCAD 2019 (units of a target
 -- that advance when their tokens allow it).
 use Rattle.std.specs.Prelude.{◌≡◌, ◌↔◌, ℕ, ◌<◌, List, [], Option, Some, None, Bool, false, IsSome, length, replicate}
+use Rattle.gg_flat.specs.Clock.{Ratio}
 use Rattle.gg_flat.specs.Line.{value_at}
 use Rattle.gg_flat.specs.Circuit.{FlatCircuit}
 use Rattle.gg_flat.specs.State.{State, IsState, opening}
@@ -10,13 +11,14 @@ use Rattle.gg_program.specs.Programmed.{Programmed}
 use Rattle.gg_program.specs.Slots.{Slotted, HasInput, inputs_in}
 use Rattle.gg_program.specs.Right.{InCycle}
 
--- The machine of a program. It runs the piece, and each out needs what the program says. No port is served, since the
--- piece's memories are inside.
-abbrev pub unit_machine : Programmed → ℕ → State → List (Option ℕ) → List Bool → Machine
-unit_machine program cycle state latches flags =
+-- The machine of a program, with a ratio for each clock of its piece. It runs the piece, and each out needs what the
+-- program says. No port is served, since the piece's memories are inside.
+abbrev pub unit_machine : Programmed → List Ratio → ℕ → State → List (Option ℕ) → List Bool → Machine
+unit_machine program ratios cycle state latches flags =
     record {
       behaviour = RunsPiece program.circuit;
       limit = cycle_limit;
+      ratios = ratios;
       needs = program.needs;
       port_count = 0;
       ports = [];
@@ -28,10 +30,10 @@ unit_machine program cycle state latches flags =
       kept = [];
     }
 
--- a unit before its first cycle
+-- a unit before its first cycle; all its clocks have an edge in each
 abbrev pub opening_unit : Programmed → Machine
 opening_unit program =
-    unit_machine program 0 (opening program.circuit) (replicate (length program.circuit.ins) None) (replicate (length program.circuit.outs) false)
+    unit_machine program [] 0 (opening program.circuit) (replicate (length program.circuit.ins) None) (replicate (length program.circuit.outs) false)
 
 -- for each latch that holds a token, the inputs have this token
 abbrev pub HaveTokens : List (Option ℕ) → List ℕ → Type 0

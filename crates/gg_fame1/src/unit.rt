@@ -25,12 +25,13 @@ pub struct Unit<'a> {
 }
 
 impl<'a> Model for Unit<'a> {
+    ghost use Rattle.std.specs.Prelude.{[]};
     ghost use Rattle.gg_node.specs.Machine.{Machine};
     ghost use Rattle.gg_fame1.specs.Unit.{unit_machine, IsOfPiece};
 
     ghost Value = { Machine };
 
-    ghost view = { λ unit. unit_machine unit.program unit.cycle unit.state unit.latches.items unit.flags.items };
+    ghost view = { λ unit. unit_machine unit.program [] unit.cycle unit.state unit.latches.items unit.flags.items };
 
     ghost invariant = { λ unit. IsOfPiece unit.program.circuit unit.state unit.slots unit.latches.items unit.flags.items };
 }
@@ -132,7 +133,7 @@ impl<'a> Unit<'a> {
         // for the program's invariant on its circuit
         let _ = self.program.piece();
         settled_once();
-        self.program.run_next(&mut self.state, &mut self.slots);
+        self.program.run_next(&mut self.state, &mut self.slots, &[]);
         self.latches.fill(None);
         self.flags.fill(false);
         self.cycle += 1;

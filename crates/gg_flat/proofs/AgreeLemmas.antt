@@ -1,6 +1,6 @@
 -- A driver's value depends on the signals that the driver names, and on no other.
 use Rattle.std.proofs.Common.{◌≡◌, ℕ, suc, ◌-◌, List, [], ◌∷◌, ◌++◌, length, refl, ◌∙◌, ap, ap₂, inl, inr, arith}
-use Rattle.std.specs.Prelude.{fold, Option, Some, None, ◌==◌, if◌then◌else◌}
+use Rattle.std.specs.Prelude.{fold, Option, Some, None, Bool, ◌==◌, if◌then◌else◌}
 use Rattle.gg_bits.specs.Shape.{Shape, shape}
 use Rattle.gg_bits.specs.Meaning.{extended}
 use Rattle.gg_flat.specs.declared.line.Node.{Node}
@@ -8,6 +8,7 @@ use Rattle.gg_flat.specs.declared.line.Op.{Op}
 use Rattle.gg_flat.specs.declared.line.Op.TheVariants.{Ref, Literal, One, Two, Fix, Mux}
 use Rattle.gg_flat.specs.declared.piece.Driver.{Driver}
 use Rattle.gg_flat.specs.declared.piece.Driver.TheVariants.{Input, Held, MemoryWord, ReadRegister, Computed}
+use Rattle.gg_flat.specs.Clock.{ticks}
 use Rattle.gg_flat.specs.Line.{value_at, shapes_of, line_shape, op_value, with_node, line_value, connected_value}
 use Rattle.gg_flat.specs.declared.piece.Register.{Register}
 use Rattle.gg_flat.specs.declared.piece.Reset.{Reset}
@@ -53,7 +54,8 @@ reset_or-agree v w sink (Some reset) other same =
     ap₂ (λ condition init. if condition == 1 then init else other) (line_value-agree v w reset.condition (λ s named. same s (inl named))) (connected-agree v w sink reset.init (λ s named. same s (inr named)))
 
 -- a register's next value depends on the signals that the register names, and on no other
-pub next_register-agree : (v w : List ℕ) (register : Register) (own : ℕ) → ((s : ℕ) → RegisterNames register s → value_at v s ≡ value_at w s) → next_register v register own ≡ next_register w register own
-next_register-agree v w register own same =
-    ap (reset_or v (shape register.ty) register.reset) (connected_or-agree v w (shape register.ty) register.next own (λ s named. same s (inr named)))
-    ∙ reset_or-agree v w (shape register.ty) register.reset (connected_or w (shape register.ty) register.next own) (λ s named. same s (inl named))
+pub next_register-agree : (edges : List Bool) (v w : List ℕ) (register : Register) (own : ℕ) → ((s : ℕ) → RegisterNames register s → value_at v s ≡ value_at w s) → next_register edges v register own ≡ next_register edges w register own
+next_register-agree edges v w register own same =
+    ap (λ taken. if ticks edges register.clock then taken else own)
+    (ap (reset_or v (shape register.ty) register.reset) (connected_or-agree v w (shape register.ty) register.next own (λ s named. same s (inr named)))
+    ∙ reset_or-agree v w (shape register.ty) register.reset (connected_or w (shape register.ty) register.next own) (λ s named. same s (inl named)))

@@ -9,10 +9,11 @@ use Rattle.gg_flat.specs.declared.line.Node.{Node}
 use Rattle.gg_flat.specs.declared.piece.Register.{Register}
 use Rattle.gg_flat.specs.declared.piece.Reset.{Reset}
 use Rattle.gg_flat.specs.declared.piece.Signal.{Signal}
+use Rattle.gg_flat.specs.Clock.{edges_at, ticks}
 use Rattle.gg_flat.specs.Line.{shape_at, value_at, line_value, connected_value, AreTyped}
 use Rattle.gg_flat.specs.Circuit.{FlatCircuit, signal_shapes, register_shapes, driver_at}
 use Rattle.gg_flat.specs.WellFormed.{IsWellFormed}
-use Rattle.gg_flat.specs.State.{State, IsState, opening, next_state, next_register, next_registers, connected_or, reset_or}
+use Rattle.gg_flat.specs.State.{State, IsState, opening, next_state, taken_value, next_register, next_registers, connected_or, reset_or}
 use Rattle.gg_flat.specs.Settled.{Settled, IsInputs, driver_value}
 use Rattle.gg_flat.specs.Run.{Start, later, opening_start, IsRunFrom, IsRun, IsColumns, state_at, row_at, inputs_at}
 use Rattle.gg_flat.specs.Order.{IsOrder}
@@ -46,8 +47,8 @@ Settled-along circuit order state inputs formed o st ins =
     (Partly-along circuit order state inputs (replicate (length circuit.signals) 0) formed o st ins zeros (length order) (omega arith)))
 
 -- a register's next value has its type
-next_register-fits : (signals : List ℕ) (register : Register) (own : ℕ) → Fits (shape register.ty) own → Fits (shape register.ty) (next_register signals register own)
-next_register-fits signals register own fits = after register.reset (before register.next)
+next_register-fits : (edges : List Bool) (signals : List ℕ) (register : Register) (own : ℕ) → Fits (shape register.ty) own → Fits (shape register.ty) (next_register edges signals register own)
+next_register-fits edges signals register own fits = choice (ticks edges register.clock) (taken_value signals register own) own (after register.reset (before register.next)) fits
   where
     choice : (b : Bool) (x y : ℕ) → Fits (shape register.ty) x → Fits (shape register.ty) y → Fits (shape register.ty) (if b then x else y)
     choice true x y first second = first
@@ -62,28 +63,28 @@ next_register-fits signals register own fits = after register.reset (before regi
     after {other} (Some reset) fit = choice (line_value signals reset.condition == 1) (connected_value signals (shape register.ty) reset.init) other (pattern_of-lt (shape register.ty).width _) fit
 
 -- the registers' next values have their types
-registers-typed : (circuit : FlatCircuit) (own signals : List ℕ) → AreTyped (register_shapes circuit) own → AreTyped (register_shapes circuit) (next_registers signals circuit.registers own)
-registers-typed circuit own signals typed =
+registers-typed : (edges : List Bool) (circuit : FlatCircuit) (own signals : List ℕ) → AreTyped (register_shapes circuit) own → AreTyped (register_shapes circuit) (next_registers edges signals circuit.registers own)
+registers-typed edges circuit own signals typed =
     let long : length (register_shapes circuit) ≡ length circuit.registers = length-map circuit.registers (λ (register : Register). shape register.ty) in
     let count : length own ≡ length circuit.registers = typed.count ∙ long in
     record {
-      count = length-next_registers signals circuit.registers own count ∙ sym long;
+      count = length-next_registers edges signals circuit.registers own count ∙ sym long;
       fits = λ i known.
           let within : i < length circuit.registers = omega (arith, known, long) in
           let some = some-item circuit.registers i within in
           let shape_is : shape_at (register_shapes circuit) i ≡ shape (get_or circuit.registers i some).ty = get_or-map (λ (register : Register). shape register.ty) circuit.registers i some (uint 0) within in
           let old = subst (λ s. Fits s (value_at own i)) shape_is (typed.fits i known) in
-          let next = next_register-fits signals (get_or circuit.registers i some) (value_at own i) old in
-          subst (λ s. Fits s (value_at (next_registers signals circuit.registers own) i)) (sym shape_is)
-          (subst (Fits (shape (get_or circuit.registers i some).ty)) (sym (next_registers-at signals circuit.registers own i some count within)) next);
+          let next = next_register-fits edges signals (get_or circuit.registers i some) (value_at own i) old in
+          subst (λ s. Fits s (value_at (next_registers edges signals circuit.registers own) i)) (sym shape_is)
+          (subst (Fits (shape (get_or circuit.registers i some).ty)) (sym (next_registers-at edges signals circuit.registers own i some count within)) next);
     }
 
 -- the next state is a state of the circuit
-pub IsState-next : (circuit : FlatCircuit) (state : State) (signals : List ℕ) → IsWellFormed circuit → AreTyped (signal_shapes circuit) signals → IsState circuit state → IsState circuit (next_state circuit state signals)
-IsState-next circuit state signals formed typed st =
+pub IsState-next : (edges : List Bool) (circuit : FlatCircuit) (state : State) (signals : List ℕ) → IsWellFormed circuit → AreTyped (signal_shapes circuit) signals → IsState circuit state → IsState circuit (next_state edges circuit state signals)
+IsState-next edges circuit state signals formed typed st =
     record {
-      typed = registers-typed circuit state.registers signals st.typed;
-      held = AreBanks-next signals circuit.memories state.banks (memories-valued circuit signals formed typed) st.held;
+      typed = registers-typed edges circuit state.registers signals st.typed;
+      held = AreBanks-next edges signals circuit.memories state.banks (memories-valued circuit signals formed typed) st.held;
     }
 
 pub IsState-opening : (circuit : FlatCircuit) → IsState circuit (opening circuit)
@@ -97,7 +98,7 @@ IsState-opening circuit =
 pub IsState-at : (circuit : FlatCircuit) (start : Start) (columns : List (List ℕ)) (n : ℕ) (rows : List (List ℕ)) → IsWellFormed circuit → IsState circuit start.state → IsRunFrom circuit start columns n rows → (t : ℕ) → t ≤ n → IsState circuit (state_at circuit start rows t)
 IsState-at circuit start columns n rows formed st run zero le = st
 IsState-at circuit start columns n rows formed st run (suc t) le =
-    IsState-next circuit (state_at circuit start rows t) (row_at rows t) formed (run.settled t (omega arith)).typed (IsState-at circuit start columns n rows formed st run t (omega arith))
+    IsState-next (edges_at start.ratios (later start.cycle t)) circuit (state_at circuit start rows t) (row_at rows t) formed (run.settled t (omega arith)).typed (IsState-at circuit start columns n rows formed st run t (omega arith))
 
 -- the rows worked out along an order are a run from a start, if the columns have inputs in each cycle
 pub IsRunFrom-along : (circuit : FlatCircuit) (order : List ℕ) (start : Start) (columns : List (List ℕ)) (n : ℕ) → IsWellFormed circuit → IsOrder circuit order → IsState circuit start.state → ((t : ℕ) → t < n → IsInputs circuit (inputs_at columns (later start.cycle t))) → IsRunFrom circuit start columns n (rows_from circuit order start columns n)

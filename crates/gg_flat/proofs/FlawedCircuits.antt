@@ -101,7 +101,7 @@ wide_condition formed = absurd (omega (arith, ap width_of ((formed.drivers 0 (li
 
 -- a register of one bit, which is connected to this line and has this reset
 abbrev register : Option Reset → Option (List Node) → Register
-register reset next = record { ty = one; reset = reset; next = next }
+register reset next = record { ty = one; reset = reset; next = next; clock = None }
 
 abbrev held : Register → FlatCircuit
 held register = record toggle { registers = register ∷ [] }

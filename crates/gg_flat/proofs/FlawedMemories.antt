@@ -1,5 +1,5 @@
 -- A circuit with a memory is well formed, and those whose memories have one flaw each are not.
-use Rattle.std.proofs.Common.{◌≡◌, ℕ, List, [], ◌∷◌, refl, ap, inl, arith, lit<, lit≤}
+use Rattle.std.proofs.Common.{◌≡◌, ℕ, List, [], ◌∷◌, None, refl, ap, inl, arith, lit<, lit≤}
 use Rattle.std.specs.Prelude.{slice_index_or}
 use Rattle.gg_bits.specs.Shape.{Shape, shape}
 use Rattle.gg_flat.specs.declared.line.Op.TheVariants.{Literal}
@@ -34,10 +34,10 @@ abbrev memory : ℕ → List Reader → List Writer → Memory
 memory depth readers writers = record { word = eight; depth = depth; latency = Zero; readers = readers; writers = writers }
 
 abbrev reader : Reader
-reader = record { addr = 1; en = 2; word = 0 }
+reader = record { addr = 1; en = 2; word = 0; clock = None }
 
 abbrev writer : Writer
-writer = record { addr = 1; en = 2; word = 0; mask = 2 }
+writer = record { addr = 1; en = 2; word = 0; mask = 2; clock = None }
 
 abbrev sound : FlatCircuit
 sound = lone (MemoryWord 0 0 1 2) (memory 3 (reader ∷ []) (writer ∷ []))

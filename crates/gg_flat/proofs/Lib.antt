@@ -5,6 +5,7 @@ pub mod AgreeLemmas
 pub mod NameLemmas
 pub mod OrderLemmas
 pub mod UniqueLemmas
+pub mod DependLemmas
 pub mod TypedLemmas
 pub mod SettleLemmas
 pub mod LineLemmas
@@ -15,6 +16,7 @@ pub mod WidthLemmas
 pub mod LateLemmas
 pub mod ServedLemmas
 pub mod RunLemmas
+pub mod SinceLemmas
 pub mod AlongLemmas
 pub mod WorkedCircuits
 pub mod WorkedRows
@@ -24,4 +26,5 @@ pub mod WorkedMemories
 pub mod FlawedMemories
 pub mod WorkedTree
 pub mod WorkedRuns
+pub mod WorkedClocks
 pub mod WorkedScopes

@@ -4,6 +4,7 @@ use Rattle.std.proofs.lemmas.List.{get_or_append_left, get_or-append_right, leng
 use Rattle.std.proofs.lemmas.Bool.{cases_lt}
 use Rattle.std.proofs.Math.Seq.{get_or-append_seam}
 use Rattle.gg_flat.specs.Circuit.{FlatCircuit}
+use Rattle.gg_flat.specs.Clock.{edges_at}
 use Rattle.gg_flat.specs.State.{State, next_state}
 use Rattle.gg_flat.specs.Settled.{Settled}
 use Rattle.gg_flat.specs.Run.{Start, later, IsRunFrom, state_at, row_at, inputs_at, after_rows}
@@ -14,8 +15,8 @@ module _ (circuit : FlatCircuit) (start : Start) where
   state_at-append rows others zero le = refl
   state_at-append rows others (suc t) le =
       let within : t < length rows = omega arith in
-      ap (λ state. next_state circuit state (row_at (rows ++ others) t)) (state_at-append rows others t (omega arith))
-      ∙ ap (next_state circuit (state_at circuit start rows t)) (get_or_append_left rows others [] t within)
+      ap (λ state. next_state (edges_at start.ratios (later start.cycle t)) circuit state (row_at (rows ++ others) t)) (state_at-append rows others t (omega arith))
+      ∙ ap (next_state (edges_at start.ratios (later start.cycle t)) circuit (state_at circuit start rows t)) (get_or_append_left rows others [] t within)
 
   pub IsRunFrom-none : (columns : List (List ℕ)) → IsRunFrom circuit start columns 0 []
   IsRunFrom-none columns = record { count = refl; settled = λ t lt. absurd (omega arith) }
@@ -40,10 +41,10 @@ module _ (circuit : FlatCircuit) (start : Start) where
       }
 
   -- the state after the row that was pushed
-  pub state_at-next : (columns : List (List ℕ)) (t : ℕ) (rows : List (List ℕ)) (row : List ℕ) (state : State) → IsRunFrom circuit start columns t rows → state ≡ state_at circuit start rows t → next_state circuit state row ≡ state_at circuit start (rows ++ row ∷ []) (t + 1)
+  pub state_at-next : (columns : List (List ℕ)) (t : ℕ) (rows : List (List ℕ)) (row : List ℕ) (state : State) → IsRunFrom circuit start columns t rows → state ≡ state_at circuit start rows t → next_state (edges_at start.ratios (later start.cycle t)) circuit state row ≡ state_at circuit start (rows ++ row ∷ []) (t + 1)
   state_at-next columns t rows row state run is =
-      ap (λ s. next_state circuit s row) (is ∙ sym (state_at-append rows (row ∷ []) t (omega (arith, run.count))))
-      ∙ ap (next_state circuit (state_at circuit start (rows ++ row ∷ []) t)) (sym (row_at-push rows row t run.count))
+      ap (λ s. next_state (edges_at start.ratios (later start.cycle t)) circuit s row) (is ∙ sym (state_at-append rows (row ∷ []) t (omega (arith, run.count))))
+      ∙ ap (next_state (edges_at start.ratios (later start.cycle t)) circuit (state_at circuit start (rows ++ row ∷ []) t)) (sym (row_at-push rows row t run.count))
       ∙ ap (state_at circuit start (rows ++ row ∷ [])) (sym (add-one t))
 
 -- ---- a run that goes on where another ended
@@ -64,8 +65,9 @@ module _ (circuit : FlatCircuit) (start : Start) where
   state_at-after rows others n zero count le =
       sym (state_at-append circuit start rows others n (omega (arith, count))) ∙ ap (state_at circuit start (rows ++ others)) (let same : n ≡ n + 0 = omega arith in same)
   state_at-after rows others n (suc t) count le =
-      ap (λ state. next_state circuit state (row_at others t)) (state_at-after rows others n t count (omega arith))
-      ∙ ap (next_state circuit (state_at circuit start (rows ++ others) (n + t))) (sym (row_at-after rows others n t count))
+      ap (λ u. next_state (edges_at start.ratios u) circuit (state_at circuit (after_rows circuit start rows n) others t) (row_at others t)) (later-later start.cycle n t)
+      ∙ ap (λ state. next_state (edges_at start.ratios (later start.cycle (n + t))) circuit state (row_at others t)) (state_at-after rows others n t count (omega arith))
+      ∙ ap (next_state (edges_at start.ratios (later start.cycle (n + t))) circuit (state_at circuit start (rows ++ others) (n + t))) (sym (row_at-after rows others n t count))
       ∙ ap (state_at circuit start (rows ++ others)) (let same : suc (n + t) ≡ n + suc t = omega arith in same)
 
   -- the rows of a run, followed by those of the run that goes on, are a run

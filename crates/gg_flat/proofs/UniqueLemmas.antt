@@ -5,6 +5,7 @@ use Rattle.std.proofs.lemmas.Grind.{same_number_lists}
 use Rattle.gg_bits.specs.Shape.{shape}
 use Rattle.gg_flat.specs.Line.{value_at, shape_at}
 use Rattle.gg_flat.specs.Circuit.{FlatCircuit, signal_shapes, driver_at}
+use Rattle.gg_flat.specs.Clock.{edges_at}
 use Rattle.gg_flat.specs.State.{State, next_state}
 use Rattle.gg_flat.specs.Settled.{Settled}
 use Rattle.gg_flat.specs.Run.{Start, later, IsRunFrom, state_at, row_at, inputs_at}
@@ -46,7 +47,7 @@ states-agree circuit order start columns n rows others o a b zero le = refl
 states-agree circuit order start columns n rows others o a b (suc t) le =
     let before = states-agree circuit order start columns n rows others o a b t (omega arith) in
     let row = rows-agree circuit order start columns n rows others o a b t (omega arith) before in
-    ap (λ state. next_state circuit state (row_at rows t)) before ∙ ap (next_state circuit (state_at circuit start others t)) row
+    ap (λ state. next_state (edges_at start.ratios (later start.cycle t)) circuit state (row_at rows t)) before ∙ ap (next_state (edges_at start.ratios (later start.cycle t)) circuit (state_at circuit start others t)) row
 
 -- two runs from a start on the same columns are the same
 pub IsRunFrom-once : (circuit : FlatCircuit) (order : List ℕ) (start : Start) (columns : List (List ℕ)) (n : ℕ) (rows others : List (List ℕ)) → IsOrder circuit order → IsRunFrom circuit start columns n rows → IsRunFrom circuit start columns n others → rows ≡ others

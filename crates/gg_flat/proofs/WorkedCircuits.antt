@@ -59,6 +59,7 @@ counter =
             ty = eight;
             reset = Some (record { condition = node one (Literal (value 0)) ∷ []; init = node eight (Ref 2) ∷ [] });
             next = Some next_or_zero;
+            clock = None;
           }
           ∷ [];
       memories = [];
@@ -75,7 +76,7 @@ toggle =
     record {
       paths = (113 ∷ []) ∷ (114 ∷ []) ∷ [];
       signals = record { ty = one; driver = Computed (node one (Ref 1) ∷ []) } ∷ record { ty = one; driver = Held 0 } ∷ [];
-      registers = record { ty = one; reset = None; next = Some (node one (Ref 1) ∷ node one (One Not 0) ∷ []) } ∷ [];
+      registers = record { ty = one; reset = None; next = Some (node one (Ref 1) ∷ node one (One Not 0) ∷ []); clock = None } ∷ [];
       memories = [];
       ins = [];
       outs = 0 ∷ [];
@@ -96,6 +97,7 @@ loaded =
             ty = eight;
             reset = Some (record { condition = node one (Ref 0) ∷ []; init = node three (Literal (value 5)) ∷ [] });
             next = Some (node eight (Ref 1) ∷ node one (Literal (value 1)) ∷ node nine (Two Add 0 1) ∷ node eight (Fix Tail 2 1 0) ∷ []);
+            clock = None;
           }
           ∷ [];
       memories = [];

@@ -132,7 +132,7 @@ toggle-run = IsRun-along toggle toggle_order [] 3 toggle-formed toggle-ordered t
 
 -- ---- the counter that an input sets
 
-loaded-formed : IsWellFormed loaded
+pub loaded-formed : IsWellFormed loaded
 loaded-formed = record {
   named = refl;
   distinct = pair _ _ (differ 115 99 refl);
@@ -154,7 +154,7 @@ loaded-formed = record {
   reads = λ m lt. absurd (omega arith);
 }
 
-loaded-ordered : IsOrder loaded loaded_order
+pub loaded-ordered : IsOrder loaded loaded_order
 loaded-ordered = record {
   signals = both _ (lit< tt) (lit< tt);
   once = pair 0 1 (apart 0 1 refl);

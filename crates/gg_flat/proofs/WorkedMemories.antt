@@ -1,5 +1,5 @@
 -- Circuits with memories by hand, each with a list of its signals along which it is worked out, and what they give.
-use Rattle.std.proofs.Common.{◌≡◌, ℕ, List, [], ◌∷◌, refl, lit≤}
+use Rattle.std.proofs.Common.{◌≡◌, ℕ, List, [], ◌∷◌, None, refl, lit≤}
 use Rattle.gg_bits.specs.declared.types.Ty.{Ty}
 use Rattle.gg_bits.specs.declared.ops.Op1.TheVariants.{Not}
 use Rattle.gg_bits.specs.declared.ops.OpN.TheVariants.{Bits}
@@ -63,8 +63,8 @@ ports =
             word = eight;
             depth = 3;
             latency = Zero;
-            readers = record { addr = 4; en = 5; word = 6 } ∷ record { addr = 7; en = 8; word = 9 } ∷ [];
-            writers = record { addr = 10; en = 11; word = 12; mask = 13 } ∷ record { addr = 14; en = 15; word = 16; mask = 17 } ∷ [];
+            readers = record { addr = 4; en = 5; word = 6; clock = None } ∷ record { addr = 7; en = 8; word = 9; clock = None } ∷ [];
+            writers = record { addr = 10; en = 11; word = 12; mask = 13; clock = None } ∷ record { addr = 14; en = 15; word = 16; mask = 17; clock = None } ∷ [];
           }
           ∷ [];
       ins = 0 ∷ 1 ∷ [];
@@ -104,8 +104,8 @@ late under =
             word = eight;
             depth = 3;
             latency = Late under;
-            readers = record { addr = 4; en = 5; word = 6 } ∷ [];
-            writers = record { addr = 7; en = 8; word = 9; mask = 10 } ∷ [];
+            readers = record { addr = 4; en = 5; word = 6; clock = None } ∷ [];
+            writers = record { addr = 7; en = 8; word = 9; mask = 10; clock = None } ∷ [];
           }
           ∷ [];
       ins = 0 ∷ 1 ∷ 2 ∷ [];
@@ -132,7 +132,7 @@ late-undefined = refl
 
 -- from cycle 3 on, with a word of 22 at address 1, `o` is 00 and then 22
 abbrev pub from_three : Start
-from_three = record { cycle = 3; state = record { registers = []; banks = record { words = 0 ∷ 34 ∷ 0 ∷ []; reads = 0 ∷ [] } ∷ [] } }
+from_three = record { cycle = 3; state = record { registers = []; banks = record { words = 0 ∷ 34 ∷ 0 ∷ []; reads = 0 ∷ [] } ∷ [] }; ratios = [] }
 
 late-from_three : column (rows_from (late Old) late_order from_three late_inputs 2) 3 ≡ 0 ∷ 34 ∷ []
 late-from_three = refl
@@ -146,8 +146,8 @@ alone under =
       word = eight;
       depth = 2;
       latency = Late under;
-      readers = record { addr = 0; en = 1; word = 2 } ∷ [];
-      writers = record { addr = 3; en = 4; word = 5; mask = 6 } ∷ [];
+      readers = record { addr = 0; en = 1; word = 2; clock = None } ∷ [];
+      writers = record { addr = 3; en = 4; word = 5; mask = 6; clock = None } ∷ [];
     }
 
 abbrev pub holding : Bank
@@ -158,33 +158,33 @@ abbrev pub given : List ℕ
 given = 1 ∷ 1 ∷ 0 ∷ 1 ∷ 1 ∷ 5 ∷ 1 ∷ []
 
 -- before any access
-served-none : after_accesses given (alone Old) holding 0 ≡ holding
+served-none : after_accesses [] given (alone Old) holding 0 ≡ holding
 served-none = refl
 
 -- the reader comes before the writer, and gets the old word
-served-old : after_accesses given (alone Old) holding 1 ≡ record { words = 7 ∷ 8 ∷ []; reads = 8 ∷ [] }
+served-old : after_accesses [] given (alone Old) holding 1 ≡ record { words = 7 ∷ 8 ∷ []; reads = 8 ∷ [] }
 served-old = refl
 
 -- the writer comes first, and the reader gets the new word
-served-new : after_accesses given (alone New) holding 1 ≡ record { words = 7 ∷ 5 ∷ []; reads = 9 ∷ [] }
+served-new : after_accesses [] given (alone New) holding 1 ≡ record { words = 7 ∷ 5 ∷ []; reads = 9 ∷ [] }
 served-new = refl
 
-served-both : after_accesses given (alone New) holding 2 ≡ record { words = 7 ∷ 5 ∷ []; reads = 5 ∷ [] }
+served-both : after_accesses [] given (alone New) holding 2 ≡ record { words = 7 ∷ 5 ∷ []; reads = 5 ∷ [] }
 served-both = refl
 
 -- ---- the due list of two readers and two writers
 
 abbrev r : Reader
-r = record { addr = 0; en = 1; word = 2 }
+r = record { addr = 0; en = 1; word = 2; clock = None }
 
 abbrev s : Reader
-s = record { addr = 3; en = 4; word = 5 }
+s = record { addr = 3; en = 4; word = 5; clock = None }
 
 abbrev w : Writer
-w = record { addr = 6; en = 7; word = 8; mask = 9 }
+w = record { addr = 6; en = 7; word = 8; mask = 9; clock = None }
 
 abbrev x : Writer
-x = record { addr = 10; en = 11; word = 12; mask = 13 }
+x = record { addr = 10; en = 11; word = 12; mask = 13; clock = None }
 
 abbrev four_ports : Latency → Memory
 four_ports latency = record { word = eight; depth = 2; latency = latency; readers = r ∷ s ∷ []; writers = w ∷ x ∷ [] }
@@ -210,13 +210,13 @@ abbrev four_holding : Bank
 four_holding = record { words = 7 ∷ 8 ∷ []; reads = 9 ∷ 9 ∷ [] }
 
 -- between the writers the readers have the old word, and the memory has the word of `w`
-between-old : after_accesses four_given (four_ports (Late Old)) four_holding 3 ≡ record { words = 7 ∷ 5 ∷ []; reads = 8 ∷ 8 ∷ [] }
+between-old : after_accesses [] four_given (four_ports (Late Old)) four_holding 3 ≡ record { words = 7 ∷ 5 ∷ []; reads = 8 ∷ 8 ∷ [] }
 between-old = refl
 
 -- if they read new words, they haven't read yet
-between-new : after_accesses four_given (four_ports (Late New)) four_holding 1 ≡ record { words = 7 ∷ 5 ∷ []; reads = 9 ∷ 9 ∷ [] }
+between-new : after_accesses [] four_given (four_ports (Late New)) four_holding 1 ≡ record { words = 7 ∷ 5 ∷ []; reads = 9 ∷ 9 ∷ [] }
 between-new = refl
 
 -- at the end the memory has the word of `x`, and both readers have read it
-ended-new : after_accesses four_given (four_ports (Late New)) four_holding 4 ≡ record { words = 7 ∷ 6 ∷ []; reads = 6 ∷ 6 ∷ [] }
+ended-new : after_accesses [] four_given (four_ports (Late New)) four_holding 4 ≡ record { words = 7 ∷ 6 ∷ []; reads = 6 ∷ 6 ∷ [] }
 ended-new = refl

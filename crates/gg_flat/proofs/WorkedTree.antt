@@ -17,7 +17,7 @@ circuit =
       paths = (113 ∷ []) ∷ (117 ∷ 46 ∷ 114 ∷ []) ∷ [];
       signals = high ∷ high ∷ [];
       registers = [];
-      memories = record { word = eight; depth = 1; latency = Zero; readers = record { addr = 0; en = 0; word = 1 } ∷ []; writers = [] } ∷ [];
+      memories = record { word = eight; depth = 1; latency = Zero; readers = record { addr = 0; en = 0; word = 1; clock = None } ∷ []; writers = [] } ∷ [];
       ins = [];
       outs = 0 ∷ [];
     }

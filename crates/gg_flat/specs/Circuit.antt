@@ -1,7 +1,7 @@
 -- The flat circuit: what a contract sees of a piece.
 -- Source: FIRRTL Specification, "Circuit Definitions", "Statements" (wires, nodes, registers, memories, connects). All
 -- instances are inlined; signals of type Clock are left out.
-use Rattle.std.specs.Prelude.{ℕ, List, [], map, slice_index_or}
+use Rattle.std.specs.Prelude.{ℕ, List, [], None, map, slice_index_or}
 use Rattle.gg_bits.specs.Shape.{Shape, shape}
 use Rattle.gg_flat.specs.declared.piece.Signal.{Signal}
 use Rattle.gg_flat.specs.declared.piece.Register.{Register}
@@ -48,4 +48,4 @@ latency_at circuit m = slice_index_or (map (λ memory. memory.latency) circuit.m
 
 -- the reader at a place
 abbrev pub reader_at : List Reader → ℕ → Reader
-reader_at readers r = slice_index_or readers r (record { addr = 0; en = 0; word = 0 })
+reader_at readers r = slice_index_or readers r (record { addr = 0; en = 0; word = 0; clock = None })

@@ -1,3 +1,4 @@
+pub mod Clock
 pub mod Line
 pub mod Circuit
 pub mod Memory
@@ -5,6 +6,7 @@ pub mod WellFormed
 pub mod Reads
 pub mod State
 pub mod Settled
+pub mod Depends
 pub mod Run
 pub mod Order
 pub mod Served
@@ -14,3 +16,4 @@ pub mod Ports
 pub mod Tree
 pub mod Scoped
 pub mod ErrorText
+pub mod Streams

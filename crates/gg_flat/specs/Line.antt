@@ -1,5 +1,5 @@
--- Lines: an expression as a list of nodes, its types and its value.
--- Source: FIRRTL Specification, "Expressions" (references, literals, primitive operations, multiplexers) and "Connects".
+-- Lines: an expression as a list of nodes, its types and its value. Source: FIRRTL Specification, "Expressions"
+-- (references, literals, primitive operations, multiplexers) and "Connects".
 use Rattle.std.specs.Prelude.{◌≡◌, ℕ, ◌-◌, ◌<◌, ◌≤◌, List, [], ◌∷◌, ◌++◌, Ok, length, map, fold, slice_index_or}
 use Rattle.gg_bits.specs.Shape.{Shape, shape, uint, Fits}
 use Rattle.gg_bits.specs.ResultType.{type1, type2, type_const, type_mux}

@@ -3,7 +3,7 @@
 -- Words and read registers start at 0. A read past the depth, or by a reader that isn't enabled, gives 0. A write past
 -- the depth is dropped. If two writers write the same word the later in the file wins. An undefined read gives the old
 -- word.
-use Rattle.std.specs.Prelude.{◌≡◌, ℕ, zero, suc, ◌^◌, List, [], ◌∷◌, length, map, replicate, slice_index_or, Bool, ◌==◌, ◌&&◌, if◌then◌else◌, nat_le, ◌<◌}
+use Rattle.std.specs.Prelude.{◌≡◌, ℕ, zero, suc, ◌^◌, List, [], ◌∷◌, length, replicate, slice_index_or, Bool, ◌==◌, ◌&&◌, if◌then◌else◌, nat_le, ◌<◌}
 use Rattle.gg_bits.specs.Shape.{Shape, shape, Fits}
 use Rattle.gg_flat.specs.declared.memory.UnderWrite.{UnderWrite}
 use Rattle.gg_flat.specs.declared.memory.UnderWrite.TheVariants.{Old, New, Undefined}
@@ -12,6 +12,7 @@ use Rattle.gg_flat.specs.declared.memory.Latency.TheVariants.{Zero, One}
 use Rattle.gg_flat.specs.declared.memory.Reader.{Reader}
 use Rattle.gg_flat.specs.declared.memory.Writer.{Writer}
 use Rattle.gg_flat.specs.declared.memory.Memory.{Memory}
+use Rattle.gg_flat.specs.Clock.{ticks}
 use Rattle.gg_flat.specs.Line.{value_at}
 
 -- ---- addresses
@@ -40,23 +41,23 @@ read_word words addr en = if en == 1 then value_at words addr else 0
 abbrev pub found_word : List ℕ → List ℕ → Reader → ℕ
 found_word signals words reader = read_word words (value_at signals reader.addr) (value_at signals reader.en)
 
--- whether a writer writes the word at address a
-abbrev pub hits : List ℕ → Writer → ℕ → Bool
-hits signals writer a = (value_at signals writer.en == 1) && (value_at signals writer.mask == 1) && (value_at signals writer.addr == a)
+-- whether a writer writes the word at address a in a tick with these edges
+abbrev pub hits : List Bool → List ℕ → Writer → ℕ → Bool
+hits edges signals writer a = ticks edges writer.clock && (value_at signals writer.en == 1) && (value_at signals writer.mask == 1) && (value_at signals writer.addr == a)
 
 -- The word at address a after the writes: that of the last writer that writes it, otherwise what it was before.
-abbrev pub next_word : List ℕ → List Writer → ℕ → ℕ → ℕ
-next_word signals [] a own = own
-next_word signals (writer ∷ writers) a own = next_word signals writers a (if hits signals writer a then value_at signals writer.word else own)
+abbrev pub next_word : List Bool → List ℕ → List Writer → ℕ → ℕ → ℕ
+next_word edges signals [] a own = own
+next_word edges signals (writer ∷ writers) a own = next_word edges signals writers a (if hits edges signals writer a then value_at signals writer.word else own)
 
 -- the words from address a on after the writes
-abbrev pub next_words_from : List ℕ → List Writer → ℕ → List ℕ → List ℕ
-next_words_from signals writers a [] = []
-next_words_from signals writers a (own ∷ words) = next_word signals writers a own ∷ next_words_from signals writers (suc a) words
+abbrev pub next_words_from : List Bool → List ℕ → List Writer → ℕ → List ℕ → List ℕ
+next_words_from edges signals writers a [] = []
+next_words_from edges signals writers a (own ∷ words) = next_word edges signals writers a own ∷ next_words_from edges signals writers (suc a) words
 
 -- the words after the writes
-abbrev pub next_words : List ℕ → List Writer → List ℕ → List ℕ
-next_words signals writers words = next_words_from signals writers 0 words
+abbrev pub next_words : List Bool → List ℕ → List Writer → List ℕ → List ℕ
+next_words edges signals writers words = next_words_from edges signals writers 0 words
 
 -- the words from which a late reader reads: those before or those after the writes
 abbrev pub words_read : UnderWrite → List ℕ → List ℕ → List ℕ
@@ -64,17 +65,27 @@ words_read Old before after = before
 words_read Undefined before after = before
 words_read New before after = after
 
--- the read registers after the cycle, given the words before and after the writes
-abbrev pub next_reads : List ℕ → Latency → List Reader → List ℕ → List ℕ → List ℕ
-next_reads signals Zero readers before after = []
-next_reads signals (One under) readers before after = map (found_word signals (words_read under before after)) readers
+-- a read register after the tick: the word that its reader finds, at an edge of its clock, otherwise what it had
+abbrev pub next_read : List Bool → List ℕ → List ℕ → Reader → ℕ → ℕ
+next_read edges signals words reader own = if ticks edges reader.clock then found_word signals words reader else own
 
--- what a memory holds after a cycle in which the signals have the values `signals`
-abbrev pub next_bank : List ℕ → Memory → Bank → Bank
-next_bank signals memory bank =
+-- the read registers of late readers after the tick, from their values before it
+abbrev pub late_reads : List Bool → List ℕ → List ℕ → List Reader → List ℕ → List ℕ
+late_reads edges signals words [] own = []
+late_reads edges signals words (reader ∷ readers) [] = []
+late_reads edges signals words (reader ∷ readers) (own ∷ others) = next_read edges signals words reader own ∷ late_reads edges signals words readers others
+
+-- the read registers after the tick, given the words before and after the writes
+abbrev pub next_reads : List Bool → List ℕ → Latency → List Reader → List ℕ → List ℕ → List ℕ → List ℕ
+next_reads edges signals Zero readers before after own = []
+next_reads edges signals (One under) readers before after own = late_reads edges signals (words_read under before after) readers own
+
+-- what a memory holds after a tick with these edges, in which the signals have the values `signals`
+abbrev pub next_bank : List Bool → List ℕ → Memory → Bank → Bank
+next_bank edges signals memory bank =
     record {
-      words = next_words signals memory.writers bank.words;
-      reads = next_reads signals memory.latency memory.readers bank.words (next_words signals memory.writers bank.words);
+      words = next_words edges signals memory.writers bank.words;
+      reads = next_reads edges signals memory.latency memory.readers bank.words (next_words edges signals memory.writers bank.words) bank.reads;
     }
 
 -- how many read registers a memory has
@@ -110,11 +121,11 @@ WritesAmong n writer = (writer.addr < n) × (writer.en < n) × (writer.word < n)
 abbrev pub bank_at : List Bank → ℕ → Bank
 bank_at banks m = slice_index_or banks m (record { words = []; reads = [] })
 
--- what the memories hold after the cycle
-abbrev pub next_banks : List ℕ → List Memory → List Bank → List Bank
-next_banks signals [] banks = []
-next_banks signals (memory ∷ memories) [] = []
-next_banks signals (memory ∷ memories) (bank ∷ banks) = next_bank signals memory bank ∷ next_banks signals memories banks
+-- what the memories hold after the tick
+abbrev pub next_banks : List Bool → List ℕ → List Memory → List Bank → List Bank
+next_banks edges signals [] banks = []
+next_banks edges signals (memory ∷ memories) [] = []
+next_banks edges signals (memory ∷ memories) (bank ∷ banks) = next_bank edges signals memory bank ∷ next_banks edges signals memories banks
 
 -- what the memories can hold
 pub record AreBanks (memories : List Memory) (banks : List Bank) : Type 0 where

@@ -1,6 +1,7 @@
 -- A run of a flat circuit, and the column of a signal.
 -- Source: FIRRTL Specification, "Registers" (one clock: a state at a time); ICCAD 2019 for target cycles as rows.
 use Rattle.std.specs.Prelude.{◌≡◌, ℕ, zero, suc, ◌<◌, List, [], length, map, slice_index_or, All}
+use Rattle.gg_flat.specs.Clock.{Ratio, edges_at}
 use Rattle.gg_flat.specs.Line.{value_at}
 use Rattle.gg_flat.specs.Circuit.{FlatCircuit}
 use Rattle.gg_flat.specs.State.{State, opening, next_state}
@@ -19,23 +20,30 @@ abbrev pub later : ℕ → ℕ → ℕ
 later zero t = t
 later (suc c) t = suc (later c t)
 
--- where a run starts: with this cycle, in this state
+-- the number of cycles from cycle c to cycle t; 0 if t is before c
+abbrev pub since : ℕ → ℕ → ℕ
+since zero t = t
+since (suc c) zero = zero
+since (suc c) (suc t) = since c t
+
+-- where a run starts, and how its clocks tick: the cycle, the state, and a ratio for each clock
 pub record Start : Type 0 where
   pub cycle : ℕ
   pub state : State
+  pub ratios : List Ratio
 
 -- the start of a whole run: cycle 0, with zeros
 abbrev pub opening_start : FlatCircuit → Start
-opening_start circuit = record { cycle = 0; state = opening circuit }
+opening_start circuit = record { cycle = 0; state = opening circuit; ratios = [] }
 
 -- the state after t cycles from the start, in which the signals have the values `rows`
 abbrev pub state_at : FlatCircuit → Start → List (List ℕ) → ℕ → State
 state_at circuit start rows zero = start.state
-state_at circuit start rows (suc t) = next_state circuit (state_at circuit start rows t) (row_at rows t)
+state_at circuit start rows (suc t) = next_state (edges_at start.ratios (later start.cycle t)) circuit (state_at circuit start rows t) (row_at rows t)
 
 -- the start from which the run goes on after t cycles
 abbrev pub after_rows : FlatCircuit → Start → List (List ℕ) → ℕ → Start
-after_rows circuit start rows t = record { cycle = later start.cycle t; state = state_at circuit start rows t }
+after_rows circuit start rows t = record { cycle = later start.cycle t; state = state_at circuit start rows t; ratios = start.ratios }
 
 -- A run of n cycles from a start: n rows. Each is settled, in the state that the rows before it lead to and with the
 -- inputs of its cycle.

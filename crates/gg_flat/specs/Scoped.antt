@@ -1,5 +1,5 @@
--- Scoping: which signals the driver of a signal, a register and a memory can name, and how signals are named in the tree.
--- Source: FIRRTL Specification, "Namespaces" (the names of one module are distinct, and it sees those of its
+-- Scoping: which signals the driver of a signal, a register and a memory can name, and how signals are named in the
+-- tree. Source: FIRRTL Specification, "Namespaces" (the names of one module are distinct, and it sees those of its
 -- declarations and of its instances' ports), "Instances", "Memories" (the fields of a port), "Connects".
 use Rattle.std.specs.Prelude.{◌≡◌, ◌≢◌, ◌⊎◌, ℕ, ◌<◌, List, [], ◌∷◌, ◌++◌, true, not, Some, length, map, flat_map, filter, slice_get, slice_index_or, Contains, AllPairs}
 use Rattle.gg_flat.specs.declared.tree.InstancePort.{InstancePort}
@@ -103,10 +103,10 @@ pub record IsOwnField (circuit : FlatCircuit) (tree : InstanceTree) (j s : ℕ) 
   pub own : IsInnermost tree (memory_at tree j).instance s
   pub path : IsWithin (path_at tree.memory_paths j) (path_at circuit.paths s)
 
--- A circuit keeps to the scopes of its tree. The circuit's in-signals and out-signals are the top's inputs and outputs, in
--- port order. An instance's ports are its own signals, and are distinct; so are a memory's fields. The path of an own
--- signal is just below the instance's, unless it is such a field. No memory has an instance's path. The signals that a
--- driver names, and those that the register of a signal names, are visible where the driver is written.
+-- A circuit keeps to the scopes of its tree. The circuit's in-signals and out-signals are the top's inputs and outputs,
+-- in port order. An instance's ports are its own signals, and are distinct; so are a memory's fields. The path of an
+-- own signal is just below the instance's, unless it is such a field. No memory has an instance's path. The signals
+-- that a driver names, and those that the register of a signal names, are visible where the driver is written.
 pub record IsScoped (circuit : FlatCircuit) (tree : InstanceTree) : Type 0 where
   pub ins : input_signals (instance_at tree 0).ports ≡ circuit.ins
   pub outs : output_signals (instance_at tree 0).ports ≡ circuit.outs

@@ -1,7 +1,7 @@
 -- A memory that serves one port after another: what it holds after the first of its accesses.
 -- Source: FIRRTL Specification, "Memories". Late readers of old words come before the writers, and those of new words
 -- after them: this is what "Memories" says of a read under a write.
-use Rattle.std.specs.Prelude.{◌≡◌, ◌⊎◌, ℕ, suc, List, [], ◌∷◌, ◌++◌, fold, take, slice_set, ⊤, ◌==◌, ◌&&◌, if◌then◌else◌}
+use Rattle.std.specs.Prelude.{◌≡◌, ◌⊎◌, ℕ, suc, List, [], ◌∷◌, ◌++◌, fold, take, slice_set, ⊤, Bool, ◌==◌, ◌&&◌, if◌then◌else◌}
 use Rattle.gg_flat.specs.declared.memory.UnderWrite.TheVariants.{Old, New, Undefined}
 use Rattle.gg_flat.specs.declared.memory.Latency.{Latency}
 use Rattle.gg_flat.specs.declared.memory.Latency.TheVariants.{Zero, One}
@@ -9,6 +9,7 @@ use Rattle.gg_flat.specs.declared.memory.Reader.{Reader}
 use Rattle.gg_flat.specs.declared.memory.Writer.{Writer}
 use Rattle.gg_flat.specs.declared.memory.Memory.{Memory}
 use Rattle.gg_bits.specs.Shape.{Shape}
+use Rattle.gg_flat.specs.Clock.{ticks}
 use Rattle.gg_flat.specs.Line.{value_at, HasValue}
 use Rattle.gg_flat.specs.Memory.{Bank, found_word}
 
@@ -53,17 +54,21 @@ abbrev pub MemoryNames : Memory → ℕ → Type 0
 MemoryNames memory s = SomeNames (due_list memory) s
 
 -- the words after one writer; a write past the depth doesn't change them
-abbrev pub written : List ℕ → List ℕ → Writer → List ℕ
-written signals words writer = if (value_at signals writer.en == 1) && (value_at signals writer.mask == 1) then slice_set words (value_at signals writer.addr) (value_at signals writer.word) else words
+abbrev pub written : List Bool → List ℕ → List ℕ → Writer → List ℕ
+written edges signals words writer = if ticks edges writer.clock && (value_at signals writer.en == 1) && (value_at signals writer.mask == 1) then slice_set words (value_at signals writer.addr) (value_at signals writer.word) else words
 
--- what a memory holds after an access, if the fields have the values `signals`
-abbrev pub after_access : List ℕ → Bank → Access → Bank
-after_access signals bank (ByReader r reader) = record { words = bank.words; reads = slice_set bank.reads r (found_word signals bank.words reader) }
-after_access signals bank (ByWriter w writer) = record { words = written signals bank.words writer; reads = bank.reads }
+-- the read registers after one late reader
+abbrev pub looked : List Bool → List ℕ → List ℕ → List ℕ → ℕ → Reader → List ℕ
+looked edges signals words reads r reader = if ticks edges reader.clock then slice_set reads r (found_word signals words reader) else reads
+
+-- what a memory holds after an access in a tick with these edges, if the fields have the values `signals`
+abbrev pub after_access : List Bool → List ℕ → Bank → Access → Bank
+after_access edges signals bank (ByReader r reader) = record { words = bank.words; reads = looked edges signals bank.words bank.reads r reader }
+after_access edges signals bank (ByWriter w writer) = record { words = written edges signals bank.words writer; reads = bank.reads }
 
 -- what a memory holds after the first j accesses of its due list
-abbrev pub after_accesses : List ℕ → Memory → Bank → ℕ → Bank
-after_accesses signals memory bank j = fold (after_access signals) bank (take j (due_list memory))
+abbrev pub after_accesses : List Bool → List ℕ → Memory → Bank → ℕ → Bank
+after_accesses edges signals memory bank j = fold (after_access edges signals) bank (take j (due_list memory))
 
 -- what an access writes into a memory whose words have this shape has that shape
 abbrev pub Brings : List ℕ → Shape → Access → Type 0

@@ -1,5 +1,5 @@
--- When a flat circuit is well formed.
--- Source: FIRRTL Specification, "Connects", "Registers", "Memories", "Type equivalence" and, for the names, "Namespaces".
+-- When a flat circuit is well formed. Source: FIRRTL Specification, "Connects", "Registers", "Memories", "Type
+-- equivalence" and, for the names, "Namespaces".
 use Rattle.std.specs.Prelude.{◌≡◌, ◌≢◌, ℕ, ◌<◌, List, length, MatchOption, All, AllPairs, ⊤}
 use Rattle.gg_bits.specs.Shape.{Shape, shape, uint}
 use Rattle.gg_flat.specs.declared.memory.Latency.{Latency}

@@ -7,6 +7,7 @@ ghost use Rattle.gg_flat.specs.Room.{line_length, register_length};
 ghost use Rattle.gg_flat.specs.WellFormed.{IsRegister};
 ghost use Rattle.gg_flat.specs.State.{next_register};
 
+use crate::clock::ticks;
 use crate::line::{Line, Node, Op};
 use crate::piece::{Driver, Register};
 use crate::state::State;
@@ -143,16 +144,25 @@ impl Driver {
 }
 
 impl Register {
-    /// The register's value after a cycle: its init if its reset condition is 1, otherwise its connected value, or its
-    /// own if it has no connection. The signals have these values. The scratch space has room for the nodes of its
-    /// lines.
-    pub fn next_value(&self, own: u128, signals: &[u128], scratch: &mut [u128]) -> u128
+    /// The register's value after a tick with these edges: its own without an edge of its clock. Otherwise its init if
+    /// its reset condition is 1, its connected value if not, or its own if it has no connection. The signals have these
+    /// values. The scratch space has room for the nodes of its lines.
+    pub fn next_value(
+        &self,
+        own: u128,
+        edges: &[bool],
+        signals: &[u128],
+        scratch: &mut [u128],
+    ) -> u128
         requires lines { IsRegister (HasValue signals.now) self.now }
         requires own { Fits (shape self.now.ty) own }
         requires room { register_length self.now ≤ length scratch.old }
-        ensures value { result ≡ next_register signals.now self.now own }
+        ensures value { result ≡ next_register edges.now signals.now self.now own }
         ensures fits { Fits (shape self.now.ty) result }
     {
+        if !ticks(edges, self.clock) {
+            return own;
+        }
         if let Some(reset) = &self.reset {
             if reset.condition.value(signals, scratch) == 1 {
                 return reset.init.connected(self.ty, signals, scratch);

@@ -1,11 +1,12 @@
 //! Laws: facts about the definitions. Each is the contract of a function with an empty body.
-ghost use Rattle.std.specs.Prelude.{◌≡◌, ℕ, ◌+◌, ◌<◌, ◌≤◌, List, ◌++◌, length, take, drop, slice_index_or};
+ghost use Rattle.std.specs.Prelude.{◌≡◌, ℕ, ◌+◌, ◌<◌, ◌≤◌, List, ◌++◌, Bool, Contains, length, take, drop, slice_index_or};
 ghost use Rattle.gg_bits.specs.Shape.{Shape, shape};
 ghost use Rattle.gg_flat.specs.Circuit.{FlatCircuit};
 ghost use Rattle.gg_flat.specs.Line.{value_at};
-ghost use Rattle.gg_flat.specs.Reads.{IsLoop, NamesSignal, RegisterNames};
+ghost use Rattle.gg_flat.specs.Reads.{IsLoop, NamesSignal, RegisterNames, Reaches};
 ghost use Rattle.gg_flat.specs.State.{State, IsState, opening, next_register};
 ghost use Rattle.gg_flat.specs.Settled.{Settled, IsInputs, driver_value};
+ghost use Rattle.gg_flat.specs.Depends.{DependsOn};
 ghost use Rattle.gg_flat.specs.Run.{Start, later, IsRunFrom, IsRun, IsColumns, state_at, inputs_at, after_rows};
 ghost use Rattle.gg_flat.specs.WellFormed.{IsWellFormed};
 ghost use Rattle.gg_flat.specs.Along.{settled_along, rows_from, rows_along};
@@ -19,6 +20,11 @@ ghost use Rattle.gg_flat.specs.Served.{Access, AccessNames, MemoryNames, Brings,
 /// If a circuit has an order, there is at most one settled row for a state and a list of inputs.
 pub fn settled_once()
     ensures { (circuit : FlatCircuit) (order : List ℕ) (state : State) (inputs v w : List ℕ) → IsOrder circuit order → Settled circuit state inputs v → Settled circuit state inputs w → v ≡ w }
+{}
+
+/// If a circuit has an order, the value of a signal depends only on the in-signals that the signal reaches.
+pub fn depends_on_reached()
+    ensures { (circuit : FlatCircuit) (order : List ℕ) (s : ℕ) (places : List ℕ) → IsWellFormed circuit → IsOrder circuit order → s < length circuit.signals → ((place : ℕ) → place < length circuit.ins → Reaches circuit s (value_at circuit.ins place) → Contains places place) → DependsOn circuit s places }
 {}
 
 /// If a circuit has an order, there is at most one run of a length from a start with columns of inputs. The opening is
@@ -59,23 +65,23 @@ pub fn runs_on()
 
 /// A memory that has served all accesses of its due list, one after another, holds what it holds after the cycle.
 pub fn all_served()
-    ensures { (signals : List ℕ) (memory : Memory) (bank : Bank) → IsBank memory bank → after_accesses signals memory bank (length (due_list memory)) ≡ next_bank signals memory bank }
+    ensures { (edges : List Bool) (signals : List ℕ) (memory : Memory) (bank : Bank) → IsBank memory bank → after_accesses edges signals memory bank (length (due_list memory)) ≡ next_bank edges signals memory bank }
 {}
 
 /// A memory that serves one more access then holds what that access leaves. What an access leaves depends only on the
 /// signals that its port's fields name. It has the memory's counts and types.
 pub fn one_served()
-    ensures more { (signals : List ℕ) (memory : Memory) (bank : Bank) (j : ℕ) (any : Access) → j < length (due_list memory) → after_accesses signals memory bank (j + 1) ≡ after_access signals (after_accesses signals memory bank j) (slice_index_or (due_list memory) j any) }
-    ensures agree { (v w : List ℕ) (bank : Bank) (access : Access) → ((s : ℕ) → AccessNames access s → value_at v s ≡ value_at w s) → after_access v bank access ≡ after_access w bank access }
-    ensures typed { (signals : List ℕ) (memory : Memory) (bank : Bank) (access : Access) → IsBank memory bank → Brings signals (shape memory.word) access → IsBank memory (after_access signals bank access) }
+    ensures more { (edges : List Bool) (signals : List ℕ) (memory : Memory) (bank : Bank) (j : ℕ) (any : Access) → j < length (due_list memory) → after_accesses edges signals memory bank (j + 1) ≡ after_access edges signals (after_accesses edges signals memory bank j) (slice_index_or (due_list memory) j any) }
+    ensures agree { (edges : List Bool) (v w : List ℕ) (bank : Bank) (access : Access) → ((s : ℕ) → AccessNames access s → value_at v s ≡ value_at w s) → after_access edges v bank access ≡ after_access edges w bank access }
+    ensures typed { (edges : List Bool) (signals : List ℕ) (memory : Memory) (bank : Bank) (access : Access) → IsBank memory bank → Brings signals (shape memory.word) access → IsBank memory (after_access edges signals bank access) }
 {}
 
 /// A driver's value, and what a register and a memory become, depend only on the signals that they name. Two lists of
 /// values that agree on these give the same.
 pub fn values_agree()
     ensures drivers { (state : State) (inputs v w : List ℕ) (sink : Shape) (driver : Driver) → ((s : ℕ) → NamesSignal driver s → value_at v s ≡ value_at w s) → driver_value state inputs v sink driver ≡ driver_value state inputs w sink driver }
-    ensures registers { (v w : List ℕ) (register : Register) (own : ℕ) → ((s : ℕ) → RegisterNames register s → value_at v s ≡ value_at w s) → next_register v register own ≡ next_register w register own }
-    ensures memories { (v w : List ℕ) (memory : Memory) (bank : Bank) → ((s : ℕ) → MemoryNames memory s → value_at v s ≡ value_at w s) → next_bank v memory bank ≡ next_bank w memory bank }
+    ensures registers { (edges : List Bool) (v w : List ℕ) (register : Register) (own : ℕ) → ((s : ℕ) → RegisterNames register s → value_at v s ≡ value_at w s) → next_register edges v register own ≡ next_register edges w register own }
+    ensures memories { (edges : List Bool) (v w : List ℕ) (memory : Memory) (bank : Bank) → ((s : ℕ) → MemoryNames memory s → value_at v s ≡ value_at w s) → next_bank edges v memory bank ≡ next_bank edges w memory bank }
 {}
 
 /// A run can be split. The first n rows of a longer run are a run from the same start, and the rest are a run from

@@ -7,13 +7,14 @@
 //!
 //! - `Piece::check` returns true exactly if the piece is well formed;
 //! - what `Piece::settle` makes along an order is settled, and nothing else is;
-//! - `State::advance` makes the next state;
+//! - `State::advance` makes the next state, in a tick in which some clocks have an edge (`ticks`);
 //! - along an order there is exactly one run from each start, the opening or another (`runs_along`, `run_once`), and a
 //!   run can be split in two and joined again (`runs_split`, `runs_on`);
 //! - a memory that serves its accesses one after another holds the same after the cycle (`one_served`, `all_served`);
 //!   `Bank::serve_reader` and `Bank::serve_writer` serve one access;
 //! - a signal's value, and what a register and a memory become, depend only on the signals that they name
-//!   (`values_agree`).
+//!   (`values_agree`); a signal's value in a settled cycle depends only on the in-signals that it reaches
+//!   (`depends_on_reached`).
 //!
 //! `Tree` keeps the instances of a flat circuit and the names that have no signal there. `IsTree` defines when it is
 //! the tree of a circuit. The code that fills a `Tree` must prove this.
@@ -24,6 +25,7 @@
 mod bank;
 mod check;
 mod check_memory;
+mod clock;
 mod evaluate;
 mod laws;
 mod line;
@@ -39,9 +41,10 @@ mod streams;
 mod tree;
 
 pub use bank::Bank;
+pub use clock::ticks;
 pub use laws::{
-    all_served, no_loop, one_served, run_once, runs_along, runs_on, runs_split, settled_once,
-    settles_along, states_typed, values_agree,
+    all_served, depends_on_reached, no_loop, one_served, run_once, runs_along, runs_on, runs_split,
+    settled_once, settles_along, states_typed, values_agree,
 };
 pub use line::{Line, Node, Op};
 pub use memory::{Latency, Memory, Reader, Readers, UnderWrite, Writer, Writers, address_width};

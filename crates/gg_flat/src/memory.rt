@@ -34,6 +34,8 @@ pub struct Reader {
     pub en: u32,
     /// The word that it gives, of the memory's type.
     pub word: u32,
+    /// The clock that it follows, by its place among the piece's clocks; none: every tick.
+    pub clock: Option<u32>,
 }
 
 /// A write port. Its fields are signals, given by their numbers.
@@ -47,6 +49,8 @@ pub struct Writer {
     pub word: u32,
     /// Whether the word is written: one unsigned bit.
     pub mask: u32,
+    /// The clock that it follows, by its place among the piece's clocks; none: every tick.
+    pub clock: Option<u32>,
 }
 
 /// The read ports of a memory, in the order of the file. A contract sees the list.

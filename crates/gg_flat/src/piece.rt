@@ -44,7 +44,7 @@ pub struct Reset {
     pub init: Line,
 }
 
-/// A register: its type, its reset, and its connection. Without a connection it keeps its value.
+/// A register: its type, its reset, its connection, and its clock. Without a connection it keeps its value.
 #[derive(Debug, Drop)]
 pub struct Register {
     /// The type of its values.
@@ -53,6 +53,8 @@ pub struct Register {
     pub reset: Option<Reset>,
     /// What is connected to it, if anything is.
     pub next: Option<Line>,
+    /// The clock that it follows, by its place among the piece's clocks; none: every tick.
+    pub clock: Option<u32>,
 }
 
 /// A flat circuit, or a part of one. A contract sees it as a `FlatCircuit`: lists of paths, signals, registers,

@@ -72,20 +72,27 @@ impl State {
         self.banks.as_slice()
     }
 
-    /// Advances to the state after a cycle in which the signals have these values, given by the signals' numbers.
+    /// Advances to the state after a tick with these edges, in which the signals have these values, given by the signals'
+    /// numbers.
     ///
     /// The piece is well formed. State and values have its counts and types. The scratch space has room for its lines
     /// (`Piece::scratch`). Only the words of a memory that its writers name are written.
-    pub fn advance(&mut self, piece: &Piece, signals: &[u128], scratch: &mut [u128])
+    pub fn advance(&mut self, piece: &Piece, edges: &[bool], signals: &[u128], scratch: &mut [u128])
         requires formed { IsWellFormed piece.now }
         requires state { IsState piece.now self.old }
         requires signals { AreTyped (signal_shapes piece.now) signals.now }
         requires room { HasRoom piece.now (length scratch.old) }
-        ensures next { self.new ≡ next_state piece.now self.old signals.now }
+        ensures next { self.new ≡ next_state edges.now piece.now self.old signals.now }
         ensures typed { IsState piece.now self.new }
     {
-        advance_registers(piece.registers(), &mut self.registers, signals, scratch);
-        advance_banks(piece.memories(), &mut self.banks, signals);
+        advance_registers(
+            piece.registers(),
+            &mut self.registers,
+            edges,
+            signals,
+            scratch,
+        );
+        advance_banks(piece.memories(), &mut self.banks, edges, signals);
     }
 }
 
@@ -101,14 +108,14 @@ fn opening_banks(alloc: Global, memories: &[Memory]) -> Result<Vec<Bank>, AllocE
 }
 
 // Replaces what each memory holds by what it holds after the cycle.
-fn advance_banks(memories: &[Memory], banks: &mut [Bank], signals: &[u128])
+fn advance_banks(memories: &[Memory], banks: &mut [Bank], edges: &[bool], signals: &[u128])
     requires memories { All (IsMemory (HasValue signals.now)) memories.now }
     requires banks { AreBanks memories.now banks.old }
-    ensures next { banks.new ≡ next_banks signals.now memories.now banks.old }
+    ensures next { banks.new ≡ next_banks edges.now signals.now memories.now banks.old }
     ensures typed { AreBanks memories.now banks.new }
 {
     for m in 0..memories.len() {
-        banks[m].advance(&memories[m], signals);
+        banks[m].advance(&memories[m], edges, signals);
     }
 }
 
@@ -116,18 +123,19 @@ fn advance_banks(memories: &[Memory], banks: &mut [Bank], signals: &[u128])
 fn advance_registers(
     registers: &[Register],
     own: &mut [u128],
+    edges: &[bool],
     signals: &[u128],
     scratch: &mut [u128],
 )
     requires lines { All (IsRegister (HasValue signals.now)) registers.now }
     requires typed { AreTyped (map (λ register. shape register.ty) registers.now) own.old }
     requires room { All (λ register. register_length register ≤ length scratch.old) registers.now }
-    ensures next { own.new ≡ next_registers signals.now registers.now own.old }
+    ensures next { own.new ≡ next_registers edges.now signals.now registers.now own.old }
     ensures typed { AreTyped (map (λ register. shape register.ty) registers.now) own.new }
 {
     for r in 0..registers.len() {
         let register = &registers[r];
-        let next = register.next_value(own[r], signals, scratch);
+        let next = register.next_value(own[r], edges, signals, scratch);
         own[r] = next;
     }
 }

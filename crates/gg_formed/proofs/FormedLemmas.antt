@@ -289,7 +289,7 @@ module _ (types : Types) (modules : List ModuleTree) (top : ℕ) (flat : FlatCir
       is : reader_at (readers_at flat m) r ≡ reader_of paths (joined a.site.path a.bank.name) port
       is =
           ap (λ (l : List Reader). reader_at l r) (reader-there m lt a)
-          ∙ get_or-map (reader_of paths (joined a.site.path a.bank.name)) a.bank.bank.readers r [] (record { addr = 0; en = 0; word = 0 }) inside
+          ∙ get_or-map (reader_of paths (joined a.site.path a.bank.name)) a.bank.bank.readers r [] (record { addr = 0; en = 0; word = 0; clock = None }) inside
           ∙ ap (reader_of paths (joined a.site.path a.bank.name)) (e.is [])
 
       s : ℕ
@@ -314,7 +314,7 @@ module _ (types : Types) (modules : List ModuleTree) (top : ℕ) (flat : FlatCir
   data-of s lt memory place latency addr en is = (
     omega (arith, answered.data_of.inside, ap (λ (l : List Reader). length l) readers, length-map b.bank.readers (reader_of paths (joined x.path b.name))),
     ap (λ (l : List Reader). (reader_at l place).word) readers
-        ∙ ap (λ (y : Reader). y.word) (get_or-map (reader_of paths (joined x.path b.name)) b.bank.readers place [] (record { addr = 0; en = 0; word = 0 }) answered.data_of.inside)
+        ∙ ap (λ (y : Reader). y.word) (get_or-map (reader_of paths (joined x.path b.name)) b.bank.readers place [] (record { addr = 0; en = 0; word = 0; clock = None }) answered.data_of.inside)
         ∙ ap (λ port. field_number paths (joined x.path b.name) port (codes "data")) (answered.data_of.at [])
         ∙ ap (number_of paths) (sym (joined-behind x.path b.name (answered.data_of.port ++ 46 ∷ codes "data")) ∙ ap (joined x.path) (sym answered.data_of.name))
         ∙ ap (λ (y : FlatSignal). number_of paths y.path) (o.made ∙ sym (e.is e.element))

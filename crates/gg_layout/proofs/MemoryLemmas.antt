@@ -1,6 +1,6 @@
 -- A listed memory as a machine of the network: the channels of its fields, its turns, and what its outs need.
 use Rattle.std.proofs.Common.{◌≡◌, ◌≢◌, ℕ, ◌+◌, ◌-◌, ◌<◌, ◌≤◌, List, [], ◌∷◌, ◌++◌, length, map, get_or, refl, sym, ◌∙◌, ap, ap₂, subst, arith}
-use Rattle.std.specs.Prelude.{All, AllPairs, ◌==◌}
+use Rattle.std.specs.Prelude.{All, AllPairs, ◌==◌, None}
 use Rattle.std.proofs.lemmas.List.{length-map, get_or-map}
 use Rattle.std.proofs.lemmas.Simd.{map-map}
 use Rattle.gg_flat.specs.declared.memory.Latency.{Latency}
@@ -169,7 +169,7 @@ module _ (design : Ordered) (listed : Listed) (m : ℕ) (part : Part) (is : IsDe
     -- ---- needs
 
     abbrev nobody : Reader
-    nobody = record { addr = 0; en = 0; word = 0 }
+    nobody = record { addr = 0; en = 0; word = 0; clock = None }
 
     module _ (o : ℕ) (some : o < length inner.readers) where
       abbrev reader : Reader

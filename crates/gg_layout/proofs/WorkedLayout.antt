@@ -32,7 +32,7 @@ use Rattle.gg_marking.specs.Marking.{Link, Turn, Layout, link_at}
 use Rattle.gg_layout.specs.CutLayout.{IsChannelLink, IsLayoutOf, machine_ports, machine_turns, memory_turns}
 
 abbrev late : Memory
-late = record { word = eight; depth = 3; latency = One Old; readers = record { addr = 2; en = 3; word = 4 } ∷ []; writers = [] }
+late = record { word = eight; depth = 3; latency = One Old; readers = record { addr = 2; en = 3; word = 4; clock = None } ∷ []; writers = [] }
 
 abbrev circuit : FlatCircuit
 circuit =
@@ -259,7 +259,7 @@ abbrev same_cycle : FlatCircuit
 same_cycle =
     record circuit {
       signals = signal two (Input 0) ∷ copy eight 4 ∷ copy two 0 ∷ high ∷ signal eight (MemoryWord 0 0 2 3) ∷ [];
-      memories = record { word = eight; depth = 3; latency = Zero; readers = record { addr = 2; en = 3; word = 4 } ∷ []; writers = [] } ∷ [];
+      memories = record { word = eight; depth = 3; latency = Zero; readers = record { addr = 2; en = 3; word = 4; clock = None } ∷ []; writers = [] } ∷ [];
     }
 
 one-port : map (machine_ports same_cycle tree listed) (0 ∷ 1 ∷ 2 ∷ 3 ∷ []) ≡ 0 ∷ 1 ∷ 0 ∷ 0 ∷ []
@@ -280,8 +280,8 @@ with_latency latency =
             word = eight;
             depth = 3;
             latency = latency;
-            readers = record { addr = 4; en = 5; word = 6 } ∷ record { addr = 7; en = 8; word = 9 } ∷ [];
-            writers = record { addr = 10; en = 11; word = 12; mask = 13 } ∷ record { addr = 14; en = 15; word = 16; mask = 17 } ∷ [];
+            readers = record { addr = 4; en = 5; word = 6; clock = None } ∷ record { addr = 7; en = 8; word = 9; clock = None } ∷ [];
+            writers = record { addr = 10; en = 11; word = 12; mask = 13; clock = None } ∷ record { addr = 14; en = 15; word = 16; mask = 17; clock = None } ∷ [];
           }
           ∷ [];
     }

@@ -5,6 +5,7 @@ use Rattle.std.proofs.lemmas.Bool.{cases_eq, cases_lt}
 use Rattle.std.proofs.lemmas.List.{length-map}
 use Rattle.std.proofs.lemmas.Option.{same_Some, none-some}
 use Rattle.std.proofs.Math.ListN as exact
+use Rattle.gg_flat.specs.Streams.{Flow}
 use Rattle.gg_node.specs.Machine.{Machine, no_machine, machine_at, latch_at, flag_at, due}
 use Rattle.gg_node.specs.Step.{AllFired, AllLatched}
 use Rattle.gg_net.specs.declared.event.Event.{Event}
@@ -55,7 +56,7 @@ first-gap (Some value ∷ latches) =
     later i before zero lt = refl
     later i before (suc k) lt = before k (omega (arith, lt))
 
-module _ (lists : List (List ℕ)) (runs : List (List (List ℕ))) (net : Network) (kept : Kept lists runs net) where
+module _ (flow : Flow) (net : Network) (kept : Kept flow net) where
   -- ---- the parts
 
   below-or : (m : ℕ) → IsBelow net m ⊎ (IsBelow net m → ⊥)
@@ -142,8 +143,8 @@ module _ (lists : List (List ℕ)) (runs : List (List (List ℕ))) (net : Networ
     fire-needs None is can clear = fire-queue can clear is
     fire-needs (Some i) is can clear =
         let m : ℕ = (wire_at net.wires c).producer in
-        let there : m < length net.machines = producer-there lists runs net kept c can.0 in
-        let channel : (d : ℕ) × IsAtIn net.wires m i d = channel-in m there i (missing-within lists runs net kept m there (wire_at net.wires c).out i is) in
+        let there : m < length net.machines = producer-there flow net kept c can.0 in
+        let channel : (d : ℕ) × IsAtIn net.wires m i d = channel-in m there i (missing-within flow net kept m there (wire_at net.wires c).out i is) in
         inr (NeedsInput channel.0, (can, clear, subst (λ o. IsWanted net m o channel.0) (sym is) channel.1))
 
     fire-flag : (flag : Bool) → flag_of net c ≡ flag → CanGive net c → CanFire net c ⊎ ((cause : Refusal) × FireRefused net c cause)
@@ -167,7 +168,7 @@ module _ (lists : List (List ℕ)) (runs : List (List (List ℕ))) (net : Networ
     serve-fields : (first : Option ℕ) → missing_field net m ≡ first → HasPort net m p → IsBelow net m → AllFired (machine_at net.machines m) → due (machine_at net.machines m) ≡ Some p → CanServe net m p ⊎ ((cause : Refusal) × ServeRefused net m p cause)
     serve-fields None is has below fired this = inl (record { there = has; below = below; fired = fired; due = this; fields = is })
     serve-fields (Some i) is has below fired this =
-        let channel : (d : ℕ) × IsAtIn net.wires m i d = channel-in m has.0 i (field-within lists runs net kept m has.0 p i this is) in
+        let channel : (d : ℕ) × IsAtIn net.wires m i d = channel-in m has.0 i (field-within flow net kept m has.0 p i this is) in
         inr (NeedsInput channel.0, (has, below, fired, this, subst (λ o. IsWanted net m o channel.0) (sym is) channel.1))
 
     serve-other : HasPort net m p → IsBelow net m → AllFired (machine_at net.machines m) → (due (machine_at net.machines m) ≡ Some p → ⊥) → CanServe net m p ⊎ ((cause : Refusal) × ServeRefused net m p cause)

@@ -1,5 +1,6 @@
 -- `Finish` may be done in a network's marking if it may in the network, and is refused for the same cause if it is refused there.
-use Rattle.std.proofs.Common.{◌≡◌, ℕ, ◌<◌, List, Option, None, Some, length, ap, ◌∙◌}
+use Rattle.std.proofs.Common.{◌≡◌, ℕ, ◌<◌, Option, None, Some, length, ap, ◌∙◌}
+use Rattle.gg_flat.specs.Streams.{Flow}
 use Rattle.gg_node.specs.Machine.{Machine, machine_at, due}
 use Rattle.gg_node.specs.Step.{AllFired}
 use Rattle.gg_net.specs.declared.event.Refusal.{Refusal}
@@ -14,7 +15,7 @@ use Rattle.gg_marking.proofs.CountLemmas.{is-machine, no-machine, below-is, belo
 use Rattle.gg_marking.proofs.FirstLemmas.{none-unfired, first-unfired, none-unlatched, first-unlatched}
 use Rattle.gg_marking.proofs.DueLemmas.{IsDue, is-due, none-due}
 
-module _ (lists : List (List ℕ)) (runs : List (List (List ℕ))) (net : Network) (kept : Kept lists runs net) (layout : Layout) (has : HasLayout (frame_of net) layout) (m : ℕ) where
+module _ (flow : Flow) (net : Network) (kept : Kept flow net) (layout : Layout) (has : HasLayout (frame_of net) layout) (m : ℕ) where
   abbrev marking : Marking
   marking = marking_of net
 
@@ -42,7 +43,7 @@ module _ (lists : List (List ℕ)) (runs : List (List (List ℕ))) (net : Networ
   past-end there below = past-machine there ∙ passed (is_below layout marking m) Ended at_flags (below-is net layout has m below)
 
   past-flags : m < length net.machines → IsBelow net m → AllFired x → finish_refusal layout marking m ≡ at_ports
-  past-flags there below fired = past-end there below ∙ names-none Unfired (first_unmarked marking.given (channels_out_of layout m)) at_ports (none-unfired lists runs net kept layout has m there fired)
+  past-flags there below fired = past-end there below ∙ names-none Unfired (first_unmarked marking.given (channels_out_of layout m)) at_ports (none-unfired flow net kept layout has m there fired)
 
   past-ports : m < length net.machines → IsBelow net m → AllFired x → due x ≡ None → finish_refusal layout marking m ≡ at_latches
   past-ports there below fired none =
@@ -57,12 +58,12 @@ module _ (lists : List (List ℕ)) (runs : List (List (List ℕ))) (net : Networ
   -- ---- the event
 
   pub finish-ready : CanFinish net m → finish_refusal layout marking m ≡ None
-  finish-ready can = past-ports can.there can.below can.fired can.served ∙ ap (naming NeedsInput) (none-unlatched lists runs net kept layout has m can.there can.latched)
+  finish-ready can = past-ports can.there can.below can.fired can.served ∙ ap (naming NeedsInput) (none-unlatched flow net kept layout has m can.there can.latched)
 
   pub finish-refused : (cause : Refusal) → FinishRefused net m cause → finish_refusal layout marking m ≡ Some cause
   finish-refused Stranger is = failed (is_machine layout m) Stranger at_end (no-machine net layout has m is)
   finish-refused Ended is = past-machine is.0 ∙ failed (is_below layout marking m) Ended at_flags (below-not net layout has m is.1)
-  finish-refused (Unfired d) is = past-end is.0 is.1 ∙ names-some Unfired (first_unmarked marking.given (channels_out_of layout m)) at_ports d (first-unfired lists runs net kept layout has m is.0 d is.2)
+  finish-refused (Unfired d) is = past-end is.0 is.1 ∙ names-some Unfired (first_unmarked marking.given (channels_out_of layout m)) at_ports d (first-unfired flow net kept layout has m is.0 d is.2)
   finish-refused (Unserved p) is = past-flags is.0 is.1 is.2 ∙ port-due p is.0 is.3
-  finish-refused (NeedsInput d) is = past-ports is.0 is.1 is.2 is.3 ∙ ap (naming NeedsInput) (first-unlatched lists runs net kept layout has m is.0 d is.4)
+  finish-refused (NeedsInput d) is = past-ports is.0 is.1 is.2 is.3 ∙ ap (naming NeedsInput) (first-unlatched flow net kept layout has m is.0 d is.4)
   finish-refused refusal is = absurd is

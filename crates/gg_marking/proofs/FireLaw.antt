@@ -1,8 +1,9 @@
 -- `Fire` may be done in a network's marking if it may in the network, and is refused for the same cause if it is refused there.
-use Rattle.std.proofs.Common.{◌≡◌, ℕ, ◌<◌, List, Option, None, Some, false, length, refl, sym, ap, ◌∙◌, arith}
+use Rattle.std.proofs.Common.{◌≡◌, ℕ, ◌<◌, Option, None, Some, false, length, refl, sym, ap, ◌∙◌, arith}
 use Rattle.std.specs.Prelude.{not, nat_lt}
 use Rattle.std.proofs.lemmas.Bool.{lt-ltb, le-ltb}
 use Rattle.std.proofs.Math.ListN as exact
+use Rattle.gg_flat.specs.Streams.{Flow}
 use Rattle.gg_node.specs.Machine.{Machine, no_machine, first_empty, needs_at}
 use Rattle.gg_net.specs.declared.shape.Wire.{Wire}
 use Rattle.gg_net.specs.declared.event.Refusal.{Refusal}
@@ -16,7 +17,7 @@ use Rattle.gg_marking.proofs.FindLemmas.{passed, failed, holds-last, fails-last,
 use Rattle.gg_marking.proofs.CountLemmas.{given-at, held-is, is-channel, no-channel, below-is, below-not}
 use Rattle.gg_marking.proofs.NeedLemmas.{unmarked-none, unmarked-some}
 
-module _ (lists : List (List ℕ)) (runs : List (List (List ℕ))) (net : Network) (kept : Kept lists runs net) (layout : Layout) (has : HasLayout (frame_of net) layout) (c : ℕ) where
+module _ (flow : Flow) (net : Network) (kept : Kept flow net) (layout : Layout) (has : HasLayout (frame_of net) layout) (c : ℕ) where
   abbrev marking : Marking
   marking = marking_of net
 
@@ -70,7 +71,7 @@ module _ (lists : List (List ℕ)) (runs : List (List (List ℕ))) (net : Networ
   fire-ready can =
       past-needs can.can can.clear can.needed
       ∙ holds-last (nat_lt (held layout marking c) (link_at layout c).capacity) (Full c (held layout marking c))
-      (lt-ltb (held layout marking c) (link_at layout c).capacity (omega (arith, can.room, held-is net layout has lists runs kept c can.can.0, (has.link c can.can.0).capacity)))
+      (lt-ltb (held layout marking c) (link_at layout c).capacity (omega (arith, can.room, held-is net layout has flow kept c can.can.0, (has.link c can.can.0).capacity)))
 
   pub fire-refused : (cause : Refusal) → FireRefused net c cause → fire_refusal layout marking c ≡ Some cause
   fire-refused Stranger is = failed (is_channel layout c) Stranger at_end (no-channel net layout has c is)
@@ -81,7 +82,7 @@ module _ (lists : List (List ℕ)) (runs : List (List (List ℕ))) (net : Networ
   fire-refused (NeedsInput d) is =
       past-flag is.0 is.1 ∙ names-some NeedsInput (first_unmarked marking.taken (link_at layout c).needs) at_queue d (one-needed (missing_of net c) d refl is.0.0 is.2)
   fire-refused (Full d n) is =
-      let length_is : held layout marking c ≡ n = held-is net layout has lists runs kept c is.0.0 ∙ sym is.4 in
+      let length_is : held layout marking c ≡ n = held-is net layout has flow kept c is.0.0 ∙ sym is.4 in
       past-needs is.0 is.1 is.2
       ∙ fails-last (nat_lt (held layout marking c) (link_at layout c).capacity) (Full c (held layout marking c))
       (le-ltb (held layout marking c) (link_at layout c).capacity (omega (arith, is.3, length_is, (has.link c is.0.0).capacity)))

@@ -3,6 +3,7 @@ use Rattle.std.proofs.Common.{◌≡◌, ◌≢◌, ℕ, ◌<◌, ◌++◌, List
 use Rattle.std.specs.Prelude.{slice_set}
 use Rattle.std.proofs.lemmas.Bool.{cases_eq}
 use Rattle.std.proofs.lemmas.List.{length-set}
+use Rattle.gg_flat.specs.Streams.{Flow}
 use Rattle.gg_node.specs.Machine.{Machine, machine_at, flag_at}
 use Rattle.gg_node.specs.Step.{with_flag}
 use Rattle.gg_net.specs.declared.shape.Wire.{Wire}
@@ -23,9 +24,9 @@ fire-frame net c token =
     let w : Wire = wire_at net.wires c in
     let x : Machine = producer_of net c in
     same-frame net w.producer (with_flag x w.out) (slice_set net.queues c (queue_at net.queues c ++ token ∷ []))
-    (ap (λ n. record { behaviour = x.behaviour; limit = x.limit; needs = x.needs; port_count = x.port_count; ports = x.ports; ins = length x.latches; outs = n }) (length-set x.flags w.out true))
+    (ap (λ n. record { behaviour = x.behaviour; limit = x.limit; ratios = x.ratios; needs = x.needs; port_count = x.port_count; ports = x.ports; ins = length x.latches; outs = n }) (length-set x.flags w.out true))
 
-module _ (lists : List (List ℕ)) (runs : List (List (List ℕ))) (net : Network) (kept : Kept lists runs net) (layout : Layout) (c token : ℕ) (can : CanFire net c) where
+module _ (flow : Flow) (net : Network) (kept : Kept flow net) (layout : Layout) (c token : ℕ) (can : CanFire net c) where
   abbrev w : Wire
   w = wire_at net.wires c
 
@@ -36,10 +37,10 @@ module _ (lists : List (List ℕ)) (runs : List (List (List ℕ))) (net : Networ
   known = can.can.0
 
   there : w.producer < length net.machines
-  there = producer-there lists runs net kept c known
+  there = producer-there flow net kept c known
 
   within : w.out < length x.flags
-  within = out-within lists runs (frame_of net) kept.sound w.producer (kept.sound.wired.producer c known) x (kept.machines w.producer there) c known refl
+  within = out-within flow (frame_of net) kept.sound w.producer (kept.sound.wired.producer c known) x (kept.machines w.producer there) c known refl
 
   -- the channel's mark is set
   mark-here : is_set (slice_set (marking_of net).given c true) c ≡ true

@@ -1,8 +1,9 @@
 -- The first channel of a machine whose token of this cycle wasn't given, or wasn't taken.
-use Rattle.std.proofs.Common.{◌≡◌, ℕ, ◌+◌, ◌<◌, List, None, Some, true, false, length, map, sym, ap, ◌∙◌, arith}
+use Rattle.std.proofs.Common.{◌≡◌, ℕ, ◌+◌, ◌<◌, None, Some, true, false, length, map, sym, ap, ◌∙◌, arith}
 use Rattle.std.specs.Prelude.{is_some, IsSome, not, ◌==◌}
 use Rattle.std.proofs.lemmas.Bool.{eq-eqb, eqb-true}
 use Rattle.std.proofs.lemmas.List.{length-map}
+use Rattle.gg_flat.specs.Streams.{Flow}
 use Rattle.gg_node.specs.Machine.{Machine, machine_at, latch_at, flag_at}
 use Rattle.gg_node.specs.Step.{AllFired, AllLatched}
 use Rattle.gg_net.specs.Network.{Network, wire_at, kind_of, frame_of}
@@ -14,7 +15,7 @@ use Rattle.gg_marking.specs.Fits.{HasLayout, marking_of}
 use Rattle.gg_marking.proofs.FindLemmas.{find-none, find-some}
 use Rattle.gg_marking.proofs.CountLemmas.{taken-at, given-at}
 
-module _ (lists : List (List ℕ)) (runs : List (List (List ℕ))) (net : Network) (kept : Kept lists runs net) (layout : Layout) (has : HasLayout (frame_of net) layout) (m : ℕ) (there : m < length net.machines) where
+module _ (flow : Flow) (net : Network) (kept : Kept flow net) (layout : Layout) (has : HasLayout (frame_of net) layout) (m : ℕ) (there : m < length net.machines) where
   abbrev marking : Marking
   marking = marking_of net
 
@@ -24,7 +25,7 @@ module _ (lists : List (List ℕ)) (runs : List (List (List ℕ))) (net : Networ
   below : m < length (map kind_of net.machines)
   below = omega (arith, there, length-map net.machines kind_of)
 
-  at : MachineAt lists runs (frame_of net) m x
+  at : MachineAt flow (frame_of net) m x
   at = kept.machines m there
 
   listed : (c : ℕ) → c < 0 + length layout.links → c < length net.wires
@@ -43,7 +44,7 @@ module _ (lists : List (List ℕ)) (runs : List (List (List ℕ))) (net : Networ
       find-none (λ c. not (is_set marking.given c)) (λ c. (link_at layout c).producer == m) 0 (length layout.links) (λ c le lt chosen.
       let known : c < length net.wires = listed c lt in
       let is : (wire_at net.wires c).producer ≡ m = from c known chosen in
-      ap not (given-is c known is ∙ all (wire_at net.wires c).out false (out-within lists runs (frame_of net) kept.sound m below x at c known is)))
+      ap not (given-is c known is ∙ all (wire_at net.wires c).out false (out-within flow (frame_of net) kept.sound m below x at c known is)))
 
   pub first-unfired : (d : ℕ) → IsUnfired net m d → first_unmarked marking.given (channels_out_of layout m) ≡ Some d
   first-unfired d unfired =
@@ -70,7 +71,7 @@ module _ (lists : List (List ℕ)) (runs : List (List (List ℕ))) (net : Networ
       find-none (λ c. not (is_set marking.taken c)) (λ c. (link_at layout c).consumer == m) 0 (length layout.links) (λ c le lt chosen.
       let known : c < length net.wires = listed c lt in
       let is : (wire_at net.wires c).consumer ≡ m = to c known chosen in
-      let some : IsSome (latch_at x.latches (wire_at net.wires c).place) = all (wire_at net.wires c).place None (place-within lists runs (frame_of net) kept.sound m below x at c known is) in
+      let some : IsSome (latch_at x.latches (wire_at net.wires c).place) = all (wire_at net.wires c).place None (place-within flow (frame_of net) kept.sound m below x at c known is) in
       ap not (taken-is c known is ∙ some))
 
   pub first-unlatched : (d : ℕ) → IsUnlatched net m d → first_unmarked marking.taken (channels_into layout m) ≡ Some d

@@ -1,6 +1,7 @@
 -- Each event may be done in a network, or is refused, just as in its marking, and changes the marking as `after` says.
-use Rattle.std.proofs.Common.{◌≡◌, ℕ, List, Option, Some, None, ap, sym, subst, ◌∙◌, ⊎_elim}
+use Rattle.std.proofs.Common.{◌≡◌, Option, Some, None, ap, sym, subst, ◌∙◌, ⊎_elim}
 use Rattle.std.proofs.lemmas.Option.{same_Some}
+use Rattle.gg_flat.specs.Streams.{Flow}
 use Rattle.gg_net.specs.declared.event.Event.{Event}
 use Rattle.gg_net.specs.declared.event.Event.TheVariants.{Latch, Fire, Serve, Finish}
 use Rattle.gg_net.specs.declared.event.Refusal.{Refusal}
@@ -19,22 +20,22 @@ use Rattle.gg_marking.proofs.ServeStep.{serve-frame, serve-step}
 use Rattle.gg_marking.proofs.FinishStep.{finish-frame, finish-step}
 use Rattle.gg_marking.proofs.DecideLemmas.{ready-or-refused}
 
-module _ (lists : List (List ℕ)) (runs : List (List (List ℕ))) (net : Network) (kept : Kept lists runs net) (layout : Layout) (has : HasLayout (frame_of net) layout) where
+module _ (flow : Flow) (net : Network) (kept : Kept flow net) (layout : Layout) (has : HasLayout (frame_of net) layout) where
   pub ready-free : (event : Event) → Ready net event → refusal layout (marking_of net) event ≡ None
-  ready-free (Latch c) can = latch-ready lists runs net kept layout has c can
-  ready-free (Fire c) can = fire-ready lists runs net kept layout has c can
-  ready-free (Serve m p) can = serve-ready lists runs net kept layout has m p can
-  ready-free (Finish m) can = finish-ready lists runs net kept layout has m can
+  ready-free (Latch c) can = latch-ready flow net kept layout has c can
+  ready-free (Fire c) can = fire-ready flow net kept layout has c can
+  ready-free (Serve m p) can = serve-ready flow net kept layout has m p can
+  ready-free (Finish m) can = finish-ready flow net kept layout has m can
 
   pub refused-so : (event : Event) (cause : Refusal) → Refused net event cause → refusal layout (marking_of net) event ≡ Some cause
-  refused-so (Latch c) cause is = latch-refused lists runs net kept layout has c cause is
-  refused-so (Fire c) cause is = fire-refused lists runs net kept layout has c cause is
-  refused-so (Serve m p) cause is = serve-refused lists runs net kept layout has m p cause is
-  refused-so (Finish m) cause is = finish-refused lists runs net kept layout has m cause is
+  refused-so (Latch c) cause is = latch-refused flow net kept layout has c cause is
+  refused-so (Fire c) cause is = fire-refused flow net kept layout has c cause is
+  refused-so (Serve m p) cause is = serve-refused flow net kept layout has m p cause is
+  refused-so (Finish m) cause is = finish-refused flow net kept layout has m cause is
 
   pub step-marks : (event : Event) (new : Network) → Step net event new → marking_of new ≡ after layout (marking_of net) event
-  step-marks (Latch c) new step = ap marking_of step.after ∙ latch-step lists runs net kept layout c step.ready
-  step-marks (Fire c) new step = ap marking_of step.after.after ∙ fire-step lists runs net kept layout c step.after.token step.ready
+  step-marks (Latch c) new step = ap marking_of step.after ∙ latch-step flow net kept layout c step.ready
+  step-marks (Fire c) new step = ap marking_of step.after.after ∙ fire-step flow net kept layout c step.after.token step.ready
   step-marks (Serve m p) new step = ap marking_of step.after ∙ serve-step net layout m p step.ready.there.0
   step-marks (Finish m) new step = ap marking_of step.after.after ∙ finish-step net layout m step.after.state has step.ready.there
 
@@ -46,17 +47,17 @@ step-frame old (Finish m) new step = ap frame_of step.after.after ∙ finish-fra
 
 -- ---- the other way round
 
-module _ (lists : List (List ℕ)) (runs : List (List (List ℕ))) (net : Network) (kept : Kept lists runs net) (layout : Layout) (has : HasLayout (frame_of net) layout) (event : Event) where
+module _ (flow : Flow) (net : Network) (kept : Kept flow net) (layout : Layout) (has : HasLayout (frame_of net) layout) (event : Event) where
   pub free-ready : refusal layout (marking_of net) event ≡ None → Ready net event
   free-ready free =
       ⊎_elim
       (λ (ready : Ready net event). ready)
-      (λ (refused : (cause : Refusal) × Refused net event cause). let is : ◌≡◌ {A = Option Refusal} (Some refused.0) None = sym (refused-so lists runs net kept layout has event refused.0 refused.1) ∙ free in cc)
-      (ready-or-refused lists runs net kept event)
+      (λ (refused : (cause : Refusal) × Refused net event cause). let is : ◌≡◌ {A = Option Refusal} (Some refused.0) None = sym (refused-so flow net kept layout has event refused.0 refused.1) ∙ free in cc)
+      (ready-or-refused flow net kept event)
 
   pub so-refused : (cause : Refusal) → refusal layout (marking_of net) event ≡ Some cause → Refused net event cause
   so-refused cause so =
       ⊎_elim
-      (λ (ready : Ready net event). let is : ◌≡◌ {A = Option Refusal} None (Some cause) = sym (ready-free lists runs net kept layout has event ready) ∙ so in cc)
-      (λ (refused : (told : Refusal) × Refused net event told). subst (Refused net event) (same_Some refused.0 cause (sym (refused-so lists runs net kept layout has event refused.0 refused.1) ∙ so)) refused.1)
-      (ready-or-refused lists runs net kept event)
+      (λ (ready : Ready net event). let is : ◌≡◌ {A = Option Refusal} None (Some cause) = sym (ready-free flow net kept layout has event ready) ∙ so in cc)
+      (λ (refused : (told : Refusal) × Refused net event told). subst (Refused net event) (same_Some refused.0 cause (sym (refused-so flow net kept layout has event refused.0 refused.1) ∙ so)) refused.1)
+      (ready-or-refused flow net kept event)

@@ -1,7 +1,8 @@
 -- `Latch` may be done in a network's marking if it may in the network, and is refused for the same cause if it is refused there.
-use Rattle.std.proofs.Common.{◌≡◌, ℕ, ◌<◌, List, Option, None, Some, length, sym, ap, ◌∙◌, arith}
+use Rattle.std.proofs.Common.{◌≡◌, ℕ, ◌<◌, Option, None, Some, length, sym, ap, ◌∙◌, arith}
 use Rattle.std.specs.Prelude.{is_some, not, nat_lt}
 use Rattle.std.proofs.lemmas.Bool.{lt-ltb, le-ltb}
+use Rattle.gg_flat.specs.Streams.{Flow}
 use Rattle.gg_net.specs.declared.event.Refusal.{Refusal}
 use Rattle.gg_net.specs.declared.event.Refusal.TheVariants.{Stranger, Ended, Latched, NoToken}
 use Rattle.gg_net.specs.Network.{Network, wire_at, frame_of}
@@ -12,7 +13,7 @@ use Rattle.gg_marking.specs.Fits.{HasLayout, marking_of}
 use Rattle.gg_marking.proofs.FindLemmas.{passed, failed, holds-last, fails-last}
 use Rattle.gg_marking.proofs.CountLemmas.{taken-at, held-is, is-channel, no-channel, below-is, below-not}
 
-module _ (lists : List (List ℕ)) (runs : List (List (List ℕ))) (net : Network) (kept : Kept lists runs net) (layout : Layout) (has : HasLayout (frame_of net) layout) (c : ℕ) where
+module _ (flow : Flow) (net : Network) (kept : Kept flow net) (layout : Layout) (has : HasLayout (frame_of net) layout) (c : ℕ) where
   abbrev marking : Marking
   marking = marking_of net
 
@@ -41,7 +42,7 @@ module _ (lists : List (List ℕ)) (runs : List (List (List ℕ))) (net : Networ
   pub latch-ready : CanLatch net c → latch_refusal layout marking c ≡ None
   latch-ready can =
       past-latch can.can can.empty
-      ∙ holds-last (nat_lt 0 (held layout marking c)) (NoToken c) (lt-ltb 0 (held layout marking c) (omega (arith, can.held, held-is net layout has lists runs kept c can.can.0)))
+      ∙ holds-last (nat_lt 0 (held layout marking c)) (NoToken c) (lt-ltb 0 (held layout marking c) (omega (arith, can.held, held-is net layout has flow kept c can.can.0)))
 
   pub latch-refused : (cause : Refusal) → LatchRefused net c cause → latch_refusal layout marking c ≡ Some cause
   latch-refused Stranger is = failed (is_channel layout c) Stranger at_end (no-channel net layout has c is)
@@ -51,6 +52,6 @@ module _ (lists : List (List ℕ)) (runs : List (List (List ℕ))) (net : Networ
   latch-refused Latched is = past-end is.0 ∙ failed (not (is_set marking.taken c)) Latched at_queue (ap not (taken-at net c is.0.0 ∙ is.1))
   latch-refused (NoToken d) is =
       past-latch is.0 is.1
-      ∙ fails-last (nat_lt 0 (held layout marking c)) (NoToken c) (le-ltb 0 (held layout marking c) (omega (arith, held-is net layout has lists runs kept c is.0.0, ap length is.2)))
+      ∙ fails-last (nat_lt 0 (held layout marking c)) (NoToken c) (le-ltb 0 (held layout marking c) (omega (arith, held-is net layout has flow kept c is.0.0, ap length is.2)))
       ∙ ap (λ e. Some (NoToken e)) (sym is.3)
   latch-refused refusal is = absurd is

@@ -3,6 +3,7 @@ use Rattle.std.proofs.Common.{◌≡◌, ◌≢◌, ℕ, ◌<◌, List, Option, 
 use Rattle.std.specs.Prelude.{is_some, slice_set, drop}
 use Rattle.std.proofs.lemmas.Bool.{cases_eq}
 use Rattle.std.proofs.lemmas.List.{length-set}
+use Rattle.gg_flat.specs.Streams.{Flow}
 use Rattle.gg_node.specs.Machine.{Machine, machine_at, latch_at}
 use Rattle.gg_node.specs.Step.{with_latch}
 use Rattle.gg_net.specs.declared.shape.Wire.{Wire}
@@ -23,9 +24,9 @@ latch-frame net c =
     let w : Wire = wire_at net.wires c in
     let x : Machine = consumer_of net c in
     same-frame net w.consumer (with_latch x w.place (front_of net c)) (slice_set net.queues c (drop 1 (queue_at net.queues c)))
-    (ap (λ n. record { behaviour = x.behaviour; limit = x.limit; needs = x.needs; port_count = x.port_count; ports = x.ports; ins = n; outs = length x.flags }) (length-set x.latches w.place (Some (front_of net c))))
+    (ap (λ n. record { behaviour = x.behaviour; limit = x.limit; ratios = x.ratios; needs = x.needs; port_count = x.port_count; ports = x.ports; ins = n; outs = length x.flags }) (length-set x.latches w.place (Some (front_of net c))))
 
-module _ (lists : List (List ℕ)) (runs : List (List (List ℕ))) (net : Network) (kept : Kept lists runs net) (layout : Layout) (c : ℕ) (can : CanLatch net c) where
+module _ (flow : Flow) (net : Network) (kept : Kept flow net) (layout : Layout) (c : ℕ) (can : CanLatch net c) where
   abbrev w : Wire
   w = wire_at net.wires c
 
@@ -36,10 +37,10 @@ module _ (lists : List (List ℕ)) (runs : List (List (List ℕ))) (net : Networ
   known = can.can.0
 
   there : w.consumer < length net.machines
-  there = consumer-there lists runs net kept c known
+  there = consumer-there flow net kept c known
 
   within : w.place < length x.latches
-  within = place-within lists runs (frame_of net) kept.sound w.consumer (kept.sound.wired.consumer c known) x (kept.machines w.consumer there) c known refl
+  within = place-within flow (frame_of net) kept.sound w.consumer (kept.sound.wired.consumer c known) x (kept.machines w.consumer there) c known refl
 
   -- the channel's mark is set
   mark-here : is_set (slice_set (marking_of net).taken c true) c ≡ true

@@ -1,7 +1,8 @@
 -- `Serve` may be done in a network's marking if it may in the network, and is refused for the same cause if it is refused there.
-use Rattle.std.proofs.Common.{◌≡◌, ℕ, ◌<◌, List, Option, None, Some, length, refl, sym, ap, ◌∙◌}
+use Rattle.std.proofs.Common.{◌≡◌, ℕ, ◌<◌, Option, None, Some, length, refl, sym, ap, ◌∙◌}
 use Rattle.std.specs.Prelude.{◌==◌}
 use Rattle.std.proofs.lemmas.Bool.{eq-eqb, ne_eqb}
+use Rattle.gg_flat.specs.Streams.{Flow}
 use Rattle.gg_node.specs.Machine.{Machine, machine_at, first_empty, due}
 use Rattle.gg_node.specs.Step.{AllFired}
 use Rattle.gg_net.specs.declared.event.Refusal.{Refusal}
@@ -17,7 +18,7 @@ use Rattle.gg_marking.proofs.NeedLemmas.{unmarked-none, unmarked-some}
 use Rattle.gg_marking.proofs.FirstLemmas.{none-unfired, first-unfired}
 use Rattle.gg_marking.proofs.DueLemmas.{IsDue, is-due, none-due, port-count-is, has-port, no-port}
 
-module _ (lists : List (List ℕ)) (runs : List (List (List ℕ))) (net : Network) (kept : Kept lists runs net) (layout : Layout) (has : HasLayout (frame_of net) layout) (m p : ℕ) where
+module _ (flow : Flow) (net : Network) (kept : Kept flow net) (layout : Layout) (has : HasLayout (frame_of net) layout) (m p : ℕ) where
   abbrev marking : Marking
   marking = marking_of net
 
@@ -42,7 +43,7 @@ module _ (lists : List (List ℕ)) (runs : List (List (List ℕ))) (net : Networ
   past-end there below = past-port there ∙ passed (is_below layout marking m) Ended at_flags (below-is net layout has m below)
 
   past-flags : HasPort net m p → IsBelow net m → AllFired x → serve_refusal layout marking m p ≡ at_turn
-  past-flags there below fired = past-end there below ∙ names-none Unfired (first_unmarked marking.given (channels_out_of layout m)) at_turn (none-unfired lists runs net kept layout has m there.0 fired)
+  past-flags there below fired = past-end there below ∙ names-none Unfired (first_unmarked marking.given (channels_out_of layout m)) at_turn (none-unfired flow net kept layout has m there.0 fired)
 
   -- ---- the port that is due
 
@@ -87,7 +88,7 @@ module _ (lists : List (List ℕ)) (runs : List (List (List ℕ))) (net : Networ
   pub serve-refused : (cause : Refusal) → ServeRefused net m p cause → serve_refusal layout marking m p ≡ Some cause
   serve-refused Stranger is = failed (has_port layout m p) Stranger at_end (no-port net layout has m p is)
   serve-refused Ended is = past-port is.0 ∙ failed (is_below layout marking m) Ended at_flags (below-not net layout has m is.1)
-  serve-refused (Unfired d) is = past-end is.0 is.1 ∙ names-some Unfired (first_unmarked marking.given (channels_out_of layout m)) at_turn d (first-unfired lists runs net kept layout has m is.0.0 d is.2)
+  serve-refused (Unfired d) is = past-end is.0 is.1 ∙ names-some Unfired (first_unmarked marking.given (channels_out_of layout m)) at_turn d (first-unfired flow net kept layout has m is.0.0 d is.2)
   serve-refused (Order q) is = past-flags is.0 is.1 is.2 ∙ wrong-turn (due x) is.0.0 refl is.3 ∙ ap (λ n. Some (Order n)) (sym is.4)
   serve-refused (NeedsInput d) is = past-flags is.0 is.1 is.2 ∙ field-wanted (missing_field net m) d refl is.0.0 is.3 is.4
   serve-refused refusal is = absurd is

@@ -2,6 +2,7 @@
 use Rattle.std.proofs.Common.{◌≡◌, ℕ, zero, suc, ◌+◌, ◌++◌, List, [], ◌∷◌, Option, Some, None, refl, sym, ap, subst, ◌∙◌, arith}
 use Rattle.std.specs.Prelude.{Ok, Err, take, slice_get}
 use Rattle.std.proofs.lemmas.Option.{same_Some}
+use Rattle.gg_flat.specs.Streams.{Flow}
 use Rattle.gg_net.specs.declared.event.Event.{Event}
 use Rattle.gg_net.specs.declared.event.Refusal.{Refusal}
 use Rattle.gg_net.specs.Network.{Network, frame_of}
@@ -15,17 +16,17 @@ use Rattle.gg_marking.proofs.GoesLemmas.{ready-free, refused-so, step-marks, ste
 
 -- ---- what steps keep
 
-pub one-kept : (lists : List (List ℕ)) (runs : List (List (List ℕ))) (old : Network) (event : Option Event) (new : Network) → Kept lists runs old → IsStep old event new → Kept lists runs new
-one-kept lists runs old None new kept step = absurd step
-one-kept lists runs old (Some event) new kept step = kept-step lists runs old event new kept step
+pub one-kept : (flow : Flow) (old : Network) (event : Option Event) (new : Network) → Kept flow old → IsStep old event new → Kept flow new
+one-kept flow old None new kept step = absurd step
+one-kept flow old (Some event) new kept step = kept-step flow old event new kept step
 
 pub one-frame : (old : Network) (event : Option Event) (new : Network) → IsStep old event new → frame_of new ≡ frame_of old
 one-frame old None new step = absurd step
 one-frame old (Some event) new step = step-frame old event new step
 
-pub steps-kept : (lists : List (List ℕ)) (runs : List (List (List ℕ))) (old : Network) (events : List (Option Event)) (new : Network) → Kept lists runs old → Steps old events new → Kept lists runs new
-steps-kept lists runs old [] new kept steps = subst (Kept lists runs) (sym steps) kept
-steps-kept lists runs old (event ∷ events) new kept steps = steps-kept lists runs steps.0 events new (one-kept lists runs old event steps.0 kept steps.1) steps.2
+pub steps-kept : (flow : Flow) (old : Network) (events : List (Option Event)) (new : Network) → Kept flow old → Steps old events new → Kept flow new
+steps-kept flow old [] new kept steps = subst (Kept flow) (sym steps) kept
+steps-kept flow old (event ∷ events) new kept steps = steps-kept flow steps.0 events new (one-kept flow old event steps.0 kept steps.1) steps.2
 
 pub steps-frame : (old : Network) (events : List (Option Event)) (new : Network) → Steps old events new → frame_of new ≡ frame_of old
 steps-frame old [] new steps = ap frame_of steps
@@ -38,35 +39,35 @@ steps-more old (first ∷ events) next event new steps step = (steps.0, steps.1,
 
 -- ---- the marking
 
-module _ (lists : List (List ℕ)) (runs : List (List (List ℕ))) (layout : Layout) where
-  one-free : (old : Network) (event : Option Event) (new : Network) → Kept lists runs old → HasLayout (frame_of old) layout → IsStep old event new → step_refusal layout (marking_of old) event ≡ None
+module _ (flow : Flow) (layout : Layout) where
+  one-free : (old : Network) (event : Option Event) (new : Network) → Kept flow old → HasLayout (frame_of old) layout → IsStep old event new → step_refusal layout (marking_of old) event ≡ None
   one-free old None new kept has step = absurd step
-  one-free old (Some event) new kept has step = ready-free lists runs old kept layout has event step.ready
+  one-free old (Some event) new kept has step = ready-free flow old kept layout has event step.ready
 
-  one-marks : (old : Network) (event : Option Event) (new : Network) → Kept lists runs old → HasLayout (frame_of old) layout → IsStep old event new → after_step layout (marking_of old) event ≡ marking_of new
+  one-marks : (old : Network) (event : Option Event) (new : Network) → Kept flow old → HasLayout (frame_of old) layout → IsStep old event new → after_step layout (marking_of old) event ≡ marking_of new
   one-marks old None new kept has step = absurd step
-  one-marks old (Some event) new kept has step = sym (step-marks lists runs old kept layout has event new step)
+  one-marks old (Some event) new kept has step = sym (step-marks flow old kept layout has event new step)
 
-  one-refused : (net : Network) (event : Option Event) (cause : Refusal) → Kept lists runs net → HasLayout (frame_of net) layout → StepRefused net event cause → step_refusal layout (marking_of net) event ≡ Some cause
+  one-refused : (net : Network) (event : Option Event) (cause : Refusal) → Kept flow net → HasLayout (frame_of net) layout → StepRefused net event cause → step_refusal layout (marking_of net) event ≡ Some cause
   one-refused net None cause kept has is = ap Some (sym is)
-  one-refused net (Some event) cause kept has is = refused-so lists runs net kept layout has event cause is
+  one-refused net (Some event) cause kept has is = refused-so flow net kept layout has event cause is
 
   -- if a step is done, the replay goes on with the steps that follow
-  pub goes-on : (k : ℕ) (old : Network) (event : Option Event) (new : Network) (events : List (Option Event)) → Kept lists runs old → HasLayout (frame_of old) layout → IsStep old event new
+  pub goes-on : (k : ℕ) (old : Network) (event : Option Event) (new : Network) (events : List (Option Event)) → Kept flow old → HasLayout (frame_of old) layout → IsStep old event new
       → replayed_from layout k (marking_of old) (event ∷ events) ≡ replayed_from layout (suc k) (marking_of new) events
   goes-on k old event new events kept has step =
       ap (λ o. go_on k o (replayed_from layout (suc k) (after_step layout (marking_of old) event) events)) (one-free old event new kept has step)
       ∙ ap (λ marking. replayed_from layout (suc k) marking events) (one-marks old event new kept has step)
 
   -- if all steps are done, the replay ends at the marking of the last network
-  pub all-done : (k : ℕ) (old : Network) (events : List (Option Event)) (new : Network) → Kept lists runs old → HasLayout (frame_of old) layout → Steps old events new → replayed_from layout k (marking_of old) events ≡ Ok (marking_of new)
+  pub all-done : (k : ℕ) (old : Network) (events : List (Option Event)) (new : Network) → Kept flow old → HasLayout (frame_of old) layout → Steps old events new → replayed_from layout k (marking_of old) events ≡ Ok (marking_of new)
   all-done k old [] new kept has steps = ap (λ net. Ok (marking_of net)) (sym steps)
   all-done k old (event ∷ events) new kept has steps =
       goes-on k old event steps.0 events kept has steps.1
-      ∙ all-done (suc k) steps.0 events new (one-kept lists runs old event steps.0 kept steps.1) (subst (λ frame. HasLayout frame layout) (sym (one-frame old event steps.0 steps.1)) has) steps.2
+      ∙ all-done (suc k) steps.0 events new (one-kept flow old event steps.0 kept steps.1) (subst (λ frame. HasLayout frame layout) (sym (one-frame old event steps.0 steps.1)) has) steps.2
 
   -- if a step is refused after n were done, the replay stops there for the same cause
-  stops : (n k : ℕ) (old : Network) (events : List (Option Event)) (new : Network) (event : Option Event) (stopped : Stopped) → Kept lists runs old → HasLayout (frame_of old) layout → Steps old (take n events) new → slice_get events n ≡ Some event
+  stops : (n k : ℕ) (old : Network) (events : List (Option Event)) (new : Network) (event : Option Event) (stopped : Stopped) → Kept flow old → HasLayout (frame_of old) layout → Steps old (take n events) new → slice_get events n ≡ Some event
       → stopped.step ≡ k + n → StepRefused new event stopped.cause → replayed_from layout k (marking_of old) events ≡ Err stopped
   stops zero k old [] new event stopped kept has steps next number refused = let is : ◌≡◌ {A = Option (Option Event)} None (Some event) = next in cc
   stops zero k old (first ∷ events) new event stopped kept has steps next number refused =
@@ -76,7 +77,7 @@ module _ (lists : List (List ℕ)) (runs : List (List (List ℕ))) (layout : Lay
   stops (suc n) k old [] new event stopped kept has steps next number refused = let is : ◌≡◌ {A = Option (Option Event)} None (Some event) = next in cc
   stops (suc n) k old (first ∷ events) new event stopped kept has steps next number refused =
       goes-on k old first steps.0 events kept has steps.1
-      ∙ stops n (suc k) steps.0 events new event stopped (one-kept lists runs old first steps.0 kept steps.1) (subst (λ frame. HasLayout frame layout) (sym (one-frame old first steps.0 steps.1)) has) steps.2 next (omega (arith, number)) refused
+      ∙ stops n (suc k) steps.0 events new event stopped (one-kept flow old first steps.0 kept steps.1) (subst (λ frame. HasLayout frame layout) (sym (one-frame old first steps.0 steps.1)) has) steps.2 next (omega (arith, number)) refused
 
-  pub stops-at : (k : ℕ) (old : Network) (events : List (Option Event)) (new : Network) (stopped : Stopped) → Kept lists runs old → HasLayout (frame_of old) layout → StopsAt k old events new stopped → replayed_from layout k (marking_of old) events ≡ Err stopped
+  pub stops-at : (k : ℕ) (old : Network) (events : List (Option Event)) (new : Network) (stopped : Stopped) → Kept flow old → HasLayout (frame_of old) layout → StopsAt k old events new stopped → replayed_from layout k (marking_of old) events ≡ Err stopped
   stops-at k old events new stopped kept has at = stops at.done k old events new at.event stopped kept has at.steps at.next at.number at.refused

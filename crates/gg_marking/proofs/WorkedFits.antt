@@ -4,7 +4,7 @@ use Rattle.std.specs.Prelude.{slice_index_or, slice_get}
 use Rattle.std.proofs.lemmas.Option.{same_Some}
 use Rattle.gg_flat.specs.Served.{ByReader}
 use Rattle.gg_flat.specs.Circuit.{no_circuit}
-use Rattle.gg_node.specs.Machine.{RunsPiece, KeepsValues, Port, Machine, no_state, source_machine, tray_machine}
+use Rattle.gg_node.specs.Machine.{RunsPiece, KeepsLast, Port, Machine, no_state, source_machine, tray_machine}
 use Rattle.gg_net.specs.declared.event.Event.{Event}
 use Rattle.gg_net.specs.declared.event.Event.TheVariants.{Latch, Fire}
 use Rattle.gg_net.specs.declared.event.Refusal.TheVariants.{Stranger, Fired}
@@ -21,13 +21,13 @@ no-turns frame m = record { count = refl; each = λ i port turn lt. absurd (omeg
 -- ---- a counter: the hub 0, a source 1, a tray 2; channel 0 goes from the source to the hub, channel 1 from the hub to the tray
 
 abbrev hub : Option ℕ → Bool → Machine
-hub latch flag = record { behaviour = RunsPiece no_circuit; limit = 10; needs = [] ∷ []; port_count = 0; ports = []; cycle = 0; state = no_state; served = 0; latches = latch ∷ []; flags = flag ∷ []; kept = [] }
+hub latch flag = record { behaviour = RunsPiece no_circuit; limit = 10; ratios = []; needs = [] ∷ []; port_count = 0; ports = []; cycle = 0; state = no_state; served = 0; latches = latch ∷ []; flags = flag ∷ []; kept = [] }
 
 abbrev net : Option ℕ → Bool → Bool → List ℕ → List ℕ → Network
 net latch flag fired to_hub to_tray =
     record {
-      machines = hub latch flag ∷ source_machine (5 ∷ 6 ∷ []) 0 fired ∷ tray_machine 2 0 [] None ∷ [];
-      wires = record { producer = 1; out = 0; consumer = 0; place = 0; capacity = 1 } ∷ record { producer = 0; out = 0; consumer = 2; place = 0; capacity = 1 } ∷ [];
+      machines = hub latch flag ∷ source_machine (5 ∷ 6 ∷ []) 0 (fired ∷ []) ∷ tray_machine 2 2 0 [] None ∷ [];
+      wires = record { producer = 1; out = 0; consumer = 0; place = 0; capacity = 1; first = None } ∷ record { producer = 0; out = 0; consumer = 2; place = 0; capacity = 1; first = None } ∷ [];
       queues = to_hub ∷ to_tray ∷ [];
       end = 2;
     }
@@ -38,7 +38,7 @@ opens = net None false false [] []
 abbrev counter : Layout
 counter =
     record {
-      links = (record { producer = 1; consumer = 0; capacity = 1; needs = [] }) ∷ (record { producer = 0; consumer = 2; capacity = 1; needs = [] }) ∷ [];
+      links = (record { producer = 1; consumer = 0; capacity = 1; needs = []; piped = false }) ∷ (record { producer = 0; consumer = 2; capacity = 1; needs = []; piped = false }) ∷ [];
       port_counts = 0 ∷ 0 ∷ 0 ∷ [];
       turns = [] ∷ [] ∷ [] ∷ [];
       end = 2;
@@ -48,8 +48,8 @@ counter-fits : HasLayout (frame_of opens) counter
 counter-fits = record { machines = refl; channels = refl; end = refl; ports = refl; link = links; turns = turns; ins = ins; outs = outs }
   where
     links : (c : ℕ) → c < 2 → IsLinkOf (frame_of opens) c (link_at counter c)
-    links zero lt = record { producer = refl; consumer = refl; capacity = refl; needs = refl; taken = λ k any below. absurd (omega (arith, below)) }
-    links (suc zero) lt = record { producer = refl; consumer = refl; capacity = refl; needs = refl; taken = λ k any below. absurd (omega (arith, below)) }
+    links zero lt = record { producer = refl; consumer = refl; capacity = refl; piped = refl; needs = refl; taken = λ k any below. absurd (omega (arith, below)) }
+    links (suc zero) lt = record { producer = refl; consumer = refl; capacity = refl; piped = refl; needs = refl; taken = λ k any below. absurd (omega (arith, below)) }
     links (suc (suc c)) lt = absurd (omega (arith, lt))
 
     turns : (m : ℕ) → m < 3 → AreTurnsOf (frame_of opens) m (kind_at (frame_of opens).kinds m).ports (turns_at counter m)
@@ -72,7 +72,7 @@ counter-fits = record { machines = refl; channels = refl; end = refl; ports = re
     outs (suc c) (suc zero) before lt same = absurd (omega (arith, before))
     outs c (suc (suc d)) before lt same = absurd (omega (arith, lt))
 
-opens-so : marking_of opens ≡ opening_marking counter
+opens-so : marking_of opens ≡ opening_marking counter 0
 opens-so = refl
 
 -- the source's token is given, then taken: the marks are set, whatever the token
@@ -124,23 +124,23 @@ not-another-number stops = by stops.done stops.number stops.event stops.next
     by (suc done) number event next = let is : ◌≡◌ {A = Option (Option Event)} None (Some event) = next in cc
 
 -- a greater capacity makes another layout
-not-longer : HasLayout (frame_of opens) (record counter { links = (record { producer = 1; consumer = 0; capacity = 2; needs = [] }) ∷ (record { producer = 0; consumer = 2; capacity = 1; needs = [] }) ∷ [] }) → ⊥
+not-longer : HasLayout (frame_of opens) (record counter { links = (record { producer = 1; consumer = 0; capacity = 2; needs = []; piped = false }) ∷ (record { producer = 0; consumer = 2; capacity = 1; needs = []; piped = false }) ∷ [] }) → ⊥
 not-longer has = let is : ◌≡◌ {A = ℕ} 2 1 = (has.link 0 (lit< tt)).capacity in omega (arith, is)
 
 -- ---- needs and fields: machine 0 needs its ins 1 and 0, in this order, for its out, and one of its five ports has them as fields
 
 abbrev reader : Port
-reader = record { number = 4; access = ByReader 0 (record { addr = 1; en = 0; word = 2 }) }
+reader = record { number = 4; access = ByReader 0 (record { addr = 1; en = 0; word = 2; clock = None }) }
 
 abbrev needy : Frame
 needy =
     record {
-      kinds = record { behaviour = RunsPiece no_circuit; limit = 10; needs = (1 ∷ 0 ∷ []) ∷ []; port_count = 5; ports = reader ∷ []; ins = 2; outs = 1 }
-          ∷ record { behaviour = KeepsValues; limit = 10; needs = [] ∷ [] ∷ []; port_count = 0; ports = []; ins = 1; outs = 2 }
+      kinds = record { behaviour = RunsPiece no_circuit; limit = 10; ratios = []; needs = (1 ∷ 0 ∷ []) ∷ []; port_count = 5; ports = reader ∷ []; ins = 2; outs = 1 }
+          ∷ record { behaviour = KeepsLast 2; limit = 10; ratios = []; needs = [] ∷ [] ∷ []; port_count = 0; ports = []; ins = 1; outs = 2 }
           ∷ [];
-      wires = record { producer = 1; out = 0; consumer = 0; place = 0; capacity = 1 }
-          ∷ record { producer = 1; out = 1; consumer = 0; place = 1; capacity = 1 }
-          ∷ record { producer = 0; out = 0; consumer = 1; place = 0; capacity = 1 }
+      wires = record { producer = 1; out = 0; consumer = 0; place = 0; capacity = 1; first = None }
+          ∷ record { producer = 1; out = 1; consumer = 0; place = 1; capacity = 1; first = None }
+          ∷ record { producer = 0; out = 0; consumer = 1; place = 0; capacity = 1; first = None }
           ∷ [];
       end = 2;
     }
@@ -149,7 +149,7 @@ needy =
 abbrev with_these : List ℕ → List ℕ → Layout
 with_these needs fields =
     record {
-      links = (record { producer = 1; consumer = 0; capacity = 1; needs = [] }) ∷ (record { producer = 1; consumer = 0; capacity = 1; needs = [] }) ∷ (record { producer = 0; consumer = 1; capacity = 1; needs = needs }) ∷ [];
+      links = (record { producer = 1; consumer = 0; capacity = 1; needs = []; piped = false }) ∷ (record { producer = 1; consumer = 0; capacity = 1; needs = []; piped = false }) ∷ (record { producer = 0; consumer = 1; capacity = 1; needs = needs; piped = false }) ∷ [];
       port_counts = 5 ∷ 0 ∷ [];
       turns = ((record { number = 4; fields = fields }) ∷ []) ∷ [] ∷ [];
       end = 2;
@@ -164,9 +164,9 @@ needy-fits = record { machines = refl; channels = refl; end = refl; ports = refl
     both (suc (suc k)) any lt = absurd (omega (arith, lt))
 
     links : (c : ℕ) → c < 3 → IsLinkOf needy c (link_at (with_these (1 ∷ 0 ∷ []) (1 ∷ 0 ∷ [])) c)
-    links zero lt = record { producer = refl; consumer = refl; capacity = refl; needs = refl; taken = λ k any below. absurd (omega (arith, below)) }
-    links (suc zero) lt = record { producer = refl; consumer = refl; capacity = refl; needs = refl; taken = λ k any below. absurd (omega (arith, below)) }
-    links (suc (suc zero)) lt = record { producer = refl; consumer = refl; capacity = refl; needs = refl; taken = both }
+    links zero lt = record { producer = refl; consumer = refl; capacity = refl; piped = refl; needs = refl; taken = λ k any below. absurd (omega (arith, below)) }
+    links (suc zero) lt = record { producer = refl; consumer = refl; capacity = refl; piped = refl; needs = refl; taken = λ k any below. absurd (omega (arith, below)) }
+    links (suc (suc zero)) lt = record { producer = refl; consumer = refl; capacity = refl; piped = refl; needs = refl; taken = both }
     links (suc (suc (suc c))) lt = absurd (omega (arith, lt))
 
     own : (i : ℕ) (port : Port) (turn : Turn) → i < 1 → IsTurnOf needy 0 (slice_index_or (reader ∷ []) i port) (slice_index_or ((record { number = 4; fields = 1 ∷ 0 ∷ [] }) ∷ []) i turn)

@@ -13,13 +13,14 @@ use Rattle.gg_net.specs.declared.event.Refusal.TheVariants.{Stranger, Ended, Lat
 
 -- ---- what never changes
 
--- A channel: the machines at its ends, the most tokens that its queue may hold, and the channels that it needs in a
--- cycle.
+-- A channel: the machines at its ends, the most tokens that its queue may hold, the channels that it needs in a cycle,
+-- and whether it opens with a token.
 pub record Link : Type 0 where
   pub producer : ℕ
   pub consumer : ℕ
   pub capacity : ℕ
   pub needs : List ℕ
+  pub piped : Bool
 
 -- A port that is served: its number, and the channels of its fields.
 pub record Turn : Type 0 where
@@ -35,7 +36,7 @@ pub record Layout : Type 0 where
   pub end : ℕ
 
 abbrev pub link_at : Layout → ℕ → Link
-link_at layout c = slice_index_or layout.links c (record { producer = 0; consumer = 0; capacity = 0; needs = [] })
+link_at layout c = slice_index_or layout.links c (record { producer = 0; consumer = 0; capacity = 0; needs = []; piped = false })
 
 abbrev pub turns_at : Layout → ℕ → List Turn
 turns_at layout m = slice_index_or layout.turns m []
@@ -60,11 +61,11 @@ pub record Marking : Type 0 where
 abbrev pub is_set : List Bool → ℕ → Bool
 is_set marks c = slice_index_or marks c false
 
--- before the first cycle
-abbrev pub opening_marking : Layout → Marking
-opening_marking layout =
+-- before the first cycle, of this number
+abbrev pub opening_marking : Layout → ℕ → Marking
+opening_marking layout begin =
     record {
-      cycles = replicate (length layout.turns) 0;
+      cycles = replicate (length layout.turns) begin;
       served = replicate (length layout.turns) 0;
       taken = replicate (length layout.links) false;
       given = replicate (length layout.links) false;
@@ -75,15 +76,18 @@ abbrev pub and_one : ℕ → Bool → ℕ
 and_one n false = n
 and_one n true = suc n
 
--- the numbers of tokens that were put into a channel, were taken from it, and are held
+-- the numbers of tokens that were put into a channel, have entered it, were taken from it, and are held
 abbrev pub puts : Layout → Marking → ℕ → ℕ
 puts layout marking c = and_one (value_at marking.cycles (link_at layout c).producer) (is_set marking.given c)
+
+abbrev pub entered : Layout → Marking → ℕ → ℕ
+entered layout marking c = and_one (puts layout marking c) (link_at layout c).piped
 
 abbrev pub takes : Layout → Marking → ℕ → ℕ
 takes layout marking c = and_one (value_at marking.cycles (link_at layout c).consumer) (is_set marking.taken c)
 
 abbrev pub held : Layout → Marking → ℕ → ℕ
-held layout marking c = puts layout marking c - takes layout marking c
+held layout marking c = entered layout marking c - takes layout marking c
 
 -- ---- when a step is refused
 

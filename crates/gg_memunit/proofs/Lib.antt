@@ -1,5 +1,6 @@
 pub mod PortLemmas
 pub mod UnitLemmas
+pub mod DependLemmas
 pub mod ThroughLemmas
 pub mod WorkedRows
 pub mod WorkedCycles

@@ -1,5 +1,5 @@
 -- A memory whose ports were all served is in its next state.
-use Rattle.std.proofs.Common.{◌≡◌, ℕ, suc, ◌<◌, List, [], ◌∷◌, ◌++◌, Option, length, map, refl, sym, ap, subst, ◌∙◌, arith}
+use Rattle.std.proofs.Common.{◌≡◌, ℕ, suc, ◌<◌, List, [], ◌∷◌, ◌++◌, Option, Bool, length, map, refl, sym, ap, subst, ◌∙◌, arith}
 use Rattle.std.specs.Prelude.{All, fold, slice_index_or, slice_set, ◌==◌, ◌&&◌, if◌then◌else◌}
 use Rattle.std.proofs.lemmas.List.Sums.{fold-append}
 use Rattle.std.proofs.Math.Seq.{take-length}
@@ -13,6 +13,7 @@ use Rattle.gg_flat.specs.declared.memory.Writer.{Writer}
 use Rattle.gg_flat.specs.declared.memory.Memory.{Memory}
 use Rattle.gg_bits.specs.Shape.{shape}
 use Rattle.gg_flat.specs.declared.piece.Register.{Register}
+use Rattle.gg_flat.specs.Clock.{ticks}
 use Rattle.gg_flat.specs.Line.{value_at}
 use Rattle.gg_flat.specs.Circuit.{FlatCircuit}
 use Rattle.gg_flat.specs.State.{State, IsState, next_state, next_registers}
@@ -34,53 +35,53 @@ port-access : (n : ℕ) (access : Access) → (port_of n access).access ≡ acce
 port-access n (ByReader r reader) = refl
 port-access n (ByWriter w writer) = refl
 
-by-ports : (latches : List (Option ℕ)) (n : ℕ) (registers : List ℕ) (accesses : List Access) (bank : Bank) → accessed_by latches (one-bank registers bank) (map (port_of n) accesses) ≡ one-bank registers (fold (after_access (latched_values latches)) bank accesses)
-by-ports latches n registers [] bank = refl
-by-ports latches n registers (access ∷ accesses) bank =
-    ap (λ access. accessed_by latches (one-bank registers (after_access (latched_values latches) bank access)) (map (port_of n) accesses)) (port-access n access)
-    ∙ by-ports latches n registers accesses (after_access (latched_values latches) bank access)
+by-ports : (edges : List Bool) (latches : List (Option ℕ)) (n : ℕ) (registers : List ℕ) (accesses : List Access) (bank : Bank) → accessed_by edges latches (one-bank registers bank) (map (port_of n) accesses) ≡ one-bank registers (fold (after_access edges (latched_values latches)) bank accesses)
+by-ports edges latches n registers [] bank = refl
+by-ports edges latches n registers (access ∷ accesses) bank =
+    ap (λ access. accessed_by edges latches (one-bank registers (after_access edges (latched_values latches) bank access)) (map (port_of n) accesses)) (port-access n access)
+    ∙ by-ports edges latches n registers accesses (after_access edges (latched_values latches) bank access)
 
 -- ---- values that agree on the fields
 
-module _ (n : ℕ) (v w : List ℕ) (same : (i : ℕ) → i < n → value_at v i ≡ value_at w i) where
+module _ (edges : List Bool) (n : ℕ) (v w : List ℕ) (same : (i : ℕ) → i < n → value_at v i ≡ value_at w i) where
   found-agrees : (words : List ℕ) (reader : Reader) → LooksAmong n reader → found_word v words reader ≡ found_word w words reader
   found-agrees words reader looks = ap (λ a. read_word words a (value_at v reader.en)) (same reader.addr looks.0) ∙ ap (read_word words (value_at w reader.addr)) (same reader.en looks.1)
 
-  written-agrees : (words : List ℕ) (writer : Writer) → WritesAmong n writer → written v words writer ≡ written w words writer
+  written-agrees : (words : List ℕ) (writer : Writer) → WritesAmong n writer → written edges v words writer ≡ written edges w words writer
   written-agrees words writer among =
-      ap (λ en. if (en == 1) && (value_at v writer.mask == 1) then slice_set words (value_at v writer.addr) (value_at v writer.word) else words) (same writer.en among.1)
-      ∙ ap (λ mask. if (value_at w writer.en == 1) && (mask == 1) then slice_set words (value_at v writer.addr) (value_at v writer.word) else words) (same writer.mask among.3)
-      ∙ ap (λ addr. if (value_at w writer.en == 1) && (value_at w writer.mask == 1) then slice_set words addr (value_at v writer.word) else words) (same writer.addr among.0)
-      ∙ ap (λ word. if (value_at w writer.en == 1) && (value_at w writer.mask == 1) then slice_set words (value_at w writer.addr) word else words) (same writer.word among.2)
+      ap (λ en. if ticks edges writer.clock && (en == 1) && (value_at v writer.mask == 1) then slice_set words (value_at v writer.addr) (value_at v writer.word) else words) (same writer.en among.1)
+      ∙ ap (λ mask. if ticks edges writer.clock && (value_at w writer.en == 1) && (mask == 1) then slice_set words (value_at v writer.addr) (value_at v writer.word) else words) (same writer.mask among.3)
+      ∙ ap (λ addr. if ticks edges writer.clock && (value_at w writer.en == 1) && (value_at w writer.mask == 1) then slice_set words addr (value_at v writer.word) else words) (same writer.addr among.0)
+      ∙ ap (λ word. if ticks edges writer.clock && (value_at w writer.en == 1) && (value_at w writer.mask == 1) then slice_set words (value_at w writer.addr) word else words) (same writer.word among.2)
 
-  readers-agree : (r : ℕ) (readers : List Reader) → All (LooksAmong n) readers → (bank : Bank) → fold (after_access v) bank (by_readers r readers) ≡ fold (after_access w) bank (by_readers r readers)
+  readers-agree : (r : ℕ) (readers : List Reader) → All (LooksAmong n) readers → (bank : Bank) → fold (after_access edges v) bank (by_readers r readers) ≡ fold (after_access edges w) bank (by_readers r readers)
   readers-agree r [] all bank = refl
   readers-agree r (reader ∷ readers) all bank =
-      ap (λ found. fold (after_access v) (record { words = bank.words; reads = slice_set bank.reads r found }) (by_readers (suc r) readers)) (found-agrees bank.words reader (all 0 reader (omega arith)))
-      ∙ readers-agree (suc r) readers (All-tail (LooksAmong n) reader readers all) (after_access w bank (ByReader r reader))
+      ap (λ found. fold (after_access edges v) (record { words = bank.words; reads = if ticks edges reader.clock then slice_set bank.reads r found else bank.reads }) (by_readers (suc r) readers)) (found-agrees bank.words reader (all 0 reader (omega arith)))
+      ∙ readers-agree (suc r) readers (All-tail (LooksAmong n) reader readers all) (after_access edges w bank (ByReader r reader))
 
-  writers-agree : (k : ℕ) (writers : List Writer) → All (WritesAmong n) writers → (bank : Bank) → fold (after_access v) bank (by_writers k writers) ≡ fold (after_access w) bank (by_writers k writers)
+  writers-agree : (k : ℕ) (writers : List Writer) → All (WritesAmong n) writers → (bank : Bank) → fold (after_access edges v) bank (by_writers k writers) ≡ fold (after_access edges w) bank (by_writers k writers)
   writers-agree k [] all bank = refl
   writers-agree k (writer ∷ writers) all bank =
-      ap (λ (words : List ℕ). fold (after_access v) (record { words = words; reads = bank.reads }) (by_writers (suc k) writers)) (written-agrees bank.words writer (all 0 writer (omega arith)))
-      ∙ writers-agree (suc k) writers (All-tail (WritesAmong n) writer writers all) (after_access w bank (ByWriter k writer))
+      ap (λ (words : List ℕ). fold (after_access edges v) (record { words = words; reads = bank.reads }) (by_writers (suc k) writers)) (written-agrees bank.words writer (all 0 writer (omega arith)))
+      ∙ writers-agree (suc k) writers (All-tail (WritesAmong n) writer writers all) (after_access edges w bank (ByWriter k writer))
 
   module _ (readers : List Reader) (writers : List Writer) (looks : All (LooksAmong n) readers) (writes : All (WritesAmong n) writers) (bank : Bank) where
-    readers-first : fold (after_access v) bank (by_readers 0 readers ++ by_writers 0 writers) ≡ fold (after_access w) bank (by_readers 0 readers ++ by_writers 0 writers)
+    readers-first : fold (after_access edges v) bank (by_readers 0 readers ++ by_writers 0 writers) ≡ fold (after_access edges w) bank (by_readers 0 readers ++ by_writers 0 writers)
     readers-first =
-        fold-append (after_access v) bank (by_readers 0 readers) (by_writers 0 writers)
-        ∙ ap (λ bank. fold (after_access v) bank (by_writers 0 writers)) (readers-agree 0 readers looks bank)
-        ∙ writers-agree 0 writers writes (fold (after_access w) bank (by_readers 0 readers))
-        ∙ sym (fold-append (after_access w) bank (by_readers 0 readers) (by_writers 0 writers))
+        fold-append (after_access edges v) bank (by_readers 0 readers) (by_writers 0 writers)
+        ∙ ap (λ bank. fold (after_access edges v) bank (by_writers 0 writers)) (readers-agree 0 readers looks bank)
+        ∙ writers-agree 0 writers writes (fold (after_access edges w) bank (by_readers 0 readers))
+        ∙ sym (fold-append (after_access edges w) bank (by_readers 0 readers) (by_writers 0 writers))
 
-    writers-first : fold (after_access v) bank (by_writers 0 writers ++ by_readers 0 readers) ≡ fold (after_access w) bank (by_writers 0 writers ++ by_readers 0 readers)
+    writers-first : fold (after_access edges v) bank (by_writers 0 writers ++ by_readers 0 readers) ≡ fold (after_access edges w) bank (by_writers 0 writers ++ by_readers 0 readers)
     writers-first =
-        fold-append (after_access v) bank (by_writers 0 writers) (by_readers 0 readers)
-        ∙ ap (λ bank. fold (after_access v) bank (by_readers 0 readers)) (writers-agree 0 writers writes bank)
-        ∙ readers-agree 0 readers looks (fold (after_access w) bank (by_writers 0 writers))
-        ∙ sym (fold-append (after_access w) bank (by_writers 0 writers) (by_readers 0 readers))
+        fold-append (after_access edges v) bank (by_writers 0 writers) (by_readers 0 readers)
+        ∙ ap (λ bank. fold (after_access edges v) bank (by_readers 0 readers)) (writers-agree 0 writers writes bank)
+        ∙ readers-agree 0 readers looks (fold (after_access edges w) bank (by_writers 0 writers))
+        ∙ sym (fold-append (after_access edges w) bank (by_writers 0 writers) (by_readers 0 readers))
 
-    all-agree : (latency : Latency) → fold (after_access v) bank (due_of latency readers writers) ≡ fold (after_access w) bank (due_of latency readers writers)
+    all-agree : (latency : Latency) → fold (after_access edges v) bank (due_of latency readers writers) ≡ fold (after_access edges w) bank (due_of latency readers writers)
     all-agree Zero = writers-agree 0 writers writes bank
     all-agree (One Old) = readers-first
     all-agree (One Undefined) = readers-first
@@ -96,8 +97,8 @@ one-of (bank ∷ other ∷ banks) one = absurd (omega arith)
 abbrev state-of : List ℕ → List Bank → State
 state-of registers banks = record { registers = registers; banks = banks }
 
-pub served-through : (piece : FlatCircuit) (state : State) (latches : List (Option ℕ)) (signals : List ℕ) → IsMemoryPiece piece → IsState piece state → Settled piece state (latched_values latches) signals → accessed_by latches state (ports_of piece.memories) ≡ next_state piece state signals
-served-through piece state latches signals is typed settled =
+pub served-through : (edges : List Bool) (piece : FlatCircuit) (state : State) (latches : List (Option ℕ)) (signals : List ℕ) → IsMemoryPiece piece → IsState piece state → Settled piece state (latched_values latches) signals → accessed_by edges latches state (ports_of piece.memories) ≡ next_state edges piece state signals
+served-through edges piece state latches signals is typed settled =
     let found = sole piece.memories is.one in
     let memory = found.0 in
     let only = found.1 in
@@ -109,11 +110,11 @@ served-through piece state latches signals is typed settled =
     let writes = of-sole (λ (memory : Memory). All (WritesAmong (length piece.ins)) memory.writers) piece.memories memory only is.writers in
     let same = λ (i : ℕ) (below : i < length piece.ins). sym (in-value piece memory is only state (latched_values latches) signals settled i below) in
     let whole : state ≡ one-bank [] bank = ap (λ registers. state-of registers state.banks) none ∙ ap (state-of []) one in
-    ap (λ (memories : List Memory). accessed_by latches state (ports_of memories)) only
-    ∙ ap (λ state. accessed_by latches state (ports_of (memory ∷ []))) whole
-    ∙ by-ports latches (length memory.readers) [] (due_list memory) bank
-    ∙ ap (one-bank []) (all-agree (length piece.ins) (latched_values latches) signals same memory.readers memory.writers looks writes bank memory.latency
-    ∙ sym (ap (fold (after_access signals) bank) (take-length (due_list memory))) ∙ all-served signals memory bank held)
-    ∙ sym (ap (λ state. next_state piece state signals) whole
-    ∙ ap (λ (registers : List Register). state-of (next_registers signals registers []) (next_banks signals piece.memories (bank ∷ []))) is.alone
-    ∙ ap (λ (memories : List Memory). state-of [] (next_banks signals memories (bank ∷ []))) only)
+    ap (λ (memories : List Memory). accessed_by edges latches state (ports_of memories)) only
+    ∙ ap (λ state. accessed_by edges latches state (ports_of (memory ∷ []))) whole
+    ∙ by-ports edges latches (length memory.readers) [] (due_list memory) bank
+    ∙ ap (one-bank []) (all-agree edges (length piece.ins) (latched_values latches) signals same memory.readers memory.writers looks writes bank memory.latency
+    ∙ sym (ap (fold (after_access edges signals) bank) (take-length (due_list memory))) ∙ all-served edges signals memory bank held)
+    ∙ sym (ap (λ state. next_state edges piece state signals) whole
+    ∙ ap (λ (registers : List Register). state-of (next_registers edges signals registers []) (next_banks edges signals piece.memories (bank ∷ []))) is.alone
+    ∙ ap (λ (memories : List Memory). state-of [] (next_banks edges signals memories (bank ∷ []))) only)

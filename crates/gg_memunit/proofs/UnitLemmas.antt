@@ -9,6 +9,7 @@ use Rattle.gg_flat.specs.declared.memory.Reader.{Reader}
 use Rattle.gg_flat.specs.declared.memory.Writer.{Writer}
 use Rattle.gg_flat.specs.declared.memory.Memory.{Memory}
 use Rattle.gg_flat.specs.declared.piece.Driver.TheVariants.{Input}
+use Rattle.gg_flat.specs.Clock.{Ratio, edges_at}
 use Rattle.gg_flat.specs.Line.{shape_at, value_at}
 use Rattle.gg_flat.specs.Circuit.{FlatCircuit, signal_shapes, driver_at, readers_at, latency_at, reader_at}
 use Rattle.gg_flat.specs.State.{next_registers, State}
@@ -55,7 +56,7 @@ module _ (piece : FlatCircuit) (memory : Memory) (is : IsMemoryPiece piece) (onl
 
   -- the out-signal at a place is the data of the reader there
   out-is : (o : ℕ) → o < length memory.readers → value_at piece.outs o ≡ (reader_at memory.readers o).word
-  out-is o below = ap (λ outs. value_at outs o) (is.outs ∙ ap outs_of only) ∙ get_or-map (λ (reader : Reader). reader.word) memory.readers o (record { addr = 0; en = 0; word = 0 }) 0 below
+  out-is o below = ap (λ outs. value_at outs o) (is.outs ∙ ap outs_of only) ∙ get_or-map (λ (reader : Reader). reader.word) memory.readers o (record { addr = 0; en = 0; word = 0; clock = None }) 0 below
 
   pub out-count : length piece.outs ≡ length memory.readers
   out-count = ap length (is.outs ∙ ap outs_of only) ∙ length-map memory.readers (λ (reader : Reader). reader.word)
@@ -68,29 +69,29 @@ module _ (piece : FlatCircuit) (memory : Memory) (is : IsMemoryPiece piece) (onl
       (subst (λ readers. AreDriven (driver_at piece) 0 (latency_at piece 0) readers) (ap (λ (memories : List Memory). slice_index_or (map (λ (memory : Memory). memory.readers) memories) 0 []) only) all) o below
 
   -- the value of an out-signal is its driver's
-  out-value : (state : State) (inputs signals : List ℕ) → Settled piece state inputs signals → (o : ℕ) → o < length memory.readers → value_at signals (value_at piece.outs o) ≡ driver_value state inputs signals (shape_at (signal_shapes piece) (reader_at memory.readers o).word) (reader_driver memory.latency 0 o (reader_at memory.readers o))
+  pub out-value : (state : State) (inputs signals : List ℕ) → Settled piece state inputs signals → (o : ℕ) → o < length memory.readers → value_at signals (value_at piece.outs o) ≡ driver_value state inputs signals (shape_at (signal_shapes piece) (reader_at memory.readers o).word) (reader_driver memory.latency 0 o (reader_at memory.readers o))
   out-value state inputs signals settled o below =
       let s = (reader_at memory.readers o).word in
       let within : s < length piece.signals = subst (λ s. s < length piece.signals) (out-is o below) (is.formed.outs o (omega (arith, below, out-count))) in
       ap (value_at signals) (out-is o below) ∙ settled.driven s within ∙ ap (driver_value state inputs signals (shape_at (signal_shapes piece) s)) (out-driven o below)
 
-  needs-are : (o : ℕ) → o < length memory.readers → needs_at (needs_of piece.memories) o ≡ needs_by memory.latency (reader_at memory.readers o)
-  needs-are o below = ap (λ memories. needs_at (needs_of memories) o) only ∙ get_or-map (needs_by memory.latency) memory.readers o (record { addr = 0; en = 0; word = 0 }) [] below
+  pub needs-are : (o : ℕ) → o < length memory.readers → needs_at (needs_of piece.memories) o ≡ needs_by memory.latency (reader_at memory.readers o)
+  needs-are o below = ap (λ memories. needs_at (needs_of memories) o) only ∙ get_or-map (needs_by memory.latency) memory.readers o (record { addr = 0; en = 0; word = 0; clock = None }) [] below
 
   -- ---- tokens
 
-  module _ (limit cycle served : ℕ) (bank : Bank) (latches : List (Option ℕ)) (flags : List Bool) (o : ℕ) (below : o < length memory.readers) where
+  module _ (ratios : List Ratio) (limit cycle served : ℕ) (bank : Bank) (latches : List (Option ℕ)) (flags : List Bool) (o : ℕ) (below : o < length memory.readers) where
     unit : Machine
-    unit = memory_machine piece limit cycle (state_of bank) served latches flags
+    unit = memory_machine piece ratios limit cycle (state_of bank) served latches flags
 
-    pub late-token : (under : UnderWrite) → memory.latency ≡ One under → IsTokenOf (RunsPiece piece) (memory_machine piece limit cycle (state_of bank) served latches flags) o (value_at bank.reads o)
+    pub late-token : (under : UnderWrite) → memory.latency ≡ One under → IsTokenOf (RunsPiece piece) (memory_machine piece ratios limit cycle (state_of bank) served latches flags) o (value_at bank.reads o)
     late-token under late inputs signals settled agrees =
         out-value (state_of bank) inputs signals settled o below
         ∙ ap (λ latency. driver_value (state_of bank) inputs signals (shape_at (signal_shapes piece) (reader_at memory.readers o).word) (reader_driver latency 0 o (reader_at memory.readers o))) late
 
     pub same-token : memory.latency ≡ Zero → (reader_at memory.readers o).addr < length piece.ins → (reader_at memory.readers o).en < length piece.ins
         → first_empty latches (needs_at (needs_of piece.memories) o) ≡ None
-        → IsTokenOf (RunsPiece piece) (memory_machine piece limit cycle (state_of bank) served latches flags) o (found_word (latched_values latches) bank.words (reader_at memory.readers o))
+        → IsTokenOf (RunsPiece piece) (memory_machine piece ratios limit cycle (state_of bank) served latches flags) o (found_word (latched_values latches) bank.words (reader_at memory.readers o))
     same-token zero-late addr-in en-in missing inputs signals settled agrees =
         let reader = reader_at memory.readers o in
         let needs : needs_at (needs_of piece.memories) o ≡ reader.addr ∷ reader.en ∷ [] = needs-are o below ∙ ap (λ latency. needs_by latency reader) zero-late in
@@ -108,30 +109,30 @@ module _ (piece : FlatCircuit) (memory : Memory) (is : IsMemoryPiece piece) (onl
 
 -- ---- a memory of which no port is served
 
-nothing-written : (signals : List ℕ) (a : ℕ) (words : List ℕ) → next_words_from signals [] a words ≡ words
-nothing-written signals a [] = refl
-nothing-written signals a (word ∷ words) = ap (λ rest. word ∷ rest) (nothing-written signals (suc a) words)
+nothing-written : (edges : List Bool) (signals : List ℕ) (a : ℕ) (words : List ℕ) → next_words_from edges signals [] a words ≡ words
+nothing-written edges signals a [] = refl
+nothing-written edges signals a (word ∷ words) = ap (λ rest. word ∷ rest) (nothing-written edges signals (suc a) words)
 
-bank-stays : (signals words reads : List ℕ) (latency : Latency) (readers : List Reader) (writers : List Writer) → count_by latency (length readers) (length writers) ≡ 0 → length reads ≡ read_count latency readers
-    → ◌≡◌ {A = Bank} (record { words = words; reads = reads }) (record { words = next_words_from signals writers 0 words; reads = next_reads signals latency readers words (next_words_from signals writers 0 words) })
-bank-stays signals words reads Zero readers [] none held =
-    ap (λ (reads : List ℕ). record { words = words; reads = reads }) (nil_from_length reads held) ∙ ap (λ (words : List ℕ). record { words = words; reads = [] }) (sym (nothing-written signals 0 words))
-bank-stays signals words reads Zero readers (writer ∷ writers) none held = absurd (omega arith)
-bank-stays signals words reads (One under) [] [] none held =
-    ap (λ (reads : List ℕ). record { words = words; reads = reads }) (nil_from_length reads held) ∙ ap (λ (words : List ℕ). record { words = words; reads = [] }) (sym (nothing-written signals 0 words))
-bank-stays signals words reads (One under) (reader ∷ readers) writers none held = absurd (omega arith)
-bank-stays signals words reads (One under) [] (writer ∷ writers) none held = absurd (omega arith)
+bank-stays : (edges : List Bool) (signals words reads : List ℕ) (latency : Latency) (readers : List Reader) (writers : List Writer) → count_by latency (length readers) (length writers) ≡ 0 → length reads ≡ read_count latency readers
+    → ◌≡◌ {A = Bank} (record { words = words; reads = reads }) (record { words = next_words_from edges signals writers 0 words; reads = next_reads edges signals latency readers words (next_words_from edges signals writers 0 words) reads })
+bank-stays edges signals words reads Zero readers [] none held =
+    ap (λ (reads : List ℕ). record { words = words; reads = reads }) (nil_from_length reads held) ∙ ap (λ (words : List ℕ). record { words = words; reads = [] }) (sym (nothing-written edges signals 0 words))
+bank-stays edges signals words reads Zero readers (writer ∷ writers) none held = absurd (omega arith)
+bank-stays edges signals words reads (One under) [] [] none held =
+    ap (λ (reads : List ℕ). record { words = words; reads = reads }) (nil_from_length reads held) ∙ ap (λ (words : List ℕ). record { words = words; reads = [] }) (sym (nothing-written edges signals 0 words))
+bank-stays edges signals words reads (One under) (reader ∷ readers) writers none held = absurd (omega arith)
+bank-stays edges signals words reads (One under) [] (writer ∷ writers) none held = absurd (omega arith)
 
-pub next-is : (piece : FlatCircuit) (memory : Memory) → IsMemoryPiece piece → piece.memories ≡ memory ∷ [] → (limit cycle served : ℕ) (bank : Bank) (latches : List (Option ℕ)) (flags : List Bool) → length bank.reads ≡ read_count memory.latency memory.readers
-    → IsNextOf (RunsPiece piece) (ports_of piece.memories) (memory_machine piece limit cycle (state_of bank) served latches flags) (state_of bank)
-next-is piece memory is only limit cycle served bank latches flags held = by (ports_of piece.memories) refl
+pub next-is : (piece : FlatCircuit) (memory : Memory) → IsMemoryPiece piece → piece.memories ≡ memory ∷ [] → (ratios : List Ratio) (limit cycle served : ℕ) (bank : Bank) (latches : List (Option ℕ)) (flags : List Bool) → length bank.reads ≡ read_count memory.latency memory.readers
+    → IsNextOf (RunsPiece piece) (ports_of piece.memories) (memory_machine piece ratios limit cycle (state_of bank) served latches flags) (state_of bank)
+next-is piece memory is only ratios limit cycle served bank latches flags held = by (ports_of piece.memories) refl
   where
-    by : (ports : List Port) → ports_of piece.memories ≡ ports → IsNextOf (RunsPiece piece) ports (memory_machine piece limit cycle (state_of bank) served latches flags) (state_of bank)
+    by : (ports : List Port) → ports_of piece.memories ≡ ports → IsNextOf (RunsPiece piece) ports (memory_machine piece ratios limit cycle (state_of bank) served latches flags) (state_of bank)
     by [] none = λ signals settled.
         let count : count_by memory.latency (length memory.readers) (length memory.writers) ≡ 0 = sym (count_ports memory.latency memory.readers memory.writers) ∙ ap length (sym (ap ports_of only) ∙ none) in
-        ap (λ (bank : Bank). record { registers = []; banks = bank ∷ [] }) (bank-stays signals bank.words bank.reads memory.latency memory.readers memory.writers count held)
-        ∙ ap (λ (memories : List Memory). record { registers = []; banks = next_banks signals memories (bank ∷ []) }) (sym only)
-        ∙ ap (λ registers. record { registers = next_registers signals registers []; banks = next_banks signals piece.memories (bank ∷ []) }) (sym is.alone)
+        ap (λ (bank : Bank). record { registers = []; banks = bank ∷ [] }) (bank-stays (edges_at ratios cycle) signals bank.words bank.reads memory.latency memory.readers memory.writers count held)
+        ∙ ap (λ (memories : List Memory). record { registers = []; banks = next_banks (edges_at ratios cycle) signals memories (bank ∷ []) }) (sym only)
+        ∙ ap (λ registers. record { registers = next_registers (edges_at ratios cycle) signals registers []; banks = next_banks (edges_at ratios cycle) signals piece.memories (bank ∷ []) }) (sym is.alone)
     by (port ∷ ports) some = refl
 
 -- ---- one access
@@ -155,11 +156,11 @@ module _ (piece : FlatCircuit) (memory : Memory) (is : IsMemoryPiece piece) (onl
   among-ports = port-below memory.latency memory.readers memory.writers served p due-here
 
   -- what serving the due port makes of the machine
-  pub serve-step : (limit cycle : ℕ) (bank : Bank) (latches : List (Option ℕ)) (flags : List Bool)
-      → memory_machine piece limit cycle (state_of (after_access (latched_values latches) bank (access_of memory.readers memory.writers p))) (served + 1) latches flags ≡ with_served (memory_machine piece limit cycle (state_of bank) served latches flags)
-  serve-step limit cycle bank latches flags =
-      ap (λ n. memory_machine piece limit cycle (state_of (after_access (latched_values latches) bank (access_of memory.readers memory.writers p))) n latches flags) (let same : served + 1 ≡ suc served = omega arith in same)
-      ∙ ap (λ port. memory_machine piece limit cycle (accessed latches (state_of bank) port) (suc served) latches flags)
+  pub serve-step : (ratios : List Ratio) (limit cycle : ℕ) (bank : Bank) (latches : List (Option ℕ)) (flags : List Bool)
+      → memory_machine piece ratios limit cycle (state_of (after_access (edges_at ratios cycle) (latched_values latches) bank (access_of memory.readers memory.writers p))) (served + 1) latches flags ≡ with_served (memory_machine piece ratios limit cycle (state_of bank) served latches flags)
+  serve-step ratios limit cycle bank latches flags =
+      ap (λ n. memory_machine piece ratios limit cycle (state_of (after_access (edges_at ratios cycle) (latched_values latches) bank (access_of memory.readers memory.writers p))) n latches flags) (let same : served + 1 ≡ suc served = omega arith in same)
+      ∙ ap (λ port. memory_machine piece ratios limit cycle (accessed (edges_at ratios cycle) latches (state_of bank) port) (suc served) latches flags)
       (sym (ap (λ memories. slice_get (ports_of memories) served) only ∙ port-due memory.latency memory.readers memory.writers served p due-here))
 
 -- ---- what a unit holds

@@ -1,6 +1,6 @@
 -- The memories of two circuits of gg_flat, each served port by port over its cycles: it gives the data that it gives inside
 -- its circuit, and holds in the end what it holds there.
-use Rattle.std.proofs.Common.{◌≡◌, ℕ, List, [], ◌∷◌, ◌++◌, Some, map, refl}
+use Rattle.std.proofs.Common.{◌≡◌, ℕ, List, [], ◌∷◌, ◌++◌, Some, None, map, refl}
 use Rattle.gg_flat.specs.declared.memory.UnderWrite.{UnderWrite}
 use Rattle.gg_flat.specs.declared.memory.UnderWrite.TheVariants.{Old, New, Undefined}
 use Rattle.gg_flat.specs.declared.memory.Latency.{Latency}
@@ -17,7 +17,7 @@ use Rattle.gg_memunit.specs.MemoryUnit.{ports_by, state_of, accessed_by}
 
 -- the state after a cycle in which the ins have these tokens, and all ports are served
 abbrev served : Latency → List Reader → List Writer → State → List ℕ → State
-served latency readers writers state inputs = accessed_by (map Some inputs) state (ports_by latency readers writers)
+served latency readers writers state inputs = accessed_by [] (map Some inputs) state (ports_by latency readers writers)
 
 -- the states before each cycle, and the last
 abbrev states : Latency → List Reader → List Writer → State → List (List ℕ) → List State
@@ -31,10 +31,10 @@ last_of state (next ∷ more) = last_of next more
 -- ---- three words, a late reader and a writer that is always enabled, both at the address `a`; `e` enables the reader
 
 abbrev r : Reader
-r = record { addr = 0; en = 1; word = 6 }
+r = record { addr = 0; en = 1; word = 6; clock = None }
 
 abbrev w : Writer
-w = record { addr = 2; en = 3; word = 4; mask = 5 }
+w = record { addr = 2; en = 3; word = 4; mask = 5; clock = None }
 
 -- `a` is 1, 1, 3, 1, 0, `e` is 1, 0, 1, 1, 0, and `v` is 11, 22, 33, 44, 00
 abbrev late_cycles : List (List ℕ)
@@ -77,10 +77,10 @@ holds-old = refl
 -- reader; the first writer writes `v`, and the second its complement
 
 abbrev readers : List Reader
-readers = record { addr = 0; en = 1; word = 12 } ∷ record { addr = 2; en = 3; word = 13 } ∷ []
+readers = record { addr = 0; en = 1; word = 12; clock = None } ∷ record { addr = 2; en = 3; word = 13; clock = None } ∷ []
 
 abbrev writers : List Writer
-writers = record { addr = 4; en = 5; word = 6; mask = 7 } ∷ record { addr = 8; en = 9; word = 10; mask = 11 } ∷ []
+writers = record { addr = 4; en = 5; word = 6; mask = 7; clock = None } ∷ record { addr = 8; en = 9; word = 10; mask = 11; clock = None } ∷ []
 
 -- `a` is 1, 1, 3, 1, 2, and `v` is 0f, 21, 55, 00, 07
 abbrev ports_inputs : List (List ℕ)
@@ -101,14 +101,14 @@ found reader [] cycles = []
 found reader (state ∷ states) [] = []
 found reader (state ∷ states) (inputs ∷ cycles) = found_word inputs (bank_at state.banks 0).words reader ∷ found reader states cycles
 
-first-data : found (record { addr = 0; en = 1; word = 12 }) ports_states ports_cycles ≡ column (rows_along ports ports_order ports_inputs 5) 6
+first-data : found (record { addr = 0; en = 1; word = 12; clock = None }) ports_states ports_cycles ≡ column (rows_along ports ports_order ports_inputs 5) 6
 first-data = refl
 
-second-data : found (record { addr = 2; en = 3; word = 13 }) ports_states ports_cycles ≡ column (rows_along ports ports_order ports_inputs 5) 9
+second-data : found (record { addr = 2; en = 3; word = 13; clock = None }) ports_states ports_cycles ≡ column (rows_along ports ports_order ports_inputs 5) 9
 second-data = refl
 
 -- the later writer wins, and nothing is read past the depth
-first-reads : found (record { addr = 0; en = 1; word = 12 }) ports_states ports_cycles ≡ 0 ∷ 240 ∷ 0 ∷ 222 ∷ 0 ∷ []
+first-reads : found (record { addr = 0; en = 1; word = 12; clock = None }) ports_states ports_cycles ≡ 0 ∷ 240 ∷ 0 ∷ 222 ∷ 0 ∷ []
 first-reads = refl
 
 holds-ports : last_of (empty []) ports_states ≡ state_at ports (opening_start ports) (rows_along ports ports_order ports_inputs 5) 5

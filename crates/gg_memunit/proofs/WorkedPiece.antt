@@ -1,6 +1,6 @@
 -- A piece that is one memory: two words of eight bits, and one reader of latency 0.
 use Rattle.std.proofs.Common.{◌≡◌, ◌≢◌, ℕ, ◌<◌, List, [], ◌∷◌, length, map, refl, sym, ap, subst, ◌∙◌, arith}
-use Rattle.std.specs.Prelude.{All, AllPairs, slice_index_or}
+use Rattle.std.specs.Prelude.{All, AllPairs, slice_index_or, None}
 use Rattle.std.proofs.lemmas.List.{get_or-map, length-map}
 use Rattle.std.proofs.lemmas.List.Kept.{AllPairs-cons}
 use Rattle.std.proofs.lemmas.List.Elements.{All-nil}
@@ -19,7 +19,7 @@ use Rattle.gg_flat.proofs.WorkedForms.{only, both, three, pair, differ}
 use Rattle.gg_memunit.specs.MemoryUnit.{IsMemoryPiece, outs_of, count_of, ports_of}
 
 abbrev reader : Reader
-reader = record { addr = 0; en = 1; word = 2 }
+reader = record { addr = 0; en = 1; word = 2; clock = None }
 
 abbrev memory : Memory
 memory = record { word = eight; depth = 2; latency = Zero; readers = reader ∷ []; writers = [] }
@@ -113,7 +113,7 @@ none-served : ports_of piece.memories ≡ []
 none-served = refl
 
 abbrev written : Memory
-written = record memory { writers = record { addr = 2; en = 3; word = 4; mask = 5 } ∷ [] }
+written = record memory { writers = record { addr = 2; en = 3; word = 4; mask = 5; clock = None } ∷ [] }
 
 two-ports : count_of (written ∷ []) ≡ 2
 two-ports = refl

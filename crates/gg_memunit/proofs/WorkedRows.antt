@@ -1,5 +1,5 @@
 -- A memory of two words with one reader and two writers, served by hand.
-use Rattle.std.proofs.Common.{◌≡◌, ℕ, List, [], ◌∷◌, Option, Some, map, refl}
+use Rattle.std.proofs.Common.{◌≡◌, ℕ, List, [], ◌∷◌, Option, Some, None, map, refl}
 use Rattle.gg_flat.specs.declared.memory.UnderWrite.TheVariants.{Old, New, Undefined}
 use Rattle.gg_flat.specs.declared.memory.Latency.{Latency}
 use Rattle.gg_flat.specs.declared.memory.Latency.TheVariants.{Zero, One}
@@ -10,13 +10,13 @@ use Rattle.gg_node.specs.Machine.{Port}
 use Rattle.gg_memunit.specs.MemoryUnit.{ports_by, needs_by, state_of, accessed_by}
 
 abbrev r : Reader
-r = record { addr = 0; en = 1; word = 10 }
+r = record { addr = 0; en = 1; word = 10; clock = None }
 
 abbrev w : Writer
-w = record { addr = 2; en = 3; word = 4; mask = 5 }
+w = record { addr = 2; en = 3; word = 4; mask = 5; clock = None }
 
 abbrev x : Writer
-x = record { addr = 6; en = 7; word = 8; mask = 9 }
+x = record { addr = 6; en = 7; word = 8; mask = 9; clock = None }
 
 abbrev ports : Latency → List Port
 ports latency = ports_by latency (r ∷ []) (w ∷ x ∷ [])
@@ -48,16 +48,16 @@ holds words reads = state_of (record { words = words; reads = reads })
 abbrev both : List (Option ℕ)
 both = Some 1 ∷ Some 1 ∷ Some 1 ∷ Some 1 ∷ Some 7 ∷ Some 1 ∷ Some 1 ∷ Some 1 ∷ Some 8 ∷ Some 1 ∷ []
 
-served-zero : accessed_by both (holds (3 ∷ 4 ∷ []) []) (ports Zero) ≡ holds (3 ∷ 8 ∷ []) []
+served-zero : accessed_by [] both (holds (3 ∷ 4 ∷ []) []) (ports Zero) ≡ holds (3 ∷ 8 ∷ []) []
 served-zero = refl
 
-served-old : accessed_by both (holds (3 ∷ 4 ∷ []) (0 ∷ [])) (ports (One Old)) ≡ holds (3 ∷ 8 ∷ []) (4 ∷ [])
+served-old : accessed_by [] both (holds (3 ∷ 4 ∷ []) (0 ∷ [])) (ports (One Old)) ≡ holds (3 ∷ 8 ∷ []) (4 ∷ [])
 served-old = refl
 
-served-undefined : accessed_by both (holds (3 ∷ 4 ∷ []) (0 ∷ [])) (ports (One Undefined)) ≡ holds (3 ∷ 8 ∷ []) (4 ∷ [])
+served-undefined : accessed_by [] both (holds (3 ∷ 4 ∷ []) (0 ∷ [])) (ports (One Undefined)) ≡ holds (3 ∷ 8 ∷ []) (4 ∷ [])
 served-undefined = refl
 
-served-new : accessed_by both (holds (3 ∷ 4 ∷ []) (0 ∷ [])) (ports (One New)) ≡ holds (3 ∷ 8 ∷ []) (8 ∷ [])
+served-new : accessed_by [] both (holds (3 ∷ 4 ∷ []) (0 ∷ [])) (ports (One New)) ≡ holds (3 ∷ 8 ∷ []) (8 ∷ [])
 served-new = refl
 
 -- ---- `x` is masked, and `w` isn't enabled; the reader reads past the depth
@@ -65,5 +65,5 @@ served-new = refl
 abbrev neither : List (Option ℕ)
 neither = Some 2 ∷ Some 1 ∷ Some 1 ∷ Some 0 ∷ Some 7 ∷ Some 1 ∷ Some 1 ∷ Some 1 ∷ Some 8 ∷ Some 0 ∷ []
 
-served-neither : accessed_by neither (holds (3 ∷ 4 ∷ []) (5 ∷ [])) (ports (One New)) ≡ holds (3 ∷ 4 ∷ []) (0 ∷ [])
+served-neither : accessed_by [] neither (holds (3 ∷ 4 ∷ []) (5 ∷ [])) (ports (One New)) ≡ holds (3 ∷ 4 ∷ []) (0 ∷ [])
 served-neither = refl

@@ -8,6 +8,7 @@ use Rattle.gg_flat.specs.declared.memory.Latency.TheVariants.{Zero, One}
 use Rattle.gg_flat.specs.declared.memory.Reader.{Reader}
 use Rattle.gg_flat.specs.declared.memory.Writer.{Writer}
 use Rattle.gg_flat.specs.declared.memory.Memory.{Memory}
+use Rattle.gg_flat.specs.Clock.{Ratio}
 use Rattle.gg_flat.specs.Line.{value_at}
 use Rattle.gg_flat.specs.Circuit.{FlatCircuit, reader_at}
 use Rattle.gg_flat.specs.State.{State, opening}
@@ -45,7 +46,7 @@ ports_by latency readers writers = map (port_of (length readers)) (due_of latenc
 
 -- the writer at a place
 abbrev pub writer_at : List Writer → ℕ → Writer
-writer_at writers w = slice_index_or writers w (record { addr = 0; en = 0; word = 0; mask = 0 })
+writer_at writers w = slice_index_or writers w (record { addr = 0; en = 0; word = 0; mask = 0; clock = None })
 
 -- the access of the port with a number
 abbrev pub access_of : List Reader → List Writer → ℕ → Access
@@ -87,12 +88,13 @@ needs_of (memory ∷ memories) = map (needs_by memory.latency) memory.readers
 abbrev pub state_of : Bank → State
 state_of bank = record { registers = []; banks = bank ∷ [] }
 
--- a memory unit with this piece that can do this many cycles
-abbrev pub memory_machine : FlatCircuit → ℕ → ℕ → State → ℕ → List (Option ℕ) → List Bool → Machine
-memory_machine piece limit cycle state served latches flags =
+-- a memory unit with this piece and a ratio for each of its clocks; it can do this many cycles
+abbrev pub memory_machine : FlatCircuit → List Ratio → ℕ → ℕ → State → ℕ → List (Option ℕ) → List Bool → Machine
+memory_machine piece ratios limit cycle state served latches flags =
     record {
       behaviour = RunsPiece piece;
       limit = limit;
+      ratios = ratios;
       needs = needs_of piece.memories;
       port_count = count_of piece.memories;
       ports = ports_of piece.memories;
@@ -104,13 +106,13 @@ memory_machine piece limit cycle state served latches flags =
       kept = [];
     }
 
--- the state after these accesses, one after another
-abbrev pub accessed_by : List (Option ℕ) → State → List Port → State
-accessed_by latches state ports = fold (λ state port. accessed latches state (Some port)) state ports
+-- the state after these accesses, one after another, in a tick with these edges
+abbrev pub accessed_by : List Bool → List (Option ℕ) → State → List Port → State
+accessed_by edges latches state ports = fold (λ state port. accessed edges latches state (Some port)) state ports
 
--- a memory unit before its first cycle
+-- a memory unit before its first cycle; all its clocks have an edge in each
 abbrev pub opening_unit : FlatCircuit → Machine
-opening_unit piece = memory_machine piece cycle_limit 0 (opening piece) 0 (replicate (length piece.ins) None) (replicate (length piece.outs) false)
+opening_unit piece = memory_machine piece [] cycle_limit 0 (opening piece) 0 (replicate (length piece.ins) None) (replicate (length piece.outs) false)
 
 -- The fields of a unit belong to its piece: there is a read register for each late reader, a latch for each in-signal
 -- and a flag for each out-signal, and the inputs are the tokens in the latches.

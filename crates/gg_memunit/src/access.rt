@@ -14,18 +14,18 @@ pub(crate) fn find(bank: &Bank, reader: &Reader, inputs: &[u128]) -> u128
     bank.word(inputs[reader.addr as usize], inputs[reader.en as usize])
 }
 
-/// Does the access of a port. The port is a reader of a late memory, or a writer.
-pub(crate) fn serve(bank: &mut Bank, memory: &Memory, port: u32, inputs: &[u128])
+/// Does the access of a port in a tick with these edges. The port is a reader of a late memory, or a writer.
+pub(crate) fn serve(bank: &mut Bank, memory: &Memory, port: u32, edges: &[bool], inputs: &[u128])
     requires readers { All (LooksAmong (length inputs.now)) memory.now.readers }
     requires writers { All (WritesAmong (length inputs.now)) memory.now.writers }
     requires late { port < length memory.now.readers → port < length bank.old.reads }
     requires port { port < length memory.now.readers + length memory.now.writers }
-    ensures { bank.new ≡ after_access inputs.now bank.old (access_of memory.now.readers memory.now.writers port) }
+    ensures { bank.new ≡ after_access edges.now inputs.now bank.old (access_of memory.now.readers memory.now.writers port) }
 {
     let (readers, writers) = (memory.readers.as_slice(), memory.writers.as_slice());
     if (port as usize) < readers.len() {
-        bank.serve_reader(port as usize, &readers[port as usize], inputs);
+        bank.serve_reader(port as usize, &readers[port as usize], edges, inputs);
     } else {
-        bank.serve_writer(&writers[port as usize - readers.len()], inputs);
+        bank.serve_writer(&writers[port as usize - readers.len()], edges, inputs);
     }
 }

@@ -26,12 +26,13 @@ pub struct MemUnit {
 }
 
 impl Model for MemUnit {
+    ghost use Rattle.std.specs.Prelude.{[]};
     ghost use Rattle.gg_node.specs.Machine.{Machine, cycle_limit};
     ghost use Rattle.gg_memunit.specs.MemoryUnit.{memory_machine, state_of, IsOfPiece};
 
     ghost Value = { Machine };
 
-    ghost view = { λ unit. memory_machine unit.piece cycle_limit unit.cycle (state_of unit.bank) unit.served unit.latches.items unit.flags.items };
+    ghost view = { λ unit. memory_machine unit.piece [] cycle_limit unit.cycle (state_of unit.bank) unit.served unit.latches.items unit.flags.items };
 
     ghost invariant = { λ unit. IsOfPiece unit.piece unit.bank unit.inputs.items unit.latches.items unit.flags.items };
 }
@@ -142,7 +143,7 @@ impl MemUnit {
         ensures { self.new ≡ with_served self.old }
     {
         let memory = memory_of(&self.piece);
-        access::serve(&mut self.bank, memory, port, &self.inputs);
+        access::serve(&mut self.bank, memory, port, &[], &self.inputs);
         self.served += 1;
     }
 

@@ -1,9 +1,25 @@
--- One channel: its queue stays the part of the list from the tokens taken to the tokens put.
-use Rattle.std.proofs.Common.{◌≡◌, ℕ, suc, ◌<◌, ◌≤◌, ◌++◌, List, [], ◌∷◌, length, drop, sym, ap, subst, ◌∙◌, ⊎_elim, arith}
+-- One channel: its queue stays the part of the list from the tokens taken to the tokens that have entered.
+use Rattle.std.proofs.Common.{◌≡◌, ℕ, suc, ◌<◌, ◌≤◌, ◌++◌, List, [], ◌∷◌, Option, None, Some, length, drop, refl, sym, ap, subst, ◌∙◌, ⊎_elim, arith}
 use Rattle.std.proofs.lemmas.Bool.{cases_lt}
 use Rattle.std.proofs.lemmas.List.{length-append, get_or_append_left, get_or_at}
 use Rattle.gg_flat.specs.Line.{value_at}
+use Rattle.gg_net.specs.Network.{entered_by, opening_queue}
 use Rattle.gg_net.specs.Kept.{BetweenAt}
+
+-- one more token was put, so one more has entered
+pub entered-suc : (first : Option ℕ) (n : ℕ) → entered_by first (suc n) ≡ suc (entered_by first n)
+entered-suc None n = refl
+entered-suc (Some token) n = refl
+
+-- before the first cycle, of number `begin`, nothing was put or taken since then
+pub between-open : (first : Option ℕ) (list : List ℕ) (capacity begin : ℕ) → 0 < capacity → ((token : ℕ) → first ≡ Some token → token ≡ value_at list begin) → BetweenAt list capacity begin (entered_by first begin) (opening_queue first)
+between-open None list capacity begin some opens = record { held = omega arith; room = omega arith; tokens = λ j below. absurd (omega (arith, below)) }
+between-open (Some token) list capacity begin some opens =
+    record {
+      held = omega arith;
+      room = omega (arith, some);
+      tokens = λ j below. let none : j ≡ 0 = omega (arith, below) in ap (value_at (token ∷ [])) none ∙ opens token refl ∙ ap (value_at list) (omega (arith, none));
+    }
 
 -- this stays so for equal counts and an equal queue
 pub between-same : (list : List ℕ) (capacity taken taken' put put' : ℕ) (queue queue' : List ℕ) → taken' ≡ taken → put' ≡ put → queue' ≡ queue → BetweenAt list capacity taken put queue → BetweenAt list capacity taken' put' queue'

@@ -6,6 +6,7 @@ use Rattle.std.proofs.lemmas.List.{length-map, length-set, length-replicate, map
 use Rattle.std.proofs.Math.Seq.{map-set_same}
 use Rattle.gg_flat.specs.Line.{value_at}
 use Rattle.gg_flat.specs.State.{State}
+use Rattle.gg_flat.specs.Streams.{Flow}
 use Rattle.gg_node.specs.Machine.{Machine, no_machine, machine_at}
 use Rattle.gg_node.specs.Token.{IsToken, IsNextState}
 use Rattle.gg_node.specs.Step.{MayLatch, MayFire, with_latch, with_flag, with_served, finished}
@@ -16,7 +17,7 @@ use Rattle.gg_net.specs.Network.{Network, wire_at, queue_at, producer_of, consum
 use Rattle.gg_net.specs.Step.{CanLatch, CanFire, CanServe, CanFinish, front_of, after_latch, after_serve, Gives, GoesOn}
 use Rattle.gg_net.specs.Kept.{Kept}
 use Rattle.gg_net.specs.Queue.{Held}
-use Rattle.gg_net.specs.Seats.{machines_by, seated, IsReseated, HasGoneOn}
+use Rattle.gg_net.specs.Seats.{machines_by, seated, IsSeated, IsReseated, HasGoneOn}
 use Rattle.gg_net.specs.Net.{net_of, held_at, AreListed, HasRoom, IsWithinLimits, IsNet}
 use Rattle.gg_net.proofs.SeatLemmas.{machines-set, are-seated}
 use Rattle.gg_net.proofs.StepLemmas.{kept-step}
@@ -25,15 +26,15 @@ use Rattle.gg_net.proofs.MayLemmas.{consumer-there, producer-there, may-latch, m
 -- ---- kinds
 
 pub kind-latch : (x : Machine) (i value : ℕ) → kind_of (with_latch x i value) ≡ kind_of x
-kind-latch x i value = ap (λ n. record { behaviour = x.behaviour; limit = x.limit; needs = x.needs; port_count = x.port_count; ports = x.ports; ins = n; outs = length x.flags }) (length-set x.latches i (Some value))
+kind-latch x i value = ap (λ n. record { behaviour = x.behaviour; limit = x.limit; ratios = x.ratios; needs = x.needs; port_count = x.port_count; ports = x.ports; ins = n; outs = length x.flags }) (length-set x.latches i (Some value))
 
 pub kind-flag : (x : Machine) (o : ℕ) → kind_of (with_flag x o) ≡ kind_of x
-kind-flag x o = ap (λ n. record { behaviour = x.behaviour; limit = x.limit; needs = x.needs; port_count = x.port_count; ports = x.ports; ins = length x.latches; outs = n }) (length-set x.flags o true)
+kind-flag x o = ap (λ n. record { behaviour = x.behaviour; limit = x.limit; ratios = x.ratios; needs = x.needs; port_count = x.port_count; ports = x.ports; ins = length x.latches; outs = n }) (length-set x.flags o true)
 
 pub kind-finished : (x : Machine) (next : State) → kind_of (finished x next) ≡ kind_of x
 kind-finished x next =
-    ap (λ n. record { behaviour = x.behaviour; limit = x.limit; needs = x.needs; port_count = x.port_count; ports = x.ports; ins = n; outs = length (replicate (length x.flags) false) }) (length-replicate (length x.latches) None)
-    ∙ ap (λ n. record { behaviour = x.behaviour; limit = x.limit; needs = x.needs; port_count = x.port_count; ports = x.ports; ins = length x.latches; outs = n }) (length-replicate (length x.flags) false)
+    ap (λ n. record { behaviour = x.behaviour; limit = x.limit; ratios = x.ratios; needs = x.needs; port_count = x.port_count; ports = x.ports; ins = n; outs = length (replicate (length x.flags) false) }) (length-replicate (length x.latches) None)
+    ∙ ap (λ n. record { behaviour = x.behaviour; limit = x.limit; ratios = x.ratios; needs = x.needs; port_count = x.port_count; ports = x.ports; ins = length x.latches; outs = n }) (length-replicate (length x.flags) false)
 
 -- ---- queues
 
@@ -63,7 +64,7 @@ room-set wires queues c queue new below is same room d known =
 
 -- ---- the parts after a step
 
-module _ {lists : List (List ℕ)} {runs : List (List (List ℕ))} {hosts : List (List Machine)} {stations : List Station} {wires : List Wire} {queues : List Held} {end : ℕ} (net : IsNet lists runs hosts stations wires queues end) where
+module _ {flow : Flow} {hosts : List (List Machine)} {stations : List Station} {wires : List Wire} {queues : List Held} {end : ℕ} (net : IsNet flow hosts stations wires queues end) where
   abbrev old : Network
   old = net_of hosts stations wires queues end
 
@@ -85,7 +86,7 @@ module _ {lists : List (List ℕ)} {runs : List (List (List ℕ))} {hosts : List
           ∙ ap (λ (kinds : List Kind). record { kinds = kinds; wires = wires; end = end }) (map-set_same kind_of (machines_by hosts stations) m y no_machine (kind ∙ ap kind_of (sym machine-is)))
 
       -- The parts make a network again.
-      pub closes : kind_of y ≡ kind_of (seated hosts station) → HasRoom wires queues' → Kept lists runs (net_of after stations wires queues' end) → IsNet lists runs after stations wires queues' end
+      pub closes : kind_of y ≡ kind_of (seated hosts station) → HasRoom wires queues' → Kept flow (net_of after stations wires queues' end) → IsNet flow after stations wires queues' end
       closes kind room kept =
           record {
             seated = are-seated hosts after stations m station y net.seated below step-at;
@@ -101,14 +102,14 @@ module _ {lists : List (List ℕ)} {runs : List (List (List ℕ))} {hosts : List
   queues-there c known = omega (arith, known, net.kept.queues, length-map queues tokens)
 
   pub consumer-within : (c : ℕ) → c < length wires → (wire_at wires c).consumer < length stations
-  consumer-within c known = omega (arith, consumer-there lists runs old net.kept c known, length-map stations (seated hosts))
+  consumer-within c known = omega (arith, consumer-there flow old net.kept c known, length-map stations (seated hosts))
 
   pub producer-within : (c : ℕ) → c < length wires → (wire_at wires c).producer < length stations
-  producer-within c known = omega (arith, producer-there lists runs old net.kept c known, length-map stations (seated hosts))
+  producer-within c known = omega (arith, producer-there flow old net.kept c known, length-map stations (seated hosts))
 
   module _ (c : ℕ) (w : Wire) (w-is : w ≡ slice_index_or wires c w) (known : c < length wires) where
     pub wire-is : w ≡ wire_at wires c
-    wire-is = w-is ∙ get_or_default wires c w (record { producer = 0; out = 0; consumer = 0; place = 0; capacity = 0 }) known
+    wire-is = w-is ∙ get_or_default wires c w (record { producer = 0; out = 0; consumer = 0; place = 0; capacity = 0; first = None }) known
 
     pub consumer-seat : w.consumer < length stations
     consumer-seat = subst (λ (v : Wire). v.consumer < length stations) (sym wire-is) (consumer-within c known)
@@ -120,10 +121,13 @@ module _ {lists : List (List ℕ)} {runs : List (List (List ℕ))} {hosts : List
       giver-is : seated hosts giver ≡ machine_at (machines_by hosts stations) (wire_at wires c).producer
       giver-is = sym (machine-is w.producer giver producer-seat g-is) ∙ ap (λ (v : Wire). machine_at (machines_by hosts stations) v.producer) wire-is
 
+      pub fire-seated : IsSeated hosts giver
+      fire-seated = subst (IsSeated hosts) (sym g-is) (net.seated.each w.producer giver producer-seat)
+
       pub fire-may : CanFire old c → MayFire (seated hosts giver) w.out
       fire-may can =
           subst (λ (v : Wire). MayFire (seated hosts giver) v.out) (sym wire-is)
-          (subst (λ x. MayFire x (wire_at wires c).out) (sym giver-is) (may-fire lists runs old net.kept c can))
+          (subst (λ x. MayFire x (wire_at wires c).out) (sym giver-is) (may-fire flow old net.kept c can))
 
     module _ (queue : Held) (q-is : queue ≡ slice_index_or queues c queue) where
       pub queue-is : queue.tokens ≡ queue_at (map (λ (q : Held). q.tokens) queues) c
@@ -142,7 +146,7 @@ module _ {lists : List (List ℕ)} {runs : List (List (List ℕ))} {hosts : List
         latch-may can =
             subst (λ (v : Wire). MayLatch (seated hosts station) v.place token) (sym wire-is)
             (subst (λ x. MayLatch x (wire_at wires c).place token) (sym seat-is)
-            (subst (MayLatch (consumer_of old c) (wire_at wires c).place) (sym token-is) (may-latch lists runs old net.kept c can)))
+            (subst (MayLatch (consumer_of old c) (wire_at wires c).place) (sym token-is) (may-latch flow old net.kept c can)))
 
         module _ (can : CanLatch old c) (after : List (List Machine)) (new : Held) (rest : new.tokens ≡ drop 1 queue.tokens) (room : new.room ≡ queue.room) (step : IsReseated hosts after station (with_latch (seated hosts station) w.place token)) where
           pub latch-is : net_of after stations wires (slice_set queues c new) end ≡ after_latch old c
@@ -154,11 +158,11 @@ module _ {lists : List (List ℕ)} {runs : List (List (List ℕ))} {hosts : List
               ∙ ap (λ t. record old { machines = slice_set (machines_by hosts stations) w.consumer (with_latch (consumer_of old c) w.place t); queues = slice_set (map tokens queues) c (drop 1 (queue_at (map tokens queues) c)) }) token-is
               ∙ ap (λ (v : Wire). record old { machines = slice_set (machines_by hosts stations) v.consumer (with_latch (consumer_of old c) v.place (front_of old c)); queues = slice_set (map tokens queues) c (drop 1 (queue_at (map tokens queues) c)) }) wire-is
 
-          pub latch-closes : IsNet lists runs after stations wires (slice_set queues c new) end
+          pub latch-closes : IsNet flow after stations wires (slice_set queues c new) end
           latch-closes =
               closes w.consumer station consumer-seat s-is after (with_latch (seated hosts station) w.place token) step (slice_set queues c new) (kind-latch (seated hosts station) w.place token)
               (room-set wires queues c queue new (queues-there c known) q-is room net.room)
-              (kept-step lists runs old (Latch c) (net_of after stations wires (slice_set queues c new) end) net.kept (record { ready = can; after = latch-is }))
+              (kept-step flow old (Latch c) (net_of after stations wires (slice_set queues c new) end) net.kept (record { ready = can; after = latch-is }))
 
       -- ---- `Fire`
 
@@ -182,11 +186,11 @@ module _ {lists : List (List ℕ)} {runs : List (List (List ℕ))} {hosts : List
                     ∙ ap (λ (v : Wire). record old { machines = slice_set (machines_by hosts stations) v.producer (with_flag (producer_of old c) v.out); queues = slice_set (map tokens queues) c (queue_at (map tokens queues) c ++ token ∷ []) }) wire-is;
               }
 
-          pub fire-closes : IsNet lists runs after stations wires (slice_set queues c new) end
+          pub fire-closes : IsNet flow after stations wires (slice_set queues c new) end
           fire-closes =
               closes w.producer station producer-seat s-is after (with_flag (seated hosts station) w.out) step (slice_set queues c new) (kind-flag (seated hosts station) w.out)
               (room-set wires queues c queue new (queues-there c known) q-is room net.room)
-              (kept-step lists runs old (Fire c) (net_of after stations wires (slice_set queues c new) end) net.kept (record { ready = can; after = fire-gives }))
+              (kept-step flow old (Fire c) (net_of after stations wires (slice_set queues c new) end) net.kept (record { ready = can; after = fire-gives }))
 
   -- ---- `Serve` and `Finish`
 
@@ -197,10 +201,10 @@ module _ {lists : List (List ℕ)} {runs : List (List (List ℕ))} {hosts : List
           parts-are m station below is after (with_served (seated hosts station)) step queues
           ∙ ap (λ x. record old { machines = slice_set (machines_by hosts stations) m (with_served x) }) (sym (machine-is m station below is))
 
-      pub serve-closes : IsNet lists runs after stations wires queues end
+      pub serve-closes : IsNet flow after stations wires queues end
       serve-closes =
           closes m station below is after (with_served (seated hosts station)) step queues refl net.room
-          (kept-step lists runs old (Serve m p) (net_of after stations wires queues end) net.kept (record { ready = can; after = serve-is }))
+          (kept-step flow old (Serve m p) (net_of after stations wires queues end) net.kept (record { ready = can; after = serve-is }))
 
     module _ (can : CanFinish old m) (after : List (List Machine)) (goes : HasGoneOn hosts after station) where
       pub finish-goes : GoesOn old m (net_of after stations wires queues end)
@@ -213,7 +217,7 @@ module _ {lists : List (List ℕ)} {runs : List (List (List ℕ))} {hosts : List
                 ∙ ap (λ x. record old { machines = slice_set (machines_by hosts stations) m (finished x goes.state) }) (sym (machine-is m station below is));
           }
 
-      pub finish-closes : IsNet lists runs after stations wires queues end
+      pub finish-closes : IsNet flow after stations wires queues end
       finish-closes =
           closes m station below is after (finished (seated hosts station) goes.state) goes.step queues (kind-finished (seated hosts station) goes.state) net.room
-          (kept-step lists runs old (Finish m) (net_of after stations wires queues end) net.kept (record { ready = can; after = finish-goes }))
+          (kept-step flow old (Finish m) (net_of after stations wires queues end) net.kept (record { ready = can; after = finish-goes }))

@@ -1,34 +1,45 @@
 -- A source and a tray open a network for two cycles.
 use Rattle.std.proofs.Common.{◌≡◌, ℕ, zero, suc, ◌<◌, List, [], ◌∷◌, refl, sym, subst, ◌∙◌, arith, lit<}
-use Rattle.std.specs.Prelude.{All, slice_index_or}
+use Rattle.std.specs.Prelude.{length, slice_index_or}
 use Rattle.gg_flat.specs.Line.{value_at}
 use Rattle.gg_flat.proofs.WorkedForms.{only, both}
-use Rattle.gg_node.specs.Machine.{Machine}
+use Rattle.gg_flat.specs.Streams.{Flow}
+use Rattle.gg_node.specs.Machine.{Machine, machine_at}
 use Rattle.gg_net.specs.declared.shape.Wire.{Wire}
 use Rattle.gg_net.specs.declared.shape.Station.{Station}
 use Rattle.gg_net.specs.Network.{IsAtIn, IsAtOut, kind_at, frame_of}
 use Rattle.gg_net.specs.Kept.{NeedsChannel}
-use Rattle.gg_net.specs.Seats.{IsSeated, AreSeated, machines_by}
+use Rattle.gg_net.specs.Seats.{hosted, IsSeated, HasStation, AreSeated, machines_by}
 use Rattle.gg_net.specs.Net.{IsListed, AreListed, IsOpening, Opens}
-use Rattle.gg_net.specs.Fixture.{fed_hosts, fed_stations, fed_wires, fed_lists, fed_runs, IsFed}
+use Rattle.gg_net.specs.Fixture.{fed_hosts, fed_stations, fed_wires, fed_flow, IsFed}
 use Rattle.gg_net.proofs.WorkedNets.{fed, fed-wired, fed-solved, no-needs, within-limits}
 
 host-is : (m : ℕ) (s : Station) → m < 2 → (slice_index_or fed_stations m s).host ≡ m
 host-is m s lt = both (λ k. (slice_index_or fed_stations k s).host ≡ k) refl refl m lt
+
+-- each host has one thread
+lone : (h : ℕ) → h < 2 → length (hosted fed_hosts h) ≡ 1
+lone h lt = both (λ h. length (hosted fed_hosts h) ≡ 1) refl refl h lt
+
+whole : (h t : ℕ) → h < 2 → t < length (hosted fed_hosts h) → HasStation fed_stations h t
+whole h t host thread =
+    let first : 0 ≡ t = omega (arith, thread, lone h host) in
+    both (λ h. HasStation fed_stations h t) (record { machine = 0; known = lit< tt; host = λ s. refl; thread = λ s. first }) (record { machine = 1; known = lit< tt; host = λ s. refl; thread = λ s. first }) h host
 
 fed-seated : AreSeated fed_hosts fed_stations
 fed-seated =
     record {
       each = λ k s lt. both (λ k. IsSeated fed_hosts (slice_index_or fed_stations k s)) (record { host = lit< tt; thread = lit< tt }) (record { host = lit< tt; thread = lit< tt }) k lt;
       alone = λ m k s t low high same threads. sym (host-is m s low) ∙ same ∙ host-is k t high;
+      whole = whole;
     }
 
-fed-opening : All IsOpening (machines_by fed_hosts fed_stations)
-fed-opening k d lt =
-    both (λ k. IsOpening (slice_index_or (machines_by fed_hosts fed_stations) k d))
-    (record { cycle = refl; state = tt; served = refl; latches = refl; flags = refl; kept = refl })
-    (record { cycle = refl; state = tt; served = refl; latches = refl; flags = refl; kept = refl })
-    k lt
+fed-opening : (m : ℕ) → m < 2 → IsOpening fed_flow m (machine_at (machines_by fed_hosts fed_stations) m)
+fed-opening m lt =
+    both (λ k. IsOpening fed_flow k (machine_at (machines_by fed_hosts fed_stations) k))
+    (record { cycle = refl; state = refl; served = refl; latches = refl; flags = refl; kept = refl })
+    (record { cycle = refl; state = refl; served = refl; latches = refl; flags = refl; kept = refl })
+    m lt
 
 fed-listed : AreListed (frame_of fed) fed_stations
 fed-listed m s lt =
@@ -40,7 +51,6 @@ fed-listed m s lt =
       from = only (λ o. IsAtOut fed_wires 0 o (value_at (0 ∷ []) o)) (record { known = lit< tt; machine = refl; out = refl });
       ports = refl;
       few = (omega arith, omega arith);
-      numbers = λ k d low. absurd (omega (arith, low));
     })
     (record {
       ins = refl;
@@ -49,7 +59,6 @@ fed-listed m s lt =
       from = λ o low. absurd (omega (arith, low));
       ports = refl;
       few = (omega arith, omega arith);
-      numbers = λ k d low. absurd (omega (arith, low));
     })
     m lt
 
@@ -57,7 +66,7 @@ lower : (c d : ℕ) → NeedsChannel (frame_of fed) c d → value_at (0 ∷ []) 
 lower zero d needs = absurd (no-needs 0 needs.place needs.needed)
 lower (suc c) d needs = absurd (omega (arith, needs.known))
 
-fed-opens : Opens fed_lists fed_runs fed_hosts fed_stations fed_wires 2
+fed-opens : Opens fed_flow fed_hosts fed_stations fed_wires 2
 fed-opens =
     record {
       seated = fed-seated;
@@ -67,11 +76,10 @@ fed-opens =
       sound = record { wired = fed-wired; no_ring = record { ranks = 0 ∷ []; lower = lower }; solves = fed-solved };
     }
 
-pub opens : (lists : List (List ℕ)) (runs : List (List (List ℕ))) (hosts : List (List Machine)) (stations : List Station) (wires : List Wire) (end : ℕ) → IsFed lists runs hosts stations wires end → Opens lists runs hosts stations wires end
-opens lists runs hosts stations wires end is =
-    subst (λ (l : List (List ℕ)). Opens l runs hosts stations wires end) (sym is.lists_are)
-    (subst (λ (r : List (List (List ℕ))). Opens fed_lists r hosts stations wires end) (sym is.runs_are)
-    (subst (λ (h : List (List Machine)). Opens fed_lists fed_runs h stations wires end) (sym is.hosts_are)
-    (subst (λ (s : List Station). Opens fed_lists fed_runs fed_hosts s wires end) (sym is.stations_are)
-    (subst (λ (w : List Wire). Opens fed_lists fed_runs fed_hosts fed_stations w end) (sym is.wires_are)
-    (subst (λ n. Opens fed_lists fed_runs fed_hosts fed_stations fed_wires n) (sym is.end_is) fed-opens)))))
+pub opens : (flow : Flow) (hosts : List (List Machine)) (stations : List Station) (wires : List Wire) (end : ℕ) → IsFed flow hosts stations wires end → Opens flow hosts stations wires end
+opens flow hosts stations wires end is =
+    subst (λ (f : Flow). Opens f hosts stations wires end) (sym is.flow_is)
+    (subst (λ (h : List (List Machine)). Opens fed_flow h stations wires end) (sym is.hosts_are)
+    (subst (λ (s : List Station). Opens fed_flow fed_hosts s wires end) (sym is.stations_are)
+    (subst (λ (w : List Wire). Opens fed_flow fed_hosts fed_stations w end) (sym is.wires_are)
+    (subst (λ n. Opens fed_flow fed_hosts fed_stations fed_wires n) (sym is.end_is) fed-opens))))

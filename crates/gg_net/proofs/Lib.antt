@@ -3,11 +3,16 @@ pub mod StateLemmas
 pub mod MachineLemmas
 pub mod ChannelLemmas
 pub mod StepLemmas
+pub mod GoesLemmas
+pub mod CauseLemmas
+pub mod CountLemmas
+pub mod ProgressLemmas
 pub mod SeatLemmas
 pub mod PortLemmas
 pub mod NetLemmas
 pub mod MayLemmas
 pub mod CloseLemmas
 pub mod WorkedNets
+pub mod WorkedPipes
 pub mod OpenLemmas
 pub mod FedLemmas

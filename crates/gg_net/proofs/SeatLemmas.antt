@@ -106,4 +106,5 @@ module _ (old new : List (List Machine)) (stations : List Station) (m : ℕ) (s 
               thread = omega (arith, seat.thread, threads-same (slice_index_or stations k d).host);
             };
         alone = are.alone;
+        whole = λ h t host thread. are.whole h t (omega (arith, host, ap length step, length-set old at.host threads)) (omega (arith, thread, threads-same h));
       }

@@ -2,6 +2,7 @@
 -- an event is refused, and what must not hold.
 use Rattle.std.proofs.Common.{◌≡◌, ℕ, zero, suc, ◌<◌, List, [], ◌∷◌, Option, Some, None, Bool, true, false, refl, arith, lit<}
 use Rattle.std.specs.Prelude.{◌+◌, ◌≤◌, slice_index_or, All, Contains, length}
+use Rattle.std.proofs.lemmas.Option.{none-some}
 use Rattle.gg_flat.specs.declared.line.Op.TheVariants.{Ref}
 use Rattle.gg_flat.specs.declared.piece.Driver.TheVariants.{Input, Held, Computed}
 use Rattle.gg_flat.specs.Line.{value_at}
@@ -14,11 +15,11 @@ use Rattle.gg_node.specs.Step.{fields_of}
 use Rattle.gg_flat.proofs.WorkedForms.{only, both}
 use Rattle.gg_net.specs.declared.shape.Wire.{Wire}
 use Rattle.gg_net.specs.declared.event.Refusal.TheVariants.{Stranger, Ended, Fired, NoToken, NeedsInput, Full, Order, Unfired, Unserved}
-use Rattle.gg_net.specs.Network.{Network, IsAtIn, puts, takes, serves, frame_of, wire_at, IsAtOut, kind_at}
+use Rattle.gg_net.specs.Network.{Network, IsAtIn, puts, takes, entered_by, serves, frame_of, wire_at, IsAtOut, kind_at}
 use Rattle.gg_net.specs.Step.{CanFire, CanServe, after_latch, after_fire, after_serve, after_finish, LatchRefused, FireRefused, ServeRefused, FinishRefused}
-use Rattle.gg_net.specs.Kept.{list_at, rows_at, Runs, Answers, Asks, Solves, IsWired, NeedsChannel, HasNoRing, BetweenAt}
-use Rattle.gg_net.specs.Net.{IsWithinLimits, opening_net}
-use Rattle.gg_net.specs.Fixture.{fed_wires, fed_lists, fed_runs}
+use Rattle.gg_net.specs.Kept.{list_at, rows_at, start_at, Runs, Answers, Asks, Solves, IsWired, NeedsChannel, HasNoRing, BetweenAt}
+use Rattle.gg_net.specs.Net.{IsWithinLimits, queue_limit, opening_net}
+use Rattle.gg_net.specs.Fixture.{fed_wires, fed_flow}
 
 -- ---- two units: the out of `a` is its register, which takes its in; the out of `b` is its in
 
@@ -27,7 +28,7 @@ held =
     record {
       paths = (120 ∷ []) ∷ (121 ∷ []) ∷ [];
       signals = record { ty = eight; driver = Input 0 } ∷ record { ty = eight; driver = Held 0 } ∷ [];
-      registers = record { ty = eight; reset = None; next = Some (node eight (Ref 0) ∷ []) } ∷ [];
+      registers = record { ty = eight; reset = None; next = Some (node eight (Ref 0) ∷ []); clock = None } ∷ [];
       memories = [];
       ins = 0 ∷ [];
       outs = 1 ∷ [];
@@ -48,13 +49,13 @@ abbrev holds : ℕ → State
 holds v = record { registers = v ∷ []; banks = [] }
 
 abbrev a : ℕ → ℕ → Option ℕ → Bool → Machine
-a cycle v latch flag = record { behaviour = RunsPiece held; limit = 10; needs = [] ∷ []; port_count = 0; ports = []; cycle = cycle; state = holds v; served = 0; latches = latch ∷ []; flags = flag ∷ []; kept = [] }
+a cycle v latch flag = record { behaviour = RunsPiece held; limit = 10; ratios = []; needs = [] ∷ []; port_count = 0; ports = []; cycle = cycle; state = holds v; served = 0; latches = latch ∷ []; flags = flag ∷ []; kept = [] }
 
 abbrev b : Option ℕ → Bool → Machine
-b latch flag = record { behaviour = RunsPiece passed; limit = 10; needs = (0 ∷ []) ∷ []; port_count = 0; ports = []; cycle = 0; state = no_state; served = 0; latches = latch ∷ []; flags = flag ∷ []; kept = [] }
+b latch flag = record { behaviour = RunsPiece passed; limit = 10; ratios = []; needs = (0 ∷ []) ∷ []; port_count = 0; ports = []; cycle = 0; state = no_state; served = 0; latches = latch ∷ []; flags = flag ∷ []; kept = [] }
 
 abbrev wires : List Wire
-wires = record { producer = 0; out = 0; consumer = 1; place = 0; capacity = 1 } ∷ record { producer = 1; out = 0; consumer = 0; place = 0; capacity = 2 } ∷ []
+wires = record { producer = 0; out = 0; consumer = 1; place = 0; capacity = 1; first = None } ∷ record { producer = 1; out = 0; consumer = 0; place = 0; capacity = 2; first = None } ∷ []
 
 abbrev pair : Machine → Machine → List ℕ → List ℕ → Network
 pair first second to_b to_a = record { machines = first ∷ second ∷ []; wires = wires; queues = to_b ∷ to_a ∷ []; end = 2 }
@@ -171,8 +172,8 @@ not-lost between = omega (arith, between.held)
 
 abbrev ports : List Port
 ports =
-    record { number = 0; access = ByReader 0 (record { addr = 0; en = 1; word = 6 }) }
-    ∷ record { number = 1; access = ByWriter 0 (record { addr = 2; en = 3; word = 4; mask = 5 }) }
+    record { number = 0; access = ByReader 0 (record { addr = 0; en = 1; word = 6; clock = None }) }
+    ∷ record { number = 1; access = ByWriter 0 (record { addr = 2; en = 3; word = 4; mask = 5; clock = None }) }
     ∷ []
 
 abbrev memory : ℕ → List (Option ℕ) → Bool → Machine
@@ -180,6 +181,7 @@ memory served latches flag =
     record {
       behaviour = RunsPiece no_circuit;
       limit = 10;
+      ratios = [];
       needs = [] ∷ [];
       port_count = 2;
       ports = ports;
@@ -193,7 +195,7 @@ memory served latches flag =
 
 abbrev alone : Machine → Network
 alone machine =
-    record { machines = machine ∷ []; wires = record { producer = 0; out = 0; consumer = 0; place = 0; capacity = 1 } ∷ record { producer = 0; out = 0; consumer = 0; place = 1; capacity = 1 } ∷ []; queues = [] ∷ [] ∷ []; end = 2 }
+    record { machines = machine ∷ []; wires = record { producer = 0; out = 0; consumer = 0; place = 0; capacity = 1; first = None } ∷ record { producer = 0; out = 0; consumer = 0; place = 1; capacity = 1; first = None } ∷ []; queues = [] ∷ [] ∷ []; end = 2 }
 
 abbrev with_reader : List (Option ℕ)
 with_reader = Some 1 ∷ Some 1 ∷ None ∷ None ∷ None ∷ None ∷ []
@@ -238,7 +240,7 @@ one-more = refl
 -- ---- a memory whose reader gives its word in the same cycle: it is port 0, which isn't served, and the writer is port 1
 
 abbrev at_once : ℕ → Bool → Machine
-at_once served flag = record (memory served with_reader flag) { needs = (0 ∷ 1 ∷ []) ∷ []; ports = record { number = 1; access = ByWriter 0 (record { addr = 2; en = 3; word = 4; mask = 5 }) } ∷ [] }
+at_once served flag = record (memory served with_reader flag) { needs = (0 ∷ 1 ∷ []) ∷ []; ports = record { number = 1; access = ByWriter 0 (record { addr = 2; en = 3; word = 4; mask = 5; clock = None }) } ∷ [] }
 
 -- the reader is a port that is never due
 writer-due : ServeRefused (alone (at_once 0 true)) 0 0 (Order 1)
@@ -274,7 +276,7 @@ never-served p can = let is : ◌≡◌ {A = Option ℕ} None (Some p) = can.due
 -- ---- a source that feeds a tray: the values that its channel should carry, and rows without values, solve the network
 
 abbrev pub fed : Network
-fed = opening_net (source_machine (4 ∷ 6 ∷ []) 0 false ∷ tray_machine 2 0 [] None ∷ []) fed_wires 2
+fed = opening_net (source_machine (4 ∷ 6 ∷ []) 0 (false ∷ []) ∷ tray_machine 2 2 0 [] None ∷ []) fed_wires 2
 
 fed-into : (m i : ℕ) → m < 2 → i < (kind_at (frame_of fed).kinds m).ins → (c : ℕ) × IsAtIn fed.wires m i c
 fed-into zero i there below = absurd (omega (arith, below))
@@ -302,9 +304,15 @@ fed-fields zero there k d below = absurd (omega (arith, below))
 fed-fields (suc zero) there k d below = absurd (omega (arith, below))
 fed-fields (suc (suc m)) there k d below = absurd (omega (arith, there))
 
+fed-numbers : (m : ℕ) → m < 2 → All (λ (port : Port). port.number < (kind_at (frame_of fed).kinds m).port_count) (kind_at (frame_of fed).kinds m).ports
+fed-numbers zero there k d below = absurd (omega (arith, below))
+fed-numbers (suc zero) there k d below = absurd (omega (arith, below))
+fed-numbers (suc (suc m)) there k d below = absurd (omega (arith, there))
+
 pub fed-wired : IsWired (frame_of fed)
 fed-wired =
     record {
+      some = only (λ c. 0 < (wire_at fed.wires c).capacity) (lit< tt);
       producer = only (λ c. (wire_at fed.wires c).producer < 2) (lit< tt);
       out = only (λ c. (wire_at fed.wires c).out < (kind_at (frame_of fed).kinds (wire_at fed.wires c).producer).outs) (lit< tt);
       consumer = only (λ c. (wire_at fed.wires c).consumer < 2) (lit< tt);
@@ -314,20 +322,27 @@ fed-wired =
       one_in = λ c d known there same_machine same_place. omega (arith, known, there);
       needs = fed-needs;
       fields = fed-fields;
+      numbers = fed-numbers;
       one_out = λ c d known there same_machine same_out. omega (arith, known, there);
     }
 
-pub fed-solved : Solves fed_lists fed_runs (frame_of fed)
+pub fed-solved : Solves fed_flow (frame_of fed)
 fed-solved =
     record {
+      begins = omega arith;
       able = both (λ m. 2 ≤ (kind_at (frame_of fed).kinds m).limit) (omega arith) (omega arith);
-      does = both (λ m. Runs (kind_at (frame_of fed).kinds m).behaviour (kind_at (frame_of fed).kinds m) (rows_at ([] ∷ [] ∷ []) m) 2) (omega arith) refl;
-      long = only (λ c. length (list_at ((4 ∷ 6 ∷ []) ∷ []) c) ≡ 2) refl;
-      given = λ c known t lt. given c known t;
-      taken = λ c known t lt. taken c known t;
+      does = both (λ m. Runs (kind_at (frame_of fed).kinds m).behaviour (kind_at (frame_of fed).kinds m) (start_at fed_flow (kind_at (frame_of fed).kinds m) m) (rows_at ([] ∷ [] ∷ []) m) 2) (omega arith, refl) (refl, refl, λ below. omega arith);
+      long = only (λ c. length (list_at ((4 ∷ 6 ∷ []) ∷ []) c) ≡ entered_by (wire_at fed.wires c).first 2) refl;
+      opens = λ c token known is. absurd (none-first c token known is);
+      given = λ c known t le lt. given c known t;
+      taken = λ c known t le lt. taken c known t;
     }
   where
-    given : (c : ℕ) → c < 1 → (t : ℕ) → Answers (kind_at (frame_of fed).kinds (wire_at fed.wires c).producer).behaviour (rows_at ([] ∷ [] ∷ []) (wire_at fed.wires c).producer) (wire_at fed.wires c).out t (value_at (list_at ((4 ∷ 6 ∷ []) ∷ []) c) t)
+    none-first : (c token : ℕ) → c < 1 → (wire_at fed.wires c).first ≡ Some token → ⊥
+    none-first zero token known is = none-some token is
+    none-first (suc c) token known is = absurd (omega (arith, known))
+
+    given : (c : ℕ) → c < 1 → (t : ℕ) → Answers (kind_at (frame_of fed).kinds (wire_at fed.wires c).producer).behaviour (rows_at ([] ∷ [] ∷ []) (wire_at fed.wires c).producer) (wire_at fed.wires c).out t (value_at (list_at ((4 ∷ 6 ∷ []) ∷ []) c) (entered_by (wire_at fed.wires c).first t))
     given zero known t = refl
     given (suc c) known t = absurd (omega (arith, known))
 
@@ -337,11 +352,11 @@ fed-solved =
 
 -- it is within the limits, and isn't with one cycle above the limit
 pub within-limits : IsWithinLimits (frame_of fed)
-within-limits = record { cycles = omega arith; machines = omega arith; channels = omega arith }
+within-limits = record { cycles = omega arith; machines = omega arith; channels = omega arith; ports = omega arith; capacities = only (λ c. (wire_at fed.wires c).capacity ≤ queue_limit) (omega arith) }
 
 too-long : IsWithinLimits (frame_of (record fed { end = 1000001 })) → ⊥
 too-long within = omega (arith, within.cycles)
 
 -- another list does not solve it
-not-solved : Solves ((4 ∷ 7 ∷ []) ∷ []) ([] ∷ [] ∷ []) (frame_of fed) → ⊥
-not-solved solves = let is : value_at (4 ∷ 6 ∷ []) 1 ≡ value_at (4 ∷ 7 ∷ []) 1 = solves.given 0 (lit< tt) 1 (lit< tt) in omega (arith, is)
+not-solved : Solves (record fed_flow { lists = (4 ∷ 7 ∷ []) ∷ [] }) (frame_of fed) → ⊥
+not-solved solves = let is : value_at (4 ∷ 6 ∷ []) 1 ≡ value_at (4 ∷ 7 ∷ []) 1 = solves.given 0 (lit< tt) 1 (omega arith) (lit< tt) in omega (arith, is)

@@ -1,15 +1,16 @@
 -- A network: machines connected by channels, each with a queue of its own.
 -- Source: MEMOCODE 2009 (a bounded dataflow network: nodes connected by queues of a bounded length); ICCAD 2019 (units
 -- of a target that pass one another a token for each target cycle).
-use Rattle.std.specs.Prelude.{◌≡◌, ℕ, suc, ◌+◌, ◌*◌, ◌<◌, List, [], Option, Some, None, Bool, true, false, length, map, slice_index_or}
+use Rattle.std.specs.Prelude.{◌≡◌, ℕ, suc, ◌+◌, ◌*◌, ◌<◌, List, [], ◌∷◌, Option, Some, None, Bool, true, false, length, map, slice_index_or}
+use Rattle.gg_flat.specs.Clock.{Ratio}
 use Rattle.gg_net.specs.declared.shape.Wire.{Wire}
-use Rattle.gg_node.specs.Machine.{Behaviour, KeepsValues, Port, Machine, machine_at, latch_at, flag_at}
+use Rattle.gg_node.specs.Machine.{Behaviour, KeepsLast, Port, Machine, machine_at, latch_at, flag_at}
 
 -- ---- channels
 
 -- the channel with a number
 abbrev pub wire_at : List Wire → ℕ → Wire
-wire_at wires c = slice_index_or wires c (record { producer = 0; out = 0; consumer = 0; place = 0; capacity = 0 })
+wire_at wires c = slice_index_or wires c (record { producer = 0; out = 0; consumer = 0; place = 0; capacity = 0; first = None })
 
 -- Channel c is at in i of machine m.
 pub record IsAtIn (wires : List Wire) (m i c : ℕ) : Type 0 where
@@ -64,18 +65,40 @@ puts net c = given_by (producer_of net c).cycle (flag_at (producer_of net c).fla
 abbrev pub takes : Network → ℕ → ℕ
 takes net c = got_by (consumer_of net c).cycle (latch_at (consumer_of net c).latches (wire_at net.wires c).place)
 
+-- the number of tokens that have entered a channel, of which this many were put: these, and the one that it opens with
+abbrev pub entered_by : Option ℕ → ℕ → ℕ
+entered_by None n = n
+entered_by (Some token) n = suc n
+
+-- the number of tokens that have entered a channel
+abbrev pub entered : Network → ℕ → ℕ
+entered net c = entered_by (wire_at net.wires c).first (puts net c)
+
+-- the queue of a channel before the first cycle
+abbrev pub opening_queue : Option ℕ → List ℕ
+opening_queue None = []
+opening_queue (Some token) = token ∷ []
+
 -- the number of times that a port of a machine was served since the first cycle: once for each served port in each
 -- finished cycle, and once for each port served in this one
 abbrev pub serves : Network → ℕ → ℕ
 serves net m = length (machine_at net.machines m).ports * (machine_at net.machines m).cycle + (machine_at net.machines m).served
 
+-- Two networks have the same counts.
+pub record SameCounts (a b : Network) : Type 0 where
+  pub cycles : (m : ℕ) → m < length a.machines → (machine_at a.machines m).cycle ≡ (machine_at b.machines m).cycle
+  pub served : (m : ℕ) → m < length a.machines → (machine_at a.machines m).served ≡ (machine_at b.machines m).served
+  pub puts : (c : ℕ) → c < length a.wires → puts a c ≡ puts b c
+  pub takes : (c : ℕ) → c < length a.wires → takes a c ≡ takes b c
+
 -- ---- what no step changes
 
--- The parts of a machine that never change: what it does, the number of cycles that it can do, what its outs need, the
--- number of its ports, those that are served, and the numbers of ins and outs.
+-- The parts of a machine that never change: what it does, the number of cycles that it can do, the ratios of its
+-- clocks, what its outs need, the number of its ports, those that are served, and the numbers of ins and outs.
 pub record Kind : Type 0 where
   pub behaviour : Behaviour
   pub limit : ℕ
+  pub ratios : List Ratio
   pub needs : List (List ℕ)
   pub port_count : ℕ
   pub ports : List Port
@@ -88,6 +111,7 @@ kind_of machine =
     record {
       behaviour = machine.behaviour;
       limit = machine.limit;
+      ratios = machine.ratios;
       needs = machine.needs;
       port_count = machine.port_count;
       ports = machine.ports;
@@ -97,7 +121,7 @@ kind_of machine =
 
 -- the kind of a machine that can do nothing
 abbrev pub no_kind : Kind
-no_kind = record { behaviour = KeepsValues; limit = 0; needs = []; port_count = 0; ports = []; ins = 0; outs = 0 }
+no_kind = record { behaviour = KeepsLast 0; limit = 0; ratios = []; needs = []; port_count = 0; ports = []; ins = 0; outs = 0 }
 
 -- the kind at a place
 abbrev pub kind_at : List Kind → ℕ → Kind

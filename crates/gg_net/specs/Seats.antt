@@ -24,10 +24,18 @@ pub record IsSeated (hosts : List (List Machine)) (station : Station) : Type 0 w
   pub host : station.host < length hosts
   pub thread : station.thread < length (hosted hosts station.host)
 
--- Each station is seated, and no two are at the same thread.
+-- The machine at this thread of this host is at a station.
+pub record HasStation (stations : List Station) (h t : ℕ) : Type 0 where
+  pub machine : ℕ
+  pub known : machine < length stations
+  pub host : (s : Station) → (slice_index_or stations machine s).host ≡ h
+  pub thread : (s : Station) → (slice_index_or stations machine s).thread ≡ t
+
+-- Each station is seated, no two are at the same thread, and each thread has a station.
 pub record AreSeated (hosts : List (List Machine)) (stations : List Station) : Type 0 where
   pub each : All (IsSeated hosts) stations
   pub alone : (m k : ℕ) (s t : Station) → m < length stations → k < length stations → (slice_index_or stations m s).host ≡ (slice_index_or stations k t).host → (slice_index_or stations m s).thread ≡ (slice_index_or stations k t).thread → m ≡ k
+  pub whole : (h t : ℕ) → h < length hosts → t < length (hosted hosts h) → HasStation stations h t
 
 -- The machine at a station is replaced; all others stay as they were.
 abbrev pub IsReseated : List (List Machine) → List (List Machine) → Station → Machine → Type 0

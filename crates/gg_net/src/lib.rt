@@ -12,6 +12,9 @@
 //!   value of the cycle. Each machine is in the state of its own run. A tray has kept the values of its channel.
 //! - [`Net::new`] builds the network before its first cycle. [`Net::parts`] takes a network apart, and [`Net::of`] puts
 //!   the parts together to the same network again.
+//! - While a machine has cycles left, some event may be done ([`goes_on`]).
+//! - An event that may be done can be done, in one way only, and isn't refused ([`goes_once`]). A refusal has one cause
+//!   ([`refused_once`]). A network is determined by its counts ([`counted_once`]).
 //! - The other calls return facts about a network, as the definitions say. Only `new` allocates. The other calls look
 //!   at one machine at most, with its ins, outs and ports.
 //!
@@ -20,6 +23,7 @@
 
 mod event;
 mod judge;
+mod laws;
 mod net;
 mod parts;
 mod queue;
@@ -30,6 +34,7 @@ mod tells;
 
 pub use event::{Event, Refusal};
 pub use gg_flat::Streams;
+pub use laws::{counted_once, goes_on, goes_once, refused_once};
 pub use net::Net;
 pub use parts::Parts;
 pub use queue::Queue;

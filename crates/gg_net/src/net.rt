@@ -1,8 +1,8 @@
 //! `Net`: a network of machines.
-ghost use Rattle.std.specs.Prelude.{◌≡◌, ◌-◌, ◌<◌, ◌≤◌, [], length, map, IfOk, MatchOption};
+ghost use Rattle.std.specs.Prelude.{◌≡◌, ℕ, ◌-◌, ◌<◌, ◌≤◌, [], length, map, IfOk, MatchOption};
 ghost use Rattle.gg_flat.specs.Line.{value_at};
 ghost use Rattle.gg_node.specs.Machine.{machine_at, cycle_limit};
-ghost use Rattle.gg_net.specs.Network.{queue_at, puts, takes, serves, frame_of};
+ghost use Rattle.gg_net.specs.Network.{wire_at, queue_at, puts, takes, serves, frame_of};
 ghost use Rattle.gg_net.specs.Kept.{Kept};
 ghost use Rattle.gg_net.specs.Seats.{machines_by};
 ghost use Rattle.gg_net.specs.Net.{AreListed, AreOpen, IsWithinLimits, Opens, opening_net};
@@ -33,29 +33,30 @@ impl<H: Host, Z: Streams> Model for Net<H, Z> {
 
     ghost view = { λ net. net_of (map H.machines net.hosts.items) net.shape.stations.items net.shape.wires.items net.queues.items net.shape.end };
 
-    ghost invariant = { λ net. IsNet Z.lists Z.runs (map H.machines net.hosts.items) net.shape.stations.items net.shape.wires.items net.queues.items net.shape.end };
+    ghost invariant = { λ net. IsNet Z.flow (map H.machines net.hosts.items) net.shape.stations.items net.shape.wires.items net.queues.items net.shape.end };
 }
 
 // The queues of these channels.
 fn open_queues(alloc: Global, wires: &[Wire]) -> Result<Vec<Queue>, AllocError>
+    requires { (c : ℕ) → c < length wires.now → 0 < (wire_at wires.now c).capacity }
     ensures { IfOk result (λ queues. AreOpen wires.now (length wires.now) queues.items) }
 {
     let mut queues = Vec::new(alloc);
     for wire in wires {
-        queues.push(Queue::new(alloc, wire.capacity)?)?;
+        queues.push(Queue::new(alloc, wire.capacity, wire.first)?)?;
     }
     Ok(queues)
 }
 
 impl<H: Host, Z: Streams> Net<H, Z> {
     /// The network of these hosts' machines before the first cycle. Allocates its queues, each with room for its
-    /// capacity.
+    /// capacity and with the token that it opens with.
     ///
     /// # Errors
     ///
     /// Returns `AllocError` if an allocation fails.
     pub fn new(alloc: Global, hosts: Vec<H>, shape: Shape) -> Result<Net<H, Z>, AllocError>
-        requires { Opens Z.lists Z.runs (map H.machines hosts.items) shape.stations.items shape.wires.items shape.end }
+        requires { Opens Z.flow (map H.machines hosts.items) shape.stations.items shape.wires.items shape.end }
         ensures { IfOk result (λ net. net ≡ opening_net (machines_by (map H.machines hosts.items) shape.stations.items) shape.wires.items shape.end) }
     {
         let queues = open_queues(alloc, &shape.wires)?;
@@ -69,7 +70,7 @@ impl<H: Host, Z: Streams> Net<H, Z> {
 
     /// Does nothing. Its contract says that every network has the invariant `Kept`.
     pub fn kept(&self)
-        ensures { Kept Z.lists Z.runs self.now }
+        ensures { Kept Z.flow self.now }
     {
         let _ = &self.shape;
     }
@@ -197,7 +198,7 @@ impl<H: Host, Z: Streams> Net<H, Z> {
         }
     }
 
-    /// The last token that was put into a channel, if it is still in the queue; None if the queue is empty.
+    /// The last token that has entered a channel, if it is still in the queue; None if the queue is empty.
     pub fn newest(&self, channel: u32) -> Option<u128>
         requires { channel < length self.now.wires }
         ensures { MatchOption result (queue_at self.now.queues channel ≡ []) (λ token. (0 < length (queue_at self.now.queues channel)) × (token ≡ value_at (queue_at self.now.queues channel) (length (queue_at self.now.queues channel) - 1))) }

@@ -23,7 +23,7 @@ pub struct Parts<H> {
 impl<H: Host, Z: Streams> Net<H, Z> {
     /// Takes a network apart. Each queue has room for its capacity.
     pub fn parts(self) -> Parts<H>
-        ensures parts { AreParts Z.lists Z.runs (map H.machines result.hosts.items) result.shape result.queues.items }
+        ensures parts { AreParts Z.flow (map H.machines result.hosts.items) result.shape result.queues.items }
         ensures same { joined (map H.machines result.hosts.items) result.shape result.queues.items ≡ self }
     {
         Parts {
@@ -35,7 +35,7 @@ impl<H: Host, Z: Streams> Net<H, Z> {
 
     /// Puts the parts of a network together.
     pub fn of(parts: Parts<H>) -> Net<H, Z>
-        requires { AreParts Z.lists Z.runs (map H.machines parts.hosts.items) parts.shape parts.queues.items }
+        requires { AreParts Z.flow (map H.machines parts.hosts.items) parts.shape parts.queues.items }
         ensures { result ≡ joined (map H.machines parts.hosts.items) parts.shape parts.queues.items }
     {
         Net {

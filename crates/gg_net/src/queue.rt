@@ -1,6 +1,7 @@
 //! `Queue`: the tokens of a channel, in reserved memory.
 ghost use Rattle.std.specs.Prelude.{◌≡◌, ◌-◌, ◌<◌, ◌≤◌, ◌++◌, ◌∷◌, [], length, drop, IfOk, Some, None, MatchOption};
 ghost use Rattle.gg_flat.specs.Line.{value_at};
+ghost use Rattle.gg_net.specs.Network.{opening_queue};
 
 use std::alloc::{AllocError, Global};
 use std::collections::VecDeque;
@@ -21,17 +22,20 @@ impl Model for Queue {
 }
 
 impl Queue {
-    /// A queue without tokens, with room for at least `capacity` of them.
+    /// A queue that holds this token, or none, with room for at least `capacity` of them.
     ///
     /// # Errors
     ///
     /// Returns `AllocError` if an allocation fails.
-    pub fn new(alloc: Global, capacity: u32) -> Result<Queue, AllocError>
-        ensures { IfOk result (λ queue. (queue.tokens ≡ []) × (capacity ≤ queue.room)) }
+    pub fn new(alloc: Global, capacity: u32, first: Option<u128>) -> Result<Queue, AllocError>
+        requires { 0 < capacity }
+        ensures { IfOk result (λ queue. (queue.tokens ≡ opening_queue first) × (capacity ≤ queue.room)) }
     {
-        Ok(Queue {
-            tokens: VecDeque::with_capacity(alloc, capacity as usize)?,
-        })
+        let mut tokens = VecDeque::with_capacity(alloc, capacity as usize)?;
+        if let Some(token) = first {
+            tokens.push_back_reserved(token);
+        }
+        Ok(Queue { tokens })
     }
 
     /// The number of tokens.

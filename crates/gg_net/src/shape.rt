@@ -14,6 +14,8 @@ pub struct Wire {
     pub place: u32,
     /// The most tokens that the channel's queue may hold.
     pub capacity: u32,
+    /// The token that is in the queue before the first cycle.
+    pub first: Option<u128>,
 }
 
 /// A port that is served.

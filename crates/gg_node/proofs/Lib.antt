@@ -1,3 +1,4 @@
 pub mod EmptyLemmas
 pub mod OneLemmas
+pub mod KeptLemmas
 pub mod WorkedRows

@@ -18,16 +18,20 @@ use Rattle.gg_node.specs.Step.{MayFinish, with_latch, with_flag, finished}
 -- ---- a tray over two cycles
 
 abbrev tray : Machine
-tray = tray_machine 2 0 [] None
+tray = tray_machine 2 2 0 [] None
 
 abbrev tray-after-one : Machine
 tray-after-one = finished (with_latch tray 0 7) no_state
 
-kept-one : tray-after-one ≡ tray_machine 2 1 (7 ∷ []) None
+kept-one : tray-after-one ≡ tray_machine 2 2 1 (7 ∷ []) None
 kept-one = refl
 
-kept-two : finished (with_latch tray-after-one 0 9) no_state ≡ tray_machine 2 2 (7 ∷ 9 ∷ []) None
+kept-two : finished (with_latch tray-after-one 0 9) no_state ≡ tray_machine 2 2 2 (7 ∷ 9 ∷ []) None
 kept-two = refl
+
+-- with two values already, the oldest is dropped
+last-two : finished (with_latch (tray_machine 2 10 2 (7 ∷ 9 ∷ []) None) 0 5) no_state ≡ tray_machine 2 10 3 (9 ∷ 5 ∷ []) None
+last-two = refl
 
 -- it can't finish without a token
 abbrev IsClear : Bool → Type 0
@@ -40,7 +44,7 @@ not-without may = subst IsClear (may.latched 0 None (omega arith)) tt
 -- ---- a source of two values
 
 abbrev source : Machine
-source = source_machine (4 ∷ 6 ∷ []) 0 false
+source = source_machine (4 ∷ 6 ∷ []) 0 (false ∷ [])
 
 gives-first : IsToken source 0 4
 gives-first = refl
@@ -48,8 +52,15 @@ gives-first = refl
 not-second : IsToken source 0 6 → ⊥
 not-second is = omega (arith, is)
 
-flag-clears : finished (with_flag source 0) no_state ≡ source_machine (4 ∷ 6 ∷ []) 1 false
+flag-clears : finished (with_flag source 0) no_state ≡ source_machine (4 ∷ 6 ∷ []) 1 (false ∷ [])
 flag-clears = refl
+
+-- a source of two outs gives the same value at each
+abbrev fork : Machine
+fork = source_machine (4 ∷ 6 ∷ []) 0 (false ∷ false ∷ [])
+
+gives-at-both : IsToken (with_flag fork 0) 1 4
+gives-at-both = refl
 
 gives-second : IsToken (finished (with_flag source 0) no_state) 0 6
 gives-second = refl
@@ -61,7 +72,7 @@ pair =
     record {
       paths = (97 ∷ []) ∷ (98 ∷ []) ∷ (112 ∷ []) ∷ [];
       signals = record { ty = eight; driver = Input 0 } ∷ record { ty = eight; driver = Input 1 } ∷ record { ty = eight; driver = Computed (node eight (Ref 0) ∷ []) } ∷ [];
-      registers = record { ty = eight; reset = None; next = Some (node eight (Ref 1) ∷ []) } ∷ [];
+      registers = record { ty = eight; reset = None; next = Some (node eight (Ref 1) ∷ []); clock = None } ∷ [];
       memories = [];
       ins = 0 ∷ 1 ∷ [];
       outs = 2 ∷ [];
@@ -71,7 +82,7 @@ abbrev holds : ℕ → State
 holds v = record { registers = v ∷ []; banks = [] }
 
 abbrev unit : Machine
-unit = record { behaviour = RunsPiece pair; limit = 10; needs = (0 ∷ []) ∷ []; port_count = 0; ports = []; cycle = 0; state = holds 3; served = 0; latches = None ∷ None ∷ []; flags = false ∷ []; kept = [] }
+unit = record { behaviour = RunsPiece pair; limit = 10; ratios = []; needs = (0 ∷ []) ∷ []; port_count = 0; ports = []; cycle = 0; state = holds 3; served = 0; latches = None ∷ None ∷ []; flags = false ∷ []; kept = [] }
 
 -- the out needs only `a`
 needs-a : missing unit 0 ≡ Some 0

@@ -2,17 +2,18 @@
 -- Source: MEMOCODE 2009 (a bounded dataflow network: primitive nodes with a latch for each input and a flag for each
 -- output that was given in this cycle); ICCAD 2019 (units of a target in separate models; memories that a host serves
 -- port by port).
-use Rattle.std.specs.Prelude.{ℕ, List, [], ◌∷◌, Option, Some, None, Bool, false, length, map, slice_index_or, slice_get}
+use Rattle.std.specs.Prelude.{ℕ, List, [], ◌∷◌, Option, Some, None, Bool, false, length, map, replicate, slice_index_or, slice_get, ⊤}
+use Rattle.gg_flat.specs.Clock.{Ratio, edges_at}
 use Rattle.gg_flat.specs.Circuit.{FlatCircuit}
 use Rattle.gg_flat.specs.State.{State}
 use Rattle.gg_flat.specs.Served.{Access}
 
--- What a machine does. It runs a flat circuit, gives the values of a column one by one, or keeps the values that it
--- gets.
+-- What a machine does. It runs a flat circuit, gives the values of a column one by one at each of its outs, or keeps
+-- the last values that it gets, at most this many.
 pub data Behaviour : Type 0 where
   RunsPiece : FlatCircuit → Behaviour
   GivesColumn : List ℕ → Behaviour
-  KeepsValues : Behaviour
+  KeepsLast : ℕ → Behaviour
 
 -- A port of a memory that is served port by port: its number and its access. Readers are numbered first, then writers.
 -- The access gives its fields by their places among the ins.
@@ -21,15 +22,17 @@ pub record Port : Type 0 where
   pub access : Access
 
 -- A machine. It has ins and outs, given by their places. These fields never change: `limit` is the number of cycles
--- that it can do. `needs` has for each out the ins that its token depends on. `port_count` is the number of ports of
--- its memory, and `ports` are the ports that are served in a cycle, in their order; if the piece isn't a memory that is
--- served there are 0 and none. (A reader that gives its word in the same cycle is a port that no step serves.) The
--- other fields change: the cycle that it is in, the state of its piece, the number of ports that were served in this
--- cycle, the latch of each in, which holds the token of this cycle or nothing, the flag of each out, which says whether
--- it has given the token of this cycle, and the values that it has kept.
+-- that it can do. `ratios` has a ratio for each clock of its piece. `needs` has for each out the ins that its token
+-- depends on. `port_count` is the number of ports of its memory, and `ports` are the ports that are served in a cycle,
+-- in their order; if the piece isn't a memory that is served there are 0 and none. (A reader that gives its word in the
+-- same cycle is a port that no step serves.) The other fields change: the cycle that it is in, the state of its piece,
+-- the number of ports that were served in this cycle, the latch of each in, which holds the token of this cycle or
+-- nothing, the flag of each out, which says whether it has given the token of this cycle, and the values that it has
+-- kept.
 pub record Machine : Type 0 where
   pub behaviour : Behaviour
   pub limit : ℕ
+  pub ratios : List Ratio
   pub needs : List (List ℕ)
   pub port_count : ℕ
   pub ports : List Port
@@ -50,11 +53,15 @@ no_state = record { registers = []; banks = [] }
 
 -- a machine that can do nothing
 abbrev pub no_machine : Machine
-no_machine = record { behaviour = KeepsValues; limit = 0; needs = []; port_count = 0; ports = []; cycle = 0; state = no_state; served = 0; latches = []; flags = []; kept = [] }
+no_machine = record { behaviour = KeepsLast 0; limit = 0; ratios = []; needs = []; port_count = 0; ports = []; cycle = 0; state = no_state; served = 0; latches = []; flags = []; kept = [] }
 
 -- the machine at a place
 abbrev pub machine_at : List Machine → ℕ → Machine
 machine_at machines t = slice_index_or machines t no_machine
+
+-- the edges of the tick that a machine is in
+abbrev pub edges_of : Machine → List Bool
+edges_of machine = edges_at machine.ratios machine.cycle
 
 -- the latch of an in; past the end it is empty
 abbrev pub latch_at : List (Option ℕ) → ℕ → Option ℕ
@@ -102,11 +109,17 @@ due machine = port_number (slice_get machine.ports machine.served)
 
 -- ---- the two machines without a piece
 
--- a machine that gives a column; it is in this cycle, and its only out has this flag
-abbrev pub source_machine : List ℕ → ℕ → Bool → Machine
-source_machine column cycle fired = record { behaviour = GivesColumn column; limit = length column; needs = [] ∷ []; port_count = 0; ports = []; cycle = cycle; state = no_state; served = 0; latches = []; flags = fired ∷ []; kept = [] }
+-- a machine that gives a column; it is in this cycle, and its outs have these flags
+abbrev pub source_machine : List ℕ → ℕ → List Bool → Machine
+source_machine column cycle flags = record { behaviour = GivesColumn column; limit = length column; ratios = []; needs = replicate (length flags) []; port_count = 0; ports = []; cycle = cycle; state = no_state; served = 0; latches = []; flags = flags; kept = [] }
 
--- a machine that keeps at most this many values; it is in this cycle, has kept these values, and its only in has this
--- latch
-abbrev pub tray_machine : ℕ → ℕ → List ℕ → Option ℕ → Machine
-tray_machine rows cycle kept latch = record { behaviour = KeepsValues; limit = rows; needs = []; port_count = 0; ports = []; cycle = cycle; state = no_state; served = 0; latches = latch ∷ []; flags = []; kept = kept }
+-- a machine that keeps the last values, at most `rows`, and can do `limit` cycles; it is in this cycle, has kept these
+-- values, and its only in has this latch
+abbrev pub tray_machine : ℕ → ℕ → ℕ → List ℕ → Option ℕ → Machine
+tray_machine rows limit cycle kept latch = record { behaviour = KeepsLast rows; limit = limit; ratios = []; needs = []; port_count = 0; ports = []; cycle = cycle; state = no_state; served = 0; latches = latch ∷ []; flags = []; kept = kept }
+
+-- a machine keeps the last values that it gets
+abbrev pub IsTray : Behaviour → Type 0
+IsTray (RunsPiece piece) = ⊥
+IsTray (GivesColumn column) = ⊥
+IsTray (KeepsLast rows) = ⊤

@@ -1,13 +1,13 @@
 -- The steps of a machine: when each may be done, and how it changes the machine.
 -- Source: MEMOCODE 2009 (a node takes a token for each input, gives one for each output when what it needs is there,
 -- and finishes the cycle when it has done both); ICCAD 2019 for memories that are served port by port.
-use Rattle.std.specs.Prelude.{◌≡◌, ℕ, suc, ◌<◌, ◌++◌, List, [], ◌∷◌, Option, Some, None, true, false, IsSome, IfSome, All, length, replicate, slice_set, slice_get, ⊤}
+use Rattle.std.specs.Prelude.{◌≡◌, ℕ, suc, ◌<◌, ◌++◌, List, [], ◌∷◌, Option, Some, None, true, false, IsSome, IfSome, All, length, drop, replicate, slice_set, slice_get, nat_lt, if◌then◌else◌, ⊤}
 use Rattle.gg_bits.specs.Shape.{Fits}
 use Rattle.gg_flat.specs.Line.{shape_at}
 use Rattle.gg_flat.specs.State.{State}
 use Rattle.gg_flat.specs.Settled.{in_shapes}
 use Rattle.gg_flat.specs.Served.{Access, ByReader, ByWriter}
-use Rattle.gg_node.specs.Machine.{Behaviour, RunsPiece, GivesColumn, KeepsValues, Port, Machine, latch_at, flag_at, latched_value, missing, due}
+use Rattle.gg_node.specs.Machine.{Behaviour, RunsPiece, GivesColumn, KeepsLast, Port, Machine, edges_of, latch_at, flag_at, latched_value, missing, due}
 use Rattle.gg_node.specs.Token.{accessed}
 
 -- ---- how each changes the machine
@@ -22,13 +22,17 @@ with_flag machine o = record machine { flags = slice_set machine.flags o true }
 
 -- the machine after one more access
 abbrev pub with_served : Machine → Machine
-with_served machine = record machine { state = accessed machine.latches machine.state (slice_get machine.ports machine.served); served = suc machine.served }
+with_served machine = record machine { state = accessed (edges_of machine) machine.latches machine.state (slice_get machine.ports machine.served); served = suc machine.served }
+
+-- these values with one more; if there are `rows` already, without the oldest
+abbrev pub kept_with : ℕ → List ℕ → ℕ → List ℕ
+kept_with rows kept value = if nat_lt (length kept) rows then kept ++ value ∷ [] else drop 1 kept ++ value ∷ []
 
 -- the values kept after a cycle; a machine that keeps values adds the token of its only in
 abbrev pub kept_after : Behaviour → List (Option ℕ) → List ℕ → List ℕ
 kept_after (RunsPiece piece) latches kept = kept
 kept_after (GivesColumn column) latches kept = kept
-kept_after KeepsValues latches kept = kept ++ latched_value (latch_at latches 0) ∷ []
+kept_after (KeepsLast rows) latches kept = kept_with rows kept (latched_value (latch_at latches 0))
 
 -- the machine in its next cycle, with this state, all latches empty and all flags clear
 abbrev pub finished : Machine → State → Machine
@@ -48,7 +52,7 @@ finished machine next =
 abbrev pub FitsIn : Behaviour → ℕ → ℕ → Type 0
 FitsIn (RunsPiece piece) i value = Fits (shape_at (in_shapes piece) i) value
 FitsIn (GivesColumn column) i value = ⊤
-FitsIn KeepsValues i value = ⊤
+FitsIn (KeepsLast rows) i value = ⊤
 
 -- An in may take this token: its latch is empty, and the token has the in's type.
 pub record MayLatch (machine : Machine) (i value : ℕ) : Type 0 where
@@ -60,7 +64,7 @@ pub record MayLatch (machine : Machine) (i value : ℕ) : Type 0 where
 abbrev pub HasValueAt : Behaviour → ℕ → Type 0
 HasValueAt (RunsPiece piece) cycle = ⊤
 HasValueAt (GivesColumn column) cycle = cycle < length column
-HasValueAt KeepsValues cycle = ⊤
+HasValueAt (KeepsLast rows) cycle = ⊤
 
 -- An out may give its token: it hasn't given it in this cycle, and each in that it needs has its token.
 pub record MayFire (machine : Machine) (o : ℕ) : Type 0 where

@@ -17,17 +17,18 @@ pub struct Source {
 }
 
 impl Model for Source {
+    ghost use Rattle.std.specs.Prelude.{[], ◌∷◌};
     ghost use Rattle.gg_node.specs.Machine.{Machine, source_machine};
 
     ghost Value = { Machine };
 
-    ghost view = { λ source. source_machine source.column.items source.cycle source.fired };
+    ghost view = { λ source. source_machine source.column.items source.cycle (source.fired ∷ []) };
 }
 
 impl Source {
     /// A source of the values of this column, before the first cycle.
     pub fn new(column: Vec<u128>) -> Source
-        ensures { result ≡ source_machine column.items 0 false }
+        ensures { result ≡ source_machine column.items 0 (false ∷ []) }
     {
         Source {
             column,

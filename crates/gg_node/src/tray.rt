@@ -1,6 +1,6 @@
 //! `Tray`: a machine that keeps the values that it gets.
 ghost use Rattle.std.specs.Prelude.{◌≡◌, ℕ, ◌<◌, ◌≤◌, List, [], ◌∷◌, None, IfOk, length, is_some, slice_set};
-ghost use Rattle.gg_node.specs.Machine.{KeepsValues, Machine, machine_at, latch_at, flag_at, missing, due, tray_machine};
+ghost use Rattle.gg_node.specs.Machine.{IsTray, Machine, machine_at, latch_at, flag_at, missing, due, tray_machine};
 ghost use Rattle.gg_node.specs.Token.{IsToken, IsNextState};
 ghost use Rattle.gg_node.specs.Step.{MayLatch, MayFire, MayServe, MayFinish, with_latch, with_flag, with_served, finished};
 
@@ -24,7 +24,7 @@ impl Model for Tray {
 
     ghost Value = { Machine };
 
-    ghost view = { λ tray. tray_machine (length tray.values.items) tray.cycle (take tray.cycle tray.values.items) tray.latch };
+    ghost view = { λ tray. tray_machine (length tray.values.items) (length tray.values.items) tray.cycle (take tray.cycle tray.values.items) tray.latch };
 
     ghost invariant = { λ tray. tray.cycle ≤ length tray.values.items };
 }
@@ -36,7 +36,7 @@ impl Tray {
     ///
     /// Returns `AllocError` if an allocation fails.
     pub fn new(alloc: Global, rows: u64) -> Result<Tray, AllocError>
-        ensures { IfOk result (λ tray. tray ≡ tray_machine rows 0 [] None) }
+        ensures { IfOk result (λ tray. tray ≡ tray_machine rows rows 0 [] None) }
     {
         let values = vec![in alloc; 0; rows as usize]?;
         Ok(Tray {
@@ -48,14 +48,14 @@ impl Tray {
 
     /// The values that it has kept, by cycle.
     pub fn column(&self) -> &[u128]
-        ensures keeps { self.now.behaviour ≡ KeepsValues }
+        ensures keeps { IsTray self.now.behaviour }
         ensures kept { result.now ≡ self.now.kept }
     {
         &self.values[..self.cycle as usize]
     }
 }
 
-#[tactic(auto, using(crate::proofs::OneLemmas::only, crate::proofs::OneLemmas::only_set))]
+#[tactic(auto, using(crate::proofs::OneLemmas::only, crate::proofs::OneLemmas::only_set, crate::proofs::KeptLemmas::kept_few))]
 impl Host for Tray {
     ghost machines = { λ machine. machine ∷ [] };
 

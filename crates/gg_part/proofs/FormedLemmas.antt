@@ -136,12 +136,12 @@ module _ (whole part : FlatCircuit) (globals held memories : List ℕ) (is : IsP
       let within : m < length part.memories = omega (arith, lt, is.memory_count) in
       let some = some-item part.memories m within in
       let same : readers_at part m ≡ (get_or part.memories m some).readers = get_or-map (λ (k : Memory). k.readers) part.memories m some [] within in
-      subst (λ (l : List Reader). ReadsAmong (length globals) (reader_at l r)) (sym same) (((is.memory_from m lt).below some).readers r (record { addr = 0; en = 0; word = 0 }) (subst (λ (l : List Reader). r < length l) same inside))
+      subst (λ (l : List Reader). ReadsAmong (length globals) (reader_at l r)) (sym same) (((is.memory_from m lt).below some).readers r (record { addr = 0; en = 0; word = 0; clock = None }) (subst (λ (l : List Reader). r < length l) same inside))
 
   -- reader r of memory m, in the whole's numbers
   reader-renamed : (m r : ℕ) → m < length memories → r < length (readers_at part m) → reader_at (readers_at whole (value_at memories m)) r ≡ renamed_reader globals (reader_at (readers_at part m) r)
   reader-renamed m r lt inside =
-      ap (λ l. reader_at l r) (readers-part m lt) ∙ get_or-map (λ reader. renamed_reader globals reader) (readers_at part m) r (record { addr = 0; en = 0; word = 0 }) (record { addr = 0; en = 0; word = 0 }) inside
+      ap (λ l. reader_at l r) (readers-part m lt) ∙ get_or-map (λ reader. renamed_reader globals reader) (readers_at part m) r (record { addr = 0; en = 0; word = 0; clock = None }) (record { addr = 0; en = 0; word = 0; clock = None }) inside
 
   of-part : (m r s : ℕ) → m < length memories → s < length globals → IsDataOf whole (value_at memories m) r (value_at globals s) → IsDataOf part m r s
   of-part m r s lt known of =

@@ -1,6 +1,6 @@
 -- The piece that is built is a part of the whole.
 use Rattle.std.proofs.Common.{◌≡◌, ℕ, ◌<◌, List, [], length, map, get_or, sym, ◌∙◌, ap, subst, arith}
-use Rattle.std.specs.Prelude.{All, Contains}
+use Rattle.std.specs.Prelude.{All, Contains, None}
 use Rattle.std.proofs.lemmas.List.{get_or-map, length-map, take_all}
 use Rattle.std.proofs.lemmas.List.Elements.{Contains-get_or}
 use Rattle.gg_flat.specs.declared.memory.Reader.{Reader}
@@ -85,14 +85,14 @@ module _ (whole piece : FlatCircuit) (globals ins held memories : List ℕ) (for
       let some = some-item piece.memories m within in
       let same : readers_at piece m ≡ (get_or piece.memories m some).readers = get_or-map (λ (k : Memory). k.readers) piece.memories m some [] within in
       subst (λ (l : List Reader). (reader_at l r).word < length globals) (sym same)
-      ((banks.below m some lt).readers r (record { addr = 0; en = 0; word = 0 }) (subst (λ (l : List Reader). r < length l) same inside)).2
+      ((banks.below m some lt).readers r (record { addr = 0; en = 0; word = 0; clock = None }) (subst (λ (l : List Reader). r < length l) same inside)).2
 
   not-given : (m r place : ℕ) → m < length memories → r < length (readers_at piece m) → driver_at piece (reader_at (readers_at piece m) r).word ≡ Input place → ⊥
   not-given m r place lt inside input =
       let word = (reader_at (readers_at piece m) r).word in
       let says = input-says word place (word-known m r lt inside) input in
       let renamed : reader_at (readers_at whole (value_at memories m)) r ≡ renamed_reader globals (reader_at (readers_at piece m) r) =
-      ap (λ l. reader_at l r) (readers-made m lt) ∙ get_or-map (λ reader. renamed_reader globals reader) (readers_at piece m) r (record { addr = 0; en = 0; word = 0 }) (record { addr = 0; en = 0; word = 0 }) inside in
+      ap (λ l. reader_at l r) (readers-made m lt) ∙ get_or-map (λ reader. renamed_reader globals reader) (readers_at piece m) r (record { addr = 0; en = 0; word = 0; clock = None }) (record { addr = 0; en = 0; word = 0; clock = None }) inside in
       let listed = subst (Contains ins) (says.1 ∙ ap (λ (k : Reader). k.word) (sym renamed)) (Contains-get_or ins place 0 says.0) in
       let known : r < length (readers_at whole (value_at memories m)) = omega (arith, inside, ap length (readers-made m lt), length-map (readers_at piece m) (λ reader. renamed_reader globals reader)) in
       chosen.answers (value_at memories m) r (Contains-get_or memories m 0 lt) known listed

@@ -15,8 +15,9 @@ use Rattle.gg_flat.specs.declared.memory.Memory.{Memory}
 use Rattle.gg_flat.specs.declared.piece.Register.{Register}
 use Rattle.gg_flat.specs.declared.piece.Reset.{Reset}
 use Rattle.gg_flat.specs.Line.{value_at, shapes_of, line_shape, shape_at, op_value, with_node, line_value, connected_value}
+use Rattle.gg_flat.specs.Clock.{ticks}
 use Rattle.gg_flat.specs.Reads.{ResetNames, NextNames}
-use Rattle.gg_flat.specs.Memory.{Bank, read_word, found_word, hits, next_word, next_words_from, next_words, words_read, next_reads, next_bank, read_count, opening_bank, WritesAmong}
+use Rattle.gg_flat.specs.Memory.{Bank, read_word, found_word, hits, next_word, next_words_from, next_words, words_read, late_reads, next_reads, next_bank, read_count, opening_bank, WritesAmong}
 use Rattle.gg_flat.specs.State.{connected_or, reset_or, next_register}
 use Rattle.gg_part.specs.Part.{renamed_op, renamed_node, renamed_line, renamed_next, renamed_reset, renamed_register, renamed_reader, renamed_writer, renamed_memory, NamesBelow, RegisterBelow, ReadsAmong, MemoryBelow}
 use Rattle.gg_part.specs.PartRun.{part_row}
@@ -70,48 +71,50 @@ module _ (globals row : List ℕ) where
   reset-renamed sink (Some reset) other below =
       ap₂ (λ condition init. if condition == 1 then init else other) (line_value-renamed reset.condition (λ s named. below s (inl named))) (connected-renamed sink reset.init (λ s named. below s (inr named)))
 
-  pub register-renamed : (register : Register) (own : ℕ) → RegisterBelow (length globals) register → next_register row (renamed_register globals register) own ≡ next_register (part_row globals row) register own
-  register-renamed register own below =
-      ap (reset_or row (shape register.ty) (renamed_reset globals register.reset)) (next-renamed (shape register.ty) register.next own (λ s named. below s (inr named)))
-      ∙ reset-renamed (shape register.ty) register.reset (connected_or (part_row globals row) (shape register.ty) register.next own) (λ s named. below s (inl named))
+  pub register-renamed : (edges : List Bool) (register : Register) (own : ℕ) → RegisterBelow (length globals) register → next_register edges row (renamed_register globals register) own ≡ next_register edges (part_row globals row) register own
+  register-renamed edges register own below =
+      ap (λ taken. if ticks edges register.clock then taken else own)
+      (ap (reset_or row (shape register.ty) (renamed_reset globals register.reset)) (next-renamed (shape register.ty) register.next own (λ s named. below s (inr named)))
+      ∙ reset-renamed (shape register.ty) register.reset (connected_or (part_row globals row) (shape register.ty) register.next own) (λ s named. below s (inl named)))
 
   -- ---- memories
 
   found-renamed : (words : List ℕ) (reader : Reader) → ReadsAmong (length globals) reader → found_word row words (renamed_reader globals reader) ≡ found_word (part_row globals row) words reader
   found-renamed words reader among = ap₂ (read_word words) (sym (part_row-at reader.addr among.0)) (sym (part_row-at reader.en among.1))
 
-  hits-renamed : (writer : Writer) (a : ℕ) → WritesAmong (length globals) writer → hits row (renamed_writer globals writer) a ≡ hits (part_row globals row) writer a
-  hits-renamed writer a among =
-      ap₂ (λ en mask. (en == 1) && (mask == 1) && (value_at row (value_at globals writer.addr) == a)) (sym (part_row-at writer.en among.1)) (sym (part_row-at writer.mask among.3))
-      ∙ ap (λ addr. (value_at (part_row globals row) writer.en == 1) && (value_at (part_row globals row) writer.mask == 1) && (addr == a)) (sym (part_row-at writer.addr among.0))
+  hits-renamed : (edges : List Bool) (writer : Writer) (a : ℕ) → WritesAmong (length globals) writer → hits edges row (renamed_writer globals writer) a ≡ hits edges (part_row globals row) writer a
+  hits-renamed edges writer a among =
+      ap₂ (λ en mask. ticks edges writer.clock && (en == 1) && (mask == 1) && (value_at row (value_at globals writer.addr) == a)) (sym (part_row-at writer.en among.1)) (sym (part_row-at writer.mask among.3))
+      ∙ ap (λ addr. ticks edges writer.clock && (value_at (part_row globals row) writer.en == 1) && (value_at (part_row globals row) writer.mask == 1) && (addr == a)) (sym (part_row-at writer.addr among.0))
 
-  word-renamed : (writers : List Writer) (a own : ℕ) → All (λ writer. WritesAmong (length globals) writer) writers → next_word row (map (λ writer. renamed_writer globals writer) writers) a own ≡ next_word (part_row globals row) writers a own
-  word-renamed [] a own among = refl
-  word-renamed (writer ∷ writers) a own among =
+  word-renamed : (edges : List Bool) (writers : List Writer) (a own : ℕ) → All (λ writer. WritesAmong (length globals) writer) writers → next_word edges row (map (λ writer. renamed_writer globals writer) writers) a own ≡ next_word edges (part_row globals row) writers a own
+  word-renamed edges [] a own among = refl
+  word-renamed edges (writer ∷ writers) a own among =
       let here = among 0 writer (omega arith) in
-      let next : ℕ = if hits (part_row globals row) writer a then value_at (part_row globals row) writer.word else own in
-      ap (next_word row (map (λ writer. renamed_writer globals writer) writers) a) (ap₂ (λ (hit : Bool) word. if hit then word else own) (hits-renamed writer a here) (sym (part_row-at writer.word here.2)))
-      ∙ word-renamed writers a next (λ k d lt. among (suc k) d (omega arith))
+      let next : ℕ = if hits edges (part_row globals row) writer a then value_at (part_row globals row) writer.word else own in
+      ap (next_word edges row (map (λ writer. renamed_writer globals writer) writers) a) (ap₂ (λ (hit : Bool) word. if hit then word else own) (hits-renamed edges writer a here) (sym (part_row-at writer.word here.2)))
+      ∙ word-renamed edges writers a next (λ k d lt. among (suc k) d (omega arith))
 
-  words-renamed : (writers : List Writer) (a : ℕ) (words : List ℕ) → All (λ writer. WritesAmong (length globals) writer) writers → next_words_from row (map (λ writer. renamed_writer globals writer) writers) a words ≡ next_words_from (part_row globals row) writers a words
-  words-renamed writers a [] among = refl
-  words-renamed writers a (own ∷ words) among = ap₂ (λ word rest. word ∷ rest) (word-renamed writers a own among) (words-renamed writers (suc a) words among)
+  words-renamed : (edges : List Bool) (writers : List Writer) (a : ℕ) (words : List ℕ) → All (λ writer. WritesAmong (length globals) writer) writers → next_words_from edges row (map (λ writer. renamed_writer globals writer) writers) a words ≡ next_words_from edges (part_row globals row) writers a words
+  words-renamed edges writers a [] among = refl
+  words-renamed edges writers a (own ∷ words) among = ap₂ (λ word rest. word ∷ rest) (word-renamed edges writers a own among) (words-renamed edges writers (suc a) words among)
 
-  all-found : (words : List ℕ) (readers : List Reader) → All (λ reader. ReadsAmong (length globals) reader) readers → map (found_word row words) (map (λ reader. renamed_reader globals reader) readers) ≡ map (found_word (part_row globals row) words) readers
-  all-found words [] among = refl
-  all-found words (reader ∷ readers) among =
-      ap₂ (λ word rest. word ∷ rest) (found-renamed words reader (among 0 reader (omega arith))) (all-found words readers (λ k d lt. among (suc k) d (omega arith)))
+  late-renamed : (edges : List Bool) (words : List ℕ) (readers : List Reader) (own : List ℕ) → All (λ reader. ReadsAmong (length globals) reader) readers → late_reads edges row words (map (λ reader. renamed_reader globals reader) readers) own ≡ late_reads edges (part_row globals row) words readers own
+  late-renamed edges words [] own among = refl
+  late-renamed edges words (reader ∷ readers) [] among = refl
+  late-renamed edges words (reader ∷ readers) (x ∷ own) among =
+      ap₂ (λ found rest. (if ticks edges reader.clock then found else x) ∷ rest) (found-renamed words reader (among 0 reader (omega arith))) (late-renamed edges words readers own (λ k d lt. among (suc k) d (omega arith)))
 
-  reads-renamed : (latency : Latency) (readers : List Reader) (before after : List ℕ) → All (λ reader. ReadsAmong (length globals) reader) readers → next_reads row latency (map (λ reader. renamed_reader globals reader) readers) before after ≡ next_reads (part_row globals row) latency readers before after
-  reads-renamed Zero readers before after among = refl
-  reads-renamed (Late under) readers before after among = all-found (words_read under before after) readers among
+  reads-renamed : (edges : List Bool) (latency : Latency) (readers : List Reader) (before after own : List ℕ) → All (λ reader. ReadsAmong (length globals) reader) readers → next_reads edges row latency (map (λ reader. renamed_reader globals reader) readers) before after own ≡ next_reads edges (part_row globals row) latency readers before after own
+  reads-renamed edges Zero readers before after own among = refl
+  reads-renamed edges (Late under) readers before after own among = late-renamed edges (words_read under before after) readers own among
 
-  pub bank-renamed : (memory : Memory) (bank : Bank) → MemoryBelow (length globals) memory → next_bank row (renamed_memory globals memory) bank ≡ next_bank (part_row globals row) memory bank
-  bank-renamed memory bank below =
-      let words = words-renamed memory.writers 0 bank.words below.writers in
+  pub bank-renamed : (edges : List Bool) (memory : Memory) (bank : Bank) → MemoryBelow (length globals) memory → next_bank edges row (renamed_memory globals memory) bank ≡ next_bank edges (part_row globals row) memory bank
+  bank-renamed edges memory bank below =
+      let words = words-renamed edges memory.writers 0 bank.words below.writers in
       let make : List ℕ → List ℕ → Bank = λ words reads. record { words = words; reads = reads } in
-      ap (λ after. make after (next_reads row memory.latency (map (λ reader. renamed_reader globals reader) memory.readers) bank.words after)) words
-      ∙ ap (make (next_words (part_row globals row) memory.writers bank.words)) (reads-renamed memory.latency memory.readers bank.words (next_words (part_row globals row) memory.writers bank.words) below.readers)
+      ap (λ after. make after (next_reads edges row memory.latency (map (λ reader. renamed_reader globals reader) memory.readers) bank.words after bank.reads)) words
+      ∙ ap (make (next_words edges (part_row globals row) memory.writers bank.words)) (reads-renamed edges memory.latency memory.readers bank.words (next_words edges (part_row globals row) memory.writers bank.words) bank.reads below.readers)
 
 -- a memory of the part holds the same at the opening as the whole's
 read_count-renamed : (globals : List ℕ) (latency : Latency) (readers : List Reader) → read_count latency (map (λ reader. renamed_reader globals reader) readers) ≡ read_count latency readers

@@ -1,5 +1,5 @@
 -- A part of a run is a run of the part.
-use Rattle.std.proofs.Common.{◌≡◌, ℕ, zero, suc, ◌<◌, ◌≤◌, List, [], length, map, get_or, replicate, refl, sym, ◌∙◌, ap, ap₂, subst, arith}
+use Rattle.std.proofs.Common.{◌≡◌, ℕ, zero, suc, ◌<◌, ◌≤◌, List, [], Bool, length, map, get_or, replicate, refl, sym, ◌∙◌, ap, ap₂, subst, arith}
 use Rattle.std.proofs.lemmas.List.{get_or-map, ext_get_or, length-map, length-replicate, get_or-replicate}
 use Rattle.std.proofs.lemmas.Grind.{same_number_lists}
 use Rattle.gg_bits.specs.Shape.{Shape, shape, uint, Fits}
@@ -7,6 +7,7 @@ use Rattle.gg_flat.specs.declared.memory.Memory.{Memory}
 use Rattle.gg_flat.specs.declared.piece.Register.{Register}
 use Rattle.gg_flat.specs.declared.piece.Driver.{Driver}
 use Rattle.gg_flat.specs.declared.piece.Driver.TheVariants.{Input, Held, MemoryWord, ReadRegister, Computed}
+use Rattle.gg_flat.specs.Clock.{edges_at}
 use Rattle.gg_flat.specs.Line.{value_at, shape_at, AreTyped}
 use Rattle.gg_flat.specs.Circuit.{FlatCircuit, signal_shapes, driver_at}
 use Rattle.gg_flat.specs.Memory.{Bank, read_word, bank_at, next_banks, next_bank, opening_bank}
@@ -31,11 +32,11 @@ HasCounts-state : (circuit : FlatCircuit) (state : State) → IsState circuit st
 HasCounts-state circuit state is =
     record { registers = is.typed.count ∙ length-map circuit.registers (λ (r : Register). shape r.ty); banks = is.held.count }
 
-HasCounts-next : (circuit : FlatCircuit) (state : State) (row : List ℕ) → HasCounts circuit state → HasCounts circuit (next_state circuit state row)
-HasCounts-next circuit state row has =
+HasCounts-next : (edges : List Bool) (circuit : FlatCircuit) (state : State) (row : List ℕ) → HasCounts circuit state → HasCounts circuit (next_state edges circuit state row)
+HasCounts-next edges circuit state row has =
     record {
-      registers = length-next_registers row circuit.registers state.registers has.registers;
-      banks = length-next_banks row circuit.memories state.banks has.banks;
+      registers = length-next_registers edges row circuit.registers state.registers has.registers;
+      banks = length-next_banks edges row circuit.memories state.banks has.banks;
     }
 
 abbrev nothing : Bank
@@ -95,61 +96,61 @@ module _ (whole part : FlatCircuit) (globals held memories : List ℕ) (is : IsP
 
   -- ---- states
 
-  registers-part : (state : State) (row : List ℕ) → HasCounts whole state → next_registers (part_row globals row) part.registers (map (value_at state.registers) held) ≡ map (value_at (next_registers row whole.registers state.registers)) held
-  registers-part state row has =
+  registers-part : (edges : List Bool) (state : State) (row : List ℕ) → HasCounts whole state → next_registers edges (part_row globals row) part.registers (map (value_at state.registers) held) ≡ map (value_at (next_registers edges row whole.registers state.registers)) held
+  registers-part edges state row has =
       let own = map (value_at state.registers) held in
       let count : length own ≡ length part.registers = length-map held (value_at state.registers) ∙ sym is.register_count in
-      let long : length (next_registers (part_row globals row) part.registers own) ≡ length part.registers = length-next_registers (part_row globals row) part.registers own count in
-      same_number_lists (next_registers (part_row globals row) part.registers own) (map (value_at (next_registers row whole.registers state.registers)) held)
-      (long ∙ is.register_count ∙ sym (length-map held (value_at (next_registers row whole.registers state.registers)))) (λ r lt.
+      let long : length (next_registers edges (part_row globals row) part.registers own) ≡ length part.registers = length-next_registers edges (part_row globals row) part.registers own count in
+      same_number_lists (next_registers edges (part_row globals row) part.registers own) (map (value_at (next_registers edges row whole.registers state.registers)) held)
+      (long ∙ is.register_count ∙ sym (length-map held (value_at (next_registers edges row whole.registers state.registers)))) (λ r lt.
       let within : r < length part.registers = omega (arith, lt, long) in
       let known : r < length held = omega (arith, within, is.register_count) in
       let some = some-item part.registers r within in
       let local = get_or part.registers r some in
       let at = is.register_from r known in
-      next_registers-at (part_row globals row) part.registers own r some count within
-      ∙ ap (next_register (part_row globals row) local) (get_or-map (value_at state.registers) held r 0 0 known)
-      ∙ sym (register-renamed globals row local (value_at state.registers (value_at held r)) (at.below some))
-      ∙ ap (λ (register : Register). next_register row register (value_at state.registers (value_at held r))) (sym (at.is some (renamed_register globals local)))
-      ∙ sym (next_registers-at row whole.registers state.registers (value_at held r) (renamed_register globals local) has.registers at.within)
-      ∙ sym (get_or-map (value_at (next_registers row whole.registers state.registers)) held r 0 0 known))
+      next_registers-at edges (part_row globals row) part.registers own r some count within
+      ∙ ap (next_register edges (part_row globals row) local) (get_or-map (value_at state.registers) held r 0 0 known)
+      ∙ sym (register-renamed globals row edges local (value_at state.registers (value_at held r)) (at.below some))
+      ∙ ap (λ (register : Register). next_register edges row register (value_at state.registers (value_at held r))) (sym (at.is some (renamed_register globals local)))
+      ∙ sym (next_registers-at edges row whole.registers state.registers (value_at held r) (renamed_register globals local) has.registers at.within)
+      ∙ sym (get_or-map (value_at (next_registers edges row whole.registers state.registers)) held r 0 0 known))
 
-  banks-part : (state : State) (row : List ℕ) → HasCounts whole state → next_banks (part_row globals row) part.memories (map (bank_at state.banks) memories) ≡ map (bank_at (next_banks row whole.memories state.banks)) memories
-  banks-part state row has =
+  banks-part : (edges : List Bool) (state : State) (row : List ℕ) → HasCounts whole state → next_banks edges (part_row globals row) part.memories (map (bank_at state.banks) memories) ≡ map (bank_at (next_banks edges row whole.memories state.banks)) memories
+  banks-part edges state row has =
       let own = map (bank_at state.banks) memories in
       let count : length own ≡ length part.memories = length-map memories (bank_at state.banks) ∙ sym is.memory_count in
-      let long : length (next_banks (part_row globals row) part.memories own) ≡ length part.memories = length-next_banks (part_row globals row) part.memories own count in
-      ext_get_or nothing (next_banks (part_row globals row) part.memories own) (map (bank_at (next_banks row whole.memories state.banks)) memories)
-      (long ∙ is.memory_count ∙ sym (length-map memories (bank_at (next_banks row whole.memories state.banks)))) (λ m lt.
+      let long : length (next_banks edges (part_row globals row) part.memories own) ≡ length part.memories = length-next_banks edges (part_row globals row) part.memories own count in
+      ext_get_or nothing (next_banks edges (part_row globals row) part.memories own) (map (bank_at (next_banks edges row whole.memories state.banks)) memories)
+      (long ∙ is.memory_count ∙ sym (length-map memories (bank_at (next_banks edges row whole.memories state.banks)))) (λ m lt.
       let within : m < length part.memories = omega (arith, lt, long) in
       let known : m < length memories = omega (arith, within, is.memory_count) in
       let some = some-item part.memories m within in
       let local = get_or part.memories m some in
       let at = is.memory_from m known in
-      next_banks-at (part_row globals row) part.memories own m some count within
-      ∙ ap (next_bank (part_row globals row) local) (bank-at memories state.banks m known)
-      ∙ sym (bank-renamed globals row local (bank_at state.banks (value_at memories m)) (at.below some))
-      ∙ ap (λ (memory : Memory). next_bank row memory (bank_at state.banks (value_at memories m))) (sym (at.is some (renamed_memory globals local)))
-      ∙ sym (next_banks-at row whole.memories state.banks (value_at memories m) (renamed_memory globals local) has.banks at.within)
-      ∙ sym (bank-at memories (next_banks row whole.memories state.banks) m known))
+      next_banks-at edges (part_row globals row) part.memories own m some count within
+      ∙ ap (next_bank edges (part_row globals row) local) (bank-at memories state.banks m known)
+      ∙ sym (bank-renamed globals row edges local (bank_at state.banks (value_at memories m)) (at.below some))
+      ∙ ap (λ (memory : Memory). next_bank edges row memory (bank_at state.banks (value_at memories m))) (sym (at.is some (renamed_memory globals local)))
+      ∙ sym (next_banks-at edges row whole.memories state.banks (value_at memories m) (renamed_memory globals local) has.banks at.within)
+      ∙ sym (bank-at memories (next_banks edges row whole.memories state.banks) m known))
 
-  next-part : (state : State) (row : List ℕ) → HasCounts whole state → next_state part (part_state held memories state) (part_row globals row) ≡ part_state held memories (next_state whole state row)
-  next-part state row has =
+  next-part : (edges : List Bool) (state : State) (row : List ℕ) → HasCounts whole state → next_state edges part (part_state held memories state) (part_row globals row) ≡ part_state held memories (next_state edges whole state row)
+  next-part edges state row has =
       let make : List ℕ → List Bank → State = λ registers banks. record { registers = registers; banks = banks } in
-      ap₂ make (registers-part state row has) (banks-part state row has)
+      ap₂ make (registers-part edges state row has) (banks-part edges state row has)
 
   row-part : (rows : List (List ℕ)) (t : ℕ) → t < length rows → row_at (part_rows globals rows) t ≡ part_row globals (row_at rows t)
   row-part rows t lt = get_or-map (part_row globals) rows t [] [] lt
 
   HasCounts-at : (start : Start) (rows : List (List ℕ)) → HasCounts whole start.state → (t : ℕ) → HasCounts whole (state_at whole start rows t)
   HasCounts-at start rows has zero = has
-  HasCounts-at start rows has (suc t) = HasCounts-next whole (state_at whole start rows t) (row_at rows t) (HasCounts-at start rows has t)
+  HasCounts-at start rows has (suc t) = HasCounts-next (edges_at start.ratios (later start.cycle t)) whole (state_at whole start rows t) (row_at rows t) (HasCounts-at start rows has t)
 
   state-part : (start : Start) (rows : List (List ℕ)) → HasCounts whole start.state → (t : ℕ) → t ≤ length rows → state_at part (part_start held memories start) (part_rows globals rows) t ≡ part_state held memories (state_at whole start rows t)
   state-part start rows has zero le = refl
   state-part start rows has (suc t) le =
-      ap₂ (next_state part) (state-part start rows has t (omega arith)) (row-part rows t (omega arith))
-      ∙ next-part (state_at whole start rows t) (row_at rows t) (HasCounts-at start rows has t)
+      ap₂ (next_state (edges_at start.ratios (later start.cycle t)) part) (state-part start rows has t (omega arith)) (row-part rows t (omega arith))
+      ∙ next-part (edges_at start.ratios (later start.cycle t)) (state_at whole start rows t) (row_at rows t) (HasCounts-at start rows has t)
 
   IsRunFrom-counts : (start : Start) (columns inputs : List (List ℕ)) (n : ℕ) (rows : List (List ℕ)) → HasCounts whole start.state → IsRunFrom whole start columns n rows → ((t : ℕ) → t < n → AreInputs part globals (inputs_at inputs (later start.cycle t)) (row_at rows t)) → IsRunFrom part (part_start held memories start) inputs n (part_rows globals rows)
   IsRunFrom-counts start columns inputs n rows has run given =
@@ -188,7 +189,7 @@ module _ (whole part : FlatCircuit) (globals held memories : List ℕ) (is : IsP
       ∙ opening-renamed globals local
       ∙ sym (get_or-map (λ memory. opening_bank memory) part.memories m some nothing within))
 
-  opening-part : part_state held memories (opening whole) ≡ opening part
+  pub opening-part : part_state held memories (opening whole) ≡ opening part
   opening-part =
       let make : List ℕ → List Bank → State = λ registers banks. record { registers = registers; banks = banks } in
       ap₂ make (zeros-part (length whole.registers) (λ r lt. (is.register_from r lt).within) ∙ ap (λ n. replicate n 0) (sym is.register_count)) opening-banks
@@ -204,7 +205,7 @@ module _ (whole part : FlatCircuit) (globals held memories : List ℕ) (is : IsP
 
   pub IsRun-part : (columns : List (List ℕ)) (n : ℕ) (rows : List (List ℕ)) → IsRun whole columns n rows → IsRun part (part_columns globals part rows) n (part_rows globals rows)
   IsRun-part columns n rows run =
-      let from : State → Start = λ state. record { cycle = 0; state = state } in
+      let from : State → Start = λ state. record { cycle = 0; state = state; ratios = [] } in
       subst (λ state. IsRunFrom part (from state) (part_columns globals part rows) n (part_rows globals rows)) opening-part
       (IsRunFrom-counts (opening_start whole) columns (part_columns globals part rows) n rows (HasCounts-state whole (opening whole) (IsState-opening whole)) run
       (λ t lt. record { each = λ place known. column-at rows t place (omega (arith, lt, run.count)) known }))

@@ -30,6 +30,7 @@ counted reset c n =
       ty = eight;
       reset = Some (record { condition = node one (Literal (value 0)) ∷ []; init = node eight (Ref c) ∷ [] });
       next = Some (node one (Ref reset) ∷ node eight (Literal (value 0)) ∷ node nine (Ref n) ∷ node eight (Fix Bits 2 7 0) ∷ node eight (Mux 0 1 3) ∷ []);
+      clock = None;
     }
 
 is-counted : counter.registers ≡ counted 0 2 3 ∷ []

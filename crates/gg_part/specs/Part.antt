@@ -46,14 +46,14 @@ renamed_reset globals (Some reset) = Some (record { condition = renamed_line glo
 
 abbrev pub renamed_register : List ℕ → Register → Register
 renamed_register globals register =
-    record { ty = register.ty; reset = renamed_reset globals register.reset; next = renamed_next globals register.next }
+    record { ty = register.ty; reset = renamed_reset globals register.reset; next = renamed_next globals register.next; clock = register.clock }
 
 abbrev pub renamed_reader : List ℕ → Reader → Reader
-renamed_reader globals reader = record { addr = value_at globals reader.addr; en = value_at globals reader.en; word = value_at globals reader.word }
+renamed_reader globals reader = record { addr = value_at globals reader.addr; en = value_at globals reader.en; word = value_at globals reader.word; clock = reader.clock }
 
 abbrev pub renamed_writer : List ℕ → Writer → Writer
 renamed_writer globals writer =
-    record { addr = value_at globals writer.addr; en = value_at globals writer.en; word = value_at globals writer.word; mask = value_at globals writer.mask }
+    record { addr = value_at globals writer.addr; en = value_at globals writer.en; word = value_at globals writer.word; mask = value_at globals writer.mask; clock = writer.clock }
 
 abbrev pub renamed_memory : List ℕ → Memory → Memory
 renamed_memory globals memory =

@@ -21,7 +21,7 @@ part_state held memories state = record { registers = map (value_at state.regist
 
 -- where the part's run starts, if the run of the whole starts here
 abbrev pub part_start : List ℕ → List ℕ → Start → Start
-part_start held memories start = record { cycle = start.cycle; state = part_state held memories start.state }
+part_start held memories start = record { cycle = start.cycle; state = part_state held memories start.state; ratios = start.ratios }
 
 -- the columns of the part's in-signals in the rows of the whole
 abbrev pub part_columns : List ℕ → FlatCircuit → List (List ℕ) → List (List ℕ)

@@ -109,6 +109,7 @@ pub(crate) fn local_register(
         ty: register.ty,
         reset,
         next,
+        clock: register.clock,
     })
 }
 
@@ -124,6 +125,7 @@ fn local_reader(globals: &Numbers, reader: Reader) -> Reader
         addr: globals.place(reader.addr),
         en: globals.place(reader.en),
         word: globals.place(reader.word),
+        clock: reader.clock,
     }
 }
 
@@ -138,6 +140,7 @@ fn local_writer(globals: &Numbers, writer: Writer) -> Writer
         en: globals.place(writer.en),
         word: globals.place(writer.word),
         mask: globals.place(writer.mask),
+        clock: writer.clock,
     }
 }
 

@@ -1,6 +1,6 @@
 -- What a request without a fault says of its capacities, channels and machines.
 use Rattle.std.proofs.Common.{◌≡◌, ℕ, zero, suc, ◌^◌, ◌<◌, ◌≤◌, List, [], ◌∷◌, length, get_or, Bool, true, false, refl, ap, Some, None, arith}
-use Rattle.std.specs.Prelude.{option_map, find, cond, ◌||◌, ◌==◌, nat_lt, unwrap_or, bytes_eq, All}
+use Rattle.std.specs.Prelude.{cond, ◌||◌, ◌==◌, nat_lt, All}
 use Rattle.std.proofs.lemmas.List.{get_or-map, length-map}
 use Rattle.std.proofs.lemmas.Bool.{ltb-false, or_parts}
 use Rattle.gg_flat.specs.WellFormed.{IsWellFormed}
@@ -8,33 +8,17 @@ use Rattle.gg_flat.specs.Tree.{IsTree}
 use Rattle.gg_order.specs.Design.{Ordered}
 use Rattle.gg_partfile.specs.declared.request.Request.{Request}
 use Rattle.gg_cut.specs.declared.wires.Wire.{Wire}
-use Rattle.gg_cut.specs.declared.fault.CutFault.TheVariants.{UnknownChannel, OutOfRange, TooManyUnits, TooManyChannels}
+use Rattle.gg_cut.specs.declared.fault.CutFault.TheVariants.{OutOfRange}
 use Rattle.gg_cut.specs.Listed.{listed_of}
-use Rattle.gg_cut.specs.Channels.{wire, machine_count, wires_of, channel_signals, channel_names, capacity_of}
-use Rattle.gg_cut.specs.Fault.{or_else, most_capacity, out_of_range, range_fault, too_many_units, too_many_channels, channel_fault, entry_fault, kind_fault, first_fault, unknown_channel}
+use Rattle.gg_cut.specs.Channels.{wire, machine_count, wires_of, channel_signals, capacity_of}
+use Rattle.gg_cut.specs.Fault.{most_capacity, out_of_range, range_fault, first_fault}
 use Rattle.gg_cut.specs.Plan.{wire_at}
 use Rattle.gg_cut.proofs.KnownLemmas.{signals-known}
 use Rattle.gg_cut.proofs.ChannelLemmas.{wires-signals}
 use Rattle.gg_cut.proofs.FindLemmas.{none-map}
 use Rattle.gg_closed.proofs.FaultlessLemmas as closed
 use Rattle.gg_closed.proofs.EndLemmas as ends
-use Rattle.gg_closed.proofs.FaultlessLemmas.{none-first, none-second}
 use Rattle.gg_plan.specs.Made.{IsCapacity}
-
--- ---- the first of several faults
-
--- the capacities of a request without a fault are in range
-pub range-free : (design : Ordered) (request : Request) → first_fault design request ≡ None → range_fault request.capacity ≡ None
-range-free design request none =
-    let circuit = design.circuit in
-    let tree = design.tree in
-    let listed = listed_of tree request in
-    let signals = channel_signals circuit tree listed in
-    let last = channel_fault circuit request listed signals in
-    let limits = or_else (option_map (λ n. TooManyUnits n) (too_many_units listed)) (option_map (λ n. TooManyChannels n) (too_many_channels signals)) in
-    none-first (range_fault request.capacity) limits
-    (none-second (option_map (λ p. UnknownChannel p) (unknown_channel (channel_names circuit signals) request.capacity)) (or_else (range_fault request.capacity) limits)
-    (none-second (kind_fault tree request) last (none-second (entry_fault tree request) (or_else (kind_fault tree request) last) none)))
 
 -- ---- capacities
 
@@ -56,29 +40,8 @@ in-range (pair ∷ capacities) none = by ((pair.1 == 0) || nat_lt most_capacity 
 pub capacities-small : (capacities : List (List ℕ × ℕ)) → range_fault capacities ≡ None → All (λ pair. pair.1 < 2 ^ 32) capacities
 capacities-small capacities none = in-range capacities (none-map (λ pair. OutOfRange pair.0 pair.1) (out_of_range capacities) none)
 
--- a capacity that the request has, or the default, is one that a channel may have
-capacity-in-range : (capacities : List (List ℕ × ℕ)) (default : ℕ) (name : List ℕ) → out_of_range capacities ≡ None → IsCapacity default → IsCapacity (capacity_of capacities default name)
-capacity-in-range [] default name none own = own
-capacity-in-range (pair ∷ capacities) default name none own =
-    by ((pair.1 == 0) || nat_lt most_capacity pair.1) refl none (λ more. capacity-in-range capacities default name more own)
-  where
-    some : (n : ℕ) → (n == 0) ≡ false → 0 < n
-    some zero e = absurd (cc)
-    some (suc n) e = omega arith
-
-    either : (b : Bool) → IsCapacity pair.1 → IsCapacity (capacity_of capacities default name) → IsCapacity (unwrap_or (option_map (λ pair. pair.1) (cond b (Some pair) (find (λ pair. bytes_eq pair.0 name) capacities))) default)
-    either true here rest = here
-    either false here rest = rest
-
-    by : (b : Bool) → ((pair.1 == 0) || nat_lt most_capacity pair.1) ≡ b → cond b (Some pair) (out_of_range capacities) ≡ None → (out_of_range capacities ≡ None → IsCapacity (capacity_of capacities default name)) → IsCapacity (capacity_of (pair ∷ capacities) default name)
-    by true e none rest = absurd (cc)
-    by false e none rest =
-        either (bytes_eq pair.0 name)
-        (some pair.1 (or_parts (pair.1 == 0) (nat_lt most_capacity pair.1) e).0, ltb-false most_capacity pair.1 (or_parts (pair.1 == 0) (nat_lt most_capacity pair.1) e).1)
-        (rest none)
-
 pub capacity-sound : (capacities : List (List ℕ × ℕ)) (default : ℕ) (name : List ℕ) → range_fault capacities ≡ None → IsCapacity default → IsCapacity (capacity_of capacities default name)
-capacity-sound capacities default name none own = capacity-in-range capacities default name (none-map (λ pair. OutOfRange pair.0 pair.1) (out_of_range capacities) none) own
+capacity-sound capacities default name none own = closed.capacity-is (λ n. IsCapacity n) (λ n some few. (some, few)) capacities default name none own
 
 -- ---- channels and machines
 

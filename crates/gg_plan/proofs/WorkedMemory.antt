@@ -111,8 +111,8 @@ memory =
                   word = eight;
                   depth = 3;
                   latency = Zero;
-                  readers = record { addr = 0; en = 1; word = 2 } ∷ record { addr = 3; en = 4; word = 5 } ∷ [];
-                  writers = record { addr = 6; en = 7; word = 8; mask = 9 } ∷ record { addr = 10; en = 11; word = 12; mask = 13 } ∷ [];
+                  readers = record { addr = 0; en = 1; word = 2; clock = None } ∷ record { addr = 3; en = 4; word = 5; clock = None } ∷ [];
+                  writers = record { addr = 6; en = 7; word = 8; mask = 9; clock = None } ∷ record { addr = 10; en = 11; word = 12; mask = 13; clock = None } ∷ [];
                 }
                 ∷ [];
             ins = 0 ∷ 1 ∷ 3 ∷ 4 ∷ 6 ∷ 7 ∷ 8 ∷ 9 ∷ 10 ∷ 11 ∷ 12 ∷ 13 ∷ [];

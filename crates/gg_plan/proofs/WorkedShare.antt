@@ -37,7 +37,7 @@ abbrev sum_of : ℕ → ℕ → List Node
 sum_of r a = node eight (Ref r) ∷ node eight (Ref a) ∷ node nine (Two Add 0 1) ∷ node eight (Fix Bits 2 7 0) ∷ []
 
 abbrev adding : ℕ → ℕ → Register
-adding r a = record { ty = eight; reset = None; next = Some (sum_of r a) }
+adding r a = record { ty = eight; reset = None; next = Some (sum_of r a); clock = None }
 
 abbrev pub circuit : FlatCircuit
 circuit =

@@ -1,6 +1,6 @@
 -- Values that are right for the signals that are done, and a complete cycle.
 -- Source: FIRRTL Specification (the settled cycle of gg_flat's `Settled`), signal by signal.
-use Rattle.std.specs.Prelude.{◌≡◌, ◌≢◌, ℕ, ◌<◌, List, length}
+use Rattle.std.specs.Prelude.{◌≡◌, ◌≢◌, ℕ, ◌<◌, List, Bool, length}
 use Rattle.gg_flat.specs.declared.piece.Driver.TheVariants.{Input}
 use Rattle.gg_flat.specs.Line.{shape_at, value_at}
 use Rattle.gg_flat.specs.Circuit.{FlatCircuit, signal_shapes, driver_at}
@@ -20,12 +20,12 @@ pub record InCycle (circuit : FlatCircuit) (state : State) (slots : Slotted) : T
   pub held : AreSlots circuit slots
   pub right : AreRight circuit state slots.values (IsDone slots)
 
--- The cycle from one state to another with these inputs: there are settled values, and the other state is the next
--- one by them.
-pub record IsCycle (circuit : FlatCircuit) (before : State) (inputs : List ℕ) (after : State) : Type 0 where
+-- The cycle from one state to another with these edges and inputs: there are settled values, and the other state is
+-- the next one by them.
+pub record IsCycle (edges : List Bool) (circuit : FlatCircuit) (before : State) (inputs : List ℕ) (after : State) : Type 0 where
   pub signals : List ℕ
   pub settled : Settled circuit before inputs signals
-  pub next : after ≡ next_state circuit before signals
+  pub next : after ≡ next_state edges circuit before signals
 
 -- a signal of the circuit that isn't an in-signal
 pub record IsInner (circuit : FlatCircuit) (s : ℕ) : Type 0 where

@@ -152,19 +152,19 @@ impl<'a> Program<'a> {
         slots.value(signal)
     }
 
-    /// Completes a cycle for which all inputs were put. The state becomes the next one by the settled values with
-    /// these inputs, and no signal is done any more. Only what isn't done is evaluated. It allocates nothing.
+    /// Completes a cycle for which all inputs were put, with these edges. The state becomes the next one by the settled
+    /// values with these inputs, and no signal is done any more. Only what isn't done is evaluated. It allocates nothing.
     ///
     /// State and slots are those of the program's circuit, in a cycle from this state.
-    pub fn run_next(&self, state: &mut State, slots: &mut Slots)
+    pub fn run_next(&self, state: &mut State, slots: &mut Slots, edges: &[bool])
         requires state { IsState self.now.circuit state.old }
         requires cycle { InCycle self.now.circuit state.old slots.old }
         requires inputs { HasInputs self.now.circuit slots.old }
-        ensures next { IsCycle self.now.circuit state.old (inputs_in self.now.circuit slots.old.values) state.new }
+        ensures next { IsCycle edges.now self.now.circuit state.old (inputs_in self.now.circuit slots.old.values) state.new }
         ensures state { IsState self.now.circuit state.new }
         ensures cycle { InCycle self.now.circuit state.new slots.new }
         ensures none { NoneDone slots.new }
     {
-        slots.next(self.piece, state);
+        slots.next(self.piece, state, edges);
     }
 }

@@ -100,13 +100,13 @@ impl Slots {
     }
 
     // Evaluates what isn't done, and goes to the next state. All inputs are done. Afterwards nothing is.
-    pub(crate) fn next(&mut self, piece: &Piece, state: &mut State)
+    pub(crate) fn next(&mut self, piece: &Piece, state: &mut State, edges: &[bool])
         requires formed { IsWellFormed piece.now }
         requires ordered { IsInOrder piece.now }
         requires state { IsState piece.now state.old }
         requires cycle { InCycle piece.now state.old self.old }
         requires inputs { HasInputs piece.now self.old }
-        ensures next { IsCycle piece.now state.old (inputs_in piece.now self.old.values) state.new }
+        ensures next { IsCycle edges.now piece.now state.old (inputs_in piece.now self.old.values) state.new }
         ensures state { IsState piece.now state.new }
         ensures cycle { InCycle piece.now state.new self.new }
         ensures none { NoneDone self.new }
@@ -118,7 +118,7 @@ impl Slots {
             self.values.as_mut_slice(),
             self.room.as_mut_slice(),
         );
-        state.advance(piece, self.values.as_slice(), self.room.as_mut_slice());
+        state.advance(piece, edges, self.values.as_slice(), self.room.as_mut_slice());
         self.search.clear();
     }
 }

@@ -1,5 +1,5 @@
 //! `Mono`: the simulator of a whole circuit.
-ghost use Rattle.std.specs.Prelude.{◌≡◌, ℕ, ◌<◌, List, length, map, IfOk};
+ghost use Rattle.std.specs.Prelude.{◌≡◌, ℕ, ◌<◌, List, [], length, map, IfOk};
 ghost use Rattle.gg_flat.specs.Line.{value_at};
 ghost use Rattle.gg_flat.specs.State.{State as StateValue, opening, IsState};
 ghost use Rattle.gg_flat.specs.Settled.{IsInputs};
@@ -102,8 +102,8 @@ impl<'a> Mono<'a> {
         requires inputs { IsInputs self.old.circuit inputs.now }
         requires outs { length outs.old ≡ length self.old.circuit.outs }
         ensures circuit { self.new.circuit ≡ self.old.circuit }
-        ensures cycle { Cycle self.old.circuit self.old.state inputs.now outs.new self.new.state }
-        ensures only { (printed : List ℕ) (after : StateValue) → Cycle self.old.circuit self.old.state inputs.now printed after → (printed ≡ outs.new) × (after ≡ self.new.state) }
+        ensures cycle { Cycle [] self.old.circuit self.old.state inputs.now outs.new self.new.state }
+        ensures only { (printed : List ℕ) (after : StateValue) → Cycle [] self.old.circuit self.old.state inputs.now printed after → (printed ≡ outs.new) × (after ≡ self.new.state) }
     {
         let piece = self.design.piece();
         piece.settle(
@@ -114,7 +114,7 @@ impl<'a> Mono<'a> {
             &mut self.scratch,
         );
         read_outs(piece.outs(), &self.signals, outs);
-        self.state.advance(piece, &self.signals, &mut self.scratch);
+        self.state.advance(piece, &[], &self.signals, &mut self.scratch);
     }
 }
 

@@ -1,6 +1,6 @@
 -- A memory that was cut from its part is a piece of its own, with the in-signals first.
 use Rattle.std.proofs.Common.{◌≡◌, ℕ, ◌+◌, ◌^◌, ◌<◌, List, [], ◌∷◌, ◌++◌, length, map, get_or, sym, ◌∙◌, ap, subst, inl, inr, ◌⊎◌, arith}
-use Rattle.std.specs.Prelude.{All, Contains}
+use Rattle.std.specs.Prelude.{All, Contains, None}
 use Rattle.std.proofs.lemmas.List.{nil_from_length, length-map, length-append, get_or-map, get_or_default, get_or_append_left}
 use Rattle.std.proofs.lemmas.List.Elements.{Contains-append_cases}
 use Rattle.gg_flat.specs.declared.memory.Latency.{Latency}
@@ -38,7 +38,7 @@ module _ (part alone : Part) (memory : Memory) (formed : IsWellFormed part.piece
   word-driver r any lt =
       let some : 0 < length part.piece.memories = omega (arith, ap length own.only) in
       let driven = subst (λ (l : List Memory). AreDriven (driver_at part.piece) 0 (get_or (map (λ (x : Memory). x.latency) l) 0 Zero) (get_or (map (λ (x : Memory). x.readers) l) 0 [])) own.only (formed.reads 0 some) in
-      let same = get_or_default memory.readers r (record { addr = 0; en = 0; word = 0 }) any lt in
+      let same = get_or_default memory.readers r (record { addr = 0; en = 0; word = 0; clock = None }) any lt in
       subst (λ (reader : Reader). driver_at part.piece reader.word ≡ reader_driver memory.latency 0 r reader) same (driven r lt)
 
   holds-nothing : (k : ℕ) → Contains alone.held k → ⊥
@@ -47,7 +47,7 @@ module _ (part alone : Part) (memory : Memory) (formed : IsWellFormed part.piece
       out : (s : ℕ) → Contains part.piece.outs s → driver_at part.piece s ≡ Held k → ⊥
       out s p holds =
           let at = map-cases (λ (reader : Reader). reader.word) memory.readers s (subst (λ (l : List ℕ). Contains l s) own.words p) in
-          let any : Reader = record { addr = 0; en = 0; word = 0 } in
+          let any : Reader = record { addr = 0; en = 0; word = 0; clock = None } in
           no-register memory.latency at.place k (get_or memory.readers at.place any) (sym (word-driver at.place any at.within) ∙ ap (driver_at part.piece) (at.holds any) ∙ holds)
 
       side : (s : ℕ) → (Contains part.piece.ins s → ⊥) → driver_at part.piece s ≡ Held k → Contains part.piece.ins s ⊎ Contains part.piece.outs s → ⊥

@@ -1,6 +1,6 @@
 -- Numbers that stand for other numbers: what holds of the others holds of them too.
 use Rattle.std.proofs.Common.{◌≡◌, ◌≢◌, ℕ, ◌<◌, List, length, map, get_or, sym, ◌∙◌, ap, subst, arith}
-use Rattle.std.specs.Prelude.{All, AllPairs, Contains}
+use Rattle.std.specs.Prelude.{All, AllPairs, Contains, None}
 use Rattle.std.proofs.lemmas.List.{length-map, get_or-map, get_or_default}
 use Rattle.std.proofs.lemmas.Grind.{same_number_lists}
 use Rattle.std.proofs.lemmas.Simd.{map-map}
@@ -41,7 +41,7 @@ module _ (globals : List ℕ) (once : AllPairs (λ a b. a ≢ b) globals) where
       → outs ≡ map (λ (reader : Reader). reader.word) readers
   words-back outs readers low among is =
       let word : Reader → ℕ = λ reader. reader.word in
-      let nobody : Reader = record { addr = 0; en = 0; word = 0 } in
+      let nobody : Reader = record { addr = 0; en = 0; word = 0; clock = None } in
       map-back outs (map word readers) low
       (λ k lt.
       let inside : k < length readers = omega (arith, lt, length-map readers word) in

@@ -1,6 +1,6 @@
 -- The part of a listed memory can be cut once more, so that the memory stands alone.
 use Rattle.std.proofs.Common.{◌≡◌, ℕ, zero, suc, ◌<◌, List, [], ◌∷◌, ◌++◌, length, map, get_or, sym, ◌∙◌, subst, inl, inr, ◌⊎◌, arith}
-use Rattle.std.specs.Prelude.{Some, flat_map, All, Contains, slice_get}
+use Rattle.std.specs.Prelude.{Some, flat_map, All, Contains, slice_get, None}
 use Rattle.std.proofs.lemmas.List.{get_or_default}
 use Rattle.std.proofs.lemmas.List.Elements.{Contains-append_left, Contains-append_right, Contains-append_cases, Contains-get_or}
 use Rattle.std.proofs.lemmas.Option.{slice_get_within, get_or_from_slice_get}
@@ -54,10 +54,10 @@ fields-low : (n s : ℕ) (memory : Memory) → MemoryBelow n memory → Contains
 fields-low n s memory below h = by (Contains-append_cases (flat_map (λ reader. reader_fields reader) memory.readers) (flat_map (λ writer. writer_fields writer) memory.writers) s h)
   where
     nobody : Reader
-    nobody = record { addr = 0; en = 0; word = 0 }
+    nobody = record { addr = 0; en = 0; word = 0; clock = None }
 
     no_writer : Writer
-    no_writer = record { addr = 0; en = 0; word = 0; mask = 0 }
+    no_writer = record { addr = 0; en = 0; word = 0; mask = 0; clock = None }
 
     in-writer : (w : ℕ) → w < length memory.writers → Contains (writer_fields (get_or memory.writers w no_writer)) s → s < n
     in-writer w lt (zero, less, e) = subst (λ k. k < n) e (below.writers w no_writer lt).0

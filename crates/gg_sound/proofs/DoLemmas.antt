@@ -1,28 +1,42 @@
 -- What each machine of the network does, on the values that the circuit's rows give the signals of its channels.
-use Rattle.std.proofs.Common.{◌≡◌, ℕ, ◌<◌, ◌≤◌, List, ◌++◌, None, false, length, map, refl, sym, ◌∙◌, ap, subst, arith}
+use Rattle.std.proofs.Common.{◌≡◌, ℕ, ◌<◌, ◌≤◌, List, [], ◌++◌, None, false, length, map, refl, sym, ◌∙◌, ap, subst, arith}
 use Rattle.std.specs.Prelude.{Option}
+use Rattle.std.specs.List.{range_with_len}
 use Rattle.std.proofs.lemmas.List.{length-map, length-replicate, get_or-map}
 use Rattle.gg_flat.specs.Line.{value_at}
 use Rattle.gg_flat.specs.Circuit.{FlatCircuit}
-use Rattle.gg_flat.specs.Run.{IsRun, row_at}
+use Rattle.gg_flat.specs.State.{State, opening}
+use Rattle.gg_flat.specs.Run.{Start, IsRun, row_at}
 use Rattle.gg_flat.specs.WellFormed.{IsWellFormed}
+use Rattle.gg_flat.proofs.UniqueLemmas.{Settled-once}
+use Rattle.gg_flat.proofs.DependLemmas.{depends-reached}
 use Rattle.gg_part.specs.Part.{IsPart}
-use Rattle.gg_part.specs.PartRun.{part_rows}
+use Rattle.gg_part.specs.PartRun.{part_rows, part_state}
+use Rattle.gg_part.specs.InOrder.{IsInOrder}
 use Rattle.gg_part.specs.declared.part.Part.{Part}
 use Rattle.gg_part.proofs.FormedLemmas.{IsWellFormed-part}
-use Rattle.gg_node.specs.Machine.{RunsPiece, Machine, cycle_limit}
+use Rattle.gg_part.proofs.AlongLemmas.{IsOrder-numbers}
+use Rattle.gg_node.specs.Machine.{RunsPiece, Machine, needs_at, cycle_limit}
 use Rattle.gg_net.specs.Network.{Kind, kind_of}
 use Rattle.gg_net.specs.Kept.{in_columns, RunsRows, Runs, Answers, Asks}
+use Rattle.gg_fame1.specs.Unit as dataflow
 use Rattle.gg_memunit.specs.MemoryUnit as memory_unit
+use Rattle.gg_memunit.proofs.UnitLemmas.{sole}
+use Rattle.gg_memunit.proofs.DependLemmas.{memory-once, memory-suffices}
 use Rattle.gg_sound.specs.Built.{IsUnitOf, IsMemoryOf}
 use Rattle.gg_sound.proofs.ShownLemmas.{AreShown, part-shown, rows-twice, own-run}
 use Rattle.gg_sound.proofs.ServeLemmas.{memory-serves}
+use Rattle.gg_sound.proofs.BeginLemmas.{unit-begins, memory-begins, memory-sides}
 
--- A machine of this kind, with these rows of its own, does n cycles: its outs give, and its ins are given, what these signals have
--- in the circuit's rows.
-pub record DoesCycles (rows : List (List ℕ)) (n : ℕ) (ins outs : List ℕ) (kind : Kind) (own : List (List ℕ)) : Type 0 where
+-- the start of a machine of this kind at cycle 0, in this state
+abbrev pub start_in : State → Kind → Start
+start_in begins kind = record { cycle = 0; state = begins; ratios = kind.ratios }
+
+-- A machine of this kind that begins in this state, with these rows of its own, does n cycles: its outs give, and its ins are given,
+-- what these signals have in the circuit's rows.
+pub record DoesCycles (rows : List (List ℕ)) (n : ℕ) (ins outs : List ℕ) (kind : Kind) (begins : State) (own : List (List ℕ)) : Type 0 where
   pub able : n ≤ kind.limit
-  pub does : Runs kind.behaviour kind own n
+  pub does : Runs kind.behaviour kind (start_in begins kind) own n
   pub answers : (o t : ℕ) → o < length outs → t < n → Answers kind.behaviour own o t (value_at (row_at rows t) (value_at outs o))
   pub asks : (i t : ℕ) → i < length ins → t < n → Asks kind.behaviour own i t (value_at (row_at rows t) (value_at ins i))
 
@@ -67,11 +81,11 @@ named-twice globals own part piece ins outs outer inner =
           get_or-map (value_at globals) own (value_at piece.outs o) 0 0 (inner.out_low o low) ∙ ap (value_at globals) (inner.out_at o low) ∙ outer.out_at o lt;
     }
 
-piece-does : (globals : List ℕ) (piece : FlatCircuit) (rows : List (List ℕ)) (n : ℕ) (ins outs : List ℕ) (kind : Kind) (own : List (List ℕ)) → kind.behaviour ≡ RunsPiece piece → n ≤ kind.limit → AreShown globals n rows own → IsNamedAs globals piece ins outs → RunsRows piece kind own n → DoesCycles rows n ins outs kind own
-piece-does globals piece rows n ins outs kind own is able shown named runs =
+piece-does : (globals : List ℕ) (piece : FlatCircuit) (rows : List (List ℕ)) (n : ℕ) (ins outs : List ℕ) (kind : Kind) (begins : State) (own : List (List ℕ)) → kind.behaviour ≡ RunsPiece piece → n ≤ kind.limit → AreShown globals n rows own → IsNamedAs globals piece ins outs → RunsRows piece kind (start_in begins kind) own n → DoesCycles rows n ins outs kind begins own
+piece-does globals piece rows n ins outs kind begins own is able shown named runs =
     record {
       able = able;
-      does = subst (λ b. Runs b kind own n) (sym is) runs;
+      does = subst (λ b. Runs b kind (start_in begins kind) own n) (sym is) runs;
       answers = λ o t low lt. subst (λ b. Answers b own o t (value_at (row_at rows t) (value_at outs o))) (sym is) (shown.at t (value_at piece.outs o) lt (named.out_low o low) ∙ ap (value_at (row_at rows t)) (named.out_at o low));
       asks = λ i t low lt. subst (λ b. Asks b own i t (value_at (row_at rows t) (value_at ins i))) (sym is) (shown.at t (value_at piece.ins i) lt (named.in_low i low) ∙ ap (value_at (row_at rows t)) (named.in_at i low));
     }
@@ -86,22 +100,29 @@ module _ (whole : FlatCircuit) (part : Part) (columns : List (List ℕ)) (n : �
   part-run : IsRun part.piece (in_columns part.piece (part_rows part.globals rows)) n (part_rows part.globals rows)
   part-run = own-run whole part.piece part.globals part.held part.memories is columns n rows run
 
-  pub unit-does : (machine : Machine) → IsUnitOf part machine → DoesCycles rows n ins outs (kind_of machine) (part_rows part.globals rows)
-  unit-does machine unit =
+  pub unit-does : (machine : Machine) → IsInOrder part.piece → IsUnitOf part machine → DoesCycles rows n ins outs (kind_of machine) (part_state part.held part.memories (opening whole)) (part_rows part.globals rows)
+  unit-does machine ordered unit =
       let own = part_rows part.globals rows in
+      let order = range_with_len 0 (length part.piece.signals) in
+      let along = IsOrder-numbers part.piece ordered in
       let nothing : Option ℕ = None in
-      subst (λ (t : Machine). DoesCycles rows n ins outs (kind_of t) own) (sym unit.is)
-      (piece-does part.globals part.piece rows n ins outs _ own refl most (shown part.globals) named
+      subst (λ (t : Machine). DoesCycles rows n ins outs (kind_of t) (part_state part.held part.memories (opening whole)) own) (sym unit.is)
+      (subst (λ (s : State). DoesCycles rows n ins outs (kind_of (dataflow.opening_unit (record { circuit = part.piece; needs = unit.needs }))) s own) (unit-begins whole part is)
+      (piece-does part.globals part.piece rows n ins outs _ (opening part.piece) own refl most (shown part.globals) named
       (record {
         formed = part-formed;
+        once = λ state inputs v w sv sw. Settled-once part.piece order state inputs v w along sv sw;
+        suffice = λ o low. depends-reached part.piece order (value_at part.piece.outs o) (needs_at unit.needs o) part-formed along (part-formed.outs o low) (λ place within reaches. ((unit.exact.each o low).exact place).1 (within, reaches));
         ins = length-replicate (length part.piece.ins) nothing;
         outs = length-replicate (length part.piece.outs) false;
         is = part-run;
         serves = tt;
-      }))
+      })))
 
-  pub memory-does : (machine : Machine) → IsMemoryOf part machine → DoesCycles rows n ins outs (kind_of machine) (part_rows (map (value_at part.globals) (part.piece.ins ++ part.piece.outs)) rows)
-  memory-does machine memory =
+  pub memory-does : (machine : Machine) → length part.memories ≡ 1 → IsMemoryOf part machine → DoesCycles rows n ins outs (kind_of machine) (part_state [] part.memories (opening whole)) (part_rows (map (value_at part.globals) (part.piece.ins ++ part.piece.outs)) rows)
+  memory-does machine one memory =
+      let found = sole memory.alone.piece.memories memory.is_memory.one in
+      let begins = part_state [] part.memories (opening whole) in
       let alone = memory.alone in
       let piece = alone.piece in
       let globals = map (value_at part.globals) alone.globals in
@@ -111,13 +132,16 @@ module _ (whole : FlatCircuit) (part : Part) (columns : List (List ℕ)) (n : �
       let inner = part-named part.piece piece alone.globals alone.held alone.memories part.piece.ins part.piece.outs memory.is_part memory.ins memory.outs in
       let alone_run = own-run part.piece piece alone.globals alone.held alone.memories memory.is_part (in_columns part.piece (part_rows part.globals rows)) n (part_rows part.globals rows) part-run in
       let own_run = subst (λ (l : List (List ℕ)). IsRun piece (in_columns piece l) n l) (sym (rows-twice part.globals alone.globals rows below)) alone_run in
-      subst (λ (t : Machine). DoesCycles rows n ins outs (kind_of t) (part_rows (map (value_at part.globals) (part.piece.ins ++ part.piece.outs)) rows)) (sym memory.is)
-      (subst (λ (l : List ℕ). DoesCycles rows n ins outs (kind_of (memory_unit.opening_unit piece)) (part_rows (map (value_at part.globals) l) rows)) memory.globals
-      (piece-does globals piece rows n ins outs _ own refl most (shown globals) (named-twice part.globals alone.globals part.piece piece ins outs named inner)
+      subst (λ (t : Machine). DoesCycles rows n ins outs (kind_of t) begins (part_rows (map (value_at part.globals) (part.piece.ins ++ part.piece.outs)) rows)) (sym memory.is)
+      (subst (λ (l : List ℕ). DoesCycles rows n ins outs (kind_of (memory_unit.opening_unit piece)) begins (part_rows (map (value_at part.globals) l) rows)) memory.globals
+      (subst (λ (s : State). DoesCycles rows n ins outs (kind_of (memory_unit.opening_unit piece)) s own) (memory-begins whole part alone is memory.is_part memory.memories memory.is_memory.alone one)
+      (piece-does globals piece rows n ins outs _ (opening piece) own refl most (shown globals) (named-twice part.globals alone.globals part.piece piece ins outs named inner)
       (record {
         formed = memory.is_memory.formed;
+        once = memory-once piece found.0 memory.is_memory found.1 (memory-sides part alone memory.is_part memory.globals memory.ins memory.outs);
+        suffice = memory-suffices piece found.0 memory.is_memory found.1;
         ins = length-replicate (length piece.ins) nothing;
         outs = length-replicate (length piece.outs) false;
         is = own_run;
         serves = memory-serves piece own n memory.is_memory own_run;
-      })))
+      }))))

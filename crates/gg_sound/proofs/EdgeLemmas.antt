@@ -12,7 +12,7 @@ use Rattle.gg_cut.specs.declared.wires.Wire.{Wire as Link}
 use Rattle.gg_cut.specs.Channels.{wire, numbered, source_wires, wires_of, first_source, first_tray}
 use Rattle.gg_cut.specs.Plan.{wire_at as link_at, channels_from, signals_of}
 use Rattle.gg_cut.proofs.WireLemmas.{rest_wires, source-gives}
-use Rattle.gg_node.specs.Machine.{Machine, source_machine, tray_machine}
+use Rattle.gg_node.specs.Machine.{Machine, no_state, source_machine, tray_machine}
 use Rattle.gg_net.specs.Network.{kind_of}
 use Rattle.gg_sound.proofs.NumberLemmas.{one-is}
 use Rattle.gg_sound.proofs.ListedLemmas.{given-in}
@@ -53,7 +53,7 @@ module _ (circuit : FlatCircuit) (tree : InstanceTree) (listed : Listed) (m : �
       ∙ get_or-map (λ (c : List ℕ). value_at c t) columns i [] 0 (omega (arith, lt, given.count)))
 
   pub source-does : (columns : List (List ℕ)) (n : ℕ) (rows : List (List ℕ)) (ins : List ℕ) (machine : Machine) → IsWellFormed circuit → IsColumns circuit n columns → IsRun circuit columns n rows → length ins ≡ 0
-      → machine ≡ source_machine (get_or columns (value_at (channels_from (wires_of circuit tree listed) m) 0) []) 0 false → DoesCycles rows n ins (signals_of (wires_of circuit tree listed) (channels_from (wires_of circuit tree listed) m)) (kind_of machine) []
+      → machine ≡ source_machine (get_or columns (value_at (channels_from (wires_of circuit tree listed) m) 0) []) 0 (false ∷ []) → DoesCycles rows n ins (signals_of (wires_of circuit tree listed) (channels_from (wires_of circuit tree listed) m)) (kind_of machine) no_state []
   source-does columns n rows ins machine formed given run none is =
       let i = m - first_source listed in
       let lt : i < length circuit.ins = omega (arith, low, high) in
@@ -61,11 +61,11 @@ module _ (circuit : FlatCircuit) (tree : InstanceTree) (listed : Listed) (m : �
       let long : length column ≡ n = given.height i [] (omega (arith, lt, given.count)) in
       let place : m ≡ first_source listed + i = omega (arith, low) in
       let outs = source-gives circuit tree listed m i place lt in
-      subst (λ (l : List ℕ). DoesCycles rows n ins l (kind_of machine) []) (sym outs)
-      (subst (λ (t : Machine). DoesCycles rows n ins (value_at circuit.ins i ∷ []) (kind_of t) []) (sym (is ∙ ap (λ c. source_machine (get_or columns c []) 0 false) source-channel))
+      subst (λ (l : List ℕ). DoesCycles rows n ins l (kind_of machine) no_state []) (sym outs)
+      (subst (λ (t : Machine). DoesCycles rows n ins (value_at circuit.ins i ∷ []) (kind_of t) no_state []) (sym (is ∙ ap (λ c. source_machine (get_or columns c []) 0 (false ∷ [])) source-channel))
       (record {
         able = omega (arith, long);
-        does = omega (arith, long);
+        does = (omega (arith, long), refl);
         answers = λ o t few below. only o t few below;
         asks = λ k t few below. absurd (omega (arith, few, none));
       }))
@@ -76,12 +76,12 @@ module _ (circuit : FlatCircuit) (tree : InstanceTree) (listed : Listed) (m : �
 
 -- ---- trays
 
-pub tray-does : (rows : List (List ℕ)) (n : ℕ) (ins outs : List ℕ) (machine : Machine) → length ins ≡ 1 → length outs ≡ 0 → machine ≡ tray_machine n 0 [] None → DoesCycles rows n ins outs (kind_of machine) []
+pub tray-does : (rows : List (List ℕ)) (n : ℕ) (ins outs : List ℕ) (machine : Machine) → length ins ≡ 1 → length outs ≡ 0 → machine ≡ tray_machine n n 0 [] None → DoesCycles rows n ins outs (kind_of machine) no_state []
 tray-does rows n ins outs machine one none is =
-    subst (λ (t : Machine). DoesCycles rows n ins outs (kind_of t) []) (sym is)
+    subst (λ (t : Machine). DoesCycles rows n ins outs (kind_of t) no_state []) (sym is)
     (record {
       able = omega arith;
-      does = refl;
+      does = (refl, refl, λ some. some);
       answers = λ o t few lt. absurd (omega (arith, few, none));
       asks = λ i t few lt. tt;
     })

@@ -1,5 +1,6 @@
 -- The channels of the plan of a request without a fault are the links of its cut.
-use Rattle.std.proofs.Common.{◌≡◌, ℕ, None, sym, subst}
+use Rattle.std.proofs.Common.{◌≡◌, ℕ, ◌<◌, None, sym, subst}
+use Rattle.gg_flat.specs.Tree.{path_at}
 use Rattle.gg_order.specs.Design.{Ordered, IsDesign}
 use Rattle.gg_partfile.specs.declared.request.Request.{Request}
 use Rattle.gg_cut.specs.declared.plan.Plan.{Plan}
@@ -8,13 +9,13 @@ use Rattle.gg_cut.specs.Fault.{first_fault}
 use Rattle.gg_cut.specs.Channels.{wire, wires_of}
 use Rattle.gg_cut.specs.Plan.{wire_at as link_at, IsPlan}
 use Rattle.gg_closed.specs.Apart.{AreEnds}
-use Rattle.gg_closed.proofs.FaultlessLemmas.{faultless-apart}
+use Rattle.gg_closed.proofs.FaultlessLemmas.{faultless-apart, range-free, capacity-is}
 use Rattle.gg_closed.proofs.EndLemmas.{ends}
 use Rattle.gg_sound.specs.Built.{nameless}
 use Rattle.gg_sound.proofs.LinkLemmas.{AreLinks}
 
-pub links-of : (design : Ordered) (request : Request) (default : ℕ) (plan : Plan) → IsDesign design → first_fault design request ≡ None → IsPlan design request default plan → AreLinks plan (wires_of design.circuit design.tree (listed_of design.tree request))
-links-of design request default plan is none planned =
+pub links-of : (design : Ordered) (request : Request) (default : ℕ) (plan : Plan) → IsDesign design → first_fault design request ≡ None → 0 < default → IsPlan design request default plan → AreLinks plan (wires_of design.circuit design.tree (listed_of design.tree request))
+links-of design request default plan is none some planned =
     let listed = listed_of design.tree request in
     let links = wires_of design.circuit design.tree listed in
     let apart = faultless-apart design request none is.fitting in
@@ -22,6 +23,9 @@ links-of design request default plan is none planned =
       count = planned.channel_total;
       producer = λ c any lt. (planned.channel c any lt).producer;
       consumer = λ c any lt. (planned.channel c any lt).consumer;
+      some = λ c any lt.
+          subst (λ n. 0 < n) (sym (planned.channel c any lt).bound)
+          (capacity-is (λ n. 0 < n) (λ n more few. more) request.capacity default (path_at design.circuit.paths (link_at links c).signal) (range-free design request none) some);
       ins = λ m lt. (planned.machine m nameless lt).ins;
       outs = λ m lt. (planned.machine m nameless lt).outs;
       ends = λ c lt. subst (λ count. AreEnds count (link_at links c)) (sym planned.machine_total) (ends design.circuit design.tree listed is.fitting apart c (wire 0 0 0) lt);

@@ -14,9 +14,11 @@ pub mod OpeningLemmas
 mod WorkedNetwork
 pub mod ShownLemmas
 pub mod ServeLemmas
+pub mod BeginLemmas
 pub mod DoLemmas
 pub mod EdgeLemmas
 pub mod SolvedLemmas
+pub mod WithinLemmas
 pub mod WordLemmas
 pub mod BackLemmas
 pub mod MemoryPartLemmas

@@ -1,19 +1,21 @@
 -- The channels of a plan and those of its network.
-use Rattle.std.proofs.Common.{◌≡◌, ℕ, zero, suc, ◌+◌, ◌<◌, List, [], ◌∷◌, length, get_or, refl, ◌∙◌, ap, arith}
+use Rattle.std.proofs.Common.{◌≡◌, ℕ, zero, suc, ◌+◌, ◌<◌, List, [], ◌∷◌, None, length, get_or, refl, sym, ◌∙◌, ap, subst, arith}
 use Rattle.gg_cut.specs.declared.plan.Channel.{Channel}
 use Rattle.gg_cut.specs.declared.plan.Plan.{Plan}
 use Rattle.gg_cut.specs.declared.wires.Wire.{Wire as Link}
 use Rattle.gg_cut.specs.Plan.{wire_at as link_at, channels_to, channels_from}
 use Rattle.gg_closed.specs.Apart.{AreEnds}
+use Rattle.gg_net.specs.declared.shape.Wire.{Wire}
 use Rattle.gg_net.specs.Network.{wire_at}
 use Rattle.gg_flat.proofs.ListLemmas.{some-item}
 use Rattle.gg_sound.specs.Built.{machine_in, place_in, wire_of, wires_from, wires_of_plan}
 
--- The channels of a plan are these links, whose ends are machines of the plan, and which its machines list.
+-- The channels of a plan are these links, whose ends are machines of the plan, and which its machines list. Each may hold a token.
 pub record AreLinks (plan : Plan) (links : List Link) : Type 0 where
   pub count : length plan.channels ≡ length links
   pub producer : (c : ℕ) (any : Channel) → c < length plan.channels → (get_or plan.channels c any).producer ≡ (link_at links c).producer
   pub consumer : (c : ℕ) (any : Channel) → c < length plan.channels → (get_or plan.channels c any).consumer ≡ (link_at links c).consumer
+  pub some : (c : ℕ) (any : Channel) → c < length plan.channels → 0 < (get_or plan.channels c any).capacity
   pub ins : (m : ℕ) → m < length plan.machines → (machine_in plan m).ins ≡ channels_to links m
   pub outs : (m : ℕ) → m < length plan.machines → (machine_in plan m).outs ≡ channels_from links m
   pub ends : (c : ℕ) → c < length links → AreEnds (length plan.machines) (link_at links c)
@@ -30,12 +32,15 @@ wire-from plan a (channel ∷ channels) zero any lt = ap (λ k. wire_of plan k c
 wire-from plan a (channel ∷ channels) (suc c) any lt =
     wire-from plan (suc a) channels c any (omega (arith, lt)) ∙ ap (λ k. wire_of plan k (get_or channels c any)) (let same : suc a + c ≡ a + suc c = omega arith in same)
 
--- A channel of the network leads where its link does, and stands at the places at which the link's machines list it.
+-- A channel of the network leads where its link does, and stands at the places at which the link's machines list it. It may hold
+-- a token, and opens without one.
 pub record IsLinkedAs (plan : Plan) (links : List Link) (c : ℕ) : Type 0 where
   pub producer : (wire_at (wires_of_plan plan) c).producer ≡ (link_at links c).producer
   pub out : (wire_at (wires_of_plan plan) c).out ≡ place_in (channels_from links (link_at links c).producer) c
   pub consumer : (wire_at (wires_of_plan plan) c).consumer ≡ (link_at links c).consumer
   pub place : (wire_at (wires_of_plan plan) c).place ≡ place_in (channels_to links (link_at links c).consumer) c
+  pub some : 0 < (wire_at (wires_of_plan plan) c).capacity
+  pub first : (wire_at (wires_of_plan plan) c).first ≡ None
 
 module _ (plan : Plan) (links : List Link) (are : AreLinks plan links) where
   pub length-wires : length (wires_of_plan plan) ≡ length links
@@ -55,4 +60,6 @@ module _ (plan : Plan) (links : List Link) (are : AreLinks plan links) where
         out = ap (λ w. w.out) is ∙ ap (λ p. place_in (machine_in plan p).outs c) gives ∙ ap (λ l. place_in l c) (are.outs (link_at links c).producer ends.producer);
         consumer = ap (λ w. w.consumer) is ∙ takes;
         place = ap (λ w. w.place) is ∙ ap (λ p. place_in (machine_in plan p).ins c) takes ∙ ap (λ l. place_in l c) (are.ins (link_at links c).consumer ends.consumer);
+        some = subst (λ (w : Wire). 0 < w.capacity) (sym is) (are.some c any known);
+        first = ap (λ w. w.first) is;
       }

@@ -1,5 +1,5 @@
 -- The part of a listed memory: its memory, whose fields are just its in-signals and its out-signals.
-use Rattle.std.proofs.Common.{◌≡◌, ◌≢◌, ℕ, suc, ◌+◌, ◌-◌, ◌^◌, ◌<◌, ◌≤◌, List, [], ◌∷◌, ◌++◌, length, map, get_or, Some, None, refl, sym, ◌∙◌, ap, subst, inl, inr, ◌⊎◌, arith}
+use Rattle.std.proofs.Common.{◌≡◌, ◌≢◌, ℕ, suc, ◌+◌, ◌-◌, ◌<◌, ◌≤◌, List, [], ◌∷◌, ◌++◌, length, map, get_or, Some, None, refl, sym, ◌∙◌, ap, subst, inl, inr, ◌⊎◌, arith}
 use Rattle.std.specs.Prelude.{Option, Bool, All, AllPairs, Contains, ◌==◌}
 use Rattle.std.proofs.lemmas.List.{length-map, get_or-map}
 use Rattle.std.proofs.lemmas.List.Elements.{Contains-append_left, Contains-append_right, Contains-get_or}
@@ -52,7 +52,7 @@ pub record IsMemoryPart (part : Part) (memory : Memory) : Type 0 where
   pub looks : All (ReaderAmong part.piece.ins) memory.readers
   pub writes : All (WriterAmong part.piece.ins) memory.writers
   pub words : part.piece.outs ≡ map (λ (reader : Reader). reader.word) memory.readers
-  pub few : length memory.readers + length memory.writers < 2 ^ 32
+  pub few : length memory.readers + length memory.writers ≤ 16384
   pub sides : (s : ℕ) → s < length part.globals → Contains (part.piece.ins ++ part.piece.outs) s
   pub ins_once : AllPairs (λ a b. a ≢ b) part.piece.ins
   pub once : AllPairs (λ a b. a ≢ b) (part.piece.ins ++ part.piece.outs)
@@ -253,7 +253,7 @@ module _ (design : Ordered) (listed : Listed) (m : ℕ) (part : Part) (is : IsDe
         words-back part.globals cut.is.once part.piece.outs memory.readers cut.is.outs below.readers
         (cut.outs ∙ memory-gives circuit tree listed m i there number ∙ ap (map (λ (reader : Reader). reader.word)) readers)
 
-    few : AreFew circuit tree listed → length memory.readers + length memory.writers < 2 ^ 32
+    few : AreFew circuit tree listed → length memory.readers + length memory.writers ≤ 16384
     few are =
         let channels = are.channels in
         let ports = memory-few circuit tree listed m i there number in

@@ -1,15 +1,26 @@
--- The machines of the network are before their first cycle.
-use Rattle.std.proofs.Common.{◌≡◌, ℕ, List, None, false, length, refl, sym, ap, subst, arith}
-use Rattle.std.specs.Prelude.{Option, All, replicate}
-use Rattle.std.proofs.lemmas.List.{length-replicate, get_or_default}
-use Rattle.gg_part.specs.declared.part.Part.{Part}
+-- The machines of the network are before their first cycle, each in the state in which it begins.
+use Rattle.std.proofs.Common.{◌≡◌, ℕ, ◌<◌, List, None, false, length, refl, sym, ◌∙◌, ap, subst, arith}
+use Rattle.std.specs.Prelude.{Option, replicate}
+use Rattle.std.proofs.lemmas.List.{length-replicate, get_or-map}
+use Rattle.gg_flat.specs.State.{State, opening}
+use Rattle.gg_flat.specs.Streams.{Flow, state_in}
+use Rattle.gg_order.specs.Design.{Ordered}
+use Rattle.gg_partfile.specs.declared.request.Request.{Request}
+use Rattle.gg_cut.specs.declared.listed.Listed.{Listed}
 use Rattle.gg_cut.specs.declared.plan.Body.{Body}
 use Rattle.gg_cut.specs.declared.plan.Body.TheVariants.{Cut, Memory, Source, Tray}
 use Rattle.gg_cut.specs.declared.plan.Machine as planned
 use Rattle.gg_cut.specs.declared.plan.Plan.{Plan}
-use Rattle.gg_node.specs.Machine.{Machine, machine_at, no_machine}
+use Rattle.gg_cut.specs.declared.wires.Wire.{Wire as Link}
+use Rattle.gg_cut.specs.Listed.{listed_of}
+use Rattle.gg_cut.specs.Channels.{wires_of}
+use Rattle.gg_cut.specs.Plan.{IsBody}
+use Rattle.gg_closed.proofs.FaultlessLemmas.{faultless-apart, faultless-few}
+use Rattle.gg_node.specs.Machine.{Machine, machine_at, no_state}
 use Rattle.gg_net.specs.Net.{IsOpening}
-use Rattle.gg_sound.specs.Built.{machine_in, IsUnitOf, IsMemoryOf, IsBuilt, AreBuilt}
+use Rattle.gg_sound.specs.Built.{machine_in, nameless, IsBuilt, AreBuilt, IsGiven, body_state, states_of, flow_of}
+use Rattle.gg_sound.proofs.MemoryPartLemmas.{memory-part}
+use Rattle.gg_sound.proofs.BeginLemmas.{unit-begins, memory-begins}
 
 -- lists of empty latches and of clear flags, by their own length
 latches-of : (n : ℕ) → ◌≡◌ {A = List (Option ℕ)} (replicate n None) (replicate (length (replicate {A = Option ℕ} n None)) None)
@@ -18,23 +29,40 @@ latches-of n = let none : Option ℕ = None in ap (λ (k : ℕ). replicate k non
 flags-of : (n : ℕ) → replicate n false ≡ replicate (length (replicate n false)) false
 flags-of n = ap (λ (k : ℕ). replicate k false) (sym (length-replicate n false))
 
-unit-opens : (part : Part) (machine : Machine) → IsUnitOf part machine → IsOpening machine
-unit-opens part machine unit =
-    subst IsOpening (sym unit.is)
-    (record { cycle = refl; state = refl; served = refl; latches = latches-of (length part.piece.ins); flags = flags-of (length part.piece.outs); kept = refl })
+module _ (design : Ordered) (request : Request) (default : ℕ) (plan : Plan) (columns : List (List ℕ)) (n : ℕ) (rows : List (List ℕ)) (machines : List Machine) (given : IsGiven design request default plan columns n rows) (built : AreBuilt plan columns n machines) where
+  abbrev flow : Flow
+  flow = flow_of plan design rows
 
-memory-opens : (part : Part) (machine : Machine) → IsMemoryOf part machine → IsOpening machine
-memory-opens part machine memory =
-    subst IsOpening (sym memory.is)
-    (record { cycle = refl; state = refl; served = refl; latches = latches-of (length memory.alone.piece.ins); flags = flags-of (length memory.alone.piece.outs); kept = refl })
+  abbrev listed : Listed
+  listed = listed_of design.tree request
 
-opens : (columns : List (List ℕ)) (n : ℕ) (own : planned.Machine) (body : Body) (machine : Machine) → IsBuilt columns n own body machine → IsOpening machine
-opens columns n own (Cut part) machine built = unit-opens part machine built
-opens columns n own (Memory part) machine built = memory-opens part machine built
-opens columns n own Source machine built = subst IsOpening (sym built) (record { cycle = refl; state = tt; served = refl; latches = refl; flags = refl; kept = refl })
-opens columns n own Tray machine built = subst IsOpening (sym built) (record { cycle = refl; state = tt; served = refl; latches = refl; flags = refl; kept = refl })
+  abbrev links : List Link
+  links = wires_of design.circuit design.tree (listed_of design.tree request)
 
-pub built-opening : (plan : Plan) (columns : List (List ℕ)) (n : ℕ) (machines : List Machine) → AreBuilt plan columns n machines → All IsOpening machines
-built-opening plan columns n machines built = λ m any lt.
-    subst IsOpening (get_or_default machines m no_machine any lt)
-    (opens columns n (machine_in plan m) (machine_in plan m).body (machine_at machines m) (built.each m (omega (arith, lt, built.count))))
+  abbrev zeros : State
+  zeros = opening design.circuit
+
+  -- a machine with this body begins in its part of the opening
+  opens : (m : ℕ) (own : planned.Machine) (body : Body) (machine : Machine) → IsBody design listed links m body → state_in (states_of plan (opening design.circuit)) m ≡ body_state body (opening design.circuit) → IsBuilt columns n own body machine → IsOpening (flow_of plan design rows) m machine
+  opens m own (Cut part) machine body begins unit =
+      subst (IsOpening (flow_of plan design rows) m) (sym unit.is)
+      (record { cycle = refl; state = unit-begins design.circuit part body.1.is ∙ sym begins; served = refl; latches = latches-of (length part.piece.ins); flags = flags-of (length part.piece.outs); kept = refl })
+  opens m own (Memory part) machine body begins memory =
+      let own = memory-part design listed m part given.design_is (faultless-apart design request given.faultless given.design_is.fitting) body.0 body.1 body.2 (faultless-few design request given.faultless) in
+      subst (IsOpening (flow_of plan design rows) m) (sym memory.is)
+      (record {
+        cycle = refl;
+        state = memory-begins design.circuit part memory.alone body.2.is memory.is_part memory.memories memory.is_memory.alone own.1.count ∙ sym begins;
+        served = refl;
+        latches = latches-of (length memory.alone.piece.ins);
+        flags = flags-of (length memory.alone.piece.outs);
+        kept = refl;
+      })
+  opens m own Source machine body begins is = subst (IsOpening (flow_of plan design rows) m) (sym is) (record { cycle = refl; state = refl; served = refl; latches = refl; flags = refl; kept = refl })
+  opens m own Tray machine body begins is = subst (IsOpening (flow_of plan design rows) m) (sym is) (record { cycle = refl; state = refl; served = refl; latches = refl; flags = refl; kept = refl })
+
+  pub built-opening : (m : ℕ) → m < length machines → IsOpening (flow_of plan design rows) m (machine_at machines m)
+  built-opening m lt =
+      let known : m < length plan.machines = omega (arith, lt, built.count) in
+      opens m (machine_in plan m) (machine_in plan m).body (machine_at machines m) (given.planned.machine m nameless known).body
+      (get_or-map (λ (machine : planned.Machine). body_state machine.body (opening design.circuit)) plan.machines m nameless no_state known) (built.each m known)

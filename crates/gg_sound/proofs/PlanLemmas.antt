@@ -31,7 +31,7 @@ module _ (design : Ordered) (request : Request) (default : ℕ) (plan : Plan) (c
       pairs-once design.circuit design.tree (listed_of design.tree request) is.formed is.fitting is.scoped (faultless-apart design request given.faultless is.fitting)
 
   pub links : AreLinks plan (wires_of design.circuit design.tree (listed_of design.tree request))
-  links = links-of design request default plan given.design_is given.faultless given.planned
+  links = links-of design request default plan given.design_is given.faultless given.some given.planned
 
   pub fit : AreFitting (wires_of design.circuit design.tree (listed_of design.tree request)) (length plan.machines) (map kind_of machines)
   fit = fitting design request default plan columns n machines given.planned links-once built

@@ -1,6 +1,6 @@
 -- A memory that stands alone: what its outs need, and its ports.
 use Rattle.std.proofs.Common.{◌≡◌, ℕ, suc, ◌+◌, ◌<◌, ◌≤◌, List, [], ◌∷◌, length, map, get_or, refl, sym, ◌∙◌, ap, subst, inl, inr, ◌⊎◌, arith}
-use Rattle.std.specs.Prelude.{Contains, All, slice_index_or}
+use Rattle.std.specs.Prelude.{Contains, All, slice_index_or, None}
 use Rattle.std.proofs.lemmas.Bool.{cases_lt}
 use Rattle.std.proofs.lemmas.List.{get_or-map, get_or_past, length-map}
 use Rattle.std.proofs.lemmas.List.Elements.{All-nil, All-cons, All-append, All-map}
@@ -53,7 +53,7 @@ memory-needs : (memories : List Memory) (driver : ℕ → Driver) (n o i : ℕ) 
     → IsNamed n (driver (value_at (outs_of memories) o)) i
 memory-needs [] driver n o i driven looks has = absurd (omega (arith, has.1))
 memory-needs (memory ∷ memories) driver n o i driven looks has =
-    let nobody : Reader = record { addr = 0; en = 0; word = 0 } in
+    let nobody : Reader = record { addr = 0; en = 0; word = 0; clock = None } in
     let count : length (map (needs_by memory.latency) memory.readers) ≡ length memory.readers = length-map memory.readers (needs_by memory.latency) in
     let there = needs-there (map (needs_by memory.latency) memory.readers) o i has in
     let low : o < length memory.readers = omega (arith, there, count) in

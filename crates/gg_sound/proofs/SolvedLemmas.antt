@@ -1,7 +1,10 @@
 -- The circuit's own run solves the network of a plan.
-use Rattle.std.proofs.Common.{◌≡◌, ℕ, ◌<◌, List, [], length, map, get_or, false, refl, sym, ◌∙◌, ap, subst, arith}
+use Rattle.std.proofs.Common.{◌≡◌, ℕ, ◌<◌, List, [], ◌∷◌, Option, length, map, get_or, false, refl, sym, ◌∙◌, ap, subst, arith}
 use Rattle.std.proofs.lemmas.List.{length-map, get_or-map}
+use Rattle.std.proofs.lemmas.Option.{none-some}
 use Rattle.gg_flat.specs.Line.{value_at}
+use Rattle.gg_flat.specs.State.{State, opening}
+use Rattle.gg_flat.specs.Streams.{state_in}
 use Rattle.gg_flat.specs.Run.{row_at, column}
 use Rattle.gg_flat.proofs.ListLemmas.{some-item}
 use Rattle.gg_order.specs.Design.{Ordered}
@@ -17,11 +20,13 @@ use Rattle.gg_cut.specs.Listed.{listed_of}
 use Rattle.gg_cut.specs.Channels.{wires_of, machine_count}
 use Rattle.gg_cut.specs.Plan.{wire_at as link_at, channels_to, channels_from, signals_of, IsBody}
 use Rattle.gg_cut.specs.Solves.{columns_of}
-use Rattle.gg_node.specs.Machine.{Machine, machine_at, source_machine}
-use Rattle.gg_net.specs.Network.{wire_at, Kind, kind_of, kind_at}
+use Rattle.gg_node.specs.Machine.{Machine, machine_at, no_state, source_machine}
+use Rattle.gg_net.specs.Network.{wire_at, entered_by, Kind, kind_of, kind_at}
 use Rattle.gg_net.specs.Kept.{list_at, rows_at, Answers, Asks, Solves}
 use Rattle.gg_net.proofs.StateLemmas.{column-at}
-use Rattle.gg_sound.specs.Built.{machine_in, nameless, wires_of_plan, IsBuilt, AreBuilt, body_rows, rows_of, IsGiven, plan_frame}
+use Rattle.gg_sound.specs.Built.{machine_in, nameless, wires_of_plan, IsBuilt, AreBuilt, body_rows, rows_of, body_state, states_of, flow_of, IsGiven, plan_frame}
+use Rattle.gg_closed.proofs.FaultlessLemmas.{faultless-apart, faultless-few}
+use Rattle.gg_sound.proofs.MemoryPartLemmas.{memory-part}
 use Rattle.gg_sound.proofs.LinkLemmas.{AreLinks, length-wires, linked}
 use Rattle.gg_sound.proofs.ListedLemmas.{taken-placed, given-placed}
 use Rattle.gg_sound.proofs.SideLemmas.{source-takes, tray-takes, tray-gives-none}
@@ -54,28 +59,30 @@ module _ (design : Ordered) (request : Request) (default : ℕ) (plan : Plan) (c
   out-count : (m : ℕ) → length (outs_of_machine m) ≡ length (channels_from all m)
   out-count m = length-map (channels_from all m) (λ c. (link_at all c).signal)
 
-  body-does : (m : ℕ) (own : planned.Machine) (body : Body) (machine : Machine) → m < machine_count design.circuit listed → own.outs ≡ channels_from all m → IsBody design listed all m body → IsBuilt columns n own body machine → DoesCycles rows n (ins_of_machine m) (outs_of_machine m) (kind_of machine) (body_rows body rows)
+  body-does : (m : ℕ) (own : planned.Machine) (body : Body) (machine : Machine) → m < machine_count design.circuit listed → own.outs ≡ channels_from all m → IsBody design listed all m body → IsBuilt columns n own body machine → DoesCycles rows n (ins_of_machine m) (outs_of_machine m) (kind_of machine) (body_state body (opening design.circuit)) (body_rows body rows)
   body-does m own (Cut part) machine lt outs body is =
       let cut = body.1 in
-      unit-does design.circuit part columns n rows (ins_of_machine m) (outs_of_machine m) given.design_is.formed cut.is (part-named design.circuit part.piece part.globals part.held part.memories (ins_of_machine m) (outs_of_machine m) cut.is cut.ins cut.outs) given.run given.most machine is
+      unit-does design.circuit part columns n rows (ins_of_machine m) (outs_of_machine m) given.design_is.formed cut.is (part-named design.circuit part.piece part.globals part.held part.memories (ins_of_machine m) (outs_of_machine m) cut.is cut.ins cut.outs) given.run given.most machine cut.ordered is
   body-does m own (Memory part) machine lt outs body is =
       let cut = body.2 in
-      memory-does design.circuit part columns n rows (ins_of_machine m) (outs_of_machine m) given.design_is.formed cut.is (part-named design.circuit part.piece part.globals part.held part.memories (ins_of_machine m) (outs_of_machine m) cut.is cut.ins cut.outs) given.run given.most machine is
+      let memory = memory-part design listed m part given.design_is (faultless-apart design request given.faultless given.design_is.fitting) body.0 body.1 cut (faultless-few design request given.faultless) in
+      memory-does design.circuit part columns n rows (ins_of_machine m) (outs_of_machine m) given.design_is.formed cut.is (part-named design.circuit part.piece part.globals part.held part.memories (ins_of_machine m) (outs_of_machine m) cut.is cut.ins cut.outs) given.run given.most machine memory.1.count is
   body-does m own Source machine lt outs body is =
       source-does design.circuit design.tree listed m body.0 body.1 columns n rows (ins_of_machine m) machine given.design_is.formed given.given given.run (in-count m ∙ source-takes design.circuit design.tree listed m body.0 body.1)
-      (is ∙ ap (λ (l : List ℕ). source_machine (get_or columns (value_at l 0) []) 0 false) outs)
+      (is ∙ ap (λ (l : List ℕ). source_machine (get_or columns (value_at l 0) []) 0 (false ∷ [])) outs)
   body-does m own Tray machine lt outs body is =
       tray-does rows n (ins_of_machine m) (outs_of_machine m) machine
       (in-count m ∙ tray-takes design.circuit design.tree listed (plans.links-once design request default plan columns n rows machines given built) m body lt)
       (out-count m ∙ tray-gives-none design.circuit design.tree listed m body) is
 
-  machine-does : (m : ℕ) → m < length plan.machines → DoesCycles rows n (ins_of_machine m) (outs_of_machine m) (kind_at (map kind_of machines) m) (rows_at (rows_of plan rows) m)
+  machine-does : (m : ℕ) → m < length plan.machines → DoesCycles rows n (ins_of_machine m) (outs_of_machine m) (kind_at (map kind_of machines) m) (state_in (states_of plan (opening design.circuit)) m) (rows_at (rows_of plan rows) m)
   machine-does m lt =
       let own = machine_in plan m in
       let at = given.planned.machine m nameless lt in
-      subst (λ (kind : Kind). DoesCycles rows n (ins_of_machine m) (outs_of_machine m) kind (rows_at (rows_of plan rows) m)) (sym (kind-is machines m (omega (arith, lt, built.count))))
-      (subst (DoesCycles rows n (ins_of_machine m) (outs_of_machine m) (kind_of (machine_at machines m))) (sym (get_or-map (λ (machine : planned.Machine). body_rows machine.body rows) plan.machines m nameless [] lt))
-      (body-does m own own.body (machine_at machines m) (omega (arith, lt, given.planned.machine_total)) at.outs at.body (built.each m lt)))
+      subst (λ (kind : Kind). DoesCycles rows n (ins_of_machine m) (outs_of_machine m) kind (state_in (states_of plan (opening design.circuit)) m) (rows_at (rows_of plan rows) m)) (sym (kind-is machines m (omega (arith, lt, built.count))))
+      (subst (λ (s : State). DoesCycles rows n (ins_of_machine m) (outs_of_machine m) (kind_of (machine_at machines m)) s (rows_at (rows_of plan rows) m)) (sym (get_or-map (λ (machine : planned.Machine). body_state machine.body (opening design.circuit)) plan.machines m nameless no_state lt))
+      (subst (DoesCycles rows n (ins_of_machine m) (outs_of_machine m) (kind_of (machine_at machines m)) (body_state own.body (opening design.circuit))) (sym (get_or-map (λ (machine : planned.Machine). body_rows machine.body rows) plan.machines m nameless [] lt))
+      (body-does m own own.body (machine_at machines m) (omega (arith, lt, given.planned.machine_total)) at.outs at.body (built.each m lt))))
 
   -- ---- channels
 
@@ -126,14 +133,20 @@ module _ (design : Ordered) (request : Request) (default : ℕ) (plan : Plan) (c
   there : (m : ℕ) → m < length (map kind_of machines) → m < length plan.machines
   there m lt = omega (arith, lt, length-map machines kind_of, built.count)
 
-  pub plan-solved : Solves (columns_of plan rows) (rows_of plan rows) (plan_frame plan machines n)
+  pub plan-solved : Solves (flow_of plan design rows) (plan_frame plan machines n)
   plan-solved =
       record {
+        begins = omega arith;
         able = λ m lt. (machine-does m (there m lt)).able;
         does = λ m lt. (machine-does m (there m lt)).does;
         long = λ c lt.
             let known = link-there c lt in
-            ap length (list-is c known) ∙ length-map rows (λ (row : List ℕ). value_at row (link_at all c).signal) ∙ given.run.count;
-        given = λ c lt t below. gives c t lt below;
-        taken = λ c lt t below. takes c t lt below;
+            ap length (list-is c known) ∙ length-map rows (λ (row : List ℕ). value_at row (link_at all c).signal) ∙ given.run.count
+            ∙ sym (ap (λ (first : Option ℕ). entered_by first n) (linked plan all are c known).first);
+        opens = λ c token lt is. absurd (none-some token (sym (linked plan all are c (link-there c lt)).first ∙ is));
+        given = λ c lt t le below.
+            let p : ℕ = (wire_at (wires_of_plan plan) c).producer in
+            subst (λ (first : Option ℕ). Answers (kind_at (map kind_of machines) p).behaviour (rows_at (rows_of plan rows) p) (wire_at (wires_of_plan plan) c).out t (value_at (list_at (columns_of plan rows) c) (entered_by first t)))
+            (sym (linked plan all are c (link-there c lt)).first) (gives c t lt below);
+        taken = λ c lt t le below. takes c t lt below;
       }

@@ -30,6 +30,7 @@ pub record AreFitting (links : List Link) (count : ℕ) (kinds : List Kind) : Ty
 module _ (plan : Plan) (links : List Link) (kinds : List Kind) (end : ℕ) (are : AreLinks plan links) (fit : AreFitting links (length plan.machines) kinds) where
   -- a channel is connected at an in and an out that exist
   record IsFast (c : ℕ) : Type 0 where
+    some : 0 < (wire_at (wires_of_plan plan) c).capacity
     giver : (wire_at (wires_of_plan plan) c).producer < length kinds
     out : (wire_at (wires_of_plan plan) c).out < (kind_at kinds (wire_at (wires_of_plan plan) c).producer).outs
     taker : (wire_at (wires_of_plan plan) c).consumer < length kinds
@@ -49,6 +50,7 @@ module _ (plan : Plan) (links : List Link) (kinds : List Kind) (end : ℕ) (are 
       let outs = (fit.each p ends.producer).outs in
       let ins = (fit.each q ends.consumer).ins in
       record {
+        some = link.some;
         giver = omega (arith, link.producer, ends.producer, fit.total);
         out = subst (λ a. (wire_at (wires_of_plan plan) c).out < (kind_at kinds a).outs) (sym link.producer) (omega (arith, link.out, given.within, outs));
         taker = omega (arith, link.consumer, ends.consumer, fit.total);
@@ -63,6 +65,7 @@ module _ (plan : Plan) (links : List Link) (kinds : List Kind) (end : ℕ) (are 
   pub wired : IsWired (record { kinds = kinds; wires = wires_of_plan plan; end = end })
   wired =
       record {
+        some = λ c lt. (fast c lt).some;
         producer = λ c lt. (fast c lt).giver;
         out = λ c lt. (fast c lt).out;
         consumer = λ c lt. (fast c lt).taker;
@@ -80,6 +83,7 @@ module _ (plan : Plan) (links : List Link) (kinds : List Kind) (end : ℕ) (are 
             ∙ (fast d ld).takes;
         needs = λ m o i low has. (fit.each m (known-kind m low)).needs o i has;
         fields = λ m low. (fit.each m (known-kind m low)).fields;
+        numbers = λ m low. (fit.each m (known-kind m low)).numbers;
         one_out = λ c d lc ld same out.
             sym (fast c lc).gives
             ∙ ap (λ a. value_at (channels_from links a) (wire_at (wires_of_plan plan) c).out) same

@@ -3,7 +3,7 @@
 -- The part has the enable of the memory's only reader, its address and its data, in this order; its channels carry the address
 -- first. So its in-signals are 1 and 0. Cut again, the address is signal 0.
 use Rattle.std.proofs.Common.{◌≡◌, ◌≢◌, ℕ, zero, suc, ◌<◌, List, [], ◌∷◌, ◌++◌, refl, ap, arith, lit<}
-use Rattle.std.specs.Prelude.{AllPairs, Contains, slice_index_or}
+use Rattle.std.specs.Prelude.{AllPairs, Contains, slice_index_or, None}
 use Rattle.std.proofs.lemmas.List.Kept.{AllPairs-cons}
 use Rattle.gg_flat.specs.declared.memory.Latency.TheVariants.{Zero}
 use Rattle.gg_flat.specs.declared.memory.Memory.{Memory}
@@ -20,7 +20,7 @@ use Rattle.gg_sound.specs.Built.{body_rows}
 use Rattle.gg_sound.specs.Alone.{IsCutAgain}
 
 abbrev memory : ℕ → ℕ → Memory
-memory addr en = record { word = eight; depth = 2; latency = Zero; readers = record { addr = addr; en = en; word = 2 } ∷ []; writers = [] }
+memory addr en = record { word = eight; depth = 2; latency = Zero; readers = record { addr = addr; en = en; word = 2; clock = None } ∷ []; writers = [] }
 
 abbrev part : Part
 part =
@@ -66,7 +66,7 @@ its-memory =
       within = lit< tt;
       is = λ any other. refl;
       below = λ any. record { readers = λ k d lt. only (λ i. ReadsAmong 3 (slice_index_or (memory 0 1).readers i d)) (lit< tt, lit< tt, lit< tt) k lt; writers = λ k d lt. absurd (omega (arith, lt)) };
-      given = λ r place lt. only (λ i. driver_at alone.piece (slice_index_or (readers_at alone.piece 0) i (record { addr = 0; en = 0; word = 0 })).word ≢ Input place) (λ same. cc) r lt;
+      given = λ r place lt. only (λ i. driver_at alone.piece (slice_index_or (readers_at alone.piece 0) i (record { addr = 0; en = 0; word = 0; clock = None })).word ≢ Input place) (λ same. cc) r lt;
     }
 
 is-part : IsPart part.piece alone.piece alone.globals [] (0 ∷ [])

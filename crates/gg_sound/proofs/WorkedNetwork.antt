@@ -3,7 +3,7 @@
 -- The plan is the one of gg_cut's WorkedPair: the hub is machine 0, `a` and `b` are 1 and 2, the source of `x` is 3 and the tray
 -- of `q` is 4; the channels carry `x`, `a.x`, `a.k`, `a.p`, `a.q`, `b.m`, `b.n` and `q`. What the machines do is left out (each is
 -- a tray), since the channels don't depend on it.
-use Rattle.std.proofs.Common.{◌≡◌, ℕ, List, [], ◌∷◌, refl}
+use Rattle.std.proofs.Common.{◌≡◌, ℕ, List, [], ◌∷◌, None, refl}
 use Rattle.std.specs.Prelude.{codes}
 use Rattle.gg_flat.proofs.WorkedCircuits.{eight}
 use Rattle.gg_cut.specs.declared.plan.Body.TheVariants.{Tray}
@@ -41,7 +41,7 @@ plan =
     }
 
 abbrev joins : ℕ → ℕ → ℕ → ℕ → ℕ → Wire
-joins producer out consumer place capacity = record { producer = producer; out = out; consumer = consumer; place = place; capacity = capacity }
+joins producer out consumer place capacity = record { producer = producer; out = out; consumer = consumer; place = place; capacity = capacity; first = None }
 
 -- `b.n` leads from the only out of `b` to the last in of the hub, and the others likewise
 joined : wires_of_plan plan ≡ joins 3 0 0 0 1 ∷ joins 0 0 1 0 7 ∷ joins 0 1 1 1 1 ∷ joins 1 0 0 1 1 ∷ joins 1 1 0 2 1 ∷ joins 0 2 2 0 1 ∷ joins 2 0 0 3 1 ∷ joins 0 3 4 0 1 ∷ []

@@ -1,15 +1,17 @@
 -- The network of a plan: its channels, its machines before the first cycle, and the rows of its machines. The values
--- that its channels carry are gg_cut's `columns_of`.
+-- that its channels carry are gg_cut's `columns_of`. `flow_of` has all that it computes.
 -- Source: MEMOCODE 2009 (a synchronous circuit as a network of its parts, whose streams are the circuit's own); ICCAD
 -- 2019 (units and memories of a target as models of their own, with sources for its inputs and sinks for its outputs).
 use Rattle.std.specs.Prelude.{◌≡◌, ℕ, suc, ◌^◌, ◌<◌, ◌≤◌, ◌==◌, ◌++◌, List, [], ◌∷◌, None, false, length, map, slice_index_or, unwrap_or}
 use Rattle.gg_flat.specs.Line.{value_at}
 use Rattle.gg_flat.specs.Run.{IsRun, IsColumns}
+use Rattle.gg_flat.specs.State.{State, opening}
+use Rattle.gg_flat.specs.Streams.{Flow}
 use Rattle.gg_order.specs.Design.{Ordered, IsDesign}
 use Rattle.gg_partfile.specs.declared.request.Request.{Request}
 use Rattle.gg_needs.specs.Needs.{AreNeedsOfOuts}
 use Rattle.gg_part.specs.Part.{IsPart}
-use Rattle.gg_part.specs.PartRun.{part_rows}
+use Rattle.gg_part.specs.PartRun.{part_rows, part_state}
 use Rattle.gg_part.specs.declared.part.Part.{Part}
 use Rattle.gg_cut.specs.declared.plan.Body.{Body}
 use Rattle.gg_cut.specs.declared.plan.Body.TheVariants.{Cut, Memory, Source, Tray}
@@ -19,7 +21,8 @@ use Rattle.gg_cut.specs.declared.plan.Plan.{Plan}
 use Rattle.gg_cut.specs.Fault.{first_fault}
 use Rattle.gg_cut.specs.Listed.{first_place}
 use Rattle.gg_cut.specs.Plan.{IsPlan}
-use Rattle.gg_node.specs.Machine.{Machine, machine_at, source_machine, tray_machine, cycle_limit}
+use Rattle.gg_cut.specs.Solves.{columns_of}
+use Rattle.gg_node.specs.Machine.{Machine, machine_at, no_state, source_machine, tray_machine, cycle_limit}
 use Rattle.gg_fame1.specs.Unit as dataflow
 use Rattle.gg_memunit.specs.MemoryUnit as memory
 use Rattle.gg_net.specs.declared.shape.Wire.{Wire}
@@ -40,7 +43,7 @@ machine_in plan m = slice_index_or plan.machines m nameless
 abbrev pub place_in : List ℕ → ℕ → ℕ
 place_in channels c = unwrap_or (first_place (λ d. d == c) channels) 0
 
--- the channel of the network for a channel of the plan, which has number c
+-- the channel of the network for a channel of the plan, which has number c; it opens without a token
 abbrev pub wire_of : Plan → ℕ → Channel → Wire
 wire_of plan c channel =
     record {
@@ -49,6 +52,7 @@ wire_of plan c channel =
       consumer = channel.consumer;
       place = place_in (machine_in plan channel.consumer).ins c;
       capacity = channel.capacity;
+      first = None;
     }
 
 -- the channels of the network, from number c on
@@ -86,8 +90,8 @@ pub record IsMemoryOf (part : Part) (machine : Machine) : Type 0 where
 abbrev pub IsBuilt : List (List ℕ) → ℕ → planned.Machine → Body → Machine → Type 0
 IsBuilt columns n own (Cut part) machine = IsUnitOf part machine
 IsBuilt columns n own (Memory part) machine = IsMemoryOf part machine
-IsBuilt columns n own Source machine = machine ≡ source_machine (slice_index_or columns (value_at own.outs 0) []) 0 false
-IsBuilt columns n own Tray machine = machine ≡ tray_machine n 0 [] None
+IsBuilt columns n own Source machine = machine ≡ source_machine (slice_index_or columns (value_at own.outs 0) []) 0 (false ∷ [])
+IsBuilt columns n own Tray machine = machine ≡ tray_machine n n 0 [] None
 
 -- the machines of the network of a plan, by number
 pub record AreBuilt (plan : Plan) (columns : List (List ℕ)) (n : ℕ) (machines : List Machine) : Type 0 where
@@ -123,11 +127,27 @@ body_rows Tray rows = []
 abbrev pub rows_of : Plan → List (List ℕ) → List (List (List ℕ))
 rows_of plan rows = map (λ machine. body_rows machine.body rows) plan.machines
 
--- A design, a request that has no fault for it, their plan, and the circuit's run of n cycles on the columns of its
--- inputs.
+-- the state in which a machine begins, if the circuit begins in this state: its part of it
+abbrev pub body_state : Body → State → State
+body_state (Cut part) state = part_state part.held part.memories state
+body_state (Memory part) state = part_state [] part.memories state
+body_state Source state = no_state
+body_state Tray state = no_state
+
+-- the states in which the machines of a plan begin
+abbrev pub states_of : Plan → State → List State
+states_of plan state = map (λ machine. body_state machine.body state) plan.machines
+
+-- What the network of a plan computes, from the rows of the circuit. All begins with cycle 0, with zeros.
+abbrev pub flow_of : Plan → Ordered → List (List ℕ) → Flow
+flow_of plan design rows = record { lists = columns_of plan rows; runs = rows_of plan rows; begin = 0; states = states_of plan (opening design.circuit) }
+
+-- A design, a request that has no fault for it, their plan, whose channels may hold at least one token each, and the
+-- circuit's run of n cycles on the columns of its inputs.
 pub record IsGiven (design : Ordered) (request : Request) (default : ℕ) (plan : Plan) (columns : List (List ℕ)) (n : ℕ) (rows : List (List ℕ)) : Type 0 where
   pub design_is : IsDesign design
   pub faultless : first_fault design request ≡ None
+  pub some : 0 < default
   pub planned : IsPlan design request default plan
   pub most : n ≤ cycle_limit
   pub given : IsColumns design.circuit n columns

@@ -3,12 +3,12 @@ ghost use Rattle.std.specs.Prelude.{ℕ, ◌<◌, List, All, length};
 ghost use Rattle.gg_order.specs.Design.{Ordered};
 ghost use Rattle.gg_partfile.specs.declared.request.Request.{Request};
 ghost use Rattle.gg_cut.specs.declared.plan.Plan.{Plan};
-ghost use Rattle.gg_node.specs.Machine.{Machine};
+ghost use Rattle.gg_node.specs.Machine.{Machine, machine_at};
 ghost use Rattle.gg_node.specs.Step.{fields_of};
 ghost use Rattle.gg_net.specs.Network.{kind_at};
 ghost use Rattle.gg_net.specs.Kept.{IsWired, HasNoRing};
 ghost use Rattle.gg_net.specs.Net.{IsOpening};
-ghost use Rattle.gg_sound.specs.Built.{AreBuilt, IsGiven, IsListedAt, plan_frame};
+ghost use Rattle.gg_sound.specs.Built.{AreBuilt, IsGiven, IsListedAt, flow_of, plan_frame};
 
 /// Each machine of the network has an in for each channel that the plan's machine takes, and an out for each channel
 /// that it gives. The channels are connected to them in the plan's order. Numbers of 32 bits suffice for ins and outs.
@@ -34,7 +34,7 @@ pub fn ports_are_named()
     ensures fields { (design : Ordered) (request : Request) (default : ℕ) (plan : Plan) (columns : List (List ℕ)) (n : ℕ) (rows : List (List ℕ)) (machines : List Machine) → IsGiven design request default plan columns n rows → AreBuilt plan columns n machines → (m : ℕ) → m < length plan.machines → All (λ port. All (λ i. i < (kind_at (plan_frame plan machines n).kinds m).ins) (fields_of port.access)) (kind_at (plan_frame plan machines n).kinds m).ports }
 {}
 
-/// The machines are before their first cycle.
+/// The machines are before their first cycle, each in the state in which it begins.
 pub fn machines_are_opening()
-    ensures { (plan : Plan) (columns : List (List ℕ)) (n : ℕ) (machines : List Machine) → AreBuilt plan columns n machines → All IsOpening machines }
+    ensures { (design : Ordered) (request : Request) (default : ℕ) (plan : Plan) (columns : List (List ℕ)) (n : ℕ) (rows : List (List ℕ)) (machines : List Machine) → IsGiven design request default plan columns n rows → AreBuilt plan columns n machines → (m : ℕ) → m < length machines → IsOpening (flow_of plan design rows) m (machine_at machines m) }
 {}

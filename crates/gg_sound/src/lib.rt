@@ -10,7 +10,8 @@
 //!   exist (`plan_is_wired`);
 //! - there is no ring among the needs of channels (`plan_has_no_ring`);
 //! - the columns of the circuit's own run solve the network, with the rows of each machine in that run
-//!   (`plan_is_solved`), so the network is sound, as `Net::new` of gg_net requires (`plan_is_sound`);
+//!   (`plan_is_solved`), so the network is sound, as `Net::new` of gg_net requires (`plan_is_sound`); it is within the
+//!   limits (`plan_is_within`);
 //! - the ports that a machine serves are among its ports (`ports_are_named`), and the machines are before their first
 //!   cycle (`machines_are_opening`);
 //! - the machines can be built: a unit's signals are in an order of evaluation (`unit_is_ordered`), a source's channel
@@ -37,4 +38,4 @@ pub use bodies::{source_has_column, unit_is_ordered};
 pub use laws::{
     machines_are_opening, plan_has_no_ring, plan_is_listed, plan_is_wired, ports_are_named,
 };
-pub use solved::{plan_is_solved, plan_is_sound};
+pub use solved::{plan_is_solved, plan_is_sound, plan_is_within};

@@ -7,9 +7,10 @@ use Rattle.gg_flat.proofs.bank.write_words.Goals as goal
 
 pub returns : goal.returns
 returns c =
+    let edges = c.args.edges.now in
     let signals = c.args.signals.now in
     let all : c.loop-w.w ≡ length c.args.writers.now = omega arith in
     c.loop-w.invariant
-    ∙ ap (λ n. fold (written signals) c.args.words.now (take n c.args.writers.now)) all
-    ∙ ap (fold (written signals) c.args.words.now) (take-length c.args.writers.now)
-    ∙ written-all signals c.args.writers.now c.args.words.now
+    ∙ ap (λ n. fold (written edges signals) c.args.words.now (take n c.args.writers.now)) all
+    ∙ ap (fold (written edges signals) c.args.words.now) (take-length c.args.writers.now)
+    ∙ written-all edges signals c.args.writers.now c.args.words.now

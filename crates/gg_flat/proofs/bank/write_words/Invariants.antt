@@ -4,4 +4,4 @@ use Rattle.gg_flat.specs.Served.{written}
 use Rattle.gg_flat.proofs.bank.write_words.Given as goal
 
 abbrev pub invariant-loop-w : goal.invariant-loop-w
-invariant-loop-w l = l.words ≡ fold (written l.signals) l.initial.words (take l.w l.writers)
+invariant-loop-w l = l.words ≡ fold (written l.edges l.signals) l.initial.words (take l.w l.writers)

@@ -9,7 +9,7 @@ pub returns-clause-takes : goal.returns-clause-takes
 returns-clause-takes c = λ net layout d has known. takes-are net layout has d known
 
 pub returns-clause-held : goal.returns-clause-held
-returns-clause-held c = λ lists runs net layout d kept has known. sym (held-is net layout has lists runs kept d known)
+returns-clause-held c = λ flow net layout d kept has known. sym (held-is net layout has flow kept d known)
 
 pub returns-clause-newest : goal.returns-clause-newest
-returns-clause-newest c = λ lists runs net d kept known some. newest-is lists runs net d kept known some
+returns-clause-newest c = λ flow net d kept known some. newest-is flow net d kept known some

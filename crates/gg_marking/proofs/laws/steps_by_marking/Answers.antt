@@ -2,10 +2,10 @@ use Rattle.gg_marking.proofs.StepsLemmas.{goes-on, all-done, stops-at}
 use Rattle.gg_marking.proofs.laws.steps_by_marking.Goals as goal
 
 pub returns-clause-done : goal.returns-clause-done
-returns-clause-done c = λ lists runs old new layout k events kept has steps. all-done lists runs layout k old events new kept has steps
+returns-clause-done c = λ flow old new layout k events kept has steps. all-done flow layout k old events new kept has steps
 
 pub returns-clause-stopped : goal.returns-clause-stopped
-returns-clause-stopped c = λ lists runs old new layout k events stopped kept has at. stops-at lists runs layout k old events new stopped kept has at
+returns-clause-stopped c = λ flow old new layout k events stopped kept has at. stops-at flow layout k old events new stopped kept has at
 
 pub returns-clause-goes_on : goal.returns-clause-goes_on
-returns-clause-goes_on c = λ lists runs old new layout k event events kept has step. goes-on lists runs layout k old event new events kept has step
+returns-clause-goes_on c = λ flow old new layout k event events kept has step. goes-on flow layout k old event new events kept has step

@@ -2,7 +2,7 @@ use Rattle.gg_marking.proofs.StepsLemmas.{steps-kept, steps-frame, steps-more}
 use Rattle.gg_marking.proofs.laws.steps_keep.Goals as goal
 
 pub returns-clause-kept : goal.returns-clause-kept
-returns-clause-kept c = λ lists runs old new events kept steps. steps-kept lists runs old events new kept steps
+returns-clause-kept c = λ flow old new events kept steps. steps-kept flow old events new kept steps
 
 pub returns-clause-frame : goal.returns-clause-frame
 returns-clause-frame c = λ old new events steps. steps-frame old events new steps

@@ -2,7 +2,8 @@ use Rattle.std.proofs.Common.{ℕ, List, ◌<◌, ◌^◌, sym, subst, get_or}
 use Rattle.std.specs.Prelude.{All}
 use Rattle.gg_cut.specs.Channels.{capacity_of}
 use Rattle.gg_plan.specs.Made.{AreWired}
-use Rattle.gg_plan.proofs.FaultlessLemmas.{range-free, capacities-small}
+use Rattle.gg_closed.proofs.FaultlessLemmas.{range-free}
+use Rattle.gg_plan.proofs.FaultlessLemmas.{capacities-small}
 use Rattle.gg_plan.proofs.PlanLemmas.{machine-fit, given-below, known-below, channels-made}
 use Rattle.gg_plan.proofs.build.channels_for.Goals as goal
 

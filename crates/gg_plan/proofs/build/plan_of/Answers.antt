@@ -4,7 +4,8 @@ use Rattle.gg_cut.specs.declared.plan.Channel.{Channel}
 use Rattle.gg_plan.specs.Made.{IsCapacity}
 use Rattle.gg_cut.specs.declared.listed.Listed.{Listed}
 use Rattle.gg_cut.specs.Channels.{machine_count}
-use Rattle.gg_plan.proofs.FaultlessLemmas.{range-free, few-machines}
+use Rattle.gg_closed.proofs.FaultlessLemmas.{range-free}
+use Rattle.gg_plan.proofs.FaultlessLemmas.{few-machines}
 use Rattle.gg_plan.proofs.PlanLemmas.{units-count, bounds-sound}
 use Rattle.gg_plan.proofs.build.plan_of.Goals as goal
 

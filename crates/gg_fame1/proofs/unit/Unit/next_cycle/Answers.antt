@@ -1,4 +1,4 @@
-use Rattle.std.proofs.Common.{◌≡◌, List, ℕ, length, sym, subst, ◌∙◌}
+use Rattle.std.proofs.Common.{◌≡◌, List, [], ℕ, length, sym, subst, ◌∙◌}
 use Rattle.std.specs.List.{range_with_len}
 use Rattle.std.proofs.lemmas.List.{length-map}
 use Rattle.gg_flat.specs.Line.{value_at}
@@ -22,4 +22,4 @@ returns-clause-next c =
     let once : (signals : List ℕ) → Settled circuit unit.state held signals → cycle.signals ≡ signals = λ signals settled. c.settled_once.ensures circuit order unit.state held cycle.signals signals (IsOrder-numbers circuit c.piece.ensures.ordered) cycle.settled settled in
     let all = subst AllLatched (sym c.self.view_is) c.requires.latched in
     subst (λ (machine : Machine). IsNextState machine c.run_next.new.state) c.self.view_is
-    (next-is unit.program unit.cycle unit.state c.run_next.new.state unit.latches.items unit.flags.items held cycle.signals once (kept.ins ∙ sym (length-map circuit.ins (λ s. value_at unit.slots.values s))) all kept.tokens cycle.next)
+    (next-is unit.program [] unit.cycle unit.state c.run_next.new.state unit.latches.items unit.flags.items held cycle.signals once (kept.ins ∙ sym (length-map circuit.ins (λ s. value_at unit.slots.values s))) all kept.tokens cycle.next)

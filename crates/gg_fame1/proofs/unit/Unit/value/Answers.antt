@@ -1,4 +1,4 @@
-use Rattle.std.proofs.Common.{◌<◌, length, ap, subst, ◌∙◌, arith}
+use Rattle.std.proofs.Common.{◌<◌, [], length, ap, subst, ◌∙◌, arith}
 use Rattle.gg_flat.specs.Line.{value_at}
 use Rattle.gg_node.specs.Machine.{missing}
 use Rattle.gg_node.specs.Token.{IsToken}
@@ -32,4 +32,4 @@ returns-clause-token c =
     let below : out < length unit.program.circuit.outs = omega (arith, c.requires.there, ap (λ machine. length machine.flags) c.self.view_is, kept.outs) in
     let none = ap (λ machine. missing machine out) c.self.view_is ∙ c.requires.needed in
     subst (λ machine. IsToken machine out c.run_cone.result) c.self.view_is
-    (token-is unit.program unit.cycle unit.state unit.latches.items unit.flags.items held out c.run_cone.result c.piece.ensures.formed c.piece.ensures.needs below kept.tokens none c.run_cone.ensures.value)
+    (token-is unit.program [] unit.cycle unit.state unit.latches.items unit.flags.items held out c.run_cone.result c.piece.ensures.formed c.piece.ensures.needs below kept.tokens none c.run_cone.ensures.value)

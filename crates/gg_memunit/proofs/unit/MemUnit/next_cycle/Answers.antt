@@ -1,4 +1,4 @@
-use Rattle.std.proofs.Common.{rules, ◌≡◌, None, false, length, replicate, ap, subst, ◌∙◌}
+use Rattle.std.proofs.Common.{rules, ◌≡◌, [], None, false, length, replicate, ap, subst, ◌∙◌}
 use Rattle.std.proofs.lemmas.List.{length-replicate}
 use Rattle.gg_flat.specs.declared.memory.Memory.{Memory}
 use Rattle.gg_flat.specs.Memory.{read_count}
@@ -30,4 +30,4 @@ returns-clause-next c =
     let only = sole unit.piece.memories kept.memory.one in
     let held = of-sole (λ (memory : Memory). length unit.bank.reads ≡ read_count memory.latency memory.readers) unit.piece.memories only.0 only.1 kept.held in
     subst (λ machine. IsNextState machine (state_of unit.bank)) c.self.view_is
-    (next-is unit.piece only.0 kept.memory only.1 cycle_limit unit.cycle unit.served unit.bank unit.latches.items unit.flags.items held)
+    (next-is unit.piece only.0 kept.memory only.1 [] cycle_limit unit.cycle unit.served unit.bank unit.latches.items unit.flags.items held)

@@ -2,8 +2,13 @@ use Rattle.std.proofs.Common.{map, sym, subst}
 use Rattle.std.specs.Prelude.{slice_set}
 use Rattle.gg_net.specs.Net.{net_of}
 use Rattle.gg_net.specs.Step.{CanFire, Gives}
-use Rattle.gg_net.proofs.CloseLemmas.{fire-may, fire-room, fire-gives, fire-closes}
+use Rattle.gg_net.proofs.CloseLemmas.{fire-seated, fire-may, fire-room, fire-gives, fire-closes}
 use Rattle.gg_net.proofs.net.Net.fire.Goals as goal
+
+pub fire-token-requires-clause-seated : goal.fire-token-requires-clause-seated
+fire-token-requires-clause-seated g c =
+    let can = subst (λ n. CanFire n c.args.channel) (sym c.self.view_is) c.requires in
+    λ κs outlive. fire-seated c.self.invariant c.args.channel c.index-wire.result.now c.index-wire.ensures can.can.0 c.index.result.now c.index.ensures
 
 pub fire-token-requires-clause-may : goal.fire-token-requires-clause-may
 fire-token-requires-clause-may g c =

@@ -1,0 +1,104 @@
+-- The network of a plan is within the limits.
+use Rattle.std.proofs.Common.{◌≡◌, ℕ, ◌+◌, ◌*◌, ◌<◌, ◌≤◌, List, length, map, get_or, sym, ◌∙◌, ap, subst, arith}
+use Rattle.std.specs.Prelude.{All, sum_by}
+use Rattle.std.proofs.lemmas.List.{length-map, get_or_default}
+use Rattle.std.proofs.lemmas.List.Sums.{sum_by-le, sum-map}
+use Rattle.std.proofs.lemmas.List.Elements.{All-map}
+use Rattle.gg_flat.specs.declared.memory.Latency.{Latency}
+use Rattle.gg_flat.specs.declared.memory.Latency.TheVariants.{Zero, One}
+use Rattle.gg_flat.specs.declared.memory.Memory.{Memory}
+use Rattle.gg_flat.specs.Tree.{path_at}
+use Rattle.gg_flat.proofs.ListLemmas.{some-item}
+use Rattle.gg_order.specs.Design.{Ordered}
+use Rattle.gg_partfile.specs.declared.request.Request.{Request}
+use Rattle.gg_part.specs.Part.{renamed_memory, renamed_reader, renamed_writer}
+use Rattle.gg_part.specs.declared.part.Part.{Part}
+use Rattle.gg_cut.specs.declared.listed.Listed.{Listed}
+use Rattle.gg_cut.specs.declared.plan.Body.{Body}
+use Rattle.gg_cut.specs.declared.plan.Body.TheVariants.{Cut, Memory as Listing, Source, Tray}
+use Rattle.gg_cut.specs.declared.plan.Machine as planned
+use Rattle.gg_cut.specs.declared.plan.Plan.{Plan}
+use Rattle.gg_cut.specs.declared.wires.Wire.{Wire as Link}
+use Rattle.gg_cut.specs.Listed.{listed_of}
+use Rattle.gg_cut.specs.Channels.{wires_of}
+use Rattle.gg_cut.specs.Plan.{wire_at as link_at, IsBody}
+use Rattle.gg_closed.proofs.FaultlessLemmas.{faultless-apart, faultless-few, range-free, capacity-is}
+use Rattle.gg_closed.proofs.EndLemmas.{few-machines}
+use Rattle.gg_memunit.specs.MemoryUnit.{count_by, ports_of}
+use Rattle.gg_memunit.proofs.PortLemmas.{count_ports}
+use Rattle.gg_memunit.proofs.UnitLemmas.{sole}
+use Rattle.gg_node.specs.Machine.{Machine, machine_at, no_machine}
+use Rattle.gg_net.specs.declared.shape.Wire.{Wire}
+use Rattle.gg_net.specs.Network.{wire_at, Kind, kind_of}
+use Rattle.gg_net.specs.Net.{IsWithinLimits, queue_limit}
+use Rattle.gg_sound.specs.Built.{machine_in, nameless, wire_of, wires_of_plan, IsMemoryOf, IsBuilt, AreBuilt, IsGiven, plan_frame}
+use Rattle.gg_sound.proofs.LinkLemmas.{length-from, length-wires, wire-from}
+use Rattle.gg_sound.proofs.MemoryPartLemmas.{IsMemoryPart, memory-part}
+use Rattle.gg_sound.proofs.PlanLemmas as plans
+
+count-most : (latency : Latency) (readers writers : ℕ) → count_by latency readers writers ≤ readers + writers
+count-most Zero readers writers = omega arith
+count-most (One under) readers writers = omega arith
+
+-- the machine of a listed memory serves at most as many ports as there may be channels
+memory-ports : (part : Part) (memory : Memory) (machine : Machine) → IsMemoryPart part memory → IsMemoryOf part machine → length (kind_of machine).ports ≤ 16384
+memory-ports part memory machine own is =
+    let piece = is.alone.piece in
+    let found = sole piece.memories is.is_memory.one in
+    let inner = found.0 in
+    let only = found.1 in
+    let low = is.is_part.memory_from 0 (omega (arith, ap length is.memories)) in
+    let whole : memory ≡ renamed_memory is.alone.globals inner =
+    ap (λ (l : List Memory). get_or l 0 memory) (sym own.only)
+    ∙ ap (λ (l : List ℕ). get_or part.piece.memories (get_or l 0 0) memory) (sym is.memories)
+    ∙ low.is inner memory
+    ∙ ap (λ (l : List Memory). renamed_memory is.alone.globals (get_or l 0 inner)) only in
+    let reads : length memory.readers ≡ length inner.readers = ap (λ (x : Memory). length x.readers) whole ∙ length-map inner.readers (renamed_reader is.alone.globals) in
+    let writes : length memory.writers ≡ length inner.writers = ap (λ (x : Memory). length x.writers) whole ∙ length-map inner.writers (renamed_writer is.alone.globals) in
+    let served : length (ports_of piece.memories) ≡ count_by inner.latency (length inner.readers) (length inner.writers) = ap (λ (l : List Memory). length (ports_of l)) only ∙ count_ports inner.latency inner.readers inner.writers in
+    subst (λ (t : Machine). length (kind_of t).ports ≤ 16384) (sym is.is)
+    (omega (arith, served, count-most inner.latency (length inner.readers) (length inner.writers), reads, writes, own.few))
+
+module _ (design : Ordered) (request : Request) (default : ℕ) (plan : Plan) (columns : List (List ℕ)) (n : ℕ) (rows : List (List ℕ)) (machines : List Machine) (given : IsGiven design request default plan columns n rows) (built : AreBuilt plan columns n machines) where
+  abbrev listed : Listed
+  listed = listed_of design.tree request
+
+  abbrev links : List Link
+  links = wires_of design.circuit design.tree (listed_of design.tree request)
+
+  body-ports : (m : ℕ) (own : planned.Machine) (body : Body) (machine : Machine) → IsBody design listed links m body → IsBuilt columns n own body machine → length (kind_of machine).ports ≤ 16384
+  body-ports m own (Cut part) machine body is = subst (λ (t : Machine). length (kind_of t).ports ≤ 16384) (sym is.is) (omega arith)
+  body-ports m own (Listing part) machine body is =
+      let memory = memory-part design listed m part given.design_is (faultless-apart design request given.faultless given.design_is.fitting) body.0 body.1 body.2 (faultless-few design request given.faultless) in
+      memory-ports part memory.0 machine memory.1 is
+  body-ports m own Source machine body is = subst (λ (t : Machine). length (kind_of t).ports ≤ 16384) (sym is) (omega arith)
+  body-ports m own Tray machine body is = subst (λ (t : Machine). length (kind_of t).ports ≤ 16384) (sym is) (omega arith)
+
+  machine-ports : All (λ (machine : Machine). length (kind_of machine).ports ≤ 16384) machines
+  machine-ports m any lt =
+      let known : m < length plan.machines = omega (arith, lt, built.count) in
+      subst (λ (t : Machine). length (kind_of t).ports ≤ 16384) (get_or_default machines m no_machine any lt)
+      (body-ports m (machine_in plan m) (machine_in plan m).body (machine_at machines m) (given.planned.machine m nameless known).body (built.each m known))
+
+  pub plan-within : default ≤ queue_limit → IsWithinLimits (plan_frame plan machines n)
+  plan-within most =
+      let few = faultless-few design request given.faultless in
+      let total : length machines ≤ 16641 = omega (arith, few-machines design.circuit design.tree (listed_of design.tree request) few, given.planned.machine_total, built.count) in
+      let are = plans.links design request default plan columns n rows machines given built in
+      let kinds = map kind_of machines in
+      let count : length kinds ≡ length machines = length-map machines kind_of in
+      let ports : sum_by (λ (kind : Kind). length kind.ports) kinds ≤ length kinds * 16384 =
+      sum_by-le (λ (kind : Kind). length kind.ports) 16384 kinds (All-map (λ (kind : Kind). length kind.ports ≤ 16384) kind_of machines machine-ports) in
+      record {
+        cycles = given.most;
+        machines = omega (arith, total, count);
+        channels = omega (arith, few.channels, length-wires plan links are);
+        ports = omega (arith, sum-map (λ (kind : Kind). length kind.ports) kinds, ports, count, total);
+        capacities = λ c lt.
+            let known : c < length plan.channels = omega (arith, lt, length-from plan 0 plan.channels) in
+            let any = some-item plan.channels c known in
+            let is : wire_at (wires_of_plan plan) c ≡ wire_of plan c (get_or plan.channels c any) = wire-from plan 0 plan.channels c any known ∙ ap (λ k. wire_of plan k (get_or plan.channels c any)) (let same : 0 + c ≡ c = omega arith in same) in
+            subst (λ (w : Wire). w.capacity ≤ queue_limit) (sym is)
+            (subst (λ n. n ≤ queue_limit) (sym (given.planned.channel c any known).bound)
+            (capacity-is (λ n. n ≤ queue_limit) (λ n some low. low) request.capacity default (path_at design.circuit.paths (link_at links c).signal) (range-free design request given.faultless) most));
+      }
