@@ -15,17 +15,17 @@ use Rattle.gg_marking.specs.Marking.{Layout, Marking, puts, takes, refusal, afte
 use Rattle.gg_marking.specs.Fits.{HasLayout, marking_of}
 use Rattle.gg_marking.proofs.CountLemmas.{cycle-at, puts-are, takes-are}
 use Rattle.gg_marking.proofs.GoesLemmas.{ready-free, step-marks, step-frame}
-use Rattle.gg_measure.specs.Counts.{counts_of, fires, latches, finishes, IsAllowed, Raises, Free}
-use Rattle.gg_measure.specs.Measure.{left}
+use Rattle.gg_counts.specs.Counts.{counts_of, fires, latches, finishes, IsAllowed, Raises, Free}
+use Rattle.gg_counts.specs.Measure.{left}
 use Rattle.gg_measure.specs.Nets.{IsAtWork, AllStandAt, IsIdle, StepBelow, StepsBelow, Goes, StaysWithin, machine_of, cycle_at, net_left}
-use Rattle.gg_measure.proofs.SumLemmas.{one-cases}
-use Rattle.gg_measure.proofs.FreeLemmas.{is-free}
-use Rattle.gg_measure.proofs.LeadLemmas.{Went, went}
+use Rattle.gg_counts.proofs.SumLemmas.{one-cases}
+use Rattle.gg_counts.proofs.FreeLemmas.{is-free}
+use Rattle.gg_counts.proofs.LeadLemmas.{Went, went}
 use Rattle.gg_marking.specs.LayoutOf.{layout_of}
 use Rattle.gg_marking.proofs.LayoutLemmas.{has-layout}
 use Rattle.gg_marking.proofs.GoesLemmas.{free-ready}
 use Rattle.gg_measure.proofs.NetLemmas.{can-run, shape-of, allowed-of, left-is}
-use Rattle.gg_measure.proofs.GoalLemmas.{goes-below, machine_by}
+use Rattle.gg_counts.proofs.GoalLemmas.{goes-below, machine_by}
 
 -- ---- the layout
 

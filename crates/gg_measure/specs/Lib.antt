@@ -1,5 +1,2 @@
-pub mod Counts
-pub mod Measure
-pub mod Leads
 pub mod Nets
 pub mod Turns

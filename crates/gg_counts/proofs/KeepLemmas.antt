@@ -7,8 +7,8 @@ use Rattle.std.proofs.lemmas.Option.{slice_get_within, get_or_from_slice_get}
 use Rattle.gg_net.specs.declared.event.Event.{Event}
 use Rattle.gg_net.specs.declared.event.Event.TheVariants.{Latch, Fire, Serve, Finish}
 use Rattle.gg_marking.specs.Marking.{Layout, Turn, link_at, turns_at}
-use Rattle.gg_measure.specs.Counts.{Counts, dues, WasTaken, WasGiven, HasServed, IsAllowed, AreAtMost, IsBehind, Raises, FreeLatch, FreeFire, FreeServe, FreeFinish, Free, CanRun}
-use Rattle.gg_measure.proofs.SumLemmas.{one-cases}
+use Rattle.gg_counts.specs.Counts.{Counts, dues, WasTaken, WasGiven, HasServed, IsAllowed, AreAtMost, IsBehind, Raises, FreeLatch, FreeFire, FreeServe, FreeFinish, Free, CanRun}
+use Rattle.gg_counts.proofs.SumLemmas.{one-cases}
 
 -- ---- what an event leaves
 

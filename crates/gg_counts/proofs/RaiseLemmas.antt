@@ -8,8 +8,8 @@ use Rattle.gg_flat.specs.Line.{value_at}
 use Rattle.gg_net.specs.declared.event.Event.{Event}
 use Rattle.gg_net.specs.declared.event.Event.TheVariants.{Latch, Fire, Serve, Finish}
 use Rattle.gg_marking.specs.Marking.{Layout, Marking, Link, link_at, is_set, and_one, one_more, cleared, after}
-use Rattle.gg_measure.specs.Counts.{Counts, counts_of, dues, one_at, Raises, FreeLatch, FreeFire, FreeServe, FreeFinish, Free, IsMarkingOf}
-use Rattle.gg_measure.proofs.SumLemmas.{one-here, one-elsewhere}
+use Rattle.gg_counts.specs.Counts.{Counts, counts_of, dues, one_at, Raises, FreeLatch, FreeFire, FreeServe, FreeFinish, Free, IsMarkingOf}
+use Rattle.gg_counts.proofs.SumLemmas.{one-here, one-elsewhere}
 
 -- ---- entries
 

@@ -1,6 +1,6 @@
-use Rattle.gg_measure.proofs.LeadLemmas.{leads-up}
-use Rattle.gg_measure.proofs.EndLemmas.{leads-only}
-use Rattle.gg_measure.proofs.laws.leads_up.Goals as goal
+use Rattle.gg_counts.proofs.LeadLemmas.{leads-up}
+use Rattle.gg_counts.proofs.EndLemmas.{leads-only}
+use Rattle.gg_counts.proofs.laws.leads_up.Goals as goal
 
 pub returns-clause-up : goal.returns-clause-up
 returns-clause-up c = λ layout old new can shape goal_shape allowed high le. leads-up layout can new goal_shape high old shape allowed le

@@ -12,8 +12,8 @@ use Rattle.gg_net.specs.declared.event.Refusal.TheVariants.{Stranger, Ended, Lat
 use Rattle.gg_marking.specs.Marking.{Layout, Marking, Turn, link_at, turns_at, is_set, and_one, held, is_channel, is_below, is_machine, has_port, port_count, due_turn, first_unmarked, unfired, unserved, turn_refusal, or_next, unless, naming, refusal}
 use Rattle.gg_marking.specs.Marking as marks
 use Rattle.gg_marking.proofs.FindLemmas.{find-none, found-skips, chosen-fail, passed, holds-last, names-none, some-none, past-named, last-named}
-use Rattle.gg_measure.specs.Counts.{Counts, counts_of, early, dues, WasTaken, HasGiven, HasServed, IsAllowed, FreeLatch, FreeFire, FreeServe, FreeFinish, Free, CanRun}
-use Rattle.gg_measure.proofs.EarlyLemmas.{entered-is}
+use Rattle.gg_counts.specs.Counts.{Counts, counts_of, early, dues, WasTaken, HasGiven, HasServed, IsAllowed, FreeLatch, FreeFire, FreeServe, FreeFinish, Free, CanRun}
+use Rattle.gg_counts.proofs.EarlyLemmas.{entered-is}
 
 -- ---- conditions in a row
 

@@ -6,12 +6,12 @@ use Rattle.std.proofs.lemmas.List.{length-replicate, get_or-replicate}
 use Rattle.gg_flat.specs.Line.{value_at}
 use Rattle.gg_net.specs.declared.event.Event.{Event}
 use Rattle.gg_marking.specs.Marking.{Layout, Marking, link_at, and_one, puts, held, opening_marking, refusal}
-use Rattle.gg_measure.specs.Counts.{Counts, counts_of, early, dues, HasServed, IsAllowed, HasBegun, AreAtMost, CanRun, IsMarkingOf}
-use Rattle.gg_measure.specs.Measure.{left, left_in, left_at, all_dues, sum_below}
-use Rattle.gg_measure.specs.Leads.{Leads, IsStuck, end_marking}
-use Rattle.gg_measure.proofs.EarlyLemmas.{entered-is, early-few}
-use Rattle.gg_measure.proofs.SumLemmas.{mul-over, sum-same, sum-add, sum-equal, sum-times}
-use Rattle.gg_measure.proofs.LeadLemmas.{next-event, leads-kept, leads-up, one-marking}
+use Rattle.gg_counts.specs.Counts.{Counts, counts_of, early, dues, HasServed, IsAllowed, HasBegun, AreAtMost, CanRun, IsMarkingOf}
+use Rattle.gg_counts.specs.Measure.{left, left_in, left_at, all_dues, sum_below}
+use Rattle.gg_counts.specs.Leads.{Leads, IsStuck, end_marking}
+use Rattle.gg_counts.proofs.EarlyLemmas.{entered-is, early-few}
+use Rattle.gg_counts.proofs.SumLemmas.{mul-over, sum-same, sum-add, sum-equal, sum-times}
+use Rattle.gg_counts.proofs.LeadLemmas.{next-event, leads-kept, leads-up, one-marking}
 
 -- all machines stand at the same cycle, with nothing served, taken or given in it
 abbrev level : Layout → ℕ → Marking

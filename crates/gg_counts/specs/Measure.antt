@@ -2,7 +2,7 @@
 -- Source: Dijkstra, "A Discipline of Programming" (1976) (a number that each step lowers shows that steps end).
 use Rattle.std.specs.Prelude.{ℕ, zero, suc, ◌+◌, ◌-◌, ◌*◌, length}
 use Rattle.gg_marking.specs.Marking.{Layout}
-use Rattle.gg_measure.specs.Counts.{Counts, dues}
+use Rattle.gg_counts.specs.Counts.{Counts, dues}
 
 -- the sum of f k for k below n
 abbrev pub sum_below : (ℕ → ℕ) → ℕ → ℕ

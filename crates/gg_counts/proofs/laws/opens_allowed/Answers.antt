@@ -1,5 +1,5 @@
-use Rattle.gg_measure.proofs.EndLemmas.{opening-allowed, opening-lowest, opening-left}
-use Rattle.gg_measure.proofs.laws.opens_allowed.Goals as goal
+use Rattle.gg_counts.proofs.EndLemmas.{opening-allowed, opening-lowest, opening-left}
+use Rattle.gg_counts.proofs.laws.opens_allowed.Goals as goal
 
 pub returns-clause-allowed : goal.returns-clause-allowed
 returns-clause-allowed c = λ layout begin can le. opening-allowed layout can begin le

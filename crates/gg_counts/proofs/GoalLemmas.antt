@@ -6,10 +6,10 @@ use Rattle.std.proofs.lemmas.Bool.{cases_lt}
 use Rattle.gg_net.specs.declared.event.Event.{Event}
 use Rattle.gg_net.specs.declared.event.Event.TheVariants.{Latch, Fire, Serve, Finish}
 use Rattle.gg_marking.specs.Marking.{Layout, Marking, link_at, turns_at, refusal}
-use Rattle.gg_measure.specs.Counts.{Counts, counts_of, dues, WasTaken, HasServed, IsAllowed, AreAtMost, IsBehind, Free, CanRun}
-use Rattle.gg_measure.proofs.EarlyLemmas.{early-few}
-use Rattle.gg_measure.proofs.FreeLemmas.{is-free}
-use Rattle.gg_measure.proofs.LeadLemmas.{next-event}
+use Rattle.gg_counts.specs.Counts.{Counts, counts_of, dues, WasTaken, HasServed, IsAllowed, AreAtMost, IsBehind, Free, CanRun}
+use Rattle.gg_counts.proofs.EarlyLemmas.{early-few}
+use Rattle.gg_counts.proofs.FreeLemmas.{is-free}
+use Rattle.gg_counts.proofs.LeadLemmas.{next-event}
 
 module _ (layout : Layout) (can : CanRun layout) (upto : ℕ) (a : Counts) (allowed : IsAllowed layout a) (within : upto ≤ layout.end) (below : (m : ℕ) → m < length layout.turns → a.cycles m ≤ upto) where
   abbrev goal : Counts

@@ -5,8 +5,8 @@ use Rattle.std.specs.Prelude.{All, slice_index_or}
 use Rattle.std.proofs.lemmas.Bool.{cases_lt}
 use Rattle.std.proofs.lemmas.Option.{slice_get-get_or}
 use Rattle.gg_marking.specs.Marking.{Layout, Turn, link_at, turns_at}
-use Rattle.gg_measure.specs.Counts.{Counts, early, dues, WasTaken, HasGiven, HasServed, IsAllowed, AreAtMost, AreSame, FreeLatch, FreeFire, FreeServe, FreeFinish, CanRun}
-use Rattle.gg_measure.proofs.EarlyLemmas.{early-few}
+use Rattle.gg_counts.specs.Counts.{Counts, early, dues, WasTaken, HasGiven, HasServed, IsAllowed, AreAtMost, AreSame, FreeLatch, FreeFire, FreeServe, FreeFinish, CanRun}
+use Rattle.gg_counts.proofs.EarlyLemmas.{early-few}
 
 any_turn : Turn
 any_turn = record { number = 0; fields = [] }

@@ -5,7 +5,7 @@ use Rattle.std.proofs.lemmas.Bool.{lt-ltb, le-ltb}
 use Rattle.std.proofs.lemmas.List.FromFn.{length-map-range_with_len, get_or-map-range_with_len}
 use Rattle.gg_flat.specs.Line.{value_at}
 use Rattle.gg_marking.specs.Marking.{Layout, link_at, turns_at, is_set, and_one}
-use Rattle.gg_measure.specs.Counts.{Counts, counts_of, dues, WasTaken, HasServed, IsAllowed, AreSame, CanRun, IsMarkingOf, marking_by}
+use Rattle.gg_counts.specs.Counts.{Counts, counts_of, dues, WasTaken, HasServed, IsAllowed, AreSame, CanRun, IsMarkingOf, marking_by}
 
 -- counts that agree with allowed counts are allowed
 module _ (layout : Layout) (can : CanRun layout) (a b : Counts) (allowed : IsAllowed layout a) (same : AreSame layout a b) where

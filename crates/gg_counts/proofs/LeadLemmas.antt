@@ -9,14 +9,14 @@ use Rattle.gg_net.specs.declared.event.Event.{Event}
 use Rattle.gg_net.specs.declared.event.Event.TheVariants.{Latch, Fire, Serve, Finish}
 use Rattle.gg_marking.specs.Marking.{Layout, Marking, Turn, link_at, is_set, and_one, due_turn, refusal, after}
 use Rattle.gg_marking.proofs.ChangeLemmas.{same-parts}
-use Rattle.gg_measure.specs.Counts.{Counts, counts_of, dues, IsAllowed, AreAtMost, AreSame, IsBehind, Raises, FreeServe, Free, CanRun, IsMarkingOf}
-use Rattle.gg_measure.specs.Measure.{left}
-use Rattle.gg_measure.specs.Leads.{Leads}
-use Rattle.gg_measure.proofs.KeepLemmas.{keeps-allowed, stays-below}
-use Rattle.gg_measure.proofs.StuckLemmas.{stuck-same}
-use Rattle.gg_measure.proofs.FreeLemmas.{is-free, free-is, due-is}
-use Rattle.gg_measure.proofs.RaiseLemmas.{raises-after, shape-after}
-use Rattle.gg_measure.proofs.MeasureLemmas.{left-falls, left-below}
+use Rattle.gg_counts.specs.Counts.{Counts, counts_of, dues, IsAllowed, AreAtMost, AreSame, IsBehind, Raises, FreeServe, Free, CanRun, IsMarkingOf}
+use Rattle.gg_counts.specs.Measure.{left}
+use Rattle.gg_counts.specs.Leads.{Leads}
+use Rattle.gg_counts.proofs.KeepLemmas.{keeps-allowed, stays-below}
+use Rattle.gg_counts.proofs.StuckLemmas.{stuck-same}
+use Rattle.gg_counts.proofs.FreeLemmas.{is-free, free-is, due-is}
+use Rattle.gg_counts.proofs.RaiseLemmas.{raises-after, shape-after}
+use Rattle.gg_counts.proofs.MeasureLemmas.{left-falls, left-below}
 
 -- ---- a search below a number
 

@@ -4,9 +4,9 @@ use Rattle.std.specs.Prelude.{All}
 use Rattle.gg_net.specs.declared.event.Event.TheVariants.{Latch, Fire, Finish}
 use Rattle.gg_net.specs.declared.event.Refusal.TheVariants.{Unfired, NeedsInput, NoToken, Full}
 use Rattle.gg_marking.specs.Marking.{Link, Layout, Marking, opening_marking, held, refusal, after}
-use Rattle.gg_measure.specs.Counts.{counts_of, early, CanRun, IsAllowed, Flows}
-use Rattle.gg_measure.specs.Measure.{left}
-use Rattle.gg_measure.specs.Leads.{Leads, end_marking}
+use Rattle.gg_counts.specs.Counts.{counts_of, early, CanRun, IsAllowed, Flows}
+use Rattle.gg_counts.specs.Measure.{left}
+use Rattle.gg_counts.specs.Leads.{Leads, end_marking}
 
 -- ---- two units that feed each other in one cycle: the hub 0, the units 1 and 2, a source 3, a tray 4
 

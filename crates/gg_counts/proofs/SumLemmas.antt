@@ -4,8 +4,8 @@ use Rattle.std.specs.Prelude.{◌⊎◌, if◌then◌else◌, sum, slice_index_o
 use Rattle.std.specs.List.{sum_by}
 use Rattle.std.proofs.lemmas.List.Sums.{sum_by-cons, sum-map}
 use Rattle.std.proofs.lemmas.Bool.{cases_eq, eq-eqb, ne_eqb}
-use Rattle.gg_measure.specs.Counts.{one_at}
-use Rattle.gg_measure.specs.Measure.{sum_below}
+use Rattle.gg_counts.specs.Counts.{one_at}
+use Rattle.gg_counts.specs.Measure.{sum_below}
 
 -- 1 at the number itself, else 0
 pub one-here : (a b : ℕ) → a ≡ b → one_at a b ≡ 1

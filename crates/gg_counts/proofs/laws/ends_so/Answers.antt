@@ -1,5 +1,5 @@
-use Rattle.gg_measure.proofs.EndLemmas.{stuck-ends, end-held}
-use Rattle.gg_measure.proofs.laws.ends_so.Goals as goal
+use Rattle.gg_counts.proofs.EndLemmas.{stuck-ends, end-held}
+use Rattle.gg_counts.proofs.laws.ends_so.Goals as goal
 
 pub returns-clause-ends : goal.returns-clause-ends
 returns-clause-ends c = λ layout old new events can shape allowed leads stuck. stuck-ends layout can old events new shape allowed leads stuck

@@ -3,9 +3,9 @@ use Rattle.std.proofs.Common.{◌≡◌, ℕ, suc, ◌+◌, ◌≤◌, length, r
 use Rattle.gg_net.specs.declared.event.Event.{Event}
 use Rattle.gg_net.specs.declared.event.Event.TheVariants.{Latch, Fire, Serve, Finish}
 use Rattle.gg_marking.specs.Marking.{Layout}
-use Rattle.gg_measure.specs.Counts.{Counts, fires, latches, finishes, accesses, IsAllowed, AreAtMost, Raises, Free}
-use Rattle.gg_measure.specs.Measure.{sum_below, left_in, left_at, left}
-use Rattle.gg_measure.proofs.SumLemmas.{sum-same, sum-le, sum-add, sum-one, sum-none}
+use Rattle.gg_counts.specs.Counts.{Counts, fires, latches, finishes, accesses, IsAllowed, AreAtMost, Raises, Free}
+use Rattle.gg_counts.specs.Measure.{sum_below, left_in, left_at, left}
+use Rattle.gg_counts.proofs.SumLemmas.{sum-same, sum-le, sum-add, sum-one, sum-none}
 
 -- what an event does in a channel, and at a machine
 abbrev moved_in : Event → ℕ → ℕ

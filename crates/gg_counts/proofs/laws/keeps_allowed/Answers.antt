@@ -1,5 +1,5 @@
-use Rattle.gg_measure.proofs.LeadLemmas.{went}
-use Rattle.gg_measure.proofs.laws.keeps_allowed.Goals as goal
+use Rattle.gg_counts.proofs.LeadLemmas.{went}
+use Rattle.gg_counts.proofs.laws.keeps_allowed.Goals as goal
 
 pub returns-clause-raises : goal.returns-clause-raises
 returns-clause-raises c = λ layout old event can shape allowed is. (went layout can old event shape allowed is).raises
