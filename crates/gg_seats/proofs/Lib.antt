@@ -1,0 +1,4 @@
+pub mod QueueLemmas
+pub mod StandLemmas
+pub mod RowLemmas
+pub mod FireLemmas
