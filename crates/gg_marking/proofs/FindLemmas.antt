@@ -1,8 +1,8 @@
 -- Searches: the first of some numbers that passes a test, and the first condition that fails.
-use Rattle.std.proofs.Common.{◌≡◌, ℕ, zero, suc, ◌+◌, ◌<◌, ◌≤◌, List, ◌∷◌, Option, None, Some, Bool, true, false, cond, refl, ap, ◌∙◌, ⊎_elim, arith}
+use Rattle.std.proofs.Common.{◌≡◌, ℕ, zero, suc, ◌+◌, ◌<◌, ◌≤◌, List, ◌∷◌, Option, None, Some, Bool, true, false, cond, refl, ap, sym, ◌∙◌, ⊎_elim, inl, inr, arith}
 use Rattle.std.specs.Prelude.{filter, find}
 use Rattle.std.specs.List.{range_with_len}
-use Rattle.std.proofs.lemmas.Bool.{cases_eq}
+use Rattle.std.proofs.lemmas.Bool.{cases_eq, cases_Bool, true≢false}
 use Rattle.gg_net.specs.declared.event.Refusal.{Refusal}
 use Rattle.gg_marking.specs.Marking.{or_next, unless, naming}
 
@@ -32,6 +32,38 @@ find-some p q a (suc n) d le lt chosen passes fails =
     (find-some p q (a + 1) n d above (omega (arith, lt)) chosen passes (λ c under before. fails c (omega (arith, under)) before)))
     (cases_eq a d)
 
+-- ---- if none is found
+
+pub some-none : {A : Type 0} (x : A) → ◌≡◌ {A = Option A} (Some x) None → ⊥
+some-none x is = cc
+
+pub found-skips : (p : ℕ → Bool) (a : ℕ) (rest : List ℕ) → find p (a ∷ rest) ≡ None → (p a ≡ false) × (find p rest ≡ None)
+found-skips p a rest is =
+    elim (cases_Bool (p a)) [
+      | inl passes ↦ absurd (some-none a (sym (ap (λ b. cond b (Some a) (find p rest)) passes) ∙ is))
+      | inr fails ↦ (fails, sym (ap (λ b. cond b (Some a) (find p rest)) fails) ∙ is)
+    ]
+
+-- no number that is chosen passes
+pub chosen-fail : (p q : ℕ → Bool) (a n : ℕ) → find p (filter q (range_with_len a n)) ≡ None → (c : ℕ) → a ≤ c → c < a + n → q c ≡ true → p c ≡ false
+chosen-fail p q a zero is c le lt chosen = absurd (omega (arith, le, lt))
+chosen-fail p q a (suc n) is c le lt chosen =
+    let rest : List ℕ = filter q (range_with_len (a + 1) n) in
+    elim (cases_Bool (q a)) [
+      | inl yes_a ↦
+          let h : (p a ≡ false) × (find p rest ≡ None) = found-skips p a rest (sym (ap (λ b. find p (cond b (a ∷ rest) rest)) yes_a) ∙ is) in
+          elim (cases_eq a c) [
+            | inl same ↦ ap p (sym same) ∙ h.0
+            | inr other ↦ chosen-fail p q (a + 1) n h.1 c (omega (arith, le, other)) (omega (arith, lt)) chosen
+          ]
+      | inr no_a ↦
+          let h : find p rest ≡ None = sym (ap (λ b. find p (cond b (a ∷ rest) rest)) no_a) ∙ is in
+          elim (cases_eq a c) [
+            | inl same ↦ absurd (true≢false (sym chosen ∙ ap q (sym same) ∙ no_a))
+            | inr other ↦ chosen-fail p q (a + 1) n h c (omega (arith, le, other)) (omega (arith, lt)) chosen
+          ]
+    ]
+
 -- ---- conditions
 
 -- a condition that holds is passed
@@ -55,3 +87,12 @@ names-none refusal first later is = ap (λ o. or_next (naming refusal o) later) 
 
 pub names-some : (refusal : ℕ → Refusal) (first : Option ℕ) (later : Option Refusal) (d : ℕ) → first ≡ Some d → or_next (naming refusal first) later ≡ Some (refusal d)
 names-some refusal first later d is = ap (λ o. or_next (naming refusal o) later) is
+
+-- if the refusals are none, the search finds no channel
+pub past-named : (f : ℕ → Refusal) (o : Option ℕ) (later : Option Refusal) → or_next (naming f o) later ≡ None → (o ≡ None) × (later ≡ None)
+past-named f None later is = (refl, is)
+past-named f (Some d) later is = absurd (some-none (f d) is)
+
+pub last-named : (f : ℕ → Refusal) (o : Option ℕ) → naming f o ≡ None → o ≡ None
+last-named f None is = refl
+last-named f (Some d) is = absurd (some-none (f d) is)

@@ -1,18 +1,18 @@
 -- `Finish` may be done in a network's marking if it may in the network, and is refused for the same cause if it is refused there.
-use Rattle.std.proofs.Common.{◌≡◌, ℕ, ◌<◌, Option, None, Some, length, ap, ◌∙◌}
+use Rattle.std.proofs.Common.{◌≡◌, ℕ, ◌<◌, Option, None, Some, length, sym, ap, ◌∙◌}
 use Rattle.gg_flat.specs.Streams.{Flow}
 use Rattle.gg_node.specs.Machine.{Machine, machine_at, due}
 use Rattle.gg_node.specs.Step.{AllFired}
 use Rattle.gg_net.specs.declared.event.Refusal.{Refusal}
 use Rattle.gg_net.specs.declared.event.Refusal.TheVariants.{Stranger, Ended, NeedsInput, Unfired, Unserved}
 use Rattle.gg_net.specs.Network.{Network, frame_of}
-use Rattle.gg_net.specs.Step.{IsBelow, CanFinish, FinishRefused}
+use Rattle.gg_net.specs.Step.{IsBelow, IsUnfired, IsUnlatched, CanFinish, FinishRefused}
 use Rattle.gg_net.specs.Kept.{Kept}
 use Rattle.gg_marking.specs.Marking.{Layout, Marking, is_machine, is_below, first_unmarked, channels_into, channels_out_of, unfired, unserved, due_turn, or_next, unless, naming, finish_refusal}
-use Rattle.gg_marking.specs.Fits.{HasLayout, marking_of}
-use Rattle.gg_marking.proofs.FindLemmas.{passed, failed, names-none, names-some}
+use Rattle.gg_marking.specs.Fits.{HasLayout, IsInOrder, marking_of}
+use Rattle.gg_marking.proofs.FindLemmas.{passed, failed, names-none, names-some, some-none, past-named, last-named}
 use Rattle.gg_marking.proofs.CountLemmas.{is-machine, no-machine, below-is, below-not}
-use Rattle.gg_marking.proofs.FirstLemmas.{none-unfired, first-unfired, none-unlatched, first-unlatched}
+use Rattle.gg_marking.proofs.FirstLemmas.{none-unfired, first-unfired, some-unfired, none-unlatched, first-unlatched, some-unlatched}
 use Rattle.gg_marking.proofs.DueLemmas.{IsDue, is-due, none-due}
 
 module _ (flow : Flow) (net : Network) (kept : Kept flow net) (layout : Layout) (has : HasLayout (frame_of net) layout) (m : ℕ) where
@@ -60,10 +60,27 @@ module _ (flow : Flow) (net : Network) (kept : Kept flow net) (layout : Layout) 
   pub finish-ready : CanFinish net m → finish_refusal layout marking m ≡ None
   finish-ready can = past-ports can.there can.below can.fired can.served ∙ ap (naming NeedsInput) (none-unlatched flow net kept layout has m can.there can.latched)
 
-  pub finish-refused : (cause : Refusal) → FinishRefused net m cause → finish_refusal layout marking m ≡ Some cause
-  finish-refused Stranger is = failed (is_machine layout m) Stranger at_end (no-machine net layout has m is)
-  finish-refused Ended is = past-machine is.0 ∙ failed (is_below layout marking m) Ended at_flags (below-not net layout has m is.1)
-  finish-refused (Unfired d) is = past-end is.0 is.1 ∙ names-some Unfired (first_unmarked marking.given (channels_out_of layout m)) at_ports d (first-unfired flow net kept layout has m is.0 d is.2)
-  finish-refused (Unserved p) is = past-flags is.0 is.1 is.2 ∙ port-due p is.0 is.3
-  finish-refused (NeedsInput d) is = past-ports is.0 is.1 is.2 is.3 ∙ ap (naming NeedsInput) (first-unlatched flow net kept layout has m is.0 d is.4)
-  finish-refused refusal is = absurd is
+  -- only which channel wasn't given or taken depends on an order
+  finish-by : (R : Refusal → Type 0) → ((d : ℕ) → m < length net.machines → finish_refusal layout marking m ≡ at_flags → IsUnfired net m d → R (Unfired d))
+      → ((d : ℕ) → m < length net.machines → finish_refusal layout marking m ≡ at_latches → IsUnlatched net m d → R (NeedsInput d)) → ((cause : Refusal) → finish_refusal layout marking m ≡ Some cause → R cause)
+      → (cause : Refusal) → FinishRefused net m cause → R cause
+  finish-by R unfired unlatched other Stranger is = other Stranger (failed (is_machine layout m) Stranger at_end (no-machine net layout has m is))
+  finish-by R unfired unlatched other Ended is = other Ended (past-machine is.0 ∙ failed (is_below layout marking m) Ended at_flags (below-not net layout has m is.1))
+  finish-by R unfired unlatched other (Unfired d) is = unfired d is.0 (past-end is.0 is.1) is.2
+  finish-by R unfired unlatched other (Unserved p) is = other (Unserved p) (past-flags is.0 is.1 is.2 ∙ port-due p is.0 is.3)
+  finish-by R unfired unlatched other (NeedsInput d) is = unlatched d is.0 (past-ports is.0 is.1 is.2 is.3) is.4
+  finish-by R unfired unlatched other refusal is = absurd is
+
+  pub finish-refused : IsInOrder (frame_of net) → (cause : Refusal) → FinishRefused net m cause → finish_refusal layout marking m ≡ Some cause
+  finish-refused order cause is =
+      finish-by (λ told. finish_refusal layout marking m ≡ Some told)
+      (λ d there so unfired. so ∙ names-some Unfired (first_unmarked marking.given (channels_out_of layout m)) at_ports d (first-unfired flow net kept layout has m there order d unfired))
+      (λ d there so unlatched. so ∙ ap (naming NeedsInput) (first-unlatched flow net kept layout has m there order d unlatched))
+      (λ told so. so) cause is
+
+  pub finish-stopped : (cause : Refusal) → FinishRefused net m cause → finish_refusal layout marking m ≡ None → ⊥
+  finish-stopped cause is =
+      finish-by (λ told. finish_refusal layout marking m ≡ None → ⊥)
+      (λ d there so unfired none. some-unfired flow net kept layout has m there d unfired (past-named Unfired (first_unmarked marking.given (channels_out_of layout m)) at_ports (sym so ∙ none)).0)
+      (λ d there so unlatched none. some-unlatched flow net kept layout has m there d unlatched (last-named NeedsInput (first_unmarked marking.taken (channels_into layout m)) (sym so ∙ none)))
+      (λ told so none. some-none told (sym so ∙ none)) cause is

@@ -1,7 +1,7 @@
 -- The first channel of a machine whose token of this cycle wasn't given, or wasn't taken.
 use Rattle.std.proofs.Common.{◌≡◌, ℕ, ◌+◌, ◌<◌, None, Some, true, false, length, map, sym, ap, ◌∙◌, arith}
 use Rattle.std.specs.Prelude.{is_some, IsSome, not, ◌==◌}
-use Rattle.std.proofs.lemmas.Bool.{eq-eqb, eqb-true}
+use Rattle.std.proofs.lemmas.Bool.{eq-eqb, eqb-true, true≢false}
 use Rattle.std.proofs.lemmas.List.{length-map}
 use Rattle.gg_flat.specs.Streams.{Flow}
 use Rattle.gg_node.specs.Machine.{Machine, machine_at, latch_at, flag_at}
@@ -11,8 +11,8 @@ use Rattle.gg_net.specs.Step.{IsUnfired, IsUnlatched}
 use Rattle.gg_net.specs.Kept.{MachineAt, Kept}
 use Rattle.gg_net.proofs.MachineLemmas.{out-within, place-within}
 use Rattle.gg_marking.specs.Marking.{Layout, Marking, link_at, is_set, first_unmarked, channels_into, channels_out_of}
-use Rattle.gg_marking.specs.Fits.{HasLayout, marking_of}
-use Rattle.gg_marking.proofs.FindLemmas.{find-none, find-some}
+use Rattle.gg_marking.specs.Fits.{HasLayout, IsInOrder, marking_of}
+use Rattle.gg_marking.proofs.FindLemmas.{find-none, find-some, chosen-fail}
 use Rattle.gg_marking.proofs.CountLemmas.{taken-at, given-at}
 
 module _ (flow : Flow) (net : Network) (kept : Kept flow net) (layout : Layout) (has : HasLayout (frame_of net) layout) (m : ℕ) (there : m < length net.machines) where
@@ -46,8 +46,8 @@ module _ (flow : Flow) (net : Network) (kept : Kept flow net) (layout : Layout) 
       let is : (wire_at net.wires c).producer ≡ m = from c known chosen in
       ap not (given-is c known is ∙ all (wire_at net.wires c).out false (out-within flow (frame_of net) kept.sound m below x at c known is)))
 
-  pub first-unfired : (d : ℕ) → IsUnfired net m d → first_unmarked marking.given (channels_out_of layout m) ≡ Some d
-  first-unfired d unfired =
+  pub first-unfired : IsInOrder (frame_of net) → (d : ℕ) → IsUnfired net m d → first_unmarked marking.given (channels_out_of layout m) ≡ Some d
+  first-unfired order d unfired =
       let known : d < length net.wires = unfired.at.known in
       find-some (λ c. not (is_set marking.given c)) (λ c. (link_at layout c).producer == m) 0 (length layout.links) d (omega arith) (omega (arith, known, has.channels))
       (eq-eqb (link_at layout d).producer m ((has.link d known).producer ∙ unfired.at.machine))
@@ -55,8 +55,17 @@ module _ (flow : Flow) (net : Network) (kept : Kept flow net) (layout : Layout) 
       (λ c le lt chosen.
       let c_known : c < length net.wires = omega (arith, lt, known) in
       let is : (wire_at net.wires c).producer ≡ m = from c c_known chosen in
-      let out_before : (wire_at net.wires c).out < (wire_at net.wires d).out = has.outs c d lt known (is ∙ sym unfired.at.machine) in
+      let out_before : (wire_at net.wires c).out < (wire_at net.wires d).out = order.outs c d lt known (is ∙ sym unfired.at.machine) in
       ap not (given-is c c_known is ∙ unfired.first.before (wire_at net.wires c).out (omega (arith, out_before, unfired.at.out))))
+
+  -- if a channel hasn't been given, the search finds one
+  pub some-unfired : (d : ℕ) → IsUnfired net m d → first_unmarked marking.given (channels_out_of layout m) ≡ None → ⊥
+  some-unfired d unfired none =
+      let known : d < length net.wires = unfired.at.known in
+      let marked : not (is_set marking.given d) ≡ false =
+      chosen-fail (λ c. not (is_set marking.given c)) (λ c. (link_at layout c).producer == m) 0 (length layout.links) none d (omega arith) (omega (arith, known, has.channels))
+      (eq-eqb (link_at layout d).producer m ((has.link d known).producer ∙ unfired.at.machine)) in
+      true≢false (sym (ap not (given-is d known unfired.at.machine ∙ ap (flag_at x.flags) unfired.at.out ∙ unfired.first.clear)) ∙ marked)
 
   -- ---- the channels that the machine takes
 
@@ -74,8 +83,8 @@ module _ (flow : Flow) (net : Network) (kept : Kept flow net) (layout : Layout) 
       let some : IsSome (latch_at x.latches (wire_at net.wires c).place) = all (wire_at net.wires c).place None (place-within flow (frame_of net) kept.sound m below x at c known is) in
       ap not (taken-is c known is ∙ some))
 
-  pub first-unlatched : (d : ℕ) → IsUnlatched net m d → first_unmarked marking.taken (channels_into layout m) ≡ Some d
-  first-unlatched d unlatched =
+  pub first-unlatched : IsInOrder (frame_of net) → (d : ℕ) → IsUnlatched net m d → first_unmarked marking.taken (channels_into layout m) ≡ Some d
+  first-unlatched order d unlatched =
       let known : d < length net.wires = unlatched.at.known in
       find-some (λ c. not (is_set marking.taken c)) (λ c. (link_at layout c).consumer == m) 0 (length layout.links) d (omega arith) (omega (arith, known, has.channels))
       (eq-eqb (link_at layout d).consumer m ((has.link d known).consumer ∙ unlatched.at.machine))
@@ -83,6 +92,15 @@ module _ (flow : Flow) (net : Network) (kept : Kept flow net) (layout : Layout) 
       (λ c le lt chosen.
       let c_known : c < length net.wires = omega (arith, lt, known) in
       let is : (wire_at net.wires c).consumer ≡ m = to c c_known chosen in
-      let place_before : (wire_at net.wires c).place < (wire_at net.wires d).place = has.ins c d lt known (is ∙ sym unlatched.at.machine) in
+      let place_before : (wire_at net.wires c).place < (wire_at net.wires d).place = order.ins c d lt known (is ∙ sym unlatched.at.machine) in
       let some : IsSome (latch_at x.latches (wire_at net.wires c).place) = unlatched.first.before (wire_at net.wires c).place (omega (arith, place_before, unlatched.at.place)) in
       ap not (taken-is c c_known is ∙ some))
+
+  -- if a channel hasn't been taken, the search finds one
+  pub some-unlatched : (d : ℕ) → IsUnlatched net m d → first_unmarked marking.taken (channels_into layout m) ≡ None → ⊥
+  some-unlatched d unlatched none =
+      let known : d < length net.wires = unlatched.at.known in
+      let marked : not (is_set marking.taken d) ≡ false =
+      chosen-fail (λ c. not (is_set marking.taken c)) (λ c. (link_at layout c).consumer == m) 0 (length layout.links) none d (omega arith) (omega (arith, known, has.channels))
+      (eq-eqb (link_at layout d).consumer m ((has.link d known).consumer ∙ unlatched.at.machine)) in
+      true≢false (sym (ap not (taken-is d known unlatched.at.machine ∙ ap (λ i. is_some (latch_at x.latches i)) unlatched.at.place ∙ ap is_some unlatched.first.empty)) ∙ marked)

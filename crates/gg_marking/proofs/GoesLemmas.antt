@@ -9,11 +9,12 @@ use Rattle.gg_net.specs.Network.{Network, frame_of}
 use Rattle.gg_net.specs.Kept.{Kept}
 use Rattle.gg_net.specs.Step.{Ready, Refused, Step}
 use Rattle.gg_marking.specs.Marking.{Layout, refusal, after}
-use Rattle.gg_marking.specs.Fits.{HasLayout, marking_of}
+use Rattle.gg_marking.specs.Fits.{HasLayout, IsInOrder, marking_of}
+use Rattle.gg_marking.proofs.FindLemmas.{some-none}
 use Rattle.gg_marking.proofs.LatchLaw.{latch-ready, latch-refused}
 use Rattle.gg_marking.proofs.FireLaw.{fire-ready, fire-refused}
-use Rattle.gg_marking.proofs.ServeLaw.{serve-ready, serve-refused}
-use Rattle.gg_marking.proofs.FinishLaw.{finish-ready, finish-refused}
+use Rattle.gg_marking.proofs.ServeLaw.{serve-ready, serve-refused, serve-stopped}
+use Rattle.gg_marking.proofs.FinishLaw.{finish-ready, finish-refused, finish-stopped}
 use Rattle.gg_marking.proofs.LatchStep.{latch-frame, latch-step}
 use Rattle.gg_marking.proofs.FireStep.{fire-frame, fire-step}
 use Rattle.gg_marking.proofs.ServeStep.{serve-frame, serve-step}
@@ -27,11 +28,11 @@ module _ (flow : Flow) (net : Network) (kept : Kept flow net) (layout : Layout) 
   ready-free (Serve m p) can = serve-ready flow net kept layout has m p can
   ready-free (Finish m) can = finish-ready flow net kept layout has m can
 
-  pub refused-so : (event : Event) (cause : Refusal) → Refused net event cause → refusal layout (marking_of net) event ≡ Some cause
-  refused-so (Latch c) cause is = latch-refused flow net kept layout has c cause is
-  refused-so (Fire c) cause is = fire-refused flow net kept layout has c cause is
-  refused-so (Serve m p) cause is = serve-refused flow net kept layout has m p cause is
-  refused-so (Finish m) cause is = finish-refused flow net kept layout has m cause is
+  pub refused-so : IsInOrder (frame_of net) → (event : Event) (cause : Refusal) → Refused net event cause → refusal layout (marking_of net) event ≡ Some cause
+  refused-so order (Latch c) cause is = latch-refused flow net kept layout has c cause is
+  refused-so order (Fire c) cause is = fire-refused flow net kept layout has c cause is
+  refused-so order (Serve m p) cause is = serve-refused flow net kept layout has m p order cause is
+  refused-so order (Finish m) cause is = finish-refused flow net kept layout has m order cause is
 
   pub step-marks : (event : Event) (new : Network) → Step net event new → marking_of new ≡ after layout (marking_of net) event
   step-marks (Latch c) new step = ap marking_of step.after ∙ latch-step flow net kept layout c step.ready
@@ -48,16 +49,22 @@ step-frame old (Finish m) new step = ap frame_of step.after.after ∙ finish-fra
 -- ---- the other way round
 
 module _ (flow : Flow) (net : Network) (kept : Kept flow net) (layout : Layout) (has : HasLayout (frame_of net) layout) (event : Event) where
+  stopped : (e : Event) (cause : Refusal) → Refused net e cause → refusal layout (marking_of net) e ≡ None → ⊥
+  stopped (Latch c) cause is none = some-none cause (sym (latch-refused flow net kept layout has c cause is) ∙ none)
+  stopped (Fire c) cause is none = some-none cause (sym (fire-refused flow net kept layout has c cause is) ∙ none)
+  stopped (Serve m p) cause is none = serve-stopped flow net kept layout has m p cause is none
+  stopped (Finish m) cause is none = finish-stopped flow net kept layout has m cause is none
+
   pub free-ready : refusal layout (marking_of net) event ≡ None → Ready net event
   free-ready free =
       ⊎_elim
       (λ (ready : Ready net event). ready)
-      (λ (refused : (cause : Refusal) × Refused net event cause). let is : ◌≡◌ {A = Option Refusal} (Some refused.0) None = sym (refused-so flow net kept layout has event refused.0 refused.1) ∙ free in cc)
+      (λ (refused : (cause : Refusal) × Refused net event cause). absurd (stopped event refused.0 refused.1 free))
       (ready-or-refused flow net kept event)
 
-  pub so-refused : (cause : Refusal) → refusal layout (marking_of net) event ≡ Some cause → Refused net event cause
-  so-refused cause so =
+  pub so-refused : IsInOrder (frame_of net) → (cause : Refusal) → refusal layout (marking_of net) event ≡ Some cause → Refused net event cause
+  so-refused order cause so =
       ⊎_elim
       (λ (ready : Ready net event). let is : ◌≡◌ {A = Option Refusal} None (Some cause) = sym (ready-free flow net kept layout has event ready) ∙ so in cc)
-      (λ (refused : (told : Refusal) × Refused net event told). subst (Refused net event) (same_Some refused.0 cause (sym (refused-so flow net kept layout has event refused.0 refused.1) ∙ so)) refused.1)
+      (λ (refused : (told : Refusal) × Refused net event told). subst (Refused net event) (same_Some refused.0 cause (sym (refused-so flow net kept layout has order event refused.0 refused.1) ∙ so)) refused.1)
       (ready-or-refused flow net kept event)

@@ -14,6 +14,7 @@ pub mod FinishLaw
 pub mod FinishStep
 pub mod DecideLemmas
 pub mod GoesLemmas
+pub mod LayoutLemmas
 pub mod OpeningLemmas
 pub mod StepsLemmas
 pub mod PutsLemmas

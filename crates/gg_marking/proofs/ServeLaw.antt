@@ -8,14 +8,14 @@ use Rattle.gg_node.specs.Step.{AllFired}
 use Rattle.gg_net.specs.declared.event.Refusal.{Refusal}
 use Rattle.gg_net.specs.declared.event.Refusal.TheVariants.{Stranger, Ended, NeedsInput, Order, Unfired}
 use Rattle.gg_net.specs.Network.{Network, frame_of}
-use Rattle.gg_net.specs.Step.{HasPort, IsBelow, IsWanted, CanServe, ServeRefused, due_or_count, missing_field}
+use Rattle.gg_net.specs.Step.{HasPort, IsBelow, IsWanted, IsUnfired, CanServe, ServeRefused, due_or_count, missing_field}
 use Rattle.gg_net.specs.Kept.{Kept}
 use Rattle.gg_marking.specs.Marking.{Turn, Layout, Marking, has_port, is_below, first_unmarked, channels_out_of, unfired, due_turn, turn_refusal, or_next, unless, naming, serve_refusal}
-use Rattle.gg_marking.specs.Fits.{HasLayout, marking_of}
-use Rattle.gg_marking.proofs.FindLemmas.{passed, failed, names-none, names-some}
+use Rattle.gg_marking.specs.Fits.{HasLayout, IsInOrder, marking_of}
+use Rattle.gg_marking.proofs.FindLemmas.{passed, failed, names-none, names-some, some-none, past-named}
 use Rattle.gg_marking.proofs.CountLemmas.{below-is, below-not}
 use Rattle.gg_marking.proofs.NeedLemmas.{unmarked-none, unmarked-some}
-use Rattle.gg_marking.proofs.FirstLemmas.{none-unfired, first-unfired}
+use Rattle.gg_marking.proofs.FirstLemmas.{none-unfired, first-unfired, some-unfired}
 use Rattle.gg_marking.proofs.DueLemmas.{IsDue, is-due, none-due, port-count-is, has-port, no-port}
 
 module _ (flow : Flow) (net : Network) (kept : Kept flow net) (layout : Layout) (has : HasLayout (frame_of net) layout) (m p : ℕ) where
@@ -85,10 +85,24 @@ module _ (flow : Flow) (net : Network) (kept : Kept flow net) (layout : Layout) 
   pub serve-ready : CanServe net m p → serve_refusal layout marking m p ≡ None
   serve-ready can = past-flags can.there can.below can.fired ∙ fields-there can.there.0 can.due can.fields
 
-  pub serve-refused : (cause : Refusal) → ServeRefused net m p cause → serve_refusal layout marking m p ≡ Some cause
-  serve-refused Stranger is = failed (has_port layout m p) Stranger at_end (no-port net layout has m p is)
-  serve-refused Ended is = past-port is.0 ∙ failed (is_below layout marking m) Ended at_flags (below-not net layout has m is.1)
-  serve-refused (Unfired d) is = past-end is.0 is.1 ∙ names-some Unfired (first_unmarked marking.given (channels_out_of layout m)) at_turn d (first-unfired flow net kept layout has m is.0.0 d is.2)
-  serve-refused (Order q) is = past-flags is.0 is.1 is.2 ∙ wrong-turn (due x) is.0.0 refl is.3 ∙ ap (λ n. Some (Order n)) (sym is.4)
-  serve-refused (NeedsInput d) is = past-flags is.0 is.1 is.2 ∙ field-wanted (missing_field net m) d refl is.0.0 is.3 is.4
-  serve-refused refusal is = absurd is
+  -- only which channel wasn't given depends on an order
+  serve-by : (R : Refusal → Type 0) → ((d : ℕ) → HasPort net m p → IsBelow net m → IsUnfired net m d → R (Unfired d)) → ((cause : Refusal) → serve_refusal layout marking m p ≡ Some cause → R cause)
+      → (cause : Refusal) → ServeRefused net m p cause → R cause
+  serve-by R unfired other Stranger is = other Stranger (failed (has_port layout m p) Stranger at_end (no-port net layout has m p is))
+  serve-by R unfired other Ended is = other Ended (past-port is.0 ∙ failed (is_below layout marking m) Ended at_flags (below-not net layout has m is.1))
+  serve-by R unfired other (Unfired d) is = unfired d is.0 is.1 is.2
+  serve-by R unfired other (Order q) is = other (Order q) (past-flags is.0 is.1 is.2 ∙ wrong-turn (due x) is.0.0 refl is.3 ∙ ap (λ n. Some (Order n)) (sym is.4))
+  serve-by R unfired other (NeedsInput d) is = other (NeedsInput d) (past-flags is.0 is.1 is.2 ∙ field-wanted (missing_field net m) d refl is.0.0 is.3 is.4)
+  serve-by R unfired other refusal is = absurd is
+
+  pub serve-refused : IsInOrder (frame_of net) → (cause : Refusal) → ServeRefused net m p cause → serve_refusal layout marking m p ≡ Some cause
+  serve-refused order cause is =
+      serve-by (λ told. serve_refusal layout marking m p ≡ Some told)
+      (λ d there below unfired. past-end there below ∙ names-some Unfired (first_unmarked marking.given (channels_out_of layout m)) at_turn d (first-unfired flow net kept layout has m there.0 order d unfired))
+      (λ told so. so) cause is
+
+  pub serve-stopped : (cause : Refusal) → ServeRefused net m p cause → serve_refusal layout marking m p ≡ None → ⊥
+  serve-stopped cause is =
+      serve-by (λ told. serve_refusal layout marking m p ≡ None → ⊥)
+      (λ d there below unfired none. some-unfired flow net kept layout has m there.0 d unfired (past-named Unfired (first_unmarked marking.given (channels_out_of layout m)) at_turn (sym (past-end there below) ∙ none)).0)
+      (λ told so none. some-none told (sym so ∙ none)) cause is

@@ -45,7 +45,7 @@ counter =
     }
 
 counter-fits : HasLayout (frame_of opens) counter
-counter-fits = record { machines = refl; channels = refl; end = refl; ports = refl; link = links; turns = turns; ins = ins; outs = outs }
+counter-fits = record { machines = refl; channels = refl; end = refl; ports = refl; link = links; turns = turns }
   where
     links : (c : ℕ) → c < 2 → IsLinkOf (frame_of opens) c (link_at counter c)
     links zero lt = record { producer = refl; consumer = refl; capacity = refl; piped = refl; needs = refl; taken = λ k any below. absurd (omega (arith, below)) }
@@ -156,7 +156,7 @@ with_these needs fields =
     }
 
 needy-fits : HasLayout needy (with_these (1 ∷ 0 ∷ []) (1 ∷ 0 ∷ []))
-needy-fits = record { machines = refl; channels = refl; end = refl; ports = refl; link = links; turns = turns; ins = ins; outs = outs }
+needy-fits = record { machines = refl; channels = refl; end = refl; ports = refl; link = links; turns = turns }
   where
     both : (k any : ℕ) → k < 2 → (slice_index_or (1 ∷ 0 ∷ []) k any < 3) × ((wire_at needy.wires (slice_index_or (1 ∷ 0 ∷ []) k any)).consumer ≡ 0)
     both zero any lt = (lit< tt, refl)

@@ -38,8 +38,7 @@ pub record AreTurnsOf (frame : Frame) (m : ℕ) (ports : List Port) (turns : Lis
   pub count : length turns ≡ length ports
   pub each : (i : ℕ) (port : Port) (turn : Turn) → i < length ports → IsTurnOf frame m (slice_index_or ports i port) (slice_index_or turns i turn)
 
--- The layout is that of a network with this frame. The ins and the outs of a machine are in the order of their
--- channels.
+-- The layout is that of a network with this frame.
 pub record HasLayout (frame : Frame) (layout : Layout) : Type 0 where
   pub machines : length layout.turns ≡ length frame.kinds
   pub channels : length layout.links ≡ length frame.wires
@@ -47,6 +46,9 @@ pub record HasLayout (frame : Frame) (layout : Layout) : Type 0 where
   pub ports : layout.port_counts ≡ map (λ kind. kind.port_count) frame.kinds
   pub link : (c : ℕ) → c < length frame.wires → IsLinkOf frame c (link_at layout c)
   pub turns : (m : ℕ) → m < length frame.kinds → AreTurnsOf frame m (kind_at frame.kinds m).ports (turns_at layout m)
+
+-- The ins and the outs of a machine are in the order of their channels.
+pub record IsInOrder (frame : Frame) : Type 0 where
   pub ins : (c d : ℕ) → c < d → d < length frame.wires → (wire_at frame.wires c).consumer ≡ (wire_at frame.wires d).consumer → (wire_at frame.wires c).place < (wire_at frame.wires d).place
   pub outs : (c d : ℕ) → c < d → d < length frame.wires → (wire_at frame.wires c).producer ≡ (wire_at frame.wires d).producer → (wire_at frame.wires c).out < (wire_at frame.wires d).out
 

@@ -2,3 +2,4 @@ pub mod Marking
 pub mod Goes
 pub mod Fits
 pub mod Steps
+pub mod LayoutOf

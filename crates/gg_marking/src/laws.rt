@@ -7,23 +7,25 @@ ghost use Rattle.gg_net.specs.declared.shape.Wire.{Wire};
 ghost use Rattle.gg_net.specs.declared.event.Event.{Event};
 ghost use Rattle.gg_net.specs.declared.event.Event.TheVariants.{Fire};
 ghost use Rattle.gg_net.specs.declared.event.Refusal.{Refusal};
-ghost use Rattle.gg_net.specs.Network.{Network, wire_at, queue_at, frame_of};
+ghost use Rattle.gg_net.specs.Network.{Network, Frame, wire_at, queue_at, frame_of};
 ghost use Rattle.gg_net.specs.Network as network;
-ghost use Rattle.gg_net.specs.Kept.{Kept, list_at};
+ghost use Rattle.gg_net.specs.Kept.{IsWired, Kept, list_at};
 ghost use Rattle.gg_net.specs.Net.{IsOpening, opening_net};
 ghost use Rattle.gg_net.specs.Step.{Ready, Refused, Step};
 ghost use Rattle.gg_marking.specs.Marking.{Layout, opening_marking, puts, takes, held, refusal, after};
 ghost use Rattle.gg_marking.specs.Goes.{Stopped, replayed_from};
-ghost use Rattle.gg_marking.specs.Fits.{HasLayout, marking_of};
+ghost use Rattle.gg_marking.specs.Fits.{HasLayout, IsInOrder, marking_of};
+ghost use Rattle.gg_marking.specs.LayoutOf.{layout_of};
 ghost use Rattle.gg_marking.specs.Steps.{IsStep, Steps, StopsAt};
 
 /// A network agrees with its marking. An event may be done exactly if the marking doesn't refuse it. Every other event
-/// is refused for the marking's cause. A step changes the marking as its event does, and leaves the layout as it is.
+/// is refused for the marking's cause, if ins and outs are in the order of their channels. A step changes the marking as
+/// its event does, and leaves the layout as it is.
 pub fn goes_by_marking()
     ensures ready { (flow : Flow) (net : Network) (layout : Layout) (event : Event) → Kept flow net → HasLayout (frame_of net) layout → Ready net event → refusal layout (marking_of net) event ≡ None }
-    ensures refused { (flow : Flow) (net : Network) (layout : Layout) (event : Event) (cause : Refusal) → Kept flow net → HasLayout (frame_of net) layout → Refused net event cause → refusal layout (marking_of net) event ≡ Some cause }
+    ensures refused { (flow : Flow) (net : Network) (layout : Layout) (event : Event) (cause : Refusal) → Kept flow net → HasLayout (frame_of net) layout → IsInOrder (frame_of net) → Refused net event cause → refusal layout (marking_of net) event ≡ Some cause }
     ensures free { (flow : Flow) (net : Network) (layout : Layout) (event : Event) → Kept flow net → HasLayout (frame_of net) layout → refusal layout (marking_of net) event ≡ None → Ready net event }
-    ensures told { (flow : Flow) (net : Network) (layout : Layout) (event : Event) (cause : Refusal) → Kept flow net → HasLayout (frame_of net) layout → refusal layout (marking_of net) event ≡ Some cause → Refused net event cause }
+    ensures told { (flow : Flow) (net : Network) (layout : Layout) (event : Event) (cause : Refusal) → Kept flow net → HasLayout (frame_of net) layout → IsInOrder (frame_of net) → refusal layout (marking_of net) event ≡ Some cause → Refused net event cause }
     ensures step { (flow : Flow) (old new : Network) (layout : Layout) (event : Event) → Kept flow old → HasLayout (frame_of old) layout → Step old event new → marking_of new ≡ after layout (marking_of old) event }
     ensures frame { (old new : Network) (event : Event) → Step old event new → frame_of new ≡ frame_of old }
 {}
@@ -64,6 +66,11 @@ pub fn steps_keep()
 /// What steps do to the marking determines where they lead, which step is refused, and why.
 pub fn steps_by_marking()
     ensures done { (flow : Flow) (old new : Network) (layout : Layout) (k : ℕ) (events : List (Option Event)) → Kept flow old → HasLayout (frame_of old) layout → Steps old events new → replayed_from layout k (marking_of old) events ≡ Ok (marking_of new) }
-    ensures stopped { (flow : Flow) (old new : Network) (layout : Layout) (k : ℕ) (events : List (Option Event)) (stopped : Stopped) → Kept flow old → HasLayout (frame_of old) layout → StopsAt k old events new stopped → replayed_from layout k (marking_of old) events ≡ Err stopped }
+    ensures stopped { (flow : Flow) (old new : Network) (layout : Layout) (k : ℕ) (events : List (Option Event)) (stopped : Stopped) → Kept flow old → HasLayout (frame_of old) layout → IsInOrder (frame_of old) → StopsAt k old events new stopped → replayed_from layout k (marking_of old) events ≡ Err stopped }
     ensures goes_on { (flow : Flow) (old new : Network) (layout : Layout) (k : ℕ) (event : Option Event) (events : List (Option Event)) → Kept flow old → HasLayout (frame_of old) layout → IsStep old event new → replayed_from layout k (marking_of old) (event ∷ events) ≡ replayed_from layout (suc k) (marking_of new) events }
+{}
+
+/// Each network that is wired has a layout.
+pub fn each_has_layout()
+    ensures { (frame : Frame) → IsWired frame → HasLayout frame (layout_of frame) }
 {}

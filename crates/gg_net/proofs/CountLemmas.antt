@@ -25,7 +25,7 @@ given-same cycle false true same = absurd (omega (arith, same))
 given-same cycle true false same = absurd (omega (arith, same))
 given-same cycle true true same = refl
 
-between-once : (list : List ℕ) (capacity taken put : ℕ) (a b : List ℕ) → BetweenAt list capacity taken put a → BetweenAt list capacity taken put b → a ≡ b
+pub between-once : (list : List ℕ) (capacity taken put : ℕ) (a b : List ℕ) → BetweenAt list capacity taken put a → BetweenAt list capacity taken put b → a ≡ b
 between-once list capacity taken put a b is was =
     ext_get_or 0 a b (omega (arith, is.held, was.held)) (λ j lt. is.tokens j lt ∙ sym (was.tokens j (omega (arith, lt, is.held, was.held))))
 

@@ -11,6 +11,7 @@ pub mod SeatLemmas
 pub mod PortLemmas
 pub mod NetLemmas
 pub mod MayLemmas
+pub mod PartLemmas
 pub mod CloseLemmas
 pub mod WorkedNets
 pub mod WorkedPipes

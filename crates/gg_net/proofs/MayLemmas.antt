@@ -19,7 +19,7 @@ use Rattle.gg_net.proofs.StateLemmas.{settled-at}
 
 module _ (flow : Flow) (frame : Frame) (sound : IsSound flow frame) (m : ℕ) (below : m < length frame.kinds) where
   -- a channel's value is of the type of its in
-  fits-by : (b : Behaviour) (c t : ℕ) → (kind_at frame.kinds m).behaviour ≡ b → c < length frame.wires → (wire_at frame.wires c).consumer ≡ m → flow.begin ≤ t → t < frame.end → FitsIn b (wire_at frame.wires c).place (value_at (list_at flow.lists c) t)
+  pub fits-by : (b : Behaviour) (c t : ℕ) → (kind_at frame.kinds m).behaviour ≡ b → c < length frame.wires → (wire_at frame.wires c).consumer ≡ m → flow.begin ≤ t → t < frame.end → FitsIn b (wire_at frame.wires c).place (value_at (list_at flow.lists c) t)
   fits-by (RunsPiece piece) c t is known to le lt =
       let i : ℕ = (wire_at frame.wires c).place in
       let s : ℕ = value_at piece.ins i in
@@ -36,7 +36,7 @@ module _ (flow : Flow) (frame : Frame) (sound : IsSound flow frame) (m : ℕ) (b
   fits-by (KeepsLast rows) c t is known to le lt = tt
 
   -- a column has a value for each cycle
-  known-by : (b : Behaviour) (t : ℕ) → (kind_at frame.kinds m).behaviour ≡ b → t < frame.end → HasValueAt b t
+  pub known-by : (b : Behaviour) (t : ℕ) → (kind_at frame.kinds m).behaviour ≡ b → t < frame.end → HasValueAt b t
   known-by (RunsPiece piece) t is lt = tt
   known-by (GivesColumn column) t is lt = let long : frame.end ≤ length column = (subst (λ b. Runs b (kind_at frame.kinds m) (start_at flow (kind_at frame.kinds m) m) (rows_at flow.runs m) frame.end) is (sound.solves.does m below)).0 in omega (arith, lt, long)
   known-by (KeepsLast rows) t is lt = tt

@@ -5,3 +5,4 @@ pub mod Queue
 pub mod Seats
 pub mod Net
 pub mod Fixture
+pub mod Parted

@@ -2,6 +2,7 @@
 ghost use Rattle.std.specs.Prelude.{◌≡◌, ◌-◌, ◌<◌, ◌≤◌, ◌++◌, ◌∷◌, [], length, drop, IfOk, Some, None, MatchOption};
 ghost use Rattle.gg_flat.specs.Line.{value_at};
 ghost use Rattle.gg_net.specs.Network.{opening_queue};
+ghost use Rattle.gg_net.specs.Queue.{held_of};
 
 use std::alloc::{AllocError, Global};
 use std::collections::VecDeque;
@@ -36,6 +37,20 @@ impl Queue {
             tokens.push_back_reserved(token);
         }
         Ok(Queue { tokens })
+    }
+
+    /// The queue of these tokens, with their room.
+    pub fn of(tokens: VecDeque<u128>) -> Queue
+        ensures { result ≡ held_of tokens }
+    {
+        Queue { tokens }
+    }
+
+    /// The tokens, with their room.
+    pub fn into_tokens(self) -> VecDeque<u128>
+        ensures { held_of result ≡ self }
+    {
+        self.tokens
     }
 
     /// The number of tokens.

@@ -1,0 +1,13 @@
+pub mod EarlyLemmas
+pub mod SumLemmas
+pub mod KeepLemmas
+pub mod StuckLemmas
+pub mod FreeLemmas
+pub mod RaiseLemmas
+pub mod MeasureLemmas
+pub mod LeadLemmas
+pub mod EndLemmas
+pub mod CountsLemmas
+pub mod ReachLemmas
+pub mod GoalLemmas
+pub mod WorkedMeasures

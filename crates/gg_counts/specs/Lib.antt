@@ -1,0 +1,3 @@
+pub mod Counts
+pub mod Measure
+pub mod Leads

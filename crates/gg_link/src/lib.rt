@@ -1,0 +1,98 @@
+//! Links: the channels of a network between threads.
+//!
+//! A link carries the values of one stream, in order, from one thread to another. The thread that puts has one seat, the
+//! thread that takes has the other. A stream is the list of a channel, from a place on ([`Streams`]). The trait [`Link`]
+//! says what each kind of link promises:
+//!
+//! - the n-th value that `put` accepts is the stream's n-th, and so is the n-th that `take` returns;
+//! - `put` refuses a value only after it has looked how many were taken, and found the link full by that;
+//! - `take` returns none only after it has looked how many were put, and found none left;
+//! - `close` returns exactly the values that were put and not taken, in order, at most the capacity.
+#![tactic(auto)]
+
+ghost use Rattle.std.specs.Prelude.{◌≡◌, ℕ, ◌+◌, ◌≤◌, List, [], ◌++◌, length, slice_get, Some, IfOk, MatchResult, MatchOption};
+ghost use Rattle.std.specs.VecDeque.{deque_items, deque_len, deque_capacity};
+ghost use Rattle.gg_link.specs.Parts.{Part, Starts, stream_of, stream_limit, Moved, Filled, Emptied, between, Closes};
+
+use gg_flat::Streams;
+use std::alloc::{AllocError, Global};
+use std::collections::VecDeque;
+
+/// The link was full. `taken` is the number of values that had been taken when `put` looked.
+#[derive(Debug, Drop)]
+pub struct Full {
+    pub taken: u64,
+}
+
+/// Carries the values of one stream between two threads.
+pub trait Link: Send + Sync + Drop {
+    /// What a link needs to be made.
+    type Home: Copy + Send;
+
+    /// The seat of the thread that puts.
+    type PutSeat: Send + Drop;
+
+    /// The seat of the thread that takes.
+    type TakeSeat: Send + Drop;
+
+    // Whether the seat was made with this link.
+    ghost puts_into: { Self → Self.PutSeat → Type 0 };
+
+    // Whether the seat was made with this link.
+    ghost takes_from: { Self → Self.TakeSeat → Type 0 };
+
+    // What a contract sees of a seat.
+    ghost putting: { Self.PutSeat → Part };
+
+    // What a contract sees of a seat.
+    ghost taking: { Self.TakeSeat → Part };
+
+    /// A link for the list of channel `which` from place `start` on. What is held moves into it, and the deque keeps its
+    /// room.
+    ///
+    /// # Errors
+    ///
+    /// Returns `AllocError` if an allocation fails. What is held stays.
+    fn make<Z: Streams>(
+        home: Self::Home,
+        alloc: Global,
+        which: u32,
+        start: u64,
+        capacity: u32,
+        held: &mut VecDeque<u128>,
+    ) -> Result<(Self, Self::PutSeat, Self::TakeSeat), AllocError>
+        requires capacity { 1 ≤ capacity }
+        requires stream { length (stream_of Z.flow which start) ≤ stream_limit }
+        requires held { (rest : List ℕ) × (stream_of Z.flow which start ≡ deque_items held.old ++ rest) }
+        requires fits { deque_len held.old ≤ capacity }
+        ensures seats { IfOk result (λ r. puts_into r.0 r.1 × takes_from r.0 r.2) }
+        ensures put { IfOk result (λ r. Starts (putting r.1) (stream_of Z.flow which start) capacity (deque_len held.old) 0) }
+        ensures take { IfOk result (λ r. Starts (taking r.2) (stream_of Z.flow which start) capacity 0 (deque_len held.old)) }
+        ensures held { MatchResult result (λ _. deque_items held.new ≡ []) (λ _. deque_items held.new ≡ deque_items held.old) }
+        ensures room { deque_capacity held.new ≡ deque_capacity held.old };
+
+    /// Puts the next value of the stream.
+    ///
+    /// # Errors
+    ///
+    /// Returns `Full` if the link holds as many values as it may.
+    fn put(&self, seat: &mut Self::PutSeat, value: u128) -> Result<(), Full>
+        requires seat { puts_into self.now seat.old }
+        requires value { slice_get (putting seat.old).stream (putting seat.old).count ≡ Some value }
+        ensures seat { puts_into self.now seat.new }
+        ensures put { MatchResult result (λ _. Moved (putting seat.old) (putting seat.new)) (λ full. Filled (putting seat.old) (putting seat.new) full.taken) };
+
+    /// Takes the next value of the stream; None if no value is there.
+    fn take(&self, seat: &mut Self::TakeSeat) -> Option<u128>
+        requires seat { takes_from self.now seat.old }
+        ensures seat { takes_from self.now seat.new }
+        ensures take { MatchOption result (Emptied (taking seat.old) (taking seat.new)) (λ value. Moved (taking seat.old) (taking seat.new) × (slice_get (taking seat.old).stream (taking seat.old).count ≡ Some value)) };
+
+    /// Puts the values that are left behind those in the deque, which keeps its room.
+    fn close(self, put: Self::PutSeat, take: Self::TakeSeat, into: &mut VecDeque<u128>)
+        requires seats { puts_into self put × takes_from self take }
+        requires room { deque_len into.old + (putting put).capacity ≤ deque_capacity into.old }
+        ensures counts { Closes (putting put) (taking take) }
+        ensures items { deque_items into.new ≡ deque_items into.old ++ between (putting put) (taking take) }
+        ensures room { deque_capacity into.new ≡ deque_capacity into.old };
+}

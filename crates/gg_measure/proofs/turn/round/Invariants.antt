@@ -1,0 +1,5 @@
+use Rattle.gg_measure.specs.Turns.{HasGoneRound}
+use Rattle.gg_measure.proofs.turn.round.Given as goal
+
+abbrev pub invariant-loop-machine : goal.invariant-loop-machine
+invariant-loop-machine g l = HasGoneRound l.cycle l.machine l.initial.net l.moved l.net

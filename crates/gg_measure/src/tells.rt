@@ -1,0 +1,99 @@
+//! The measure of a network, and an event that may be done.
+ghost use Rattle.std.specs.Prelude.{◌≡◌, ℕ, ◌<◌, length, MatchOption};
+ghost use Rattle.gg_net.specs.declared.event.Event.TheVariants.{Latch, Fire, Finish};
+ghost use Rattle.gg_net.specs.Step.{Ready};
+ghost use Rattle.gg_measure.specs.Nets.{AllStandAt, NoServe, net_left};
+ghost use Rattle.gg_measure.specs.Turns.{NoneFound};
+
+use crate::try_event::{due, may};
+use gg_net::{Event, Net, Streams};
+use gg_node::Host;
+
+// An event of a channel that may be done.
+fn channel_event<H: Host, Z: Streams>(net: &Net<H, Z>, channel: u32) -> Option<Event>
+    ensures { MatchOption result ((Ready net.now (Latch channel) → ⊥) × (Ready net.now (Fire channel) → ⊥)) (Ready net.now) }
+{
+    let latch = Event::Latch { channel };
+    if may(net, latch) {
+        return Some(latch);
+    }
+    let fire = Event::Fire { channel };
+    if may(net, fire) {
+        return Some(fire);
+    }
+    None
+}
+
+// The event that serves the port of a machine that is due, if it may be done.
+fn serve_event<H: Host, Z: Streams>(net: &Net<H, Z>, machine: u32) -> Option<Event>
+    requires { machine < length net.now.machines }
+    ensures { MatchOption result (NoServe net.now machine) (Ready net.now) }
+{
+    let port = due(net, machine)?;
+    let serve = Event::Serve { machine, port };
+    if may(net, serve) {
+        return Some(serve);
+    }
+    None
+}
+
+// An event that serves a port of a machine or finishes its cycle and may be done.
+fn machine_event<H: Host, Z: Streams>(net: &Net<H, Z>, machine: u32) -> Option<Event>
+    requires { machine < length net.now.machines }
+    ensures { MatchOption result (NoServe net.now machine × (Ready net.now (Finish machine) → ⊥)) (Ready net.now) }
+{
+    if let Some(event) = serve_event(net, machine) {
+        return Some(event);
+    }
+    let finish = Event::Finish { machine };
+    if may(net, finish) {
+        return Some(finish);
+    }
+    None
+}
+
+// An event that may be done, if there is one.
+fn find_event<H: Host, Z: Streams>(net: &Net<H, Z>) -> Option<Event>
+    ensures { MatchOption result (NoneFound net.now (length net.now.wires) (length net.now.machines)) (Ready net.now) }
+{
+    net.within_limits();
+    for c in 0..net.channels() {
+        if let Some(event) = channel_event(net, c as u32) {
+            return Some(event);
+        }
+    }
+    for m in 0..net.machines() {
+        if let Some(event) = machine_event(net, m as u32) {
+            return Some(event);
+        }
+    }
+    None
+}
+
+/// An event that may be done; None exactly if all machines stand at the end.
+pub fn possible<H: Host, Z: Streams>(net: &Net<H, Z>) -> Option<Event>
+    ensures { MatchOption result (AllStandAt net.now.end net.now) (λ event. Ready net.now event × (AllStandAt net.now.end net.now → ⊥)) }
+{
+    net.kept();
+    find_event(net)
+}
+
+/// The measure: the number of steps that are still to be done.
+pub fn left<H: Host, Z: Streams>(net: &Net<H, Z>) -> u64
+    ensures { result ≡ net_left net.now }
+{
+    net.kept();
+    net.within_limits();
+    let end = net.end();
+    let mut left = 0;
+    for c in 0..net.channels() {
+        let channel = c as u32;
+        left += (end - net.puts(channel)) + (end - net.takes(channel));
+    }
+    for m in 0..net.machines() {
+        let machine = m as u32;
+        left += (end - net.cycle(machine))
+            + (u64::from(net.dues(machine)) * end - net.serves(machine));
+    }
+    left
+}

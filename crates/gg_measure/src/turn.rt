@@ -1,0 +1,133 @@
+//! The turn of a machine, and a round of turns.
+ghost use Rattle.std.specs.Prelude.{◌≡◌, ℕ, ◌<◌, ◌||◌, false, length, MatchBool};
+ghost use Rattle.gg_node.specs.Machine.{machine_at};
+ghost use Rattle.gg_measure.specs.Nets.{IsAtWork, IsIdle, NoLatch, NoFire, NoServe, Goes, cycle_at};
+ghost use Rattle.gg_measure.specs.Turns.{HasServedOne, HadTurn, HasGoneRound};
+
+use crate::try_event::{attempt, in_channel, out_channel, serve_due};
+use gg_net::{Event, Net, Streams};
+use gg_node::Host;
+
+// Whether one of two is true.
+fn either(one: bool, other: bool) -> bool
+    ensures { result ≡ (one || other) }
+{
+    one || other
+}
+
+// The number of ins of a machine.
+fn in_count<H: Host, Z: Streams>(net: &Net<H, Z>, machine: u32) -> usize
+    requires { machine < length net.now.machines }
+    ensures { result ≡ length (machine_at net.now.machines machine).latches }
+{
+    net.shape().stations[machine as usize].ins.as_slice().len()
+}
+
+// The number of outs of a machine.
+fn out_count<H: Host, Z: Streams>(net: &Net<H, Z>, machine: u32) -> usize
+    requires { machine < length net.now.machines }
+    ensures { result ≡ length (machine_at net.now.machines machine).flags }
+{
+    net.shape().stations[machine as usize].outs.as_slice().len()
+}
+
+// Latches the front tokens of all channels into a machine for which that may be done. Returns whether it was for any.
+fn latch_all<H: Host, Z: Streams>(net: &mut Net<H, Z>, machine: u32, cycle: u64) -> bool
+    requires { IsAtWork cycle machine net.old }
+    ensures work { IsAtWork cycle machine net.new }
+    ensures goes { Goes cycle net.old result net.new }
+    ensures none { result ≡ false → NoLatch net.new machine }
+{
+    net.kept();
+    let count = in_count(net, machine);
+    let mut moved = false;
+    for place in 0..count {
+        net.kept();
+        let channel = in_channel(net, machine, place);
+        let done = attempt(net, Event::Latch { channel });
+        moved = either(moved, done);
+    }
+    moved
+}
+
+// Gives the tokens of all channels of a machine for which that may be done. Returns whether it was for any.
+fn fire_all<H: Host, Z: Streams>(net: &mut Net<H, Z>, machine: u32, cycle: u64) -> bool
+    requires { IsAtWork cycle machine net.old }
+    ensures work { IsAtWork cycle machine net.new }
+    ensures goes { Goes cycle net.old result net.new }
+    ensures none { result ≡ false → NoFire net.new machine }
+{
+    net.kept();
+    let count = out_count(net, machine);
+    let mut moved = false;
+    for place in 0..count {
+        net.kept();
+        let channel = out_channel(net, machine, place);
+        let done = attempt(net, Event::Fire { channel });
+        moved = either(moved, done);
+    }
+    moved
+}
+
+// Serves the port of a machine that is due, if that may be done. Returns whether it was done.
+fn serve_next<H: Host, Z: Streams>(net: &mut Net<H, Z>, machine: u32, cycle: u64) -> bool
+    requires { IsAtWork cycle machine net.old }
+    ensures { MatchBool result (HasServedOne cycle machine net.old net.new) ((net.new ≡ net.old) × NoServe net.old machine) }
+{
+    net.kept();
+    serve_due(net, machine)
+}
+
+// Serves the ports of a machine as long as that may be done. Returns whether it served any.
+fn serve_all<H: Host, Z: Streams>(net: &mut Net<H, Z>, machine: u32, cycle: u64) -> bool
+    requires { IsAtWork cycle machine net.old }
+    ensures work { IsAtWork cycle machine net.new }
+    ensures goes { Goes cycle net.old result net.new }
+    ensures none { NoServe net.new machine }
+{
+    let mut moved = false;
+    while serve_next(net, machine, cycle) {
+        moved = true;
+    }
+    moved
+}
+
+// The turn of a machine: all tokens that it may take, all that it may give, all ports that it may serve, and the end of
+// its cycle. Returns whether anything was done.
+fn take_turn<H: Host, Z: Streams>(net: &mut Net<H, Z>, machine: u32, cycle: u64) -> bool
+    requires { IsAtWork cycle machine net.old }
+    ensures { HadTurn cycle machine net.old result net.new }
+{
+    let latched = latch_all(net, machine, cycle);
+    let fired = fire_all(net, machine, cycle);
+    let served = serve_all(net, machine, cycle);
+    net.kept();
+    let finished = attempt(net, Event::Finish { machine });
+    either(either(either(latched, fired), served), finished)
+}
+
+// The turn of a machine, if it is below a cycle. Returns whether anything was done.
+fn turn_below<H: Host, Z: Streams>(net: &mut Net<H, Z>, machine: u32, cycle: u64) -> bool
+    requires there { machine < length net.old.machines }
+    ensures goes { Goes cycle net.old result net.new }
+    ensures idle { result ≡ false → cycle_at net.new machine < cycle → IsIdle net.new machine }
+{
+    if net.cycle(machine) >= cycle {
+        return false;
+    }
+    take_turn(net, machine, cycle)
+}
+
+// A turn of each machine that is below a cycle, by number. Returns whether anything was done.
+pub(crate) fn round<H: Host, Z: Streams>(net: &mut Net<H, Z>, cycle: u64) -> bool
+    ensures { HasGoneRound cycle (length net.old.machines) net.old result net.new }
+{
+    net.within_limits();
+    let count = net.machines();
+    let mut moved = false;
+    for machine in 0..count {
+        let done = turn_below(net, machine as u32, cycle);
+        moved = either(moved, done);
+    }
+    moved
+}
