@@ -15,6 +15,7 @@ pub mod PartLemmas
 pub mod CloseLemmas
 pub mod TrayLemmas
 pub mod WorkedNets
-pub mod WorkedPipes
 pub mod OpenLemmas
-pub mod FedLemmas
+pub mod WorkedOpenings
+pub mod WorkedPipes
+pub mod WorkedLoops
