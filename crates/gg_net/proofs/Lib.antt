@@ -1,3 +1,4 @@
+pub mod FrameLemmas
 pub mod LatchLemmas
 pub mod StateLemmas
 pub mod MachineLemmas

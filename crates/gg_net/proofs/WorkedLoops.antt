@@ -1,5 +1,5 @@
--- A network worked by hand in which a channel leads from a machine to itself: the value of a counter in a cycle sets it in
--- the same cycle, if it is 1.
+-- A network worked by hand in which a channel leads from a machine to itself: the value of a counter in a cycle sets it
+-- in the same cycle, if it is 1.
 use Rattle.std.proofs.Common.{◌≡◌, ℕ, zero, suc, ◌<◌, ◌≤◌, List, [], ◌∷◌, Option, Some, None, Bool, true, false, length, refl, arith, lit<}
 use Rattle.std.proofs.lemmas.Option.{none-some}
 use Rattle.gg_bits.specs.Shape.{Fits}

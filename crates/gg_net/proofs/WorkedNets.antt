@@ -1,5 +1,5 @@
--- Networks worked by hand: two units that feed each other, and a memory that is served; what each event makes of them, why
--- an event is refused, and what must not hold.
+-- Networks worked by hand: two units that feed each other, and a memory that is served; what each event makes of them,
+-- why an event is refused, and what must not hold.
 use Rattle.std.proofs.Common.{◌≡◌, ℕ, zero, suc, ◌<◌, List, [], ◌∷◌, Option, Some, None, Bool, true, false, refl, arith, lit<}
 use Rattle.std.specs.Prelude.{◌+◌, ◌≤◌, slice_index_or, All, Contains, length}
 use Rattle.std.proofs.lemmas.Option.{none-some}
@@ -238,7 +238,7 @@ counted-once = refl
 one-more : serves (after_serve (alone (memory 0 with_reader true)) 0) 0 ≡ 1
 one-more = refl
 
--- ---- a memory whose reader gives its word in the same cycle: it is port 0, which isn't served, and the writer is port 1
+-- ---- a memory whose reader gives its word in the same cycle: it is port 0, which isn't served; the writer is port 1
 
 abbrev at_once : ℕ → Bool → Machine
 at_once served flag = record (memory served with_reader flag) { needs = (0 ∷ 1 ∷ []) ∷ []; ports = record { number = 1; access = ByWriter 0 (record { addr = 2; en = 3; word = 4; mask = 5; clock = None }) } ∷ [] }
