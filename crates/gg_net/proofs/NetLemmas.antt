@@ -1,13 +1,11 @@
 -- The parts of a network: the ins that its machines need exist, and its queues are within their capacities.
-use Rattle.std.proofs.Common.{◌≡◌, ℕ, ◌<◌, ◌≤◌, Option, Some, length, map, sym, subst, arith}
+use Rattle.std.proofs.Common.{◌≡◌, ℕ, ◌<◌, ◌≤◌, Option, Some, length, sym, subst}
 use Rattle.std.specs.Prelude.{All, Contains, slice_get}
-use Rattle.std.proofs.lemmas.List.{length-map}
 use Rattle.std.proofs.lemmas.Option.{slice_get_within, get_or_from_slice_get}
-use Rattle.std.proofs.Math.ListN as exact
 use Rattle.gg_flat.specs.Streams.{Flow}
-use Rattle.gg_node.specs.Machine.{Port, Machine, no_machine, machine_at, first_empty, needs_at, missing, due}
+use Rattle.gg_node.specs.Machine.{Port, Machine, machine_at, first_empty, needs_at, missing, due}
 use Rattle.gg_node.specs.Step.{fields_of}
-use Rattle.gg_net.specs.Network.{Network, queue_at, wire_at, Kind, kind_of, kind_at, frame_of}
+use Rattle.gg_net.specs.Network.{Network, queue_at, wire_at, Kind}
 use Rattle.gg_net.specs.Step.{fields_at, due_fields}
 use Rattle.gg_net.specs.Kept.{Kept}
 use Rattle.gg_net.proofs.LatchLemmas.{first-among}

@@ -1,17 +1,15 @@
 -- A network that is kept and isn't at its end can go on: some event may be done.
-use Rattle.std.proofs.Common.{◌≡◌, ℕ, zero, suc, ◌<◌, ◌≤◌, List, [], ◌∷◌, Option, None, Some, Bool, true, false, inl, inr, length, map, refl, sym, ap, subst, ◌∙◌, ⊎_elim, arith}
+use Rattle.std.proofs.Common.{◌≡◌, ℕ, zero, suc, ◌<◌, ◌≤◌, List, [], ◌∷◌, Option, None, Some, Bool, true, false, inl, inr, length, refl, sym, ap, subst, ◌∙◌, ⊎_elim, arith}
 use Rattle.std.specs.Prelude.{◌⊎◌, All, Contains, IsSome, slice_get, slice_index_or}
 use Rattle.std.proofs.lemmas.Bool.{cases_lt}
-use Rattle.std.proofs.lemmas.List.{length-map}
 use Rattle.std.proofs.lemmas.Option.{none-some, same_Some, slice_get_within, get_or_from_slice_get}
-use Rattle.std.proofs.Math.ListN as exact
 use Rattle.gg_flat.specs.Line.{value_at}
 use Rattle.gg_flat.specs.Streams.{Flow}
-use Rattle.gg_node.specs.Machine.{Port, Machine, no_machine, machine_at, latch_at, flag_at, first_empty, empty_or, needs_at, port_number}
+use Rattle.gg_node.specs.Machine.{Port, Machine, machine_at, latch_at, flag_at, first_empty, empty_or, needs_at, port_number}
 use Rattle.gg_node.specs.Step.{fields_of, AllFired, AllLatched}
 use Rattle.gg_net.specs.declared.event.Event.{Event}
 use Rattle.gg_net.specs.declared.event.Event.TheVariants.{Latch, Fire, Serve, Finish}
-use Rattle.gg_net.specs.Network.{Network, wire_at, IsAtIn, IsAtOut, queue_at, producer_of, consumer_of, given_by, got_by, entered_by, puts, takes, entered, Kind, kind_of, kind_at, frame_of}
+use Rattle.gg_net.specs.Network.{Network, wire_at, IsAtIn, IsAtOut, queue_at, producer_of, consumer_of, given_by, got_by, entered_by, puts, takes, entered, Kind, kind_at, frame_of}
 use Rattle.gg_net.specs.Step.{latch_of, flag_of, missing_of, fields_at, Ready}
 use Rattle.gg_net.specs.Kept.{list_at, NeedsChannel, BetweenAt, Kept}
 use Rattle.gg_net.proofs.LatchLemmas.{first-among, none-empty}

@@ -1,6 +1,6 @@
 -- A network as its program holds it: hosts with their machines, stations, channels and queues.
--- Source: MEMOCODE 2009 (a network before its first cycle: all queues, latches and flags empty); ICCAD 2019 for
--- hosts.
+-- Source: MEMOCODE 2009 (a network before its first cycle: all latches and flags empty, and all queues but those that
+-- open with a token); ICCAD 2019 for hosts.
 use Rattle.std.specs.Prelude.{◌≡◌, ℕ, ◌^◌, ◌<◌, ◌≤◌, List, [], None, false, length, map, sum, replicate, slice_index_or}
 use Rattle.gg_flat.specs.Line.{value_at}
 use Rattle.gg_flat.specs.State.{State}

@@ -1,6 +1,7 @@
 -- A network: machines connected by channels, each with a queue of its own.
 -- Source: MEMOCODE 2009 (a bounded dataflow network: nodes connected by queues of a bounded length); ICCAD 2019 (units
--- of a target that pass one another a token for each target cycle).
+-- of a target that pass one another a token for each target cycle); Commoner, Holt, Even and Pnueli, "Marked Directed
+-- Graphs" (1971), for a channel that holds a token at the start.
 use Rattle.std.specs.Prelude.{◌≡◌, ℕ, suc, ◌+◌, ◌*◌, ◌<◌, List, [], ◌∷◌, Option, Some, None, Bool, true, false, length, map, slice_index_or}
 use Rattle.gg_flat.specs.Clock.{Ratio}
 use Rattle.gg_net.specs.declared.shape.Wire.{Wire}

@@ -14,7 +14,7 @@ pub struct Wire {
     pub place: u32,
     /// The most tokens that the channel's queue may hold.
     pub capacity: u32,
-    /// The token that is in the queue before the first cycle.
+    /// The token that is in the queue before the first cycle, if there is one.
     pub first: Option<u128>,
 }
 

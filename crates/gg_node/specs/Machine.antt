@@ -43,7 +43,7 @@ pub record Machine : Type 0 where
   pub flags : List Bool
   pub kept : List ℕ
 
--- the number of cycles that a machine with a piece can do: this program's limit
+-- the number of cycles that a machine can do, unless it is a source: this program's limit
 abbrev pub cycle_limit : ℕ
 cycle_limit = 1000000
 
