@@ -4,7 +4,7 @@ ghost use Rattle.gg_flat.specs.declared.paths.AddError.TheVariants.{Doubled, NoM
 
 use gg_bits::Name;
 use indexmap::IndexSet;
-use std::alloc::Global;
+use std::alloc::{AllocError, Global};
 use std::error::Error;
 use std::fmt;
 use std::marker::Model;
@@ -54,6 +54,16 @@ impl Model for Paths {
     ghost view = { λ paths. paths.names.keys };
 
     ghost invariant = { λ paths. (length paths.names.keys < 2 ^ 32) × IsDistinct (pointwise nat_eq) paths.names.keys };
+}
+
+impl Clone for Paths {
+    ghost is_clone = { λ paths copy. copy ≡ paths };
+
+    fn clone(&self) -> Result<Paths, AllocError> {
+        Ok(Paths {
+            names: self.names.clone()?,
+        })
+    }
 }
 
 impl Paths {
