@@ -1,5 +1,6 @@
 pub mod ListLemmas
 pub mod PathLemmas
+pub mod ModelLemmas
 pub mod PortLemmas
 pub mod AgreeLemmas
 pub mod NameLemmas

@@ -9,11 +9,11 @@ use std::error::Error;
 use std::fmt;
 use std::marker::Model;
 
-/// Why a signal, an instance or a memory was not added.
+/// Why a signal, an instance, a memory or a model was not added.
 #[derive(Clone, Copy, Debug, PartialEq, Eq)]
 pub enum AddError {
     /// The path is already taken: a signal's if a signal was to be added, an instance's if an instance was, a memory's
-    /// if a memory was.
+    /// if a memory was. For a model, the name is.
     Doubled,
     /// An allocation failed.
     NoMemory,
