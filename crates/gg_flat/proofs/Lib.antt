@@ -28,4 +28,5 @@ pub mod FlawedMemories
 pub mod WorkedTree
 pub mod WorkedRuns
 pub mod WorkedClocks
+pub mod WorkedRatios
 pub mod WorkedScopes
