@@ -1,5 +1,5 @@
 -- What one tick more does to the quotient and the remainder, by which edges are told.
-use Rattle.std.proofs.Common.{◌≡◌, ◌+◌, ◌-◌, ◌*◌, ◌/◌, ◌%◌, ◌<◌, ◌≤◌, ℕ, zero, suc, Bool, true, false, nat_lt, inl, inr, ⊎_elim, refl, sym, ap, ◌∙◌, arith}
+use Rattle.std.proofs.Common.{◌≡◌, ◌+◌, ◌-◌, ◌*◌, ◌/◌, ◌%◌, ◌<◌, ◌≤◌, ℕ, zero, suc, Bool, true, false, nat_lt, ⊎_elim, ap, ◌∙◌, arith}
 use Rattle.std.specs.Prelude.{if◌then◌else◌}
 use Rattle.std.proofs.Math.Nat.{mod-lt, suc-mul}
 use Rattle.std.proofs.lemmas.Nat.{div-add-mod', div-mul-add, mod-mul-add}
@@ -66,13 +66,13 @@ module _ (ratio : Ratio) (is : IsRatio ratio) (b : ℕ) where
   pub quotient-next : suc b * ratio.m / ratio.d ≡ b * ratio.m / ratio.d + more_by (edge ratio b)
   quotient-next = ⊎_elim
       (λ (less : b * ratio.m % ratio.d + ratio.m < ratio.d).
-        let stays = div-kept (b * ratio.m) ratio.m ratio.d some less in
-        let none : more_by (edge ratio b) ≡ 0 = ap more_by (edge-kept less) in
-        ap (λ n. n / ratio.d) next ∙ omega (arith, stays, none))
+      let stays = div-kept (b * ratio.m) ratio.m ratio.d some less in
+      let none : more_by (edge ratio b) ≡ 0 = ap more_by (edge-kept less) in
+      ap (λ n. n / ratio.d) next ∙ omega (arith, stays, none))
       (λ (more : ratio.d ≤ b * ratio.m % ratio.d + ratio.m).
-        let grows = div-over (b * ratio.m) ratio.m ratio.d some more is.within in
-        let one_more : more_by (edge ratio b) ≡ 1 = ap more_by (edge-over more) in
-        ap (λ n. n / ratio.d) next ∙ omega (arith, grows, one_more))
+      let grows = div-over (b * ratio.m) ratio.m ratio.d some more is.within in
+      let one_more : more_by (edge ratio b) ≡ 1 = ap more_by (edge-over more) in
+      ap (λ n. n / ratio.d) next ∙ omega (arith, grows, one_more))
       (cases_lt (b * ratio.m % ratio.d + ratio.m) ratio.d)
 
 -- the count of edges is the quotient

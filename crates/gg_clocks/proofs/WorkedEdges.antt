@@ -1,5 +1,5 @@
 -- Edges worked by hand.
-use Rattle.std.proofs.Common.{◌≡◌, ℕ, List, [], ◌∷◌, map, Bool, true, false, refl, sym, true≢false, arith}
+use Rattle.std.proofs.Common.{◌≡◌, ℕ, List, [], ◌∷◌, map, true, false, refl, sym, true≢false, arith}
 use Rattle.gg_flat.specs.Clock.{Ratio, edge}
 use Rattle.gg_clocks.specs.Edges.{IsRatio, edge_count}
 
