@@ -5,8 +5,8 @@
 //! The crate promises:
 //!
 //! - `Ratio::new` returns a ratio exactly if its numbers are in that range;
-//! - `Ratio::edge` tells whether there is an edge at a tick, and `Ratio::edges_before` how many of the ticks before have
-//!   one (`edge_count`, which counts them one by one);
+//! - `Ratio::edge` tells whether there is an edge at a tick, and `Ratio::edges_before` how many of the ticks before it
+//!   have one (`edge_count`, which counts them one by one);
 //! - each `Ticker::tick` tells the next tick's edge, from tick 0 on.
 //!
 //! Nothing allocates.

@@ -6,7 +6,6 @@ use Rattle.gg_bits.specs.declared.ops.Op2.TheVariants.{Add}
 use Rattle.gg_bits.specs.declared.ops.OpN.TheVariants.{Tail}
 use Rattle.gg_flat.specs.declared.line.Op.TheVariants.{Ref, Literal, Two, Fix}
 use Rattle.gg_flat.specs.declared.piece.Driver.TheVariants.{Held, Computed}
-use Rattle.gg_flat.specs.Clock.{Ratio}
 use Rattle.gg_flat.specs.Line.{value_at, HasType}
 use Rattle.gg_flat.specs.Circuit.{FlatCircuit, signal_shapes, driver_at}
 use Rattle.gg_flat.specs.Reads.{Reads}

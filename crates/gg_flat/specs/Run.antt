@@ -1,6 +1,6 @@
 -- A run of a flat circuit, and the column of a signal.
--- Source: FIRRTL Specification, "Registers" (a state at a time); ICCAD 2019 for target cycles as rows. A cycle is a base
--- tick, in which some of the circuit's clocks have an edge.
+-- Source: FIRRTL Specification, "Registers" (a state at a time); ICCAD 2019 for target cycles as rows. A cycle is a
+-- base tick, in which some of the circuit's clocks have an edge.
 use Rattle.std.specs.Prelude.{◌≡◌, ℕ, zero, suc, ◌<◌, List, [], length, map, slice_index_or, All}
 use Rattle.gg_flat.specs.Clock.{Ratio, edges_at}
 use Rattle.gg_flat.specs.Line.{value_at}

@@ -17,8 +17,8 @@ pub enum Driver {
     Input(u32),
     /// A register's value, by the register's number.
     Held(u32),
-    /// The word that a reader of a memory of read latency 0 reads: the memory's number, the reader's, and the signals of
-    /// its address and of its enable.
+    /// The word that a reader of a memory of read latency 0 reads: the memory's number, the reader's, and the signals
+    /// of its address and of its enable.
     MemoryWord(u32, u32, u32, u32),
     /// The read register of a reader of a memory of read latency 1: the memory's number and the reader's.
     ReadRegister(u32, u32),

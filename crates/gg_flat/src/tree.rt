@@ -72,8 +72,8 @@ impl Clone for MemoryInstance {
     }
 }
 
-/// The instances of a flat circuit in the order of the tree: the top first, and each followed by all that are below it. A
-/// contract sees it as an `InstanceTree`. No two instances have the same path, and no two memories; the top's path is
+/// The instances of a flat circuit in the order of the tree: the top first, and each followed by all that are below it.
+/// A contract sees it as an `InstanceTree`. No two instances have the same path, and no two memories; the top's path is
 /// empty.
 ///
 /// The tree doesn't check what it is given. The code that fills it for a circuit must prove that it is the tree of that
