@@ -1,5 +1,6 @@
 pub mod ListLemmas
 pub mod PathLemmas
+pub mod ModelLemmas
 pub mod PortLemmas
 pub mod AgreeLemmas
 pub mod NameLemmas
@@ -27,4 +28,5 @@ pub mod FlawedMemories
 pub mod WorkedTree
 pub mod WorkedRuns
 pub mod WorkedClocks
+pub mod WorkedRatios
 pub mod WorkedScopes

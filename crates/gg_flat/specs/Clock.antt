@@ -3,7 +3,7 @@
 -- to a base tick are this program's own.
 use Rattle.std.specs.Prelude.{ℕ, suc, ◌*◌, ◌/◌, List, map, Option, Some, None, Bool, true, nat_lt, slice_index_or}
 
--- how often a clock has an edge: in m of d base ticks
+-- How often a clock has an edge: in m of d base ticks.
 pub record Ratio : Type 0 where
   pub m : ℕ
   pub d : ℕ

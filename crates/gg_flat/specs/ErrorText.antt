@@ -1,4 +1,4 @@
--- Why a signal, an instance or a memory was not added, in words.
+-- Why a signal, an instance, a memory or a model was not added, in words.
 use Rattle.std.specs.Prelude.{ℕ, List, codes}
 use Rattle.gg_flat.specs.declared.paths.AddError.{AddError}
 use Rattle.gg_flat.specs.declared.paths.AddError.TheVariants.{Doubled, NoMemory}

@@ -14,6 +14,7 @@ pub mod Room
 pub mod Along
 pub mod Ports
 pub mod Tree
+pub mod Models
 pub mod Scoped
 pub mod ErrorText
 pub mod Streams

@@ -1,5 +1,6 @@
 -- A run of a flat circuit, and the column of a signal.
--- Source: FIRRTL Specification, "Registers" (one clock: a state at a time); ICCAD 2019 for target cycles as rows.
+-- Source: FIRRTL Specification, "Registers" (a state at a time); ICCAD 2019 for target cycles as rows. A cycle is a
+-- base tick, in which some of the circuit's clocks have an edge.
 use Rattle.std.specs.Prelude.{◌≡◌, ℕ, zero, suc, ◌<◌, List, [], length, map, slice_index_or, All}
 use Rattle.gg_flat.specs.Clock.{Ratio, edges_at}
 use Rattle.gg_flat.specs.Line.{value_at}
@@ -32,9 +33,13 @@ pub record Start : Type 0 where
   pub state : State
   pub ratios : List Ratio
 
--- the start of a whole run: cycle 0, with zeros
+-- the start of a whole run whose clocks have these ratios: cycle 0, with zeros
+abbrev pub clocked_start : FlatCircuit → List Ratio → Start
+clocked_start circuit ratios = record { cycle = 0; state = opening circuit; ratios = ratios }
+
+-- the same, where each clock has an edge in each tick
 abbrev pub opening_start : FlatCircuit → Start
-opening_start circuit = record { cycle = 0; state = opening circuit; ratios = [] }
+opening_start circuit = clocked_start circuit []
 
 -- the state after t cycles from the start, in which the signals have the values `rows`
 abbrev pub state_at : FlatCircuit → Start → List (List ℕ) → ℕ → State

@@ -53,11 +53,11 @@ SomeNames (access ∷ accesses) s = AccessNames access s ⊎ SomeNames accesses 
 abbrev pub MemoryNames : Memory → ℕ → Type 0
 MemoryNames memory s = SomeNames (due_list memory) s
 
--- the words after one writer; a write past the depth doesn't change them
+-- the words after one writer, in a tick with these edges; a write past the depth doesn't change them
 abbrev pub written : List Bool → List ℕ → List ℕ → Writer → List ℕ
 written edges signals words writer = if ticks edges writer.clock && (value_at signals writer.en == 1) && (value_at signals writer.mask == 1) then slice_set words (value_at signals writer.addr) (value_at signals writer.word) else words
 
--- the read registers after one late reader
+-- the read registers after the late reader at place r, which reads these words
 abbrev pub looked : List Bool → List ℕ → List ℕ → List ℕ → ℕ → Reader → List ℕ
 looked edges signals words reads r reader = if ticks edges reader.clock then slice_set reads r (found_word signals words reader) else reads
 

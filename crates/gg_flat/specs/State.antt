@@ -1,4 +1,4 @@
--- The state of a flat circuit, and the state after a cycle.
+-- The state of a flat circuit, and the state after a tick.
 -- Source: FIRRTL Specification, "Registers" and "Memories". Registers and words start at 0, and a register that is
 -- never connected keeps its value: this is the program's profile.
 use Rattle.std.specs.Prelude.{ℕ, List, [], ◌∷◌, Option, Some, None, Bool, length, map, replicate, ◌==◌, if◌then◌else◌}

@@ -123,9 +123,9 @@ impl Bank {
         }
     }
 
-    /// Advances to what the memory holds after one access by a writer in a tick with these edges, if the signals have
-    /// these values. The writer's
-    /// place among the memory's writers makes no difference.
+    /// Advances to what the memory holds after one access by a writer, in a tick with these edges, if the signals have
+    /// these values. At an edge of its clock the writer writes its word. Its place among the memory's writers makes no
+    /// difference.
     pub fn serve_writer(&mut self, writer: &Writer, edges: &[bool], signals: &[u128])
         requires { WritesAmong (length signals.now) writer.now }
         ensures served { (place : ℕ) → self.new ≡ after_access edges.now signals.now self.old (ByWriter place writer.now) }

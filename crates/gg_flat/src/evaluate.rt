@@ -144,9 +144,9 @@ impl Driver {
 }
 
 impl Register {
-    /// The register's value after a tick with these edges: its own without an edge of its clock. Otherwise its init if
-    /// its reset condition is 1, its connected value if not, or its own if it has no connection. The signals have these
-    /// values. The scratch space has room for the nodes of its lines.
+    /// The register's value after a tick with these edges. At an edge of its clock this is its init if its reset
+    /// condition is 1, otherwise its connected value, or its own if it has no connection. Without an edge it is its
+    /// own. The signals have these values. The scratch space has room for the nodes of its lines.
     pub fn next_value(
         &self,
         own: u128,

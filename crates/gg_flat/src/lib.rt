@@ -17,7 +17,8 @@
 //!   (`depends_on_reached`).
 //!
 //! `Tree` keeps the instances of a flat circuit and the names that have no signal there. `IsTree` defines when it is
-//! the tree of a circuit. The code that fills a `Tree` must prove this.
+//! the tree of a circuit. The code that fills a `Tree` must prove this. `Piece::copy` and `Tree::copy` give an equal
+//! piece or tree. `Models` keeps pieces by their names.
 //!
 //! `Piece::check`, `Piece::settle` and `State::advance` do not allocate.
 #![tactic(auto)]
@@ -30,6 +31,7 @@ mod evaluate;
 mod laws;
 mod line;
 mod memory;
+mod models;
 mod paths;
 mod piece;
 mod port_lists;
@@ -48,6 +50,7 @@ pub use laws::{
 };
 pub use line::{Line, Node, Op};
 pub use memory::{Latency, Memory, Reader, Readers, UnderWrite, Writer, Writers, address_width};
+pub use models::Models;
 pub use paths::{AddError, Paths};
 pub use piece::{Driver, Piece, Register, Reset, Signal};
 pub use ports::{Port, Ports};

@@ -51,6 +51,16 @@ impl Model for Line {
     ghost view = { λ line. line.nodes.items };
 }
 
+impl Clone for Line {
+    ghost is_clone = { λ line copy. copy ≡ line };
+
+    fn clone(&self) -> Result<Line, AllocError> {
+        Ok(Line {
+            nodes: self.nodes.clone()?,
+        })
+    }
+}
+
 impl Line {
     /// The line without a node.
     pub fn new(alloc: Global) -> Line

@@ -3,6 +3,7 @@ ghost use Rattle.std.specs.Prelude.{◌≡◌, ◌≤◌};
 ghost use Rattle.gg_flat.specs.Memory.{address_width, first_width};
 
 use gg_bits::Ty;
+use std::alloc::AllocError;
 use std::marker::Model;
 
 /// What a late reader gives if a writer writes the word that it reads (FIRRTL Specification, "Memories").
@@ -70,6 +71,16 @@ impl Model for Readers {
     ghost view = { λ readers. readers.items.items };
 }
 
+impl Clone for Readers {
+    ghost is_clone = { λ readers copy. copy ≡ readers };
+
+    fn clone(&self) -> Result<Readers, AllocError> {
+        Ok(Readers {
+            items: self.items.clone()?,
+        })
+    }
+}
+
 impl Readers {
     /// The ports, in order.
     pub fn as_slice(&self) -> &[Reader]
@@ -104,6 +115,16 @@ impl Model for Writers {
     ghost view = { λ writers. writers.items.items };
 }
 
+impl Clone for Writers {
+    ghost is_clone = { λ writers copy. copy ≡ writers };
+
+    fn clone(&self) -> Result<Writers, AllocError> {
+        Ok(Writers {
+            items: self.items.clone()?,
+        })
+    }
+}
+
 impl Writers {
     /// The ports, in order.
     pub fn as_slice(&self) -> &[Writer]
@@ -134,6 +155,20 @@ pub struct Memory {
     pub readers: Readers,
     /// Its write ports. If two write the same word, the later in this order wins.
     pub writers: Writers,
+}
+
+impl Clone for Memory {
+    ghost is_clone = { λ memory copy. copy ≡ memory };
+
+    fn clone(&self) -> Result<Memory, AllocError> {
+        Ok(Memory {
+            word: self.word,
+            depth: self.depth,
+            latency: self.latency,
+            readers: self.readers.clone()?,
+            writers: self.writers.clone()?,
+        })
+    }
 }
 
 /// The width of an address of a memory of this depth: as few bits as can name each word, but at least one.

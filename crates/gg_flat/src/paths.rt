@@ -4,16 +4,16 @@ ghost use Rattle.gg_flat.specs.declared.paths.AddError.TheVariants.{Doubled, NoM
 
 use gg_bits::Name;
 use indexmap::IndexSet;
-use std::alloc::Global;
+use std::alloc::{AllocError, Global};
 use std::error::Error;
 use std::fmt;
 use std::marker::Model;
 
-/// Why a signal, an instance or a memory was not added.
+/// Why a signal, an instance, a memory or a model was not added.
 #[derive(Clone, Copy, Debug, PartialEq, Eq)]
 pub enum AddError {
     /// The path is already taken: a signal's if a signal was to be added, an instance's if an instance was, a memory's
-    /// if a memory was.
+    /// if a memory was. For a model, the name is.
     Doubled,
     /// An allocation failed.
     NoMemory,
@@ -54,6 +54,16 @@ impl Model for Paths {
     ghost view = { λ paths. paths.names.keys };
 
     ghost invariant = { λ paths. (length paths.names.keys < 2 ^ 32) × IsDistinct (pointwise nat_eq) paths.names.keys };
+}
+
+impl Clone for Paths {
+    ghost is_clone = { λ paths copy. copy ≡ paths };
+
+    fn clone(&self) -> Result<Paths, AllocError> {
+        Ok(Paths {
+            names: self.names.clone()?,
+        })
+    }
 }
 
 impl Paths {

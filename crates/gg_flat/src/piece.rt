@@ -1,5 +1,5 @@
 //! `Piece`: a flat circuit, built signal by signal.
-ghost use Rattle.std.specs.Prelude.{◌≡◌, ◌≢◌, ◌<◌, ◌-◌, ◌^◌, [], ◌∷◌, ◌++◌, length, Err, OnOk, OnErr, IfSome, IfNone, Some, slice_get, AllPairs, Contains, option_copied};
+ghost use Rattle.std.specs.Prelude.{◌≡◌, ◌≢◌, ◌<◌, ◌-◌, ◌^◌, [], ◌∷◌, ◌++◌, length, Err, OnOk, OnErr, IfOk, IfSome, IfNone, Some, slice_get, AllPairs, Contains, option_copied};
 ghost use Rattle.gg_flat.specs.declared.paths.AddError.TheVariants.{Doubled};
 ghost use Rattle.gg_flat.specs.Circuit.{no_circuit};
 
@@ -17,13 +17,29 @@ pub enum Driver {
     Input(u32),
     /// A register's value, by the register's number.
     Held(u32),
-    /// The word that a reader of a memory of read latency 0 reads: the memory's number, the reader's, and the signals of
-    /// its address and of its enable.
+    /// The word that a reader of a memory of read latency 0 reads: the memory's number, the reader's, and the signals
+    /// of its address and of its enable.
     MemoryWord(u32, u32, u32, u32),
     /// The read register of a reader of a memory of read latency 1: the memory's number and the reader's.
     ReadRegister(u32, u32),
     /// The result of a line, extended to the signal's width by its own kind.
     Computed(Line),
+}
+
+impl Clone for Driver {
+    ghost is_clone = { λ driver copy. copy ≡ driver };
+
+    fn clone(&self) -> Result<Driver, AllocError> {
+        match self {
+            Driver::Input(place) => Ok(Driver::Input(*place)),
+            Driver::Held(register) => Ok(Driver::Held(*register)),
+            Driver::MemoryWord(memory, reader, addr, en) => {
+                Ok(Driver::MemoryWord(*memory, *reader, *addr, *en))
+            }
+            Driver::ReadRegister(memory, reader) => Ok(Driver::ReadRegister(*memory, *reader)),
+            Driver::Computed(line) => Ok(Driver::Computed(line.clone()?)),
+        }
+    }
 }
 
 /// A signal of a flat circuit: a port, wire, register, node or memory field that is not a Clock.
@@ -35,6 +51,17 @@ pub struct Signal {
     pub driver: Driver,
 }
 
+impl Clone for Signal {
+    ghost is_clone = { λ signal copy. copy ≡ signal };
+
+    fn clone(&self) -> Result<Signal, AllocError> {
+        Ok(Signal {
+            ty: self.ty,
+            driver: self.driver.clone()?,
+        })
+    }
+}
+
 /// A register's reset: if the condition is 1, the register takes the init.
 #[derive(Debug, Drop)]
 pub struct Reset {
@@ -42,6 +69,17 @@ pub struct Reset {
     pub condition: Line,
     /// The value that the register takes.
     pub init: Line,
+}
+
+impl Clone for Reset {
+    ghost is_clone = { λ reset copy. copy ≡ reset };
+
+    fn clone(&self) -> Result<Reset, AllocError> {
+        Ok(Reset {
+            condition: self.condition.clone()?,
+            init: self.init.clone()?,
+        })
+    }
 }
 
 /// A register: its type, its reset, its connection, and its clock. Without a connection it keeps its value.
@@ -55,6 +93,19 @@ pub struct Register {
     pub next: Option<Line>,
     /// The clock that it follows, by its place among the piece's clocks; none: every tick.
     pub clock: Option<u32>,
+}
+
+impl Clone for Register {
+    ghost is_clone = { λ register copy. copy ≡ register };
+
+    fn clone(&self) -> Result<Register, AllocError> {
+        Ok(Register {
+            ty: self.ty,
+            reset: self.reset.clone()?,
+            next: self.next.clone()?,
+            clock: self.clock,
+        })
+    }
 }
 
 /// A flat circuit, or a part of one. A contract sees it as a `FlatCircuit`: lists of paths, signals, registers,
@@ -93,6 +144,24 @@ impl Piece {
             ins: Vec::new(alloc),
             outs: Vec::new(alloc),
         }
+    }
+
+    /// A copy of the piece.
+    ///
+    /// # Errors
+    ///
+    /// Returns `AllocError` if an allocation fails.
+    pub fn copy(&self) -> Result<Piece, AllocError>
+        ensures { IfOk result (λ copy. copy ≡ self.now) }
+    {
+        Ok(Piece {
+            paths: self.paths.clone()?,
+            signals: self.signals.clone()?,
+            registers: self.registers.clone()?,
+            memories: self.memories.clone()?,
+            ins: self.ins.clone()?,
+            outs: self.outs.clone()?,
+        })
     }
 
     /// The signals, in order.

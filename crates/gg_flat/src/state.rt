@@ -72,8 +72,8 @@ impl State {
         self.banks.as_slice()
     }
 
-    /// Advances to the state after a tick with these edges, in which the signals have these values, given by the signals'
-    /// numbers.
+    /// Advances to the state after a tick with these edges, in which the signals have these values. Edges are given by
+    /// clock, values by signal.
     ///
     /// The piece is well formed. State and values have its counts and types. The scratch space has room for its lines
     /// (`Piece::scratch`). Only the words of a memory that its writers name are written.
@@ -107,7 +107,7 @@ fn opening_banks(alloc: Global, memories: &[Memory]) -> Result<Vec<Bank>, AllocE
     Ok(banks)
 }
 
-// Replaces what each memory holds by what it holds after the cycle.
+// Replaces what each memory holds by what it holds after the tick.
 fn advance_banks(memories: &[Memory], banks: &mut [Bank], edges: &[bool], signals: &[u128])
     requires memories { All (IsMemory (HasValue signals.now)) memories.now }
     requires banks { AreBanks memories.now banks.old }
@@ -119,7 +119,7 @@ fn advance_banks(memories: &[Memory], banks: &mut [Bank], edges: &[bool], signal
     }
 }
 
-// Replaces the value of each register by its value after the cycle.
+// Replaces the value of each register by its value after the tick.
 fn advance_registers(
     registers: &[Register],
     own: &mut [u128],

@@ -1,11 +1,11 @@
 //! `Tree`: the instances of a flat circuit.
-ghost use Rattle.std.specs.Prelude.{◌≡◌, ◌≢◌, ◌<◌, ◌-◌, ◌^◌, [], ◌∷◌, ◌++◌, length, Err, OnOk, OnErr, IfSome, IfNone, Some, slice_get, AllPairs, Contains, option_copied};
+ghost use Rattle.std.specs.Prelude.{◌≡◌, ◌≢◌, ◌<◌, ◌-◌, ◌^◌, [], ◌∷◌, ◌++◌, length, Err, OnOk, OnErr, IfOk, IfSome, IfNone, Some, slice_get, AllPairs, Contains, option_copied};
 ghost use Rattle.gg_flat.specs.declared.paths.AddError.TheVariants.{Doubled};
 ghost use Rattle.gg_flat.specs.Tree.{no_tree};
 
 use crate::paths::{AddError, Paths};
 use gg_bits::{Ids, Items, Name, Names};
-use std::alloc::Global;
+use std::alloc::{AllocError, Global};
 use std::marker::Model;
 
 /// A port of an instance.
@@ -34,6 +34,21 @@ pub struct Instance {
     pub memories: Ids,
 }
 
+impl Clone for Instance {
+    ghost is_clone = { λ instance copy. copy ≡ instance };
+
+    fn clone(&self) -> Result<Instance, AllocError> {
+        Ok(Instance {
+            parent: self.parent,
+            module: self.module,
+            first: self.first,
+            end: self.end,
+            ports: self.ports.clone()?,
+            memories: self.memories.clone()?,
+        })
+    }
+}
+
 /// A memory in the tree, with the data that a flat circuit has no signal for. The tree keeps its path.
 #[derive(Debug, Drop)]
 pub struct MemoryInstance {
@@ -45,12 +60,24 @@ pub struct MemoryInstance {
     pub ports: Names,
 }
 
-/// The instances of a flat circuit in the order of the tree: the top first, and each followed by all that are below it. A
-/// contract sees it as an `InstanceTree`. No two instances have the same path, and no two memories; the top's path is
+impl Clone for MemoryInstance {
+    ghost is_clone = { λ memory copy. copy ≡ memory };
+
+    fn clone(&self) -> Result<MemoryInstance, AllocError> {
+        Ok(MemoryInstance {
+            instance: self.instance,
+            memory: self.memory,
+            ports: self.ports.clone()?,
+        })
+    }
+}
+
+/// The instances of a flat circuit in the order of the tree: the top first, and each followed by all that are below it.
+/// A contract sees it as an `InstanceTree`. No two instances have the same path, and no two memories; the top's path is
 /// empty.
+///
 /// The tree doesn't check what it is given. The code that fills it for a circuit must prove that it is the tree of that
 /// circuit (`IsTree` in `specs/Tree`).
-/// `specs/Tree`).
 #[derive(Drop)]
 pub struct Tree {
     paths: Paths,
@@ -81,6 +108,22 @@ impl Tree {
             memory_paths: Paths::new(alloc),
             memories: Vec::new(alloc),
         }
+    }
+
+    /// A copy of the tree.
+    ///
+    /// # Errors
+    ///
+    /// Returns `AllocError` if an allocation fails.
+    pub fn copy(&self) -> Result<Tree, AllocError>
+        ensures { IfOk result (λ copy. copy ≡ self.now) }
+    {
+        Ok(Tree {
+            paths: self.paths.clone()?,
+            instances: self.instances.clone()?,
+            memory_paths: self.memory_paths.clone()?,
+            memories: self.memories.clone()?,
+        })
     }
 
     /// The instances, in order.

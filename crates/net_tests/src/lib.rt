@@ -7,9 +7,13 @@
 #![tactic(auto)]
 
 #[cfg(test)]
+mod clocks;
+#[cfg(test)]
 mod files;
 #[cfg(test)]
 mod logs;
+#[cfg(test)]
+mod models;
 #[cfg(test)]
 mod networks;
 #[cfg(test)]
