@@ -1,0 +1,2 @@
+-- Rings worked by hand.
+use Rattle.std.proofs.Common.{◌≡◌}
