@@ -1,7 +1,7 @@
 -- Streams and seats worked by hand.
-use Rattle.std.proofs.Common.{◌≡◌, ℕ, ◌+◌, ◌≤◌, List, [], ◌∷◌, inl, refl, arith, ⊎_elim}
+use Rattle.std.proofs.Common.{◌≡◌, ℕ, [], ◌∷◌, inl, refl, arith, ⊎_elim}
 use Rattle.gg_flat.specs.Streams.{Flow}
-use Rattle.gg_link.specs.Seats.{stream_of, SeatState, seat_state, Starts, Counted, FoundFull, FoundEmpty, between, WithinCapacity}
+use Rattle.gg_link.specs.Seats.{stream_of, SeatState, seat_state, Counted, FoundFull, FoundEmpty, between, WithinCapacity}
 
 -- ---- streams
 

@@ -90,8 +90,8 @@ pub trait Link: Send + Sync + Drop {
         ensures seat { takes_from self.now seat.new }
         ensures take { MatchOption result (FoundEmpty (taking seat.old) (taking seat.new)) (λ value. Counted (taking seat.old) (taking seat.new) × (slice_get (taking seat.old).stream (taking seat.old).count ≡ Some value)) };
 
-    /// Closes the link. The values that are left in it move behind those in the deque, which has room for as many as the
-    /// link's capacity and keeps its room.
+    /// Closes the link. The values that are left in it move behind those in the deque, which has room for the link's
+    /// capacity beside them, and keeps its room.
     fn close(self, put: Self::PutSeat, take: Self::TakeSeat, into: &mut VecDeque<u128>)
         requires seats { puts_into self put × takes_from self take }
         requires room { deque_len into.old + (putting put).capacity ≤ deque_capacity into.old }

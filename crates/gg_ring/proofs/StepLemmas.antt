@@ -1,5 +1,5 @@
 -- Each kind of step keeps the ring's rule.
-use Rattle.std.proofs.Common.{◌≡◌, ◌≢◌, ℕ, zero, suc, ◌+◌, ◌*◌, ◌%◌, ◌<◌, ◌≤◌, Bool, true, false, true≢false, List, [], ◌∷◌, ◌++◌, length, set, slice_index, sym, refl, ap, ◌∙◌, subst, ⊎_elim, arith, length-set}
+use Rattle.std.proofs.Common.{◌≡◌, ◌≢◌, ℕ, ◌+◌, ◌*◌, ◌%◌, ◌<◌, ◌≤◌, true, false, true≢false, List, [], ◌∷◌, ◌++◌, length, set, slice_index, sym, refl, ap, ◌∙◌, subst, ⊎_elim, arith, length-set}
 use Rattle.std.proofs.Math.Nat.{mod-lt}
 use Rattle.std.proofs.lemmas.List.{set-get_or, get_or-set_same, get_or-set_other}
 use mathlib.Core.Option.{Option, some}
@@ -290,8 +290,7 @@ stores_head places slots id x m x_is may not some_left both s h long at fits64 =
       highs = λ k y z. get_or-set_other s.words 0 (high_word places k) x 0 (λ e. omega arith) ∙ laid.highs k (omega arith) z;
     } in
     let new_fits : OfEach F (set s.views id w) =
-    of_each-set F s.views id w
-    (
+    of_each-set F s.views id w (
       (λ p. absurd (true≢false (sym p ∙ not))),
       (λ _. (is_t, record { stream_is = mine.stream_is; capacity_is = mine.capacity_is; count = ap (λ k. k + 1) d; seen = b; first = λ z. absurd (omega arith); second = λ z. absurd (omega arith) })),
       (λ _ b. absurd (true≢false (sym may ∙ b))),

@@ -1,5 +1,5 @@
 -- Rings worked by hand: one of two places, of which one value was taken and two are left.
-use Rattle.std.proofs.Common.{◌≡◌, ℕ, zero, suc, ◌+◌, ◌<◌, ◌≤◌, true, false, true≢false, List, [], ◌∷◌, slice_index, refl, sym, ◌∙◌, arith}
+use Rattle.std.proofs.Common.{◌≡◌, ℕ, zero, suc, ◌<◌, ◌≤◌, true, true≢false, List, [], ◌∷◌, refl, sym, ◌∙◌, arith}
 use mathlib.Core.Option.{some, some-injective, some-ne-none}
 use lib.ListN.{get_elem?}
 use Rattle.atomic_table.specs.Table.{State}
@@ -37,6 +37,7 @@ laid = record { some_place = omega arith; words_are = refl; head_is = refl; tail
     lows (suc zero) a b = refl
     lows (suc (suc zero)) a b = refl
     lows (suc (suc (suc k))) a b = absurd (omega arith)
+
     highs : (k : ℕ) → 1 ≤ k → k < 3 → StandsHigh words 2 stream k
     highs zero a b = absurd (omega arith)
     highs (suc zero) a b = refl

@@ -31,7 +31,7 @@ StandsLow words places stream k = slice_index words (low_word places k) ≡ low 
 abbrev pub StandsHigh : List ℕ → ℕ → List ℕ → ℕ → Type 0
 StandsHigh words places stream k = slice_index words (high_word places k) ≡ high (slice_index stream k)
 
--- The head is how many were taken, the tail how many were put, and the places from head to tail hold the stream's values.
+-- The head is how many were taken, the tail how many were put. The places from head to tail hold the stream's values.
 pub record Laid (words : List ℕ) (places : ℕ) (stream : List ℕ) (head tail : ℕ) : Type 0 where
   pub some_place : 0 < places
   pub words_are : length words ≡ 2 + 2 * places

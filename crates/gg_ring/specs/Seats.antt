@@ -1,5 +1,5 @@
 -- What a contract sees of the seats of a ring.
-use Rattle.std.specs.Prelude.{◌≡◌, ℕ, ◌+◌, ◌≤◌}
+use Rattle.std.specs.Prelude.{◌≡◌, ℕ}
 use Rattle.gg_link.specs.Seats.{SeatState, seat_state}
 use Rattle.gg_ring.specs.declared.ring.PutSeat.{PutSeat}
 use Rattle.gg_ring.specs.declared.ring.TakeSeat.{TakeSeat}

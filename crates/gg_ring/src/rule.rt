@@ -12,11 +12,13 @@ pub struct View {
     pub takes: bool,
     pub stream: LinkedList<u128>,
     pub capacity: u64,
-    // of a seat that puts: how many it has put, how many takes it has seen, and how many halves of the next value it has stored
+    // of a seat that puts: how many it has put, how many takes it has seen, and how many halves of the next value it
+    // has stored
     pub put: u64,
     pub known_takes: u64,
     pub stored: u64,
-    // of a seat that takes: how many it has taken, how many puts it has seen, and the halves of the next value that it has loaded
+    // of a seat that takes: how many it has taken, how many puts it has seen, how many halves of the next value it has
+    // loaded, and these
     pub taken: u64,
     pub known_puts: u64,
     pub loaded: u64,

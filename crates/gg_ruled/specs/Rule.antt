@@ -1,6 +1,6 @@
 -- The rule of a queue: it holds the stream from how many were taken to how many were put, and what its passes know.
 -- Source: MEMOCODE 2009 (a queue holds the tokens that were put and not yet taken, in order, at most its bound).
-use Rattle.std.specs.Prelude.{◌≡◌, ℕ, ◌+◌, ◌≤◌, Bool, true, false, List, [], ◌++◌, length}
+use Rattle.std.specs.Prelude.{◌≡◌, ℕ, ◌+◌, ◌≤◌, true, false, List, [], ◌++◌, length}
 use mathlib.Core.Option.{some}
 use lib.ListN.{get_elem?}
 use Rattle.gg_ruled.specs.declared.rule.View.{View}

@@ -67,7 +67,10 @@ impl<R: Wait + Copy> Ruled<R> {
         ensures room { deque_capacity held.new ≡ deque_capacity held.old }
     {
         while let Some(value) = held.pop_front() {
-            let Ok(()) = self.queue.push_as::<Puts, R>(&self.rt, &mut seat.pass, value) else {
+            let Ok(()) = self
+                .queue
+                .push_as::<Puts, R>(&self.rt, &mut seat.pass, value)
+            else {
                 unreachable!()
             };
             seat.puts += 1;

@@ -17,7 +17,10 @@ impl<R: Wait + Copy> Ruled<R> {
         ensures seat { IsPutSeatOf self.now seat.new }
         ensures put { MatchResult result (λ _. Counted (put_state seat.old) (put_state seat.new)) (λ full. FoundFull (put_state seat.old) (put_state seat.new) full.taken) }
     {
-        match self.queue.push_as::<Puts, R>(&self.rt, &mut seat.pass, value) {
+        match self
+            .queue
+            .push_as::<Puts, R>(&self.rt, &mut seat.pass, value)
+        {
             Ok(()) => {
                 seat.puts += 1;
                 Ok(())

@@ -1,4 +1,4 @@
-use Rattle.std.proofs.Common.{◌≡◌, ◌≤◌, length}
+use Rattle.std.proofs.Common.{◌≡◌}
 use Rattle.link_tests.proofs.calls.play.Given as goal
 
 abbrev pub invariant-loop-call : goal.invariant-loop-call
