@@ -1,26 +1,28 @@
 //! Links: the channels of a network between threads.
 //!
-//! A link carries the values of one stream, in order, from one thread to another. The thread that puts has one seat, the
-//! thread that takes has the other. A stream is the list of a channel, from a place on ([`Streams`]). The trait [`Link`]
-//! says what each kind of link promises:
+//! A link carries the values of one stream, in order, from one thread to another. The thread that puts has one seat of
+//! the link, the thread that takes has the other. The stream is the list of a channel from some place on ([`Streams`]),
+//! and has at most 1,000,001 values. What [`Link`] promises holds whatever the two threads do at the same time:
 //!
-//! - the n-th value that `put` accepts is the stream's n-th, and so is the n-th that `take` returns;
+//! - `make` moves what is held into the link, in order; if it is refused, what is held stays;
+//! - each `put` that is accepted adds the stream's next value, and each value that `take` returns is the stream's next;
 //! - `put` refuses a value only after it has looked how many were taken, and found the link full by that;
 //! - `take` returns none only after it has looked how many were put, and found none left;
-//! - `close` returns exactly the values that were put and not taken, in order, at most the capacity.
+//! - `close` returns exactly the values that were put and not taken, in order, at most as many as the capacity.
 #![tactic(auto)]
 
 ghost use Rattle.std.specs.Prelude.{◌≡◌, ℕ, ◌+◌, ◌≤◌, List, [], ◌++◌, length, slice_get, Some, IfOk, MatchResult, MatchOption};
 ghost use Rattle.std.specs.VecDeque.{deque_items, deque_len, deque_capacity};
-ghost use Rattle.gg_link.specs.Parts.{Part, Starts, stream_of, stream_limit, Moved, Filled, Emptied, between, Closes};
+ghost use Rattle.gg_link.specs.Seats.{SeatState, Starts, stream_of, stream_limit, Counted, FoundFull, FoundEmpty, between, WithinCapacity};
 
 use gg_flat::Streams;
 use std::alloc::{AllocError, Global};
 use std::collections::VecDeque;
 
-/// The link was full. `taken` is the number of values that had been taken when `put` looked.
+/// The error of [`Link::put`]: the link was full.
 #[derive(Debug, Drop)]
 pub struct Full {
+    /// How many values had been taken when `put` looked.
     pub taken: u64,
 }
 
@@ -41,14 +43,14 @@ pub trait Link: Send + Sync + Drop {
     // Whether the seat was made with this link.
     ghost takes_from: { Self → Self.TakeSeat → Type 0 };
 
-    // What a contract sees of a seat.
-    ghost putting: { Self.PutSeat → Part };
+    // What a contract sees of the seat.
+    ghost putting: { Self.PutSeat → SeatState };
 
-    // What a contract sees of a seat.
-    ghost taking: { Self.TakeSeat → Part };
+    // What a contract sees of the seat.
+    ghost taking: { Self.TakeSeat → SeatState };
 
-    /// A link for the list of channel `which` from place `start` on. What is held moves into it, and the deque keeps its
-    /// room.
+    /// Makes a link for the list of channel `which` from place `start` on, and its two seats. What is held moves into
+    /// the link, and the deque keeps its room. The link holds at most `capacity` values, which is at least 1.
     ///
     /// # Errors
     ///
@@ -75,24 +77,25 @@ pub trait Link: Send + Sync + Drop {
     ///
     /// # Errors
     ///
-    /// Returns `Full` if the link holds as many values as it may.
+    /// Returns `Full` if the link held as many values as it may when this call looked.
     fn put(&self, seat: &mut Self::PutSeat, value: u128) -> Result<(), Full>
         requires seat { puts_into self.now seat.old }
         requires value { slice_get (putting seat.old).stream (putting seat.old).count ≡ Some value }
         ensures seat { puts_into self.now seat.new }
-        ensures put { MatchResult result (λ _. Moved (putting seat.old) (putting seat.new)) (λ full. Filled (putting seat.old) (putting seat.new) full.taken) };
+        ensures put { MatchResult result (λ _. Counted (putting seat.old) (putting seat.new)) (λ full. FoundFull (putting seat.old) (putting seat.new) full.taken) };
 
-    /// Takes the next value of the stream; None if no value is there.
+    /// Takes the next value of the stream; None if the link held no value when this call looked.
     fn take(&self, seat: &mut Self::TakeSeat) -> Option<u128>
         requires seat { takes_from self.now seat.old }
         ensures seat { takes_from self.now seat.new }
-        ensures take { MatchOption result (Emptied (taking seat.old) (taking seat.new)) (λ value. Moved (taking seat.old) (taking seat.new) × (slice_get (taking seat.old).stream (taking seat.old).count ≡ Some value)) };
+        ensures take { MatchOption result (FoundEmpty (taking seat.old) (taking seat.new)) (λ value. Counted (taking seat.old) (taking seat.new) × (slice_get (taking seat.old).stream (taking seat.old).count ≡ Some value)) };
 
-    /// Puts the values that are left behind those in the deque, which keeps its room.
+    /// Closes the link. The values that are left in it move behind those in the deque, which has room for the link's
+    /// capacity beside them, and keeps its room.
     fn close(self, put: Self::PutSeat, take: Self::TakeSeat, into: &mut VecDeque<u128>)
         requires seats { puts_into self put × takes_from self take }
         requires room { deque_len into.old + (putting put).capacity ≤ deque_capacity into.old }
-        ensures counts { Closes (putting put) (taking take) }
+        ensures counts { WithinCapacity (putting put) (taking take) }
         ensures items { deque_items into.new ≡ deque_items into.old ++ between (putting put) (taking take) }
         ensures room { deque_capacity into.new ≡ deque_capacity into.old };
 }

@@ -1,27 +1,37 @@
--- The ring's rule. Word 0 is the head, word 1 the tail, and the words 2 + 2i and 3 + 2i are place i.
-use Rattle.std.specs.Prelude.{◌≡◌, ℕ, ◌+◌, ◌*◌, ◌/◌, ◌%◌, ◌<◌, ◌≤◌, true, List, length, slice_index}
+-- The rule of a ring: what its words hold and what its seats know, at every moment.
+-- Source: MEMOCODE 2009 (a queue holds the tokens that were put and not yet taken, in order, at most its bound); the
+-- usual ring between one producer and one consumer (Lamport 1983, "Specifying Concurrent Program Modules").
+use Rattle.std.specs.Prelude.{◌≡◌, ℕ, ◌+◌, ◌*◌, ◌/◌, ◌%◌, ◌<◌, ◌≤◌, Bool, true, false, List, length, slice_index}
 use mathlib.Core.Option.{some}
 use lib.ListN.{get_elem?}
 use Rattle.atomic_table.specs.Table.{State}
 use Rattle.gg_ring.specs.declared.rule.View.{View}
+use Rattle.gg_ring.specs.Views.{spent}
 
--- a place of the ring, for the k-th value
-abbrev pub place : ℕ → ℕ → ℕ
-place places k = 2 + 2 * (k % places)
+-- ---- words
 
+-- the words of the place for value k, counted from 0, in a ring of so many places; word 0 is the head, word 1 the tail
+abbrev pub low_word : ℕ → ℕ → ℕ
+low_word places k = 2 + 2 * (k % places)
+
+abbrev pub high_word : ℕ → ℕ → ℕ
+high_word places k = 3 + 2 * (k % places)
+
+-- the halves of a value of 128 bits
 abbrev pub low : ℕ → ℕ
-low v = v % 18446744073709551616
+low value = value % 18446744073709551616
 
 abbrev pub high : ℕ → ℕ
-high v = v / 18446744073709551616
+high value = value / 18446744073709551616
 
+-- the halves of the stream's value k stand in their words
 abbrev pub StandsLow : List ℕ → ℕ → List ℕ → ℕ → Type 0
-StandsLow words places stream k = slice_index words (2 + 2 * (k % places)) ≡ slice_index stream k % 18446744073709551616
+StandsLow words places stream k = slice_index words (low_word places k) ≡ low (slice_index stream k)
 
 abbrev pub StandsHigh : List ℕ → ℕ → List ℕ → ℕ → Type 0
-StandsHigh words places stream k = slice_index words (3 + 2 * (k % places)) ≡ slice_index stream k / 18446744073709551616
+StandsHigh words places stream k = slice_index words (high_word places k) ≡ high (slice_index stream k)
 
--- what the words hold: head is takes, tail is puts, and the places from head to tail hold the stream's values
+-- The head is how many were taken, the tail how many were put. The places from head to tail hold the stream's values.
 pub record Laid (words : List ℕ) (places : ℕ) (stream : List ℕ) (head tail : ℕ) : Type 0 where
   pub some_place : 0 < places
   pub words_are : length words ≡ 2 + 2 * places
@@ -33,7 +43,9 @@ pub record Laid (words : List ℕ) (places : ℕ) (stream : List ℕ) (head tail
   pub lows : (k : ℕ) → head ≤ k → k < tail → StandsLow words places stream k
   pub highs : (k : ℕ) → head ≤ k → k < tail → StandsHigh words places stream k
 
--- the one seat that puts
+-- ---- seats
+
+-- What the seat that puts knows. The halves that it has stored are those of the next value.
 pub record FitsPut (words : List ℕ) (places : ℕ) (stream : List ℕ) (head tail : ℕ) (v : View) : Type 0 where
   pub stream_is : v.stream ≡ stream
   pub capacity_is : v.capacity ≡ places
@@ -42,19 +54,27 @@ pub record FitsPut (words : List ℕ) (places : ℕ) (stream : List ℕ) (head t
   pub first : 0 < v.stored → StandsLow words places stream tail
   pub second : 1 < v.stored → StandsHigh words places stream tail
 
--- the one seat that takes
+-- What the seat that takes knows. The halves that it has loaded are those of the next value.
 pub record FitsTake (places : ℕ) (stream : List ℕ) (head tail : ℕ) (v : View) : Type 0 where
   pub stream_is : v.stream ≡ stream
   pub capacity_is : v.capacity ≡ places
   pub count : v.taken ≡ head
   pub seen : v.known_puts ≤ tail
+  pub first : 0 < v.loaded → v.low ≡ low (slice_index stream head)
+  pub second : 1 < v.loaded → v.high ≡ high (slice_index stream head)
 
--- p is the number of the seat that puts and t of the one that takes: at most one of each, and all others are spent
+-- Seat `id`: if it may put it is seat p, if it may take it is seat t, and if neither its view is spent.
 abbrev pub Fits : List ℕ → ℕ → List ℕ → ℕ → ℕ → ℕ → ℕ → ℕ → View → Type 0
 Fits words places stream head tail p t id v =
     (v.puts ≡ true → (id ≡ p) × FitsPut words places stream head tail v)
     × (v.takes ≡ true → (id ≡ t) × FitsTake places stream head tail v)
+    × (v.puts ≡ false → v.takes ≡ false → v ≡ spent)
 
+-- the view of this seat is there, and may do so
+abbrev pub There : (View → Bool) → List View → ℕ → Type 0
+There may views id = (v : View) × (get_elem? views id ≡ some v) × (may v ≡ true)
+
+-- Just one seat puts and just one takes; while no two threads share the ring, one seat does both.
 pub record Holds (places : ℕ) (s : State (Unit {0}) View) : Type 0 where
   pub putter : ℕ
   pub taker : ℕ
@@ -62,4 +82,6 @@ pub record Holds (places : ℕ) (s : State (Unit {0}) View) : Type 0 where
   pub head : ℕ
   pub tail : ℕ
   pub laid : Laid s.words places stream head tail
+  pub one_puts : There (λ v. v.puts) s.views putter
+  pub one_takes : There (λ v. v.takes) s.views taker
   pub fits : (id : ℕ) (v : View) → get_elem? s.views id ≡ some v → Fits s.words places stream head tail putter taker id v

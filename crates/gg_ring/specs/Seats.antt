@@ -1,37 +1,29 @@
--- The views of the two seats, and how a step changes them.
-use Rattle.std.specs.Prelude.{ℕ, ◌+◌, true, false, List, []}
-use Rattle.gg_ring.specs.declared.rule.View.{View}
+-- What a contract sees of the seats of a ring.
+use Rattle.std.specs.Prelude.{◌≡◌, ℕ}
+use Rattle.gg_link.specs.Seats.{SeatState, seat_state}
+use Rattle.gg_ring.specs.declared.ring.PutSeat.{PutSeat}
+use Rattle.gg_ring.specs.declared.ring.TakeSeat.{TakeSeat}
+use Rattle.gg_ring.specs.declared.ring.Ring.{Ring}
 
--- the view of the seat that puts
-abbrev pub putter : List ℕ → ℕ → ℕ → ℕ → ℕ → ℕ → ℕ → View
-putter stream places put seen stored looks moves = record { puts = true; takes = false; stream = stream; capacity = places; put = put; known_takes = seen; stored = stored; taken = 0; known_puts = 0; looks = looks; moves = moves }
+abbrev pub put_state : PutSeat → SeatState
+put_state s = seat_state s.seat.me.0.stream s.seat.me.0.capacity s.puts s.seen s.seat.me.0.looks
 
--- the view of the seat that takes
-abbrev pub taker : List ℕ → ℕ → ℕ → ℕ → ℕ → ℕ → View
-taker stream places taken seen looks moves = record { puts = false; takes = true; stream = stream; capacity = places; put = 0; known_takes = 0; stored = 0; taken = taken; known_puts = seen; looks = looks; moves = moves }
+abbrev pub take_state : TakeSeat → SeatState
+take_state s = seat_state s.seat.me.0.stream s.seat.me.0.capacity s.takes s.seen s.seat.me.0.looks
 
-abbrev pub whole : List ℕ → ℕ → ℕ → ℕ → ℕ → View
-whole stream places put taken moves = record { puts = true; takes = true; stream = stream; capacity = places; put = put; known_takes = 0; stored = 0; taken = taken; known_puts = 0; looks = 0; moves = moves }
+abbrev pub IsPutSeatOf : Ring → PutSeat → Type 0
+IsPutSeatOf ring s = (s.seat.table_id ≡ ring.table.shared.table_id) × (s.seat.me.0.capacity ≡ ring.capacity)
 
-abbrev pub spent : View
-spent = record { puts = false; takes = false; stream = []; capacity = 0; put = 0; known_takes = 0; stored = 0; taken = 0; known_puts = 0; looks = 0; moves = 0 }
+abbrev pub IsTakeSeatOf : Ring → TakeSeat → Type 0
+IsTakeSeatOf ring s = (s.seat.table_id ≡ ring.table.shared.table_id) × (s.seat.me.0.capacity ≡ ring.capacity)
 
--- steps of the seat that puts
-abbrev pub saw_head : View → ℕ → View
-saw_head v n = record v { known_takes = n; looks = v.looks + 1; moves = v.moves + 1 }
+-- how many atomic steps the seat has made
+abbrev pub put_moves : PutSeat → ℕ
+put_moves s = s.seat.me.0.moves
 
-abbrev pub stored_to : View → ℕ → View
-stored_to v n = record v { stored = n; moves = v.moves + 1 }
+abbrev pub take_moves : TakeSeat → ℕ
+take_moves s = s.seat.me.0.moves
 
-abbrev pub has_put : View → View
-has_put v = record v { put = v.put + 1; stored = 0; moves = v.moves + 1 }
-
--- steps of the seat that takes
-abbrev pub saw_tail : View → ℕ → View
-saw_tail v n = record v { known_puts = n; looks = v.looks + 1; moves = v.moves + 1 }
-
-abbrev pub saw_part : View → View
-saw_part v = record v { moves = v.moves + 1 }
-
-abbrev pub has_taken : View → View
-has_taken v = record v { taken = v.taken + 1; moves = v.moves + 1 }
+-- The most atomic steps of a put or a take: a look, the two halves of the value, and the count.
+abbrev pub steps_of_a_call : ℕ
+steps_of_a_call = 4

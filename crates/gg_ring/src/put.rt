@@ -1,37 +1,37 @@
 // The four steps of a put.
-ghost use Rattle.std.specs.Prelude.{◌≡◌, ◌+◌, ◌<◌, ◌≤◌, slice_get, Some, MatchResult, length, List, ℕ, [], ◌++◌};
-ghost use Rattle.std.specs.VecDeque.{deque_items, deque_len, deque_capacity};
-ghost use Rattle.gg_link.specs.Parts.{Moved, Filled};
-ghost use Rattle.gg_ring.specs.Parts.{put_part, IsPutSeatOf, MovesAtMost};
+ghost use Rattle.std.specs.Prelude.{◌≡◌, ◌+◌, ◌<◌, ◌≤◌, slice_get, Some, MatchResult, length};
+ghost use Rattle.gg_link.specs.Seats.{Counted, FoundFull};
+ghost use Rattle.gg_ring.specs.Seats.{put_state, IsPutSeatOf, put_moves, steps_of_a_call};
 
 use crate::ring::{PutSeat, Ring};
-use crate::rule::{SeeHead, StoreHigh, StoreLow, StoreTail};
+use crate::rule::{LoadHead, StoreHigh, StoreLow, StoreTail};
 use gg_link::Full;
-use std::collections::VecDeque;
 
 impl Ring {
     // Looks how many were taken.
-    fn look(&self, seat: &mut PutSeat)
+    fn look_at_head(&self, seat: &mut PutSeat)
         requires seat { IsPutSeatOf self.now seat.old }
         ensures seat { IsPutSeatOf self.now seat.new × (seat.new.seat.me.0.stream ≡ seat.old.seat.me.0.stream) }
         ensures counts { (seat.new.puts ≡ seat.old.puts) × (seat.old.seen ≤ seat.new.seen) }
-        ensures looks { (seat.new.seat.me.0.looks ≡ seat.old.seat.me.0.looks + 1) × (seat.new.seat.me.0.moves ≡ seat.old.seat.me.0.moves + 1) }
+        ensures looks { seat.new.seat.me.0.looks ≡ seat.old.seat.me.0.looks + 1 }
+        ensures moves { put_moves seat.new ≡ put_moves seat.old + 1 }
     {
-        seat.seen = self.table.shared.load::<SeeHead>(&mut seat.seat, 0);
+        seat.seen = self.table.shared.load::<LoadHead>(&mut seat.seat, 0);
     }
 
     // Stores a value where there is room.
-    fn add(&self, seat: &mut PutSeat, v: u128)
+    pub(crate) fn store_value(&self, seat: &mut PutSeat, value: u128)
         requires seat { IsPutSeatOf self.now seat.old }
         requires room { seat.old.puts < seat.old.seen + self.now.capacity }
-        requires value { slice_get seat.old.seat.me.0.stream seat.old.puts ≡ Some v }
+        requires value { slice_get seat.old.seat.me.0.stream seat.old.puts ≡ Some value }
         ensures seat { IsPutSeatOf self.now seat.new × (seat.new.seat.me.0.stream ≡ seat.old.seat.me.0.stream) }
         ensures counts { (seat.new.puts ≡ seat.old.puts + 1) × (seat.new.seen ≡ seat.old.seen) }
-        ensures looks { (seat.new.seat.me.0.looks ≡ seat.old.seat.me.0.looks) × (seat.new.seat.me.0.moves ≡ seat.old.seat.me.0.moves + 3) }
+        ensures looks { seat.new.seat.me.0.looks ≡ seat.old.seat.me.0.looks }
+        ensures moves { put_moves seat.new ≡ put_moves seat.old + 3 }
     {
         let place = 2 * (seat.puts % self.capacity) as usize;
-        let low = (v % (1 << 64)) as u64;
-        let high = (v >> 64) as u64;
+        let low = (value % (1 << 64)) as u64;
+        let high = (value >> 64) as u64;
         let shared = &self.table.shared;
         shared.store::<StoreLow>(&mut seat.seat, 2 + place, low);
         shared.store::<StoreHigh>(&mut seat.seat, 3 + place, high);
@@ -39,37 +39,21 @@ impl Ring {
         seat.puts += 1;
     }
 
-    pub(crate) fn try_add(&self, seat: &mut PutSeat, v: u128) -> Result<(), Full>
+    // Looks only where the ring may be full by what the seat has seen.
+    pub(crate) fn try_put(&self, seat: &mut PutSeat, value: u128) -> Result<(), Full>
         requires seat { IsPutSeatOf self.now seat.old }
-        requires value { slice_get seat.old.seat.me.0.stream seat.old.puts ≡ Some v }
+        requires value { slice_get seat.old.seat.me.0.stream seat.old.puts ≡ Some value }
         ensures seat { IsPutSeatOf self.now seat.new }
-        ensures put { MatchResult result (λ _. Moved (put_part seat.old) (put_part seat.new)) (λ f. Filled (put_part seat.old) (put_part seat.new) f.taken) }
-        ensures moves { MovesAtMost 4 seat.old.seat seat.new.seat }
+        ensures put { MatchResult result (λ _. Counted (put_state seat.old) (put_state seat.new)) (λ full. FoundFull (put_state seat.old) (put_state seat.new) full.taken) }
+        ensures moves { put_moves seat.new ≤ put_moves seat.old + steps_of_a_call }
     {
         if seat.puts == seat.seen + self.capacity {
-            self.look(seat);
+            self.look_at_head(seat);
             if seat.puts == seat.seen + self.capacity {
                 return Err(Full { taken: seat.seen });
             }
         }
-        self.add(seat, v);
+        self.store_value(seat, value);
         Ok(())
-    }
-
-    // Puts all that is held.
-    pub(crate) fn fill(&self, seat: &mut PutSeat, held: &mut VecDeque<u128>)
-        requires seat { IsPutSeatOf self.now seat.old }
-        requires fresh { seat.old.puts ≡ 0 }
-        requires held { (rest : List ℕ) × (seat.old.seat.me.0.stream ≡ deque_items held.old ++ rest) }
-        requires fits { deque_len held.old ≤ self.now.capacity }
-        ensures seat { IsPutSeatOf self.now seat.new × (seat.new.seat.me.0.stream ≡ seat.old.seat.me.0.stream) }
-        ensures counts { (seat.new.puts ≡ deque_len held.old) × (seat.new.seen ≡ seat.old.seen) }
-        ensures inside { deque_len held.old ≤ length seat.old.seat.me.0.stream }
-        ensures held { deque_items held.new ≡ [] }
-        ensures room { deque_capacity held.new ≡ deque_capacity held.old }
-    {
-        while let Some(v) = held.pop_front() {
-            self.add(seat, v);
-        }
     }
 }

@@ -1,4 +1,4 @@
-// What the ring's words and seats know.
+// What the words of a ring hold and its seats know, and the kinds of step that keep it so.
 ghost use Rattle.std.specs.Prelude.{List, ℕ, []};
 
 use atomic_table::{Join, Play, Split, TableRule};
@@ -7,100 +7,119 @@ use std::marker::{Brand, PhantomData};
 
 /// What a seat knows. No value of it is made.
 pub struct View {
+    // whether it may put, and whether it may take
     pub puts: bool,
     pub takes: bool,
     pub stream: LinkedList<u128>,
     pub capacity: u64,
+    // of a seat that puts: how many it has put, how many takes it has seen, and how many halves of the next value it
+    // has stored
     pub put: u64,
     pub known_takes: u64,
     pub stored: u64,
+    // of a seat that takes: how many it has taken, how many puts it has seen, how many halves of the next value it has
+    // loaded, and these
     pub taken: u64,
     pub known_puts: u64,
+    pub loaded: u64,
+    pub low: u64,
+    pub high: u64,
+    // how often it has looked, and how many atomic steps it has made
     pub looks: u64,
     pub moves: u64,
 }
 
-/// The rule, at a capacity.
-pub struct Turns;
+/// The rule of a ring of so many places.
+pub struct RingRule;
 
-impl TableRule<(), View, u64> for Turns {
+impl TableRule<(), View, u64> for RingRule {
     ghost use Rattle.std.specs.Prelude.{[]};
     ghost use Rattle.gg_ring.specs.Rule.{Holds};
-    ghost use Rattle.gg_ring.specs.Seats.{whole};
+    ghost use Rattle.gg_ring.specs.Views.{whole};
 
-    ghost holds = { λ cap s. Holds cap s };
+    ghost holds = { λ places s. Holds places s };
 
-    ghost first = { λ cap. whole [] cap 0 0 0 };
+    ghost first = { λ places. whole [] places 0 0 0 };
 }
 
-pub struct SeeHead;
+/// The seat that puts looks how many were taken.
+pub struct LoadHead;
 
-impl Play<(), View> for SeeHead {
+impl Play<(), View> for LoadHead {
     ghost use Rattle.std.specs.Prelude.{◌≡◌, ◌≤◌, ◌+◌};
-    ghost use Rattle.gg_ring.specs.Seats.{saw_head};
+    ghost use Rattle.gg_ring.specs.Views.{saw_head};
 
     ghost then = { λ _ m n w. (w ≡ (saw_head m.0 n, m.1)) × (m.0.known_takes ≤ n) × (n ≤ m.0.put) × (m.0.put ≤ n + m.0.capacity) };
 }
 
+/// The seat that puts stores the low half of the next value.
 pub struct StoreLow;
 
 impl Play<(), View> for StoreLow {
     ghost use Rattle.std.specs.Prelude.{◌≡◌};
-    ghost use Rattle.gg_ring.specs.Seats.{stored_to};
+    ghost use Rattle.gg_ring.specs.Views.{stored_to};
 
     ghost then = { λ _ m n w. w ≡ (stored_to m.0 1, m.1) };
 }
 
+/// The seat that puts stores the high half.
 pub struct StoreHigh;
 
 impl Play<(), View> for StoreHigh {
     ghost use Rattle.std.specs.Prelude.{◌≡◌};
-    ghost use Rattle.gg_ring.specs.Seats.{stored_to};
+    ghost use Rattle.gg_ring.specs.Views.{stored_to};
 
     ghost then = { λ _ m n w. w ≡ (stored_to m.0 2, m.1) };
 }
 
+/// The seat that puts counts the value.
 pub struct StoreTail;
 
 impl Play<(), View> for StoreTail {
     ghost use Rattle.std.specs.Prelude.{◌≡◌};
-    ghost use Rattle.gg_ring.specs.Seats.{has_put};
+    ghost use Rattle.gg_ring.specs.Views.{has_put};
 
     ghost then = { λ _ m n w. w ≡ (has_put m.0, m.1) };
 }
 
-pub struct SeeTail;
+/// The seat that takes looks how many were put.
+pub struct LoadTail;
 
-impl Play<(), View> for SeeTail {
+impl Play<(), View> for LoadTail {
     ghost use Rattle.std.specs.Prelude.{◌≡◌, ◌≤◌, ◌+◌, length};
-    ghost use Rattle.gg_ring.specs.Seats.{saw_tail};
+    ghost use Rattle.gg_ring.specs.Views.{saw_tail};
 
     ghost then = { λ _ m n w. (w ≡ (saw_tail m.0 n, m.1)) × (m.0.known_puts ≤ n) × (m.0.taken ≤ n) × (n ≤ length m.0.stream) };
 }
 
+/// The seat that takes loads the low half of the next value.
 pub struct LoadLow;
 
 impl Play<(), View> for LoadLow {
-    ghost use Rattle.std.specs.Prelude.{◌≡◌, ◌%◌, slice_index};
-    ghost use Rattle.gg_ring.specs.Seats.{saw_part};
+    ghost use Rattle.std.specs.Prelude.{◌≡◌, slice_index};
+    ghost use Rattle.gg_ring.specs.Rule.{low};
+    ghost use Rattle.gg_ring.specs.Views.{loaded_low};
 
-    ghost then = { λ _ m n w. (w ≡ (saw_part m.0, m.1)) × (n ≡ slice_index m.0.stream m.0.taken % 18446744073709551616) };
+    ghost then = { λ _ m n w. (w ≡ (loaded_low m.0 n, m.1)) × (n ≡ low (slice_index m.0.stream m.0.taken)) };
 }
 
+/// The seat that takes loads the high half.
 pub struct LoadHigh;
 
 impl Play<(), View> for LoadHigh {
-    ghost use Rattle.std.specs.Prelude.{◌≡◌, ◌/◌, slice_index};
-    ghost use Rattle.gg_ring.specs.Seats.{saw_part};
+    ghost use Rattle.std.specs.Prelude.{◌≡◌, slice_index};
+    ghost use Rattle.gg_ring.specs.Rule.{high};
+    ghost use Rattle.gg_ring.specs.Views.{loaded_high};
 
-    ghost then = { λ _ m n w. (w ≡ (saw_part m.0, m.1)) × (n ≡ slice_index m.0.stream m.0.taken / 18446744073709551616) };
+    ghost then = { λ _ m n w. (w ≡ (loaded_high m.0 n, m.1)) × (n ≡ high (slice_index m.0.stream m.0.taken)) };
 }
 
+/// The seat that takes counts the value.
 pub struct StoreHead;
 
 impl Play<(), View> for StoreHead {
     ghost use Rattle.std.specs.Prelude.{◌≡◌};
-    ghost use Rattle.gg_ring.specs.Seats.{has_taken};
+    ghost use Rattle.gg_ring.specs.Views.{has_taken};
 
     ghost then = { λ _ m n w. w ≡ (has_taken m.0, m.1) };
 }
@@ -114,38 +133,40 @@ impl Chosen for Brand {
     ghost chosen = { [] };
 }
 
-pub struct Roles<K> {
+/// The whole view of an empty ring is split in two, and the ring gets its stream.
+pub struct OpenSeats<K> {
     of: PhantomData<K>,
 }
 
-impl<K: Chosen> Split<View> for Roles<K> {
+impl<K: Chosen> Split<View> for OpenSeats<K> {
     ghost use Rattle.std.specs.Prelude.{◌+◌};
-    ghost use Rattle.gg_ring.specs.Seats.{putter, taker};
+    ghost use Rattle.gg_ring.specs.Views.{putter, taker};
 
-    ghost left = { λ v. putter K.chosen v.capacity 0 0 0 0 (v.moves + 1) };
+    ghost left = { λ v. putter K.chosen v.capacity 0 (v.moves + 1) };
 
-    ghost right = { λ v. taker K.chosen v.capacity 0 0 0 0 };
+    ghost right = { λ v. taker K.chosen v.capacity 0 0 };
 }
 
-pub struct Whole;
+/// The whole view is split in two, and the seat that takes knows what was put.
+pub struct SplitSeats;
 
-impl Join<View> for Whole {
+impl Split<View> for SplitSeats {
     ghost use Rattle.std.specs.Prelude.{◌+◌};
-    ghost use Rattle.gg_ring.specs.Seats.{whole, spent};
+    ghost use Rattle.gg_ring.specs.Views.{putter, taker};
+
+    ghost left = { λ v. putter v.stream v.capacity v.put (v.moves + 1) };
+
+    ghost right = { λ v. taker v.stream v.capacity v.taken v.put };
+}
+
+/// The view that puts becomes whole again, and the view that takes is spent.
+pub struct JoinSeats;
+
+impl Join<View> for JoinSeats {
+    ghost use Rattle.std.specs.Prelude.{◌+◌};
+    ghost use Rattle.gg_ring.specs.Views.{whole, spent};
 
     ghost both = { λ v w. whole v.stream v.capacity v.put w.taken (v.moves + 1) };
 
     ghost spent = { spent };
-}
-
-/// The whole view is cut again, between puts and takes.
-pub struct Again;
-
-impl Split<View> for Again {
-    ghost use Rattle.std.specs.Prelude.{◌+◌};
-    ghost use Rattle.gg_ring.specs.Seats.{putter, taker};
-
-    ghost left = { λ v. putter v.stream v.capacity v.put 0 0 0 (v.moves + 1) };
-
-    ghost right = { λ v. taker v.stream v.capacity v.taken v.put 0 0 };
 }

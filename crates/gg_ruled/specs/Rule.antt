@@ -1,33 +1,56 @@
--- The queue holds the stream from takes to puts.
-use Rattle.std.specs.Prelude.{◌≡◌, ℕ, ◌+◌, ◌≤◌, Bool, true, List, ◌++◌, length}
+-- The rule of a queue: it holds the stream from how many were taken to how many were put, and what its passes know.
+-- Source: MEMOCODE 2009 (a queue holds the tokens that were put and not yet taken, in order, at most its bound).
+use Rattle.std.specs.Prelude.{◌≡◌, ℕ, ◌+◌, ◌≤◌, true, false, List, [], ◌++◌, length}
 use mathlib.Core.Option.{some}
 use lib.ListN.{get_elem?}
-use Rattle.gg_ruled.specs.declared.rule.Log.{Log}
+use Rattle.gg_ruled.specs.declared.rule.View.{View}
 
-abbrev pub log : Bool → Bool → List ℕ → ℕ → ℕ → ℕ → ℕ → Log
-log a b stream room put taken known = record { puts = a; takes = b; stream = stream; capacity = room; put = put; taken = taken; known = known }
+-- ---- the kinds of view
 
-abbrev pub has_put : Log → Log
+-- the view of a seat that puts
+abbrev pub putter : List ℕ → ℕ → ℕ → View
+putter stream room put = record { puts = true; takes = false; stream = stream; capacity = room; put = put; taken = 0; known = 0 }
+
+-- the view of a seat that takes and knows of so many puts
+abbrev pub taker : List ℕ → ℕ → ℕ → ℕ → View
+taker stream room taken known = record { puts = false; takes = true; stream = stream; capacity = room; put = 0; taken = taken; known = known }
+
+-- the view of the one seat of a queue that no two threads share
+abbrev pub whole : List ℕ → ℕ → ℕ → ℕ → View
+whole stream room put taken = record { puts = true; takes = true; stream = stream; capacity = room; put = put; taken = taken; known = 0 }
+
+-- the view of a seat that was joined into another
+abbrev pub spent : View
+spent = record { puts = false; takes = false; stream = []; capacity = 0; put = 0; taken = 0; known = 0 }
+
+-- ---- steps
+
+abbrev pub has_put : View → View
 has_put v = record v { put = v.put + 1 }
 
-abbrev pub has_taken : Log → Log
+abbrev pub has_taken : View → View
 has_taken v = record v { taken = v.taken + 1 }
 
-pub record FitsPut (stream : List ℕ) (room tail : ℕ) (v : Log) : Type 0 where
+-- ---- the rule
+
+-- What the seat that puts knows, where so many were put.
+pub record FitsPut (stream : List ℕ) (room tail : ℕ) (v : View) : Type 0 where
   pub stream_is : v.stream ≡ stream
   pub capacity_is : v.capacity ≡ room
   pub count : v.put ≡ tail
 
-pub record FitsTake (stream : List ℕ) (room head tail : ℕ) (v : Log) : Type 0 where
+-- What the seat that takes knows, where so many were taken and put.
+pub record FitsTake (stream : List ℕ) (room head tail : ℕ) (v : View) : Type 0 where
   pub stream_is : v.stream ≡ stream
   pub capacity_is : v.capacity ≡ room
   pub count : v.taken ≡ head
   pub known : v.known ≤ tail
 
-abbrev pub Fits : List ℕ → ℕ → ℕ → ℕ → ℕ → ℕ → ℕ → Log → Type 0
+-- Seat `id`: if it may put it is seat p, and if it may take it is seat t.
+abbrev pub Fits : List ℕ → ℕ → ℕ → ℕ → ℕ → ℕ → ℕ → View → Type 0
 Fits stream room head tail p t id v = (v.puts ≡ true → (id ≡ p) × FitsPut stream room tail v) × (v.takes ≡ true → (id ≡ t) × FitsTake stream room head tail v)
 
-pub record Keeps (items : List ℕ) (views : List Log) : Type 0 where
+pub record Keeps (items : List ℕ) (views : List View) : Type 0 where
   pub putter : ℕ
   pub taker : ℕ
   pub stream : List ℕ
@@ -36,4 +59,4 @@ pub record Keeps (items : List ℕ) (views : List Log) : Type 0 where
   pub rest : List ℕ
   pub stream_is : stream ≡ done ++ (items ++ rest)
   pub few : length items ≤ room
-  pub fits : (id : ℕ) (v : Log) → get_elem? views id ≡ some v → Fits stream room (length done) (length done + length items) putter taker id v
+  pub fits : (id : ℕ) (v : View) → get_elem? views id ≡ some v → Fits stream room (length done) (length done + length items) putter taker id v

@@ -1,7 +1,8 @@
 use Rattle.std.specs.Mem.Slots.{slots_items}
-use Rattle.gg_ring.proofs.Halves.{one_more, one_behind, laid_value}
+use Rattle.gg_link.proofs.StreamLemmas.{one_more, pushed_behind}
+use Rattle.gg_ring.proofs.HalfLemmas.{laid_value}
 use Rattle.std.proofs.Common.{arith, ap, ◌∙◌, length, ◌<◌, ◌≡◌}
-use Rattle.gg_ring.proofs.Moves.{merges, closes}
+use Rattle.gg_ring.proofs.StepLemmas.{joins, closes}
 use Rattle.gg_ring.proofs.ring.Ring.hand_back.Goals as goal
 
 pub join_seat-requires : goal.join_seat-requires
@@ -11,7 +12,7 @@ join_seat-requires c =
       c.requires.seats.1.0,
       c.args.take.rests.0,
       omega arith,
-      merges _ _ c.args.put.seat.me.0 _ c.args.take.seat.me.0 c.args.put.rests.1 c.args.take.rests.1,
+      joins _ _ c.args.put.seat.me.0 _ c.args.take.seat.me.0 c.args.put.rests.1 c.args.take.rests.1,
     )
 
 pub returns-clause-counts : goal.returns-clause-counts
@@ -25,7 +26,7 @@ returns-clause-counts c =
     let key = c.args.self.sized.1 in
     let same = c.requires.seats.0.1 in
     let a = laid.order in let b = laid.room in
-    record { below = omega arith; room = omega arith }
+    record { order = omega arith; room = omega arith }
 
 pub loop-k-preserved : goal.loop-k-preserved
 loop-k-preserved c =
@@ -45,7 +46,7 @@ loop-k-preserved c =
     let more = one_more put.seat.me.0.stream take.takes c.loop-k.k c.value_at.result from inside value in
     let inv = c.loop-k.invariant in
     let pushed = c.push_back_reserved.ensures in (
-      one_behind _ _ _ _ _ _ pushed.items inv.0 more,
+      pushed_behind _ _ _ _ _ _ pushed.items inv.0 more,
       (let p = pushed.len in let i = inv.1 in omega arith),
       pushed.capacity ∙ inv.2,
     )

@@ -1,5 +1,5 @@
 use Rattle.std.proofs.Common.{arith, ap, ◌∙◌}
-use Rattle.gg_ring.proofs.Moves.{merges, parts}
+use Rattle.gg_ring.proofs.StepLemmas.{joins, splits_again}
 use Rattle.gg_ring.proofs.ring.Ring.settle.Goals as goal
 
 pub join_seat-requires : goal.join_seat-requires
@@ -9,7 +9,7 @@ join_seat-requires c =
       c.requires.seats.1.0,
       c.args.take.rests.0,
       omega arith,
-      merges _ _ c.args.put.seat.me.0 _ c.args.take.seat.me.0 c.args.put.rests.1 c.args.take.rests.1,
+      joins _ _ c.args.put.seat.me.0 _ c.args.take.seat.me.0 c.args.put.rests.1 c.args.take.rests.1,
     )
 
 pub split_seat-other-requires : goal.split_seat-other-requires
@@ -18,5 +18,5 @@ split_seat-other-requires c =
     let view = ap (λ m. m.0) c.join_seat.ensures.2 in (
       c.join_seat.ensures.0 ∙ c.requires.seats.0.0,
       omega arith,
-      parts _ _ c.join_seat.new.seat.me.0 (ap (λ v. v.puts) view) (ap (λ v. v.takes) view),
+      splits_again _ _ c.join_seat.new.seat.me.0 (ap (λ v. v.puts) view) (ap (λ v. v.takes) view),
     )

@@ -1,0 +1,5 @@
+use Rattle.gg_link.specs.Seats.{stream_of}
+use Rattle.gg_ring.proofs.link.RingLink.make.Given as goal
+
+abbrev pub ghosts-opened : goal.ghosts-opened
+ghosts-opened g a = record { chosen = stream_of g.Z.Streams.flow a._which a._start }

@@ -1,5 +1,0 @@
-use Rattle.gg_link.specs.Parts.{stream_of}
-use Rattle.gg_ruled.proofs.meets.RuledLink.make.Given as goal
-
-abbrev pub ghosts-opened : goal.ghosts-opened
-ghosts-opened g a = record { chosen = stream_of g.Z.Streams.flow a._which a._start; places = a.capacity }

@@ -1,0 +1,20 @@
+-- What a contract sees of the seats of a queue.
+use Rattle.std.specs.Prelude.{◌≡◌}
+use Rattle.gg_link.specs.Seats.{SeatState, seat_state}
+use Rattle.crossbeam_queue.specs.Passes.{view, IsPassOf}
+use Rattle.gg_ruled.specs.declared.ruled.PutSeat.{PutSeat}
+use Rattle.gg_ruled.specs.declared.ruled.TakeSeat.{TakeSeat}
+use Rattle.gg_ruled.specs.declared.ruled.Ruled.{Ruled}
+
+abbrev pub put_state : PutSeat → SeatState
+put_state s = seat_state (view s.pass).stream (view s.pass).capacity s.puts s.seen s.looks
+
+abbrev pub take_state : TakeSeat → SeatState
+take_state s = seat_state (view s.pass).stream (view s.pass).capacity s.takes s.seen s.looks
+
+module _ {R : Type 0} where
+  abbrev pub IsPutSeatOf : Ruled R → PutSeat → Type 0
+  IsPutSeatOf link s = IsPassOf link.queue s.pass × ((view s.pass).capacity ≡ link.capacity)
+
+  abbrev pub IsTakeSeatOf : Ruled R → TakeSeat → Type 0
+  IsTakeSeatOf link s = IsPassOf link.queue s.pass × ((view s.pass).capacity ≡ link.capacity)
