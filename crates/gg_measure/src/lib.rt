@@ -18,6 +18,8 @@ mod tells;
 mod try_event;
 mod turn;
 
-pub use laws::{made_by_counts, nets_are_allowed, none_left, one_end, steps_up};
+pub use laws::{
+    made_by_counts, nets_are_allowed, none_left, one_end, reached_exactly, steps_end_so, steps_fall, steps_up,
+};
 pub use run::{run_to, run_to_end};
 pub use tells::{left, possible};
