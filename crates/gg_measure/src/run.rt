@@ -50,12 +50,3 @@ pub fn run_to_end<H: Host, Z: Streams>(net: &mut Net<H, Z>)
     run_to(net, end);
     net.kept();
 }
-
-// A caller: what is left before a run to the end, and after it.
-#[allow(dead_code)]
-fn run_and_tell<H: Host, Z: Streams>(net: &mut Net<H, Z>) -> bool
-    ensures { result ≡ true }
-{
-    run_to_end(net);
-    crate::tells::possible(net).is_none()
-}

@@ -11,6 +11,8 @@ mod files;
 #[cfg(test)]
 mod logs;
 #[cfg(test)]
+mod measures;
+#[cfg(test)]
 mod networks;
 #[cfg(test)]
 mod pieces;
