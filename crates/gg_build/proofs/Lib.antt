@@ -4,3 +4,4 @@ pub mod WireLemmas
 pub mod SeatLemmas
 pub mod ReadyLemmas
 pub mod OpenLemmas
+pub mod AlongLemmas

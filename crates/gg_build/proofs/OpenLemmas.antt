@@ -1,28 +1,24 @@
 -- The hosts and stations of a plan's machines open its network.
-use Rattle.std.proofs.Common.{◌≡◌, ℕ, ◌<◌, List, [], ◌∷◌, length, map, get_or, sym, ap, subst, ◌∙◌, arith}
+use Rattle.std.proofs.Common.{◌≡◌, ℕ, ◌<◌, ◌≤◌, List, [], ◌∷◌, length, map, get_or, sym, ap, subst, ◌∙◌, arith}
 use Rattle.std.proofs.lemmas.List.{get_or-map, length-map}
 use Rattle.gg_flat.specs.Line.{value_at}
+use Rattle.gg_flat.specs.Streams.{Flow}
 use Rattle.gg_order.specs.Design.{Ordered}
 use Rattle.gg_partfile.specs.declared.request.Request.{Request}
 use Rattle.gg_cut.specs.declared.plan.Plan.{Plan}
-use Rattle.gg_cut.specs.Listed.{listed_of}
-use Rattle.gg_cut.specs.Solves.{columns_of}
-use Rattle.gg_closed.proofs.FaultlessLemmas.{faultless-few}
-use Rattle.gg_closed.proofs.EndLemmas.{few-machines}
 use Rattle.gg_node.specs.Machine.{Machine, machine_at, no_machine}
 use Rattle.gg_net.specs.declared.shape.Wire.{Wire}
 use Rattle.gg_net.specs.declared.shape.Station.{Station}
 use Rattle.gg_net.specs.Network.{Network, Kind, kind_of, kind_at, IsAtIn, IsAtOut}
-use Rattle.gg_net.specs.Seats.{hosted, seated, machines_by, IsSeated, AreSeated}
+use Rattle.gg_net.specs.Seats.{hosted, seated, machines_by, IsSeated, HasStation, AreSeated}
 use Rattle.gg_net.specs.Kept.{IsSound}
-use Rattle.gg_net.specs.Net.{entry_of, IsListed, IsWithinLimits, opening_net, Opens}
-use Rattle.gg_sound.specs.Built.{machine_in, wires_of_plan, IsBuilt, AreBuilt, IsGiven, plan_frame, rows_of}
-use Rattle.gg_sound.proofs.PlanLemmas.{fit, plan-listed, plan-wired, plan-no-ring}
-use Rattle.gg_sound.proofs.LinkLemmas.{length-from}
-use Rattle.gg_sound.proofs.GivenLemmas.{links-of}
+use Rattle.gg_net.specs.Net.{entry_of, IsListed, queue_limit, opening_net, Opens}
+use Rattle.gg_sound.specs.Built.{machine_in, wires_of_plan, IsBuilt, AreBuilt, IsGiven, flow_of, plan_frame}
+use Rattle.gg_sound.proofs.PlanLemmas.{plan-listed, plan-wired, plan-no-ring}
 use Rattle.gg_sound.proofs.FitLemmas.{kind-is}
 use Rattle.gg_sound.proofs.SolvedLemmas.{plan-solved}
 use Rattle.gg_sound.proofs.OpeningLemmas.{built-opening}
+use Rattle.gg_sound.proofs.WithinLemmas.{plan-within}
 use Rattle.gg_build.specs.declared.node.Node.{Node}
 use Rattle.gg_build.specs.declared.node.Node.TheVariants as node
 use Rattle.gg_build.specs.Node.{machine_of, machines_of}
@@ -62,11 +58,23 @@ module _ (plan : Plan) (columns : List (List ℕ)) (n : ℕ) (hosts : List Node)
         thread = omega (arith, seat.thread, ap length (hosted-is m s lt));
       }
 
+  has-station : (h t : ℕ) → h < length lists_of → t < length (hosted lists_of h) → HasStation stations h t
+  has-station h t low thread =
+      let known : h < length plan.machines = omega (arith, low, are.hosts, length-map hosts machines_of) in
+      let first : 0 ≡ t = omega (arith, thread, ap length (get_or-map machines_of hosts h no_node [] (omega (arith, known, are.hosts)))) in
+      record {
+        machine = h;
+        known = omega (arith, known, are.places);
+        host = λ s. (seat-at h s known).number;
+        thread = λ s. (seat-at h s known).thread ∙ first;
+      }
+
   are-seated : AreSeated lists_of stations
   are-seated =
       record {
         each = λ m s lt. is-seated m s (omega (arith, lt, are.places));
         alone = λ m k s t low high same threads. sym (seat-at m s (omega (arith, low, are.places))).number ∙ same ∙ (seat-at k t (omega (arith, high, are.places))).number;
+        whole = has-station;
       }
 
   -- ---- machines
@@ -89,7 +97,6 @@ module _ (plan : Plan) (columns : List (List ℕ)) (n : ℕ) (hosts : List Node)
         let machines = machines_by lists_of stations in
         let seat = seat-at m s lt in
         let at = plan-listed design request default plan columns n rows machines given are-built m lt in
-        let fits = (fit design request default plan columns n rows machines given are-built).each m lt in
         let kind : kind_at (map kind_of machines) m ≡ kind_of (machine_of (get_or hosts m no_node)) = kind-is machines m (omega (arith, lt, are-built.count)) ∙ ap kind_of (machine-is m s lt) in
         record {
           ins = ap length seat.ins ∙ at.ins;
@@ -98,10 +105,9 @@ module _ (plan : Plan) (columns : List (List ℕ)) (n : ℕ) (hosts : List Node)
           from = λ o low. subst (λ (l : List ℕ). IsAtOut (wires_of_plan plan) m o (value_at l o)) (sym seat.outs) (at.from o low);
           ports = seat.host.served ∙ sym (ap (λ (k : Kind). map entry_of k.ports) kind);
           few = at.few;
-          numbers = fits.numbers;
         }
 
-    is-sound : IsSound (columns_of plan rows) (rows_of plan rows) (plan_frame plan (machines_by lists_of stations) n)
+    is-sound : IsSound (flow_of plan design rows) (plan_frame plan (machines_by lists_of stations) n)
     is-sound =
         let machines = machines_by lists_of stations in
         record {
@@ -110,32 +116,22 @@ module _ (plan : Plan) (columns : List (List ℕ)) (n : ℕ) (hosts : List Node)
           solves = plan-solved design request default plan columns n rows machines given are-built;
         }
 
-    is-within : IsWithinLimits (plan_frame plan (machines_by lists_of stations) n)
-    is-within =
-        let few = faultless-few design request given.faultless in
-        let links = links-of design request default plan given.design_is given.faultless given.planned in
-        record {
-          cycles = given.most;
-          machines = omega (arith, few-machines design.circuit design.tree (listed_of design.tree request) few, given.planned.machine_total, length-map (machines_by lists_of stations) kind_of, length-map stations (seated lists_of), are.places);
-          channels = omega (arith, few.channels, links.count, length-from plan 0 plan.channels);
-        }
-
-    opens-plan : Opens (columns_of plan rows) (rows_of plan rows) lists_of stations (wires_of_plan plan) n
-    opens-plan =
+    opens-plan : default ≤ queue_limit → Opens (flow_of plan design rows) lists_of stations (wires_of_plan plan) n
+    opens-plan most =
+        let machines = machines_by lists_of stations in
         record {
           seated = are-seated;
-          opening = built-opening plan columns n (machines_by lists_of stations) are-built;
+          opening = λ m lt. built-opening design request default plan columns n rows machines given are-built m (omega (arith, lt, length-map stations (seated lists_of)));
           listed = λ m s lt. is-listed m s (omega (arith, lt, are.places));
-          limits = is-within;
+          limits = plan-within design request default plan columns n rows machines given are-built most;
           sound = is-sound;
         }
 
-  pub opens : (values : List (List ℕ)) (runs : List (List (List ℕ))) (wires : List Wire) → IsToRun plan columns n values runs → wires ≡ wires_of_plan plan → Opens values runs lists_of stations wires n
-  opens values runs wires is same =
-      subst (λ (ws : List Wire). Opens values runs lists_of stations ws n) (sym same)
-      (subst (λ (vs : List (List ℕ)). Opens vs runs lists_of stations (wires_of_plan plan) n) (sym is.carried)
-      (subst (λ (rs : List (List (List ℕ))). Opens (columns_of plan is.rows) rs lists_of stations (wires_of_plan plan) n) (sym is.done)
-      (opens-plan is.design is.request is.default is.rows is.given)))
+  pub opens : (flow : Flow) (wires : List Wire) → IsToRun plan columns n flow → wires ≡ wires_of_plan plan → Opens flow lists_of stations wires n
+  opens flow wires is same =
+      subst (λ (ws : List Wire). Opens flow lists_of stations ws n) (sym same)
+      (subst (λ (f : Flow). Opens f lists_of stations (wires_of_plan plan) n) (sym is.flow_is)
+      (opens-plan is.design is.request is.default is.rows is.given is.room))
 
   pub opened : (wires : List Wire) (net : Network) → wires ≡ wires_of_plan plan → net ≡ opening_net (machines_by lists_of stations) wires n → IsOpeningOf plan columns n net
   opened wires net same is = record { machines = machines_by lists_of stations; built = are-built; is = is ∙ ap (λ (ws : List Wire). opening_net (machines_by lists_of stations) ws n) same }

@@ -1,5 +1,6 @@
 -- The machines of a plan can be built.
 use Rattle.std.proofs.Common.{◌≡◌, ℕ, ◌^◌, ◌<◌, List, length, refl, arith}
+use Rattle.gg_flat.specs.Streams.{Flow}
 use Rattle.gg_order.specs.Design.{Ordered}
 use Rattle.gg_partfile.specs.declared.request.Request.{Request}
 use Rattle.gg_cut.specs.declared.plan.Body.{Body}
@@ -37,13 +38,13 @@ module _ (design : Ordered) (request : Request) (default : ℕ) (plan : Plan) (c
 
 -- ---- the machines of a plan that is to run
 
-module _ (plan : Plan) (columns : List (List ℕ)) (n : ℕ) (values : List (List ℕ)) (runs : List (List (List ℕ))) (is : IsToRun plan columns n values runs) where
+module _ (plan : Plan) (columns : List (List ℕ)) (n : ℕ) (flow : Flow) (is : IsToRun plan columns n flow) where
   pub all-ready : AllCanBuild plan columns
   all-ready = all-can-build is.design is.request is.default plan columns n is.rows is.given
 
   pub faultless : IsFaultless plan
   faultless =
-      record { design = is.design; request = is.request; default = is.default; design_is = is.given.design_is; faultless = is.given.faultless; planned = is.given.planned }
+      record { design = is.design; request = is.request; default = is.default; design_is = is.given.design_is; faultless = is.given.faultless; some = is.given.some; planned = is.given.planned }
 
   pub few : length plan.machines < 2 ^ 32
   few =

@@ -1,5 +1,5 @@
 -- The channels of the network of a plan.
-use Rattle.std.proofs.Common.{◌≡◌, ℕ, ◌+◌, ◌^◌, ◌<◌, ◌≤◌, List, [], length, map, get_or, refl, sym, ap, subst, ◌∙◌, arith}
+use Rattle.std.proofs.Common.{◌≡◌, ℕ, ◌+◌, ◌^◌, ◌<◌, ◌≤◌, List, [], None, length, map, get_or, refl, sym, ap, subst, ◌∙◌, arith}
 use Rattle.std.specs.Prelude.{All, Contains, ◌==◌}
 use Rattle.std.proofs.lemmas.List.{get_or-map, length-map, get_or_default, ext_get_or}
 use Rattle.gg_flat.specs.Line.{value_at}
@@ -98,7 +98,7 @@ module _ (plan : Plan) (links : List Link) (are : AreLinks plan links) where
   -- ---- the network's channels
 
   abbrev at_places : Channel → ℕ → ℕ → Wire
-  at_places channel o i = record { producer = channel.producer; out = o; consumer = channel.consumer; place = i; capacity = channel.capacity }
+  at_places channel o i = record { producer = channel.producer; out = o; consumer = channel.consumer; place = i; capacity = channel.capacity; first = None }
 
   wire-is : (outs ins : List ℕ) (wires : List Wire) → ArePlaces (outs_of plan.machines) (length plan.channels) outs → ArePlaces (ins_of plan.machines) (length plan.channels) ins → AreWires plan.channels outs ins (length plan.channels) wires → (c : ℕ) → c < length plan.channels → wire_at wires c ≡ wire_at (wires_of_plan plan) c
   wire-is outs ins wires placed_outs placed_ins at c lt =
@@ -114,13 +114,13 @@ module _ (plan : Plan) (links : List Link) (are : AreLinks plan links) where
 
   pub wires-are : (outs ins : List ℕ) (wires : List Wire) → ArePlaces (outs_of plan.machines) (length plan.channels) outs → ArePlaces (ins_of plan.machines) (length plan.channels) ins → AreWires plan.channels outs ins (length plan.channels) wires → wires ≡ wires_of_plan plan
   wires-are outs ins wires placed_outs placed_ins at =
-      ext_get_or (record { producer = 0; out = 0; consumer = 0; place = 0; capacity = 0 }) wires (wires_of_plan plan) (at.total ∙ sym (length-from plan 0 plan.channels))
+      ext_get_or (record { producer = 0; out = 0; consumer = 0; place = 0; capacity = 0; first = None }) wires (wires_of_plan plan) (at.total ∙ sym (length-from plan 0 plan.channels))
       (λ c lt. wire-is outs ins wires placed_outs placed_ins at c (omega (arith, lt, at.total)))
 
 -- ---- the links of a request without a fault
 
 pub links-in : (plan : Plan) (is : IsFaultless plan) → AreLinks plan (wires_of is.design.circuit is.design.tree (listed_of is.design.tree is.request))
-links-in plan is = links-of is.design is.request is.default plan is.design_is is.faultless is.planned
+links-in plan is = links-of is.design is.request is.default plan is.design_is is.faultless is.some is.planned
 
 pub few-links : (plan : Plan) (is : IsFaultless plan) → length (wires_of is.design.circuit is.design.tree (listed_of is.design.tree is.request)) < 2 ^ 32
 few-links plan is = let most = (faultless-few is.design is.request is.faultless).channels in omega (arith, most)

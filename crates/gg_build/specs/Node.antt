@@ -1,7 +1,7 @@
 -- The machine of a node.
 -- Source: ICCAD 2019 (units and memories of a target as models of their own, each on a host).
 use Rattle.std.specs.Prelude.{◌≡◌, ℕ, List, [], ◌∷◌}
-use Rattle.gg_node.specs.Machine.{KeepsValues, Machine}
+use Rattle.gg_node.specs.Machine.{IsTray, Machine}
 use Rattle.gg_build.specs.declared.node.Node.{Node}
 use Rattle.gg_build.specs.declared.node.Node.TheVariants as node
 
@@ -18,5 +18,5 @@ machines_of node = machine_of node ∷ []
 
 -- The machine keeps values, and these are the values that it has kept.
 pub record HasColumn (machine : Machine) (column : List ℕ) : Type 0 where
-  pub keeps : machine.behaviour ≡ KeepsValues
+  pub keeps : IsTray machine.behaviour
   pub is : column ≡ machine.kept

@@ -88,7 +88,7 @@ fn memory_host<'a>(alloc: Global, part: &Part) -> Result<Hosted<'a>, AllocError>
 // The host of a source, which gives the channels `outs`.
 fn source_host<'a>(alloc: Global, trace: &Trace, outs: &[u32]) -> Result<Hosted<'a>, AllocError>
     requires { IsSourceOf trace.now.columns outs.now }
-    ensures { IfOk result (λ made. IsHost (λ machine. machine ≡ source_machine (slice_index_or trace.now.columns (value_at outs.now 0) []) 0 false) made.node made.ports.items) }
+    ensures { IfOk result (λ made. IsHost (λ machine. machine ≡ source_machine (slice_index_or trace.now.columns (value_at outs.now 0) []) 0 (false ∷ [])) made.node made.ports.items) }
 {
     let column = trace.column(alloc, outs[0] as usize)?;
     Ok(Hosted {
@@ -99,7 +99,7 @@ fn source_host<'a>(alloc: Global, trace: &Trace, outs: &[u32]) -> Result<Hosted<
 
 // The host of a tray.
 fn tray_host<'a>(alloc: Global, trace: &Trace) -> Result<Hosted<'a>, AllocError>
-    ensures { IfOk result (λ made. IsHost (λ machine. machine ≡ tray_machine trace.now.rows 0 [] None) made.node made.ports.items) }
+    ensures { IfOk result (λ made. IsHost (λ machine. machine ≡ tray_machine trace.now.rows trace.now.rows 0 [] None) made.node made.ports.items) }
 {
     let tray = Tray::new(alloc, trace.rows())?;
     Ok(Hosted {

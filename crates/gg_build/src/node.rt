@@ -1,6 +1,6 @@
 //! `Node`: the hosts of a plan's machines.
-ghost use Rattle.std.specs.Prelude.{◌≡◌, ◌≢◌, ℕ, ◌<◌, length, is_some, slice_set, MatchOption};
-ghost use Rattle.gg_node.specs.Machine.{KeepsValues, machine_at, latch_at, flag_at, missing, due};
+ghost use Rattle.std.specs.Prelude.{◌≡◌, ℕ, ◌<◌, length, is_some, slice_set, MatchOption};
+ghost use Rattle.gg_node.specs.Machine.{IsTray, machine_at, latch_at, flag_at, missing, due};
 ghost use Rattle.gg_node.specs.Token.{IsToken, IsNextState};
 ghost use Rattle.gg_node.specs.Step.{MayLatch, MayFire, MayServe, MayFinish, with_latch, with_flag, with_served, finished};
 ghost use Rattle.gg_build.specs.Node.{machine_of, machines_of, HasColumn};
@@ -25,7 +25,7 @@ pub enum Node<'a> {
 impl<'a> Node<'a> {
     /// The values that a tray has kept, by cycle. `None` exactly if the machine isn't a tray.
     pub fn column(&self) -> Option<&[u128]>
-        ensures { MatchOption result ((machine_of self.now).behaviour ≢ KeepsValues) (λ column. HasColumn (machine_of self.now) column.now) }
+        ensures { MatchOption result (¬ IsTray (machine_of self.now).behaviour) (λ column. HasColumn (machine_of self.now) column.now) }
     {
         match self {
             Node::Unit(host) => {

@@ -23,7 +23,7 @@ pub fn build<'a, Z: Streams>(
     plan: &'a Plan,
     trace: &Trace,
 ) -> Result<Net<Node<'a>, Z>, AllocError>
-    requires { IsToRun plan.now trace.now.columns trace.now.rows Z.lists Z.runs }
+    requires { IsToRun plan.now trace.now.columns trace.now.rows Z.flow }
     ensures { IfOk result (λ net. IsOpeningOf plan.now trace.now.columns trace.now.rows net) }
 {
     let Seats { hosts, stations } = seats_of(alloc, plan, trace)?;

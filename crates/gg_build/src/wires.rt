@@ -65,6 +65,7 @@ fn wires_at(
             consumer: channel.consumer,
             place: ins[number],
             capacity: channel.capacity,
+            first: None,
         })?;
     }
     Ok(wires)

@@ -30,7 +30,7 @@ unit_machine program ratios cycle state latches flags =
       kept = [];
     }
 
--- a unit before its first cycle; all its clocks have an edge in each
+-- a unit before its first cycle; each clock of its piece has an edge in each cycle
 abbrev pub opening_unit : Programmed → Machine
 opening_unit program =
     unit_machine program [] 0 (opening program.circuit) (replicate (length program.circuit.ins) None) (replicate (length program.circuit.outs) false)

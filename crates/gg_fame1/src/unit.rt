@@ -6,7 +6,7 @@ ghost use Rattle.gg_node.specs.Step.{MayLatch, MayFire, MayServe, MayFinish, wit
 ghost use Rattle.gg_fame1.specs.Unit.{opening_unit};
 
 use gg_flat::{Piece, State, settled_once};
-use gg_node::Host;
+use gg_node::{Host, clean, clear_flags, empty_latches, first_empty};
 use gg_program::{NoMemory, Program, Slots};
 use std::alloc::{AllocError, Global};
 use std::marker::Model;
@@ -34,33 +34,6 @@ impl<'a> Model for Unit<'a> {
     ghost view = { λ unit. unit_machine unit.program [] unit.cycle unit.state unit.latches.items unit.flags.items };
 
     ghost invariant = { λ unit. IsOfPiece unit.program.circuit unit.state unit.slots unit.latches.items unit.flags.items };
-}
-
-// A list with `count` empty latches.
-fn empty_latches(alloc: Global, count: usize) -> Result<Vec<Option<u128>>, AllocError>
-    ensures { IfOk result (λ latches. latches.items ≡ replicate count None) }
-{
-    vec![in alloc; None; count]
-}
-
-// A list with `count` clear flags.
-fn clear_flags(alloc: Global, count: usize) -> Result<Vec<bool>, AllocError>
-    ensures { IfOk result (λ flags. flags.items ≡ replicate count false) }
-{
-    vec![in alloc; false; count]
-}
-
-// The first of these ins that has no token yet, if there is one.
-fn first_missing(latches: &[Option<u128>], ins: &[u32]) -> Option<u32>
-    requires { All (λ i. i < length latches.now) ins.now }
-    ensures { result ≡ first_empty latches.now ins.now }
-{
-    for i in ins {
-        if latches[*i as usize].is_none() {
-            return Some(*i);
-        }
-    }
-    None
 }
 
 impl<'a> Unit<'a> {
@@ -99,7 +72,7 @@ impl<'a> Unit<'a> {
         requires { out < length self.now.flags }
         ensures { result ≡ missing self.now out }
     {
-        first_missing(self.latches.as_slice(), self.program.needs(out))
+        first_empty(self.latches.as_slice(), self.program.needs(out))
     }
 
     // The token of an out.
@@ -134,8 +107,7 @@ impl<'a> Unit<'a> {
         let _ = self.program.piece();
         settled_once();
         self.program.run_next(&mut self.state, &mut self.slots, &[]);
-        self.latches.fill(None);
-        self.flags.fill(false);
+        clean(&mut self.latches, &mut self.flags);
         self.cycle += 1;
     }
 }

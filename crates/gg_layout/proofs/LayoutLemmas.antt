@@ -1,6 +1,6 @@
 -- The network of a plan has the layout of its cut.
 use Rattle.std.proofs.Common.{◌≡◌, ℕ, ◌+◌, ◌<◌, ◌≤◌, List, [], length, map, get_or, Bool, true, false, refl, sym, ◌∙◌, ap, subst, inl, inr, ◌⊎◌, arith}
-use Rattle.std.specs.Prelude.{Contains, ◌&&◌, if◌then◌else◌, nat_le, nat_lt}
+use Rattle.std.specs.Prelude.{Contains, ◌&&◌, if◌then◌else◌, is_some, nat_le, nat_lt}
 use Rattle.std.specs.List.{range_with_len}
 use Rattle.std.proofs.lemmas.Bool.{lt-leb, le-ltb, le-leb, lt-ltb}
 use Rattle.std.proofs.lemmas.List.{length-map, get_or-map, same_lists}
@@ -28,7 +28,7 @@ use Rattle.gg_memunit.specs.MemoryUnit.{opening_unit}
 use Rattle.gg_memunit.proofs.UnitLemmas.{sole}
 use Rattle.gg_net.specs.Network.{Frame, Kind, kind_of, kind_at, no_kind, wire_at as joint_at}
 use Rattle.gg_marking.specs.Marking.{Link, Turn, Layout, link_at, turns_at}
-use Rattle.gg_marking.specs.Fits.{AreTaken, AreTurnsOf, HasLayout, IsLinkOf, places_of}
+use Rattle.gg_marking.specs.Fits.{AreTaken, AreTurnsOf, HasLayout, IsInOrder, IsLinkOf, places_of}
 use Rattle.gg_sound.specs.Built.{machine_in, nameless, place_in, wires_of_plan, AreBuilt, IsBuilt, IsGiven, plan_frame}
 use Rattle.gg_sound.proofs.LinkLemmas.{AreLinks, length-wires, linked}
 use Rattle.gg_sound.proofs.PlanLemmas.{links}
@@ -78,7 +78,7 @@ module _ (design : Ordered) (request : Request) (default : ℕ) (plan : Plan) (c
   -- ---- the layout
 
   abbrev link_of : Channel → Link
-  link_of channel = record { producer = channel.producer; consumer = channel.consumer; capacity = channel.capacity; needs = channel.needs }
+  link_of channel = record { producer = channel.producer; consumer = channel.consumer; capacity = channel.capacity; needs = channel.needs; piped = false }
 
   abbrev turns_of : ℕ → List Turn
   turns_of m = machine_turns design.circuit design.tree (listed_of design.tree request) (wires_of design.circuit design.tree (listed_of design.tree request)) m
@@ -96,7 +96,7 @@ module _ (design : Ordered) (request : Request) (default : ℕ) (plan : Plan) (c
       }
 
   link-is : (c : ℕ) (any : Channel) → c < length plan.channels → link_at layout c ≡ link_of (get_or plan.channels c any)
-  link-is c any lt = get_or-map link_of plan.channels c any (record { producer = 0; consumer = 0; capacity = 0; needs = [] }) lt
+  link-is c any lt = get_or-map link_of plan.channels c any (record { producer = 0; consumer = 0; capacity = 0; needs = []; piped = false }) lt
 
   turns-are : (m : ℕ) → m < machine_count design.circuit listed → turns_at layout m ≡ turns_of m
   turns-are m lt =
@@ -123,6 +123,7 @@ module _ (design : Ordered) (request : Request) (default : ℕ) (plan : Plan) (c
         consumer = ap (λ (link : Link). link.consumer) is ∙ channel.consumer;
         capacity = ap (λ (link : Link). link.capacity) is ∙ channel.bound;
         needs = link-needs c lt;
+        piped = ap (λ (link : Link). link.piped) is;
       }
 
   pub of-cut : IsLayoutBy design request default n listed wires layout
@@ -194,6 +195,7 @@ module _ (design : Ordered) (request : Request) (default : ℕ) (plan : Plan) (c
           producer = cut.producer ∙ sym link.producer;
           consumer = cut.consumer ∙ sym link.consumer;
           capacity = ap (λ (l : Link). l.capacity) (link-is c any known) ∙ sym (joint-capacity plan wires are c any known);
+          piped = cut.piped ∙ sym (ap is_some link.first);
           needs = needs-are;
           taken = needs-taken;
         }
@@ -281,11 +283,16 @@ module _ (design : Ordered) (request : Request) (default : ℕ) (plan : Plan) (c
         ports = net-ports;
         link = λ c lt. net-link c (omega (arith, lt, joints));
         turns = λ m lt. net-turns m (omega (arith, lt, kinds, built.count, given.planned.machine_total));
-        ins = joints-in-order plan wires are;
-        outs = outs-in-order plan wires are;
       }
+
+  pub in-order : IsInOrder frame
+  in-order = record { ins = joints-in-order plan wires are; outs = outs-in-order plan wires are }
 
 pub plan-layout : (design : Ordered) (request : Request) (default : ℕ) (plan : Plan) (columns : List (List ℕ)) (n : ℕ) (rows : List (List ℕ)) (machines : List Machine) → IsGiven design request default plan columns n rows → AreBuilt plan columns n machines
     → (layout : Layout) × (IsLayoutOf design request default n layout × HasLayout (plan_frame plan machines n) layout)
 plan-layout design request default plan columns n rows machines given built =
     (layout design request default plan columns n rows machines given built, (of-cut design request default plan columns n rows machines given built, of-network design request default plan columns n rows machines given built))
+
+pub plan-in-order : (design : Ordered) (request : Request) (default : ℕ) (plan : Plan) (columns : List (List ℕ)) (n : ℕ) (rows : List (List ℕ)) (machines : List Machine) → IsGiven design request default plan columns n rows → AreBuilt plan columns n machines
+    → IsInOrder (plan_frame plan machines n)
+plan-in-order design request default plan columns n rows machines given built = in-order design request default plan columns n rows machines given built

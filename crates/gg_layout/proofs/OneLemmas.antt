@@ -1,5 +1,5 @@
 -- A cut has only one layout, and designs that are alike have the same one.
-use Rattle.std.proofs.Common.{◌≡◌, ℕ, ◌+◌, ◌<◌, List, [], length, map, sym, ◌∙◌, ap, subst, arith}
+use Rattle.std.proofs.Common.{◌≡◌, ℕ, ◌+◌, ◌<◌, List, [], false, length, map, sym, ◌∙◌, ap, subst, arith}
 use Rattle.std.specs.Prelude.{slice_index_or, if◌then◌else◌}
 use Rattle.std.specs.List.{range_with_len}
 use Rattle.std.proofs.lemmas.List.{same_lists, get_or_default}
@@ -21,12 +21,13 @@ use Rattle.gg_layout.specs.CutLayout.{IsChannelLink, IsLayoutBy, IsLayoutOf, is_
 
 -- ---- a cut has only one layout
 
-link-same : (a b : Link) → a.producer ≡ b.producer → a.consumer ≡ b.consumer → a.capacity ≡ b.capacity → a.needs ≡ b.needs → a ≡ b
-link-same a b producer consumer capacity needs =
-    ap (λ x. record { producer = x; consumer = a.consumer; capacity = a.capacity; needs = a.needs }) producer
-    ∙ ap (λ x. record { producer = b.producer; consumer = x; capacity = a.capacity; needs = a.needs }) consumer
-    ∙ ap (λ x. record { producer = b.producer; consumer = b.consumer; capacity = x; needs = a.needs }) capacity
-    ∙ ap (λ x. record { producer = b.producer; consumer = b.consumer; capacity = b.capacity; needs = x }) needs
+link-same : (a b : Link) → a.producer ≡ b.producer → a.consumer ≡ b.consumer → a.capacity ≡ b.capacity → a.needs ≡ b.needs → a.piped ≡ b.piped → a ≡ b
+link-same a b producer consumer capacity needs piped =
+    ap (λ x. record { producer = x; consumer = a.consumer; capacity = a.capacity; needs = a.needs; piped = a.piped }) producer
+    ∙ ap (λ x. record { producer = b.producer; consumer = x; capacity = a.capacity; needs = a.needs; piped = a.piped }) consumer
+    ∙ ap (λ x. record { producer = b.producer; consumer = b.consumer; capacity = x; needs = a.needs; piped = a.piped }) capacity
+    ∙ ap (λ x. record { producer = b.producer; consumer = b.consumer; capacity = b.capacity; needs = x; piped = a.piped }) needs
+    ∙ ap (λ x. record { producer = b.producer; consumer = b.consumer; capacity = b.capacity; needs = b.needs; piped = x }) piped
 
 layout-same : (a b : Layout) → a.links ≡ b.links → a.port_counts ≡ b.port_counts → a.turns ≡ b.turns → a.end ≡ b.end → a ≡ b
 layout-same a b links ports turns end =
@@ -36,7 +37,7 @@ layout-same a b links ports turns end =
     ∙ ap (λ x. record { links = b.links; port_counts = b.port_counts; turns = b.turns; end = x }) end
 
 abbrev no_link : Link
-no_link = record { producer = 0; consumer = 0; capacity = 0; needs = [] }
+no_link = record { producer = 0; consumer = 0; capacity = 0; needs = []; piped = false }
 
 layout-once : (design : Ordered) (request : Request) (default n : ℕ) (listed : Listed) (wires : List Wire) (layout other : Layout) → IsLayoutBy design request default n listed wires layout → IsLayoutBy design request default n listed wires other → layout ≡ other
 layout-once design request default n listed wires layout other a b =
@@ -50,6 +51,7 @@ layout-once design request default n listed wires layout other a b =
     get_or_default layout.links c d no_link lt
     ∙ link-same (link_at layout c) (link_at other c) (one.producer ∙ sym two.producer) (one.consumer ∙ sym two.consumer) (one.capacity ∙ sym two.capacity)
     (needs-same design.circuit listed wires c (link_at layout c).needs (link_at other c).needs one.needs two.needs)
+    (one.piped ∙ sym two.piped)
     ∙ sym (get_or_default other.links c d no_link high)) in
     layout-same layout other links (a.ports ∙ sym b.ports) (a.turns ∙ sym b.turns) (a.end ∙ sym b.end)
 
@@ -70,6 +72,7 @@ module _ (one other : Ordered) (s : AreAlike one other) (request : Request) (def
                 (λ h. (is.needs.each d).1 (need-carried other.circuit one.circuit (λ a b. (s.reads a b).1) listed wires c d h)),
               );
             };
+        piped = is.piped;
       }
 
   ports-carried : map (machine_ports one.circuit one.tree listed) (range_with_len 0 (machine_count one.circuit listed)) ≡ map (machine_ports other.circuit other.tree listed) (range_with_len 0 (machine_count other.circuit listed))

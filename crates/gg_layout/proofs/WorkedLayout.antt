@@ -4,7 +4,7 @@
 -- The top has the input `a`, the output `o` and a memory `m` whose only reader `r` has the address `a` and is always enabled; `o`
 -- is its data. Signals 0 and 1 are `a` and `o`; 2, 3 and 4 are the reader's address, enable and data. The hub is machine 0, `m` is
 -- 1, the source of `a` is 2 and the tray of `o` is 3; the channels are, from 0 on: `a`, `m.r.addr`, `m.r.en`, `m.r.data`, `o`.
-use Rattle.std.proofs.Common.{◌≡◌, ℕ, zero, suc, ◌<◌, List, [], ◌∷◌, None, set, refl, ap, subst, inl, inr, ◌⊎◌, arith, lit<}
+use Rattle.std.proofs.Common.{◌≡◌, ℕ, zero, suc, ◌<◌, List, [], ◌∷◌, None, true, false, true≢false, set, refl, ap, subst, inl, inr, ◌⊎◌, arith, lit<}
 use Rattle.std.specs.Prelude.{codes, length, map, slice_index_or, Contains, AllPairs}
 use Rattle.std.proofs.lemmas.List.Kept.{AllPairs-cons}
 use Rattle.std.proofs.lemmas.List.Elements.{All-nil}
@@ -69,7 +69,7 @@ wires = wires_of circuit tree listed
 -- ---- the layout
 
 abbrev link : ℕ → ℕ → ℕ → List ℕ → Link
-link producer consumer capacity needs = record { producer = producer; consumer = consumer; capacity = capacity; needs = needs }
+link producer consumer capacity needs = record { producer = producer; consumer = consumer; capacity = capacity; needs = needs; piped = false }
 
 abbrev turn : ℕ → List ℕ → Turn
 turn number fields = record { number = number; fields = fields }
@@ -220,11 +220,11 @@ is-layout =
     record {
       channels = refl;
       link = five (λ c. IsChannelLink design request 2 listed wires c (link_at layout c))
-          (record { producer = refl; consumer = refl; capacity = refl; needs = needs-a })
-          (record { producer = refl; consumer = refl; capacity = refl; needs = needs-address })
-          (record { producer = refl; consumer = refl; capacity = refl; needs = needs-enable })
-          (record { producer = refl; consumer = refl; capacity = refl; needs = needs-data })
-          (record { producer = refl; consumer = refl; capacity = refl; needs = needs-output });
+          (record { producer = refl; consumer = refl; capacity = refl; needs = needs-a; piped = refl })
+          (record { producer = refl; consumer = refl; capacity = refl; needs = needs-address; piped = refl })
+          (record { producer = refl; consumer = refl; capacity = refl; needs = needs-enable; piped = refl })
+          (record { producer = refl; consumer = refl; capacity = refl; needs = needs-data; piped = refl })
+          (record { producer = refl; consumer = refl; capacity = refl; needs = needs-output; piped = refl });
       ports = refl;
       turns = refl;
       end = refl;
@@ -235,6 +235,10 @@ is-layout =
 -- a channel that the request names has the request's capacity, and not the default
 with-default : ¬ IsLayoutOf design request 2 3 (record layout { links = set layout.links 1 (link 0 1 2 (0 ∷ [])) })
 with-default is = let capacity = (is.link 1 (lit< tt)).capacity in absurd (omega (arith, capacity))
+
+-- no channel opens with a token
+with-token : ¬ IsLayoutOf design request 2 3 (record layout { links = set layout.links 1 (record { producer = 0; consumer = 1; capacity = 5; needs = 0 ∷ []; piped = true }) })
+with-token is = absurd (true≢false (is.link 1 (lit< tt)).piped)
 
 -- no need may be left out
 without-need : ¬ IsLayoutOf design request 2 3 (record layout { links = set layout.links 1 (link 0 1 5 []) })

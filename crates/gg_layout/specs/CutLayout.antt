@@ -2,7 +2,7 @@
 -- ports of each machine, and the ports that it serves in a cycle, in their order.
 -- Sources: MEMOCODE 2009 for channels, their bounds and what an output of a machine depends on; ICCAD 2019 for memories
 -- of a target that are served port by port.
-use Rattle.std.specs.Prelude.{◌≡◌, ℕ, ◌-◌, ◌<◌, List, [], Bool, ◌==◌, ◌&&◌, if◌then◌else◌, length, map, nat_le, nat_lt, unwrap_or}
+use Rattle.std.specs.Prelude.{◌≡◌, ℕ, ◌-◌, ◌<◌, List, [], Bool, false, ◌==◌, ◌&&◌, if◌then◌else◌, length, map, nat_le, nat_lt, unwrap_or}
 use Rattle.std.specs.List.{range_with_len}
 use Rattle.gg_flat.specs.Circuit.{FlatCircuit, latency_at, readers_at}
 use Rattle.gg_flat.specs.Line.{value_at}
@@ -24,12 +24,14 @@ use Rattle.gg_marking.specs.Marking.{Link, Turn, Layout, link_at}
 -- ---- channels
 
 -- The link is channel c of the cut. It has the channel's ends, the capacity that the request gives for the channel's
--- name, else the default, and exactly the channels that the channel needs in the circuit, in their order.
+-- name, else the default, and exactly the channels that the channel needs in the circuit, in their order. It opens
+-- without a token.
 pub record IsChannelLink (design : Ordered) (request : Request) (default : ℕ) (listed : Listed) (wires : List Wire) (c : ℕ) (link : Link) : Type 0 where
   pub producer : link.producer ≡ (wire_at wires c).producer
   pub consumer : link.consumer ≡ (wire_at wires c).consumer
   pub capacity : link.capacity ≡ capacity_of request.capacity default (channel_name design.circuit wires c)
   pub needs : AreChannelNeeds design.circuit listed wires c link.needs
+  pub piped : link.piped ≡ false
 
 -- ---- ports
 

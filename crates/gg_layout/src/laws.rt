@@ -6,13 +6,15 @@ ghost use Rattle.gg_cut.specs.declared.plan.Plan.{Plan};
 ghost use Rattle.gg_check.specs.Alike.{AreAlike};
 ghost use Rattle.gg_node.specs.Machine.{Machine};
 ghost use Rattle.gg_marking.specs.Marking.{Layout};
-ghost use Rattle.gg_marking.specs.Fits.{HasLayout};
+ghost use Rattle.gg_marking.specs.Fits.{HasLayout, IsInOrder};
 ghost use Rattle.gg_sound.specs.Built.{AreBuilt, IsGiven, plan_frame};
 ghost use Rattle.gg_layout.specs.CutLayout.{IsLayoutOf};
 
-/// The network of a plan has the layout of its cut.
+/// The network of a plan has the layout of its cut. The ins and the outs of its machines are in the order of their
+/// channels.
 pub fn plan_has_layout()
-    ensures { (design : Ordered) (request : Request) (default : ℕ) (plan : Plan) (columns : List (List ℕ)) (n : ℕ) (rows : List (List ℕ)) (machines : List Machine) → IsGiven design request default plan columns n rows → AreBuilt plan columns n machines → (layout : Layout) × (IsLayoutOf design request default n layout × HasLayout (plan_frame plan machines n) layout) }
+    ensures layout { (design : Ordered) (request : Request) (default : ℕ) (plan : Plan) (columns : List (List ℕ)) (n : ℕ) (rows : List (List ℕ)) (machines : List Machine) → IsGiven design request default plan columns n rows → AreBuilt plan columns n machines → (layout : Layout) × (IsLayoutOf design request default n layout × HasLayout (plan_frame plan machines n) layout) }
+    ensures order { (design : Ordered) (request : Request) (default : ℕ) (plan : Plan) (columns : List (List ℕ)) (n : ℕ) (rows : List (List ℕ)) (machines : List Machine) → IsGiven design request default plan columns n rows → AreBuilt plan columns n machines → IsInOrder (plan_frame plan machines n) }
 {}
 
 /// For all designs that are alike, the cut of a request has the same layout.

@@ -5,7 +5,8 @@
 //! channel its ends, its capacity and what it needs in the circuit, and for each machine the ports that are served. The
 //! crate has no code. It promises:
 //!
-//! - the network of a plan has the layout of its cut (`plan_has_layout`);
+//! - the network of a plan has the layout of its cut, and its ins and outs are in the order of their channels
+//!   (`plan_has_layout`);
 //! - designs that are alike have the same layout (`one_layout`).
 #![tactic(auto)]
 

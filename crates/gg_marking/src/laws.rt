@@ -19,8 +19,8 @@ ghost use Rattle.gg_marking.specs.LayoutOf.{layout_of};
 ghost use Rattle.gg_marking.specs.Steps.{IsStep, Steps, StopsAt};
 
 /// A network agrees with its marking. An event may be done exactly if the marking doesn't refuse it. Every other event
-/// is refused for the marking's cause, if ins and outs are in the order of their channels. A step changes the marking as
-/// its event does, and leaves the layout as it is.
+/// is refused for the marking's cause, if ins and outs are in the order of their channels. A step changes the marking
+/// as its event does, and leaves the layout as it is.
 pub fn goes_by_marking()
     ensures ready { (flow : Flow) (net : Network) (layout : Layout) (event : Event) → Kept flow net → HasLayout (frame_of net) layout → Ready net event → refusal layout (marking_of net) event ≡ None }
     ensures refused { (flow : Flow) (net : Network) (layout : Layout) (event : Event) (cause : Refusal) → Kept flow net → HasLayout (frame_of net) layout → IsInOrder (frame_of net) → Refused net event cause → refusal layout (marking_of net) event ≡ Some cause }

@@ -110,7 +110,7 @@ memory_machine piece ratios limit cycle state served latches flags =
 abbrev pub accessed_by : List Bool → List (Option ℕ) → State → List Port → State
 accessed_by edges latches state ports = fold (λ state port. accessed edges latches state (Some port)) state ports
 
--- a memory unit before its first cycle; all its clocks have an edge in each
+-- a memory unit before its first cycle; each clock of its piece has an edge in each cycle
 abbrev pub opening_unit : FlatCircuit → Machine
 opening_unit piece = memory_machine piece [] cycle_limit 0 (opening piece) 0 (replicate (length piece.ins) None) (replicate (length piece.outs) false)
 

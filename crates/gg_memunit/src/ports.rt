@@ -5,6 +5,7 @@ ghost use Rattle.gg_node.specs.Machine.{first_empty, port_number};
 ghost use Rattle.gg_memunit.specs.MemoryUnit.{needs_by, ports_by, count_by, number_by};
 
 use gg_flat::{Latency, Reader, UnderWrite, Writer};
+use gg_node::first_empty;
 
 /// The first in that the data of a reader needs and that has no token yet, if there is one.
 pub(crate) fn first_missing(
@@ -16,15 +17,7 @@ pub(crate) fn first_missing(
     ensures { result ≡ first_empty latches.now (needs_by latency reader) }
 {
     match latency {
-        Latency::Zero => {
-            if latches[reader.addr as usize].is_none() {
-                return Some(reader.addr);
-            }
-            if latches[reader.en as usize].is_none() {
-                return Some(reader.en);
-            }
-            None
-        }
+        Latency::Zero => first_empty(latches, &[reader.addr, reader.en]),
         Latency::One(_) => None,
     }
 }

@@ -7,7 +7,7 @@ ghost use Rattle.gg_memunit.specs.MemoryUnit.{IsMemoryPiece, opening_unit};
 
 use crate::{access, ports};
 use gg_flat::{Bank, Latency, Memory, Piece};
-use gg_node::Host;
+use gg_node::{Host, clean, clear_flags, empty_latches};
 use std::alloc::{AllocError, Global};
 use std::marker::Model;
 
@@ -57,8 +57,8 @@ impl MemUnit {
     {
         let bank = Bank::new(alloc, memory_of(&piece))?;
         let inputs = vec![in alloc; 0; piece.ins().len()]?;
-        let latches = vec![in alloc; None; piece.ins().len()]?;
-        let flags = vec![in alloc; false; piece.outs().len()]?;
+        let latches = empty_latches(alloc, piece.ins().len())?;
+        let flags = clear_flags(alloc, piece.outs().len())?;
         Ok(MemUnit {
             piece,
             bank,
@@ -154,8 +154,7 @@ impl MemUnit {
         ensures step { self.new ≡ finished self.old self.new.state }
     {
         self.inputs.fill(0);
-        self.latches.fill(None);
-        self.flags.fill(false);
+        clean(&mut self.latches, &mut self.flags);
         self.cycle += 1;
         self.served = 0;
     }

@@ -13,6 +13,7 @@ pub mod NetLemmas
 pub mod MayLemmas
 pub mod PartLemmas
 pub mod CloseLemmas
+pub mod TrayLemmas
 pub mod WorkedNets
 pub mod WorkedPipes
 pub mod OpenLemmas

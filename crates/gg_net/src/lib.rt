@@ -31,11 +31,13 @@ mod seats;
 mod shape;
 mod step;
 mod tells;
+mod waits;
 
 pub use event::{Event, Refusal};
 pub use gg_flat::Streams;
-pub use laws::{counted_once, goes_on, goes_once, refused_once};
+pub use laws::{counted_once, goes_on, goes_once, refused_once, trays_tell};
 pub use net::Net;
 pub use parts::Parts;
 pub use queue::Queue;
 pub use shape::{ServedPort, Shape, Station, Wire};
+pub use waits::{first_missing, first_unfired, first_unlatched};

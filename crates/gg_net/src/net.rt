@@ -1,5 +1,5 @@
 //! `Net`: a network of machines.
-ghost use Rattle.std.specs.Prelude.{◌≡◌, ℕ, ◌-◌, ◌<◌, ◌≤◌, [], length, map, IfOk, MatchOption};
+ghost use Rattle.std.specs.Prelude.{◌≡◌, ℕ, ◌-◌, ◌<◌, ◌≤◌, [], length, map, Contains, IfOk, MatchOption};
 ghost use Rattle.gg_flat.specs.Line.{value_at};
 ghost use Rattle.gg_node.specs.Machine.{machine_at, cycle_limit};
 ghost use Rattle.gg_net.specs.Network.{wire_at, queue_at, puts, takes, serves, frame_of};
@@ -90,6 +90,24 @@ impl<H: Host, Z: Streams> Net<H, Z> {
         ensures end { result.now.end ≡ self.now.end }
     {
         &self.shape
+    }
+
+    /// The host of a machine, and the machine's thread there.
+    pub fn seat(&self, machine: u32) -> (&H, u32)
+        requires { machine < length self.now.machines }
+        ensures thread { result.1 < length (H.machines result.0.now) }
+        ensures machine { machine_at (H.machines result.0.now) result.1 ≡ machine_at self.now.machines machine }
+    {
+        let station = &self.shape.stations[machine as usize];
+        (seats::host_of(&self.hosts, station), station.thread)
+    }
+
+    /// The host of a machine.
+    pub fn host(&self, machine: u32) -> &H
+        requires { machine < length self.now.machines }
+        ensures { Contains (H.machines result.now) (machine_at self.now.machines machine) }
+    {
+        self.seat(machine).0
     }
 
     /// The number of cycles that the network has to do.

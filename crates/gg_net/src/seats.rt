@@ -1,16 +1,15 @@
 //! The machines of a network at their hosts: facts about them, and their steps.
-ghost use Rattle.std.specs.Prelude.{◌≡◌, ◌^◌, ◌<◌, All, length, map, is_some, MatchOption};
-ghost use Rattle.gg_node.specs.Machine.{machine_at, latch_at, flag_at, first_empty, missing, due};
+ghost use Rattle.std.specs.Prelude.{◌≡◌, ◌<◌, length, map, is_some};
+ghost use Rattle.gg_node.specs.Machine.{machine_at, latch_at, flag_at, missing, due};
 ghost use Rattle.gg_node.specs.Token.{IsToken};
-ghost use Rattle.gg_node.specs.Step.{MayLatch, MayFire, MayServe, MayFinish, with_latch, with_flag, with_served, AllFired, AllLatched};
-ghost use Rattle.gg_net.specs.Step.{IsFirstClear, IsFirstEmpty};
+ghost use Rattle.gg_node.specs.Step.{MayLatch, MayFire, MayServe, MayFinish, with_latch, with_flag, with_served};
 ghost use Rattle.gg_net.specs.Seats.{IsSeated, seated, IsReseated, HasGoneOn};
 
 use crate::shape::Station;
 use gg_node::Host;
 
 // The host of a machine.
-fn host_of<'a, H: Host>(hosts: &'a [H], station: &Station) -> &'a H
+pub(crate) fn host_of<'a, H: Host>(hosts: &'a [H], station: &Station) -> &'a H
     requires { IsSeated (map H.machines hosts.now) station.now }
     ensures within { station.now.thread < length (H.machines result.now) }
     ensures machine { machine_at (H.machines result.now) station.now.thread ≡ seated (map H.machines hosts.now) station.now }
@@ -120,50 +119,4 @@ pub(crate) fn finish<H: Host>(hosts: &mut Vec<H>, station: &Station)
     ensures { HasGoneOn (map H.machines hosts.old.items) (map H.machines hosts.new.items) station.now }
 {
     hosts[station.host as usize].finish(station.thread);
-}
-
-// The first out of a machine that hasn't given its token of this cycle, if there is one.
-pub(crate) fn first_unfired<H: Host>(hosts: &[H], station: &Station) -> Option<u32>
-    requires seated { IsSeated (map H.machines hosts.now) station.now }
-    requires outs { length station.now.outs ≡ length (seated (map H.machines hosts.now) station.now).flags }
-    requires few { length station.now.outs < 2 ^ 32 }
-    ensures { MatchOption result (AllFired (seated (map H.machines hosts.now) station.now)) (IsFirstClear (seated (map H.machines hosts.now) station.now).flags) }
-{
-    let outs = station.outs.as_slice();
-    for place in 0..outs.len() as u32 {
-        if !fired(hosts, station, place) {
-            return Some(place);
-        }
-    }
-    None
-}
-
-// The first in of a machine that has no token of this cycle, if there is one.
-pub(crate) fn first_unlatched<H: Host>(hosts: &[H], station: &Station) -> Option<u32>
-    requires seated { IsSeated (map H.machines hosts.now) station.now }
-    requires ins { length station.now.ins ≡ length (seated (map H.machines hosts.now) station.now).latches }
-    requires few { length station.now.ins < 2 ^ 32 }
-    ensures { MatchOption result (AllLatched (seated (map H.machines hosts.now) station.now)) (IsFirstEmpty (seated (map H.machines hosts.now) station.now).latches) }
-{
-    let ins = station.ins.as_slice();
-    for place in 0..ins.len() as u32 {
-        if !latched(hosts, station, place) {
-            return Some(place);
-        }
-    }
-    None
-}
-
-// The first of these ins of a machine that has no token of this cycle, if there is one.
-pub(crate) fn first_missing<H: Host>(hosts: &[H], station: &Station, places: &[u32]) -> Option<u32>
-    requires seated { IsSeated (map H.machines hosts.now) station.now }
-    requires there { All (λ i. i < length (seated (map H.machines hosts.now) station.now).latches) places.now }
-    ensures { result ≡ first_empty (seated (map H.machines hosts.now) station.now).latches places.now }
-{
-    for place in places {
-        if !latched(hosts, station, *place) {
-            return Some(*place);
-        }
-    }
-    None
 }

@@ -1,4 +1,4 @@
-//! Facts about the machines and channels of a network, for its steps.
+//! Facts about single machines and channels of a network.
 ghost use Rattle.std.specs.Prelude.{◌≡◌, ◌<◌, length, is_some, Some, MatchOption};
 ghost use Rattle.gg_node.specs.Machine.{machine_at, latch_at, flag_at, missing, due, first_empty};
 ghost use Rattle.gg_node.specs.Step.{AllFired, AllLatched};
@@ -8,6 +8,7 @@ ghost use Rattle.gg_net.specs.Step.{due_fields, IsFirstClear, IsFirstEmpty};
 use crate::net::Net;
 use crate::seats;
 use crate::shape::Wire;
+use crate::waits;
 use gg_flat::Streams;
 use gg_node::Host;
 
@@ -59,16 +60,32 @@ impl<H: Host, Z: Streams> Net<H, Z> {
         seats::missing(&self.hosts, &self.shape.stations[machine as usize], place)
     }
 
-    // The number of the port of a machine that has to be served next, if one is left.
-    pub(crate) fn due(&self, machine: u32) -> Option<u32>
+    /// The number of the port of a machine that has to be served next, if one is left.
+    pub fn due(&self, machine: u32) -> Option<u32>
         requires { machine < length self.now.machines }
         ensures { result ≡ due (machine_at self.now.machines machine) }
     {
         seats::due(&self.hosts, &self.shape.stations[machine as usize])
     }
 
-    // The channel at an in of a machine.
-    pub(crate) fn in_channel(&self, machine: u32, place: u32) -> u32
+    /// The number of ins of a machine.
+    pub fn in_count(&self, machine: u32) -> u32
+        requires { machine < length self.now.machines }
+        ensures { result ≡ length (machine_at self.now.machines machine).latches }
+    {
+        self.shape.stations[machine as usize].ins.as_slice().len() as u32
+    }
+
+    /// The number of outs of a machine.
+    pub fn out_count(&self, machine: u32) -> u32
+        requires { machine < length self.now.machines }
+        ensures { result ≡ length (machine_at self.now.machines machine).flags }
+    {
+        self.shape.stations[machine as usize].outs.as_slice().len() as u32
+    }
+
+    /// The channel at an in of a machine.
+    pub fn in_channel(&self, machine: u32, place: u32) -> u32
         requires there { machine < length self.now.machines }
         requires within { place < length (machine_at self.now.machines machine).latches }
         ensures { IsAtIn self.now.wires machine place result }
@@ -76,8 +93,8 @@ impl<H: Host, Z: Streams> Net<H, Z> {
         self.shape.stations[machine as usize].ins.as_slice()[place as usize]
     }
 
-    // The channel at an out of a machine.
-    pub(crate) fn out_channel(&self, machine: u32, place: u32) -> u32
+    /// The channel at an out of a machine.
+    pub fn out_channel(&self, machine: u32, place: u32) -> u32
         requires there { machine < length self.now.machines }
         requires within { place < length (machine_at self.now.machines machine).flags }
         ensures { IsAtOut self.now.wires machine place result }
@@ -90,7 +107,8 @@ impl<H: Host, Z: Streams> Net<H, Z> {
         requires { machine < length self.now.machines }
         ensures { MatchOption result (AllFired (machine_at self.now.machines machine)) (IsFirstClear (machine_at self.now.machines machine).flags) }
     {
-        seats::first_unfired(&self.hosts, &self.shape.stations[machine as usize])
+        let (host, thread) = self.seat(machine);
+        waits::first_unfired(host, thread, self.out_count(machine))
     }
 
     // The first in of a machine that has no token of this cycle, if there is one.
@@ -98,7 +116,8 @@ impl<H: Host, Z: Streams> Net<H, Z> {
         requires { machine < length self.now.machines }
         ensures { MatchOption result (AllLatched (machine_at self.now.machines machine)) (IsFirstEmpty (machine_at self.now.machines machine).latches) }
     {
-        seats::first_unlatched(&self.hosts, &self.shape.stations[machine as usize])
+        let (host, thread) = self.seat(machine);
+        waits::first_unlatched(host, thread, self.in_count(machine))
     }
 
     // The first in that the port that is due uses and that has no token yet, if there is one.
@@ -107,9 +126,9 @@ impl<H: Host, Z: Streams> Net<H, Z> {
         requires due { due (machine_at self.now.machines machine) ≡ Some port }
         ensures { result ≡ first_empty (machine_at self.now.machines machine).latches (due_fields (machine_at self.now.machines machine)) }
     {
-        let station = &self.shape.stations[machine as usize];
-        let served = seats::served(&self.hosts, station);
-        let port = &station.ports.as_slice()[served as usize];
-        seats::first_missing(&self.hosts, station, port.fields.as_slice())
+        let served = self.served(machine);
+        let port = &self.shape.stations[machine as usize].ports.as_slice()[served as usize];
+        let (host, thread) = self.seat(machine);
+        waits::first_missing(host, thread, port.fields.as_slice())
     }
 }

@@ -1,4 +1,3 @@
 pub mod EmptyLemmas
 pub mod OneLemmas
-pub mod KeptLemmas
 pub mod WorkedRows

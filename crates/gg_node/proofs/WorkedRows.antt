@@ -11,27 +11,62 @@ use Rattle.gg_flat.specs.Circuit.{FlatCircuit, signal_shapes, driver_at}
 use Rattle.gg_flat.specs.State.{State}
 use Rattle.gg_flat.specs.Settled.{Settled, driver_value}
 use Rattle.gg_flat.proofs.WorkedCircuits.{eight, node}
-use Rattle.gg_node.specs.Machine.{RunsPiece, Machine, latch_at, latched_value, missing, no_state, source_machine, tray_machine}
+use Rattle.gg_node.specs.Machine.{RunsPiece, Machine, latch_at, latched_value, missing, no_state, source_machine, tray_machine, kept_value}
 use Rattle.gg_node.specs.Token.{IsToken, IsNextState}
-use Rattle.gg_node.specs.Step.{MayFinish, with_latch, with_flag, finished}
+use Rattle.gg_node.specs.Step.{MayFire, MayFinish, with_latch, with_flag, finished}
 
--- ---- a tray over two cycles
+-- ---- a tray of two rows over three cycles
 
 abbrev tray : Machine
-tray = tray_machine 2 2 0 [] None
+tray = tray_machine 2 10 0 [] None
 
 abbrev tray-after-one : Machine
-tray-after-one = finished (with_latch tray 0 7) no_state
+tray-after-one = finished (with_latch tray 0 1) no_state
 
-kept-one : tray-after-one ≡ tray_machine 2 2 1 (7 ∷ []) None
+abbrev tray-after-two : Machine
+tray-after-two = finished (with_latch tray-after-one 0 2) no_state
+
+abbrev tray-after-three : Machine
+tray-after-three = finished (with_latch tray-after-two 0 3) no_state
+
+kept-one : tray-after-one ≡ tray_machine 2 10 1 (1 ∷ []) None
 kept-one = refl
 
-kept-two : finished (with_latch tray-after-one 0 9) no_state ≡ tray_machine 2 2 2 (7 ∷ 9 ∷ []) None
+kept-two : tray-after-two ≡ tray_machine 2 10 2 (1 ∷ 2 ∷ []) None
 kept-two = refl
 
--- with two values already, the oldest is dropped
-last-two : finished (with_latch (tray_machine 2 10 2 (7 ∷ 9 ∷ []) None) 0 5) no_state ≡ tray_machine 2 10 3 (9 ∷ 5 ∷ []) None
-last-two = refl
+-- with two values already, the oldest goes
+kept-three : tray-after-three ≡ tray_machine 2 10 3 (2 ∷ 3 ∷ []) None
+kept-three = refl
+
+not-oldest : tray-after-three ≡ tray_machine 2 10 3 (1 ∷ 2 ∷ []) None → ⊥
+not-oldest is = omega (arith, ap (λ machine. value_at machine.kept 0) is)
+
+-- it tells the values of cycles 1 and 2; that of cycle 0 is forgotten, and cycle 3 isn't finished
+tells-second : kept_value tray-after-three 1 ≡ Some 2
+tells-second = refl
+
+tells-third : kept_value tray-after-three 2 ≡ Some 3
+tells-third = refl
+
+forgets-first : kept_value tray-after-three 0 ≡ None
+forgets-first = refl
+
+told-first : kept_value tray-after-two 0 ≡ Some 1
+told-first = refl
+
+not-yet : kept_value tray-after-three 3 ≡ None
+not-yet = refl
+
+-- a tray that begins at cycle 7 has no value of a cycle before
+abbrev late-tray : Machine
+late-tray = finished (with_latch (tray_machine 2 10 7 [] None) 0 5) no_state
+
+tells-late : kept_value late-tray 7 ≡ Some 5
+tells-late = refl
+
+not-before : kept_value late-tray 6 ≡ None
+not-before = refl
 
 -- it can't finish without a token
 abbrev IsClear : Bool → Type 0
@@ -55,12 +90,18 @@ not-second is = omega (arith, is)
 flag-clears : finished (with_flag source 0) no_state ≡ source_machine (4 ∷ 6 ∷ []) 1 (false ∷ [])
 flag-clears = refl
 
--- a source of two outs gives the same value at each
+-- a source of two outs gives the same value at each, and has a flag for each
 abbrev fork : Machine
 fork = source_machine (4 ∷ 6 ∷ []) 0 (false ∷ false ∷ [])
 
 gives-at-both : IsToken (with_flag fork 0) 1 4
 gives-at-both = refl
+
+one-left : MayFire (with_flag fork 0) 1
+one-left = record { there = omega arith; clear = refl; needed = refl; known = omega arith }
+
+not-twice : MayFire (with_flag fork 0) 0 → ⊥
+not-twice may = subst IsClear (sym may.clear) tt
 
 gives-second : IsToken (finished (with_flag source 0) no_state) 0 6
 gives-second = refl

@@ -2,7 +2,7 @@
 -- Source: MEMOCODE 2009 (a bounded dataflow network: primitive nodes with a latch for each input and a flag for each
 -- output that was given in this cycle); ICCAD 2019 (units of a target in separate models; memories that a host serves
 -- port by port).
-use Rattle.std.specs.Prelude.{ℕ, List, [], ◌∷◌, Option, Some, None, Bool, false, length, map, replicate, slice_index_or, slice_get, ⊤}
+use Rattle.std.specs.Prelude.{ℕ, ◌-◌, List, [], ◌∷◌, Option, Some, None, Bool, false, ◌&&◌, if◌then◌else◌, length, map, nat_le, nat_lt, replicate, slice_index_or, slice_get, ⊤}
 use Rattle.gg_flat.specs.Clock.{Ratio, edges_at}
 use Rattle.gg_flat.specs.Circuit.{FlatCircuit}
 use Rattle.gg_flat.specs.State.{State}
@@ -123,3 +123,11 @@ abbrev pub IsTray : Behaviour → Type 0
 IsTray (RunsPiece piece) = ⊥
 IsTray (GivesColumn column) = ⊥
 IsTray (KeepsLast rows) = ⊤
+
+-- the first cycle whose value a machine still keeps; it keeps those of the last cycles before the one that it is in
+abbrev pub first_kept : Machine → ℕ
+first_kept machine = machine.cycle - length machine.kept
+
+-- the value of a cycle, if the machine keeps it
+abbrev pub kept_value : Machine → ℕ → Option ℕ
+kept_value machine cycle = if nat_le (first_kept machine) cycle && nat_lt cycle machine.cycle then slice_get machine.kept (cycle - first_kept machine) else None

@@ -1,61 +1,109 @@
-//! `Tray`: a machine that keeps the values that it gets.
+//! `Tray`: a machine that keeps the last values that it gets.
 ghost use Rattle.std.specs.Prelude.{◌≡◌, ℕ, ◌<◌, ◌≤◌, List, [], ◌∷◌, None, IfOk, length, is_some, slice_set};
-ghost use Rattle.gg_node.specs.Machine.{IsTray, Machine, machine_at, latch_at, flag_at, missing, due, tray_machine};
+ghost use Rattle.std.specs.VecDeque.{deque_capacity};
+ghost use Rattle.gg_node.specs.Machine.{IsTray, Machine, machine_at, latch_at, flag_at, missing, due, cycle_limit, tray_machine, kept_value};
 ghost use Rattle.gg_node.specs.Token.{IsToken, IsNextState};
-ghost use Rattle.gg_node.specs.Step.{MayLatch, MayFire, MayServe, MayFinish, with_latch, with_flag, with_served, finished};
+ghost use Rattle.gg_node.specs.Step.{MayLatch, MayFire, MayServe, MayFinish, with_latch, with_flag, with_served, kept_with, finished};
 
 use crate::host::Host;
 use std::alloc::{AllocError, Global};
+use std::collections::VecDeque;
 use std::marker::Model;
 
-/// Keeps the values that it gets, one in each cycle. It is a host of one thread, whose machine has one in and no outs.
-/// A contract sees it as this machine.
+/// Keeps the last values that it gets, one in each cycle. It is a host of one thread, whose machine has one in and no
+/// outs. A contract sees it as this machine.
 #[derive(Debug, Drop)]
 pub struct Tray {
-    // A place for each cycle. Those before the current cycle hold what was kept.
-    values: Vec<u128>,
+    // The oldest first.
+    kept: VecDeque<u128>,
+    // The greatest number of values that it keeps.
+    rows: u64,
     cycle: u64,
     latch: Option<u128>,
 }
 
 impl Model for Tray {
-    ghost use Rattle.std.specs.Prelude.{◌≤◌, length, take};
-    ghost use Rattle.gg_node.specs.Machine.{Machine, tray_machine};
+    ghost use Rattle.gg_node.specs.Machine.{Machine, cycle_limit, tray_machine};
+    ghost use Rattle.gg_node.specs.Tray.{IsWindow};
 
     ghost Value = { Machine };
 
-    ghost view = { λ tray. tray_machine (length tray.values.items) (length tray.values.items) tray.cycle (take tray.cycle tray.values.items) tray.latch };
+    ghost view = { λ tray. tray_machine tray.rows cycle_limit tray.cycle tray.kept.items tray.latch };
 
-    ghost invariant = { λ tray. tray.cycle ≤ length tray.values.items };
+    ghost invariant = { λ tray. IsWindow tray.kept tray.rows tray.cycle };
 }
 
 impl Tray {
-    /// A tray for the values of this many cycles.
+    /// A tray that keeps the last `rows` values, before the first cycle.
     ///
     /// # Errors
     ///
     /// Returns `AllocError` if an allocation fails.
     pub fn new(alloc: Global, rows: u64) -> Result<Tray, AllocError>
-        ensures { IfOk result (λ tray. tray ≡ tray_machine rows rows 0 [] None) }
+        requires { 0 < rows }
+        ensures { IfOk result (λ tray. tray ≡ tray_machine rows cycle_limit 0 [] None) }
     {
-        let values = vec![in alloc; 0; rows as usize]?;
+        Tray::from_cycle(alloc, rows, 0)
+    }
+
+    /// A tray that keeps the last `rows` values and is in this cycle. It has no value of a cycle before.
+    ///
+    /// # Errors
+    ///
+    /// Returns `AllocError` if an allocation fails.
+    pub fn from_cycle(alloc: Global, rows: u64, cycle: u64) -> Result<Tray, AllocError>
+        requires { 0 < rows }
+        ensures { IfOk result (λ tray. tray ≡ tray_machine rows cycle_limit cycle [] None) }
+    {
+        let kept = VecDeque::with_capacity(alloc, rows as usize)?;
         Ok(Tray {
-            values,
-            cycle: 0,
+            kept,
+            rows,
+            cycle,
             latch: None,
         })
     }
 
-    /// The values that it has kept, by cycle.
-    pub fn column(&self) -> &[u128]
+    /// The value of a cycle. `None` if the cycle isn't finished, if the tray has forgotten its value, or if the cycle is
+    /// before the first one of the tray.
+    pub fn value(&self, cycle: u64) -> Option<u128>
         ensures keeps { IsTray self.now.behaviour }
-        ensures kept { result.now ≡ self.now.kept }
+        ensures value { result ≡ kept_value self.now cycle }
     {
-        &self.values[..self.cycle as usize]
+        let first = self.cycle - self.kept.len() as u64;
+        if cycle < first || cycle >= self.cycle {
+            return None;
+        }
+        self.kept.get((cycle - first) as usize).copied()
+    }
+
+    // Advances to the next cycle.
+    fn next_cycle(&mut self)
+        requires { MayFinish self.old }
+        ensures next { IsNextState self.old self.new.state }
+        ensures step { self.new ≡ finished self.old self.new.state }
+    {
+        self.cycle += 1;
+        keep(&mut self.kept, self.rows, self.latch.unwrap_or(0));
+        self.latch = None;
     }
 }
 
-#[tactic(auto, using(crate::proofs::OneLemmas::only, crate::proofs::OneLemmas::only_set, crate::proofs::KeptLemmas::kept_few))]
+// Keeps one more value. If there are `rows` already, the oldest goes.
+fn keep(kept: &mut VecDeque<u128>, rows: u64, value: u128)
+    requires some { 0 < rows }
+    requires few { length kept.old.items ≤ rows }
+    requires room { rows ≤ deque_capacity kept.old }
+    ensures values { kept.new.items ≡ kept_with rows kept.old.items value }
+    ensures room { deque_capacity kept.new ≡ deque_capacity kept.old }
+{
+    if kept.len() as u64 >= rows {
+        let _ = kept.pop_front();
+    }
+    kept.push_back_reserved(value);
+}
+
+#[tactic(auto, using(crate::proofs::OneLemmas::only, crate::proofs::OneLemmas::only_set))]
 impl Host for Tray {
     ghost machines = { λ machine. machine ∷ [] };
 
@@ -120,8 +168,6 @@ impl Host for Tray {
     }
 
     fn finish(&mut self, thread: u32) {
-        self.values[self.cycle as usize] = self.latch.unwrap_or(0);
-        self.latch = None;
-        self.cycle += 1;
+        self.next_cycle();
     }
 }

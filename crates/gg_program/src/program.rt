@@ -153,7 +153,8 @@ impl<'a> Program<'a> {
     }
 
     /// Completes a cycle for which all inputs were put, with these edges. The state becomes the next one by the settled
-    /// values with these inputs, and no signal is done any more. Only what isn't done is evaluated. It allocates nothing.
+    /// values with these inputs, and no signal is done any more. Only what isn't done is evaluated. It allocates
+    /// nothing.
     ///
     /// State and slots are those of the program's circuit, in a cycle from this state.
     pub fn run_next(&self, state: &mut State, slots: &mut Slots, edges: &[bool])

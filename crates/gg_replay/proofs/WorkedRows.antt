@@ -1,12 +1,13 @@
 -- Lines, logs and stops worked by hand.
 use Rattle.std.proofs.Common.{◌≡◌, ℕ, zero, suc, ◌<◌, List, [], ◌∷◌, Some, None, true, false, refl, ap, length, arith, lit<, codes, get_or}
-use Rattle.gg_node.specs.Machine.{Machine, KeepsValues, no_state}
+use Rattle.gg_node.specs.Machine.{Machine, KeepsLast, no_state}
 use Rattle.gg_net.specs.declared.shape.Wire.{Wire}
 use Rattle.gg_net.specs.declared.event.Event.TheVariants.{Fire}
 use Rattle.gg_net.specs.Step.{Step}
 use Rattle.gg_flat.specs.Line.{value_at}
+use Rattle.gg_flat.specs.Streams.{Flow}
 use Rattle.gg_net.specs.declared.event.Refusal.TheVariants.{Stranger}
-use Rattle.gg_net.specs.Network.{Network, puts}
+use Rattle.gg_net.specs.Network.{Network, entered}
 use Rattle.gg_replay.specs.Log.{AreFronts}
 use Rattle.gg_replay.specs.Stopping.{IsStop}
 use Rattle.gg_replay.specs.declared.stop.Stop.TheVariants.{Refused}
@@ -35,34 +36,50 @@ no-token = refl
 -- ---- logs: machine 0 is in cycle 2, and has given its token of that cycle at out 0, and not at out 1
 
 abbrev giver : Machine
-giver = record { behaviour = KeepsValues; limit = 4; needs = [] ∷ [] ∷ []; port_count = 0; ports = []; cycle = 2; state = no_state; served = 0; latches = []; flags = true ∷ false ∷ []; kept = [] }
+giver = record { behaviour = KeepsLast 4; limit = 4; ratios = []; needs = [] ∷ [] ∷ []; port_count = 0; ports = []; cycle = 2; state = no_state; served = 0; latches = []; flags = true ∷ false ∷ []; kept = [] }
 
 abbrev wires : List Wire
-wires = record { producer = 0; out = 0; consumer = 0; place = 0; capacity = 3 } ∷ record { producer = 0; out = 1; consumer = 0; place = 1; capacity = 3 } ∷ []
+wires = record { producer = 0; out = 0; consumer = 0; place = 0; capacity = 3; first = None } ∷ record { producer = 0; out = 1; consumer = 0; place = 1; capacity = 3; first = None } ∷ []
 
 abbrev net : Network
 net = record { machines = giver ∷ []; wires = wires; queues = [] ∷ [] ∷ []; end = 4 }
 
-abbrev lists : List (List ℕ)
-lists = (5 ∷ 6 ∷ 7 ∷ 8 ∷ []) ∷ (1 ∷ 2 ∷ 3 ∷ 4 ∷ []) ∷ []
+abbrev flow : Flow
+flow = record { lists = (5 ∷ 6 ∷ 7 ∷ 8 ∷ []) ∷ (1 ∷ 2 ∷ 3 ∷ 4 ∷ []) ∷ []; runs = [] ∷ []; begin = 0; states = no_state ∷ [] }
 
-fronts : AreFronts lists net ((5 ∷ 6 ∷ 7 ∷ []) ∷ (1 ∷ 2 ∷ []) ∷ [])
+fronts : AreFronts flow net ((5 ∷ 6 ∷ 7 ∷ []) ∷ (1 ∷ 2 ∷ []) ∷ [])
 fronts = record { count = refl; each = each }
   where
-    each : (c : ℕ) → c < 2 → get_or ((5 ∷ 6 ∷ 7 ∷ []) ∷ (1 ∷ 2 ∷ []) ∷ []) c [] ≡ lib.ListN.take (puts net c) (get_or lists c [])
+    each : (c : ℕ) → c < 2 → get_or ((5 ∷ 6 ∷ 7 ∷ []) ∷ (1 ∷ 2 ∷ []) ∷ []) c [] ≡ lib.ListN.take (entered net c) (get_or flow.lists c [])
     each zero lt = refl
     each (suc zero) lt = refl
     each (suc (suc c)) lt = absurd (omega (arith, lt))
 
 -- the log must have the token of the machine's cycle just if the flag is set, and its tokens are the first of the channel's list
-not-short : AreFronts lists net ((5 ∷ 6 ∷ []) ∷ (1 ∷ 2 ∷ []) ∷ []) → ⊥
+not-short : AreFronts flow net ((5 ∷ 6 ∷ []) ∷ (1 ∷ 2 ∷ []) ∷ []) → ⊥
 not-short fronts = omega (arith, ap length (fronts.each 0 (lit< tt)))
 
-not-long : AreFronts lists net ((5 ∷ 6 ∷ 7 ∷ []) ∷ (1 ∷ 2 ∷ 3 ∷ []) ∷ []) → ⊥
+not-long : AreFronts flow net ((5 ∷ 6 ∷ 7 ∷ []) ∷ (1 ∷ 2 ∷ 3 ∷ []) ∷ []) → ⊥
 not-long fronts = omega (arith, ap length (fronts.each 1 (lit< tt)))
 
-not-reversed : AreFronts lists net ((7 ∷ 6 ∷ 5 ∷ []) ∷ (1 ∷ 2 ∷ []) ∷ []) → ⊥
+not-reversed : AreFronts flow net ((7 ∷ 6 ∷ 5 ∷ []) ∷ (1 ∷ 2 ∷ []) ∷ []) → ⊥
 not-reversed fronts = omega (arith, ap (λ tokens. value_at tokens 0) (fronts.each 0 (lit< tt)))
+
+-- channel 1 opens with a token, which comes before those that were put
+
+abbrev piped : Network
+piped = record net { wires = record { producer = 0; out = 0; consumer = 0; place = 0; capacity = 3; first = None } ∷ record { producer = 0; out = 1; consumer = 0; place = 1; capacity = 3; first = Some 1 } ∷ [] }
+
+piped-fronts : AreFronts flow piped ((5 ∷ 6 ∷ 7 ∷ []) ∷ (1 ∷ 2 ∷ 3 ∷ []) ∷ [])
+piped-fronts = record { count = refl; each = each }
+  where
+    each : (c : ℕ) → c < 2 → get_or ((5 ∷ 6 ∷ 7 ∷ []) ∷ (1 ∷ 2 ∷ 3 ∷ []) ∷ []) c [] ≡ lib.ListN.take (entered piped c) (get_or flow.lists c [])
+    each zero lt = refl
+    each (suc zero) lt = refl
+    each (suc (suc c)) lt = absurd (omega (arith, lt))
+
+not-without-first : AreFronts flow piped ((5 ∷ 6 ∷ 7 ∷ []) ∷ (1 ∷ 2 ∷ []) ∷ []) → ⊥
+not-without-first fronts = omega (arith, ap length (fronts.each 1 (lit< tt)))
 
 -- ---- stops
 

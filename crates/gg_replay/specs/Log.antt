@@ -1,8 +1,9 @@
--- The log of a network: for each channel the tokens that were put into it so far.
+-- The log of a network: for each channel the tokens that have entered it so far.
 -- Source: MEMOCODE 2009 (the k-th token of each queue is the signal's value in cycle k).
 use Rattle.std.specs.Prelude.{◌≡◌, ℕ, ◌<◌, List, [], Option, take, length, slice_index_or}
+use Rattle.gg_flat.specs.Streams.{Flow}
 use Rattle.gg_net.specs.declared.event.Event.{Event}
-use Rattle.gg_net.specs.Network.{Network, puts}
+use Rattle.gg_net.specs.Network.{Network, entered}
 use Rattle.gg_net.specs.Kept.{Kept, list_at}
 use Rattle.gg_marking.specs.Steps.{IsStep}
 
@@ -10,14 +11,14 @@ use Rattle.gg_marking.specs.Steps.{IsStep}
 abbrev pub tokens_at : List (List ℕ) → ℕ → List ℕ
 tokens_at log c = slice_index_or log c []
 
--- The log has for each channel the first values of its list, as many as were put into it.
-pub record AreFronts (lists : List (List ℕ)) (net : Network) (log : List (List ℕ)) : Type 0 where
+-- The log has for each channel the first values of its list, as many as have entered it.
+pub record AreFronts (flow : Flow) (net : Network) (log : List (List ℕ)) : Type 0 where
   pub count : length log ≡ length net.wires
-  pub each : (c : ℕ) → c < length net.wires → tokens_at log c ≡ take (puts net c) (list_at lists c)
+  pub each : (c : ℕ) → c < length net.wires → tokens_at log c ≡ take (entered net c) (list_at flow.lists c)
 
 -- The log is one step late: it is that of the network before this step.
-pub record IsBehind (lists : List (List ℕ)) (runs : List (List (List ℕ))) (step : Option Event) (net : Network) (log : List (List ℕ)) : Type 0 where
+pub record IsBehind (flow : Flow) (step : Option Event) (net : Network) (log : List (List ℕ)) : Type 0 where
   pub before : Network
-  pub kept : Kept lists runs before
+  pub kept : Kept flow before
   pub done : IsStep before step net
-  pub fronts : AreFronts lists before log
+  pub fronts : AreFronts flow before log

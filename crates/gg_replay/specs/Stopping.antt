@@ -2,6 +2,7 @@
 -- Source: MEMOCODE 2009 (a network goes on by steps, one node at a time). This program's own: steps count from 1, and
 -- no step is done after one that is refused.
 use Rattle.std.specs.Prelude.{ℕ, List, Option, ⊤}
+use Rattle.gg_flat.specs.Streams.{Flow}
 use Rattle.gg_net.specs.declared.event.Event.{Event}
 use Rattle.gg_net.specs.Network.{Network}
 use Rattle.gg_marking.specs.Steps.{StopsAt}
@@ -16,6 +17,6 @@ IsStop old steps new (Refused step cause) = StopsAt 1 old steps new (record { st
 IsStop old steps new NoMemory = ⊤
 
 -- the log is that of the network, if a step was refused
-abbrev pub KeepsLog : List (List ℕ) → Network → List (List ℕ) → Stop → Type 0
-KeepsLog lists net log (Refused step cause) = AreFronts lists net log
-KeepsLog lists net log NoMemory = ⊤
+abbrev pub KeepsLog : Flow → Network → List (List ℕ) → Stop → Type 0
+KeepsLog flow net log (Refused step cause) = AreFronts flow net log
+KeepsLog flow net log NoMemory = ⊤

@@ -4,10 +4,11 @@
 //!   at the first step that is refused, with the step's number, counted from 1, and its cause. The network is then as
 //!   it was after the steps before that one, and no later step is done. A step that isn't an event is refused as a
 //!   stranger.
-//! - A [`Log`] has for each channel the tokens that were put into it, in their order. It is right if for each channel
-//!   these are the first values of the channel's list, as many as were put. If the log is right before the steps, it is
-//!   right after them, also if a step is refused. Before the first cycle a log without tokens is right
-//!   ([`opens_with_empty_log`]).
+//! - A [`Log`] has for each channel the tokens that have entered it, in their order: the one that it opens with, if
+//!   there is one, and those that were put. It is right if for each channel these are the first values of the channel's
+//!   list, as many as have entered it. If the log is right before the steps, it is right after them, also if a step is
+//!   refused. Before the first cycle a log without tokens is right, if all begins with cycle 0 and no channel opens
+//!   with a token ([`opens_with_empty_log`]).
 //! - [`channel_line`] returns the exact line of a channel: its name, its counts and its tokens.
 //!
 //! Any call that allocates may return `AllocError` or `Stop::NoMemory`.

@@ -1,11 +1,11 @@
-//! `Log`: the tokens that were put into the channels of a network.
+//! `Log`: the tokens that have entered the channels of a network.
 ghost use Rattle.std.specs.Prelude.{◌≡◌, ◌<◌, ◌++◌, ◌∷◌, [], length, replicate, slice_set, IfOk, OnOk};
 ghost use Rattle.gg_replay.specs.Log.{tokens_at};
 
 use std::alloc::{AllocError, Global};
 use std::marker::Model;
 
-/// For each channel the tokens that were put into it, in their order. A contract sees it as these lists.
+/// For each channel the tokens that have entered it, in their order. A contract sees it as these lists.
 #[derive(Drop)]
 pub struct Log {
     lists: Vec<Vec<u128>>,

@@ -27,8 +27,8 @@ fn add_newest<H: Host, Z: Streams>(
     channel: u32,
     log: &mut Log,
 ) -> Result<(), AllocError>
-    requires { IsBehind Z.lists Z.runs (Some (Fire channel)) net.now log.old }
-    ensures { OnOk result (AreFronts Z.lists net.now log.new) }
+    requires { IsBehind Z.flow (Some (Fire channel)) net.now log.old }
+    ensures { OnOk result (AreFronts Z.flow net.now log.new) }
 {
     match net.newest(channel) {
         Some(token) => log.push(channel, token),
@@ -42,8 +42,8 @@ fn note_event<H: Host, Z: Streams>(
     event: Event,
     log: &mut Log,
 ) -> Result<(), AllocError>
-    requires { IsBehind Z.lists Z.runs (Some event) net.now log.old }
-    ensures { OnOk result (AreFronts Z.lists net.now log.new) }
+    requires { IsBehind Z.flow (Some event) net.now log.old }
+    ensures { OnOk result (AreFronts Z.flow net.now log.new) }
 {
     match event {
         Event::Fire { channel } => add_newest(net, channel, log),
@@ -57,8 +57,8 @@ fn note<H: Host, Z: Streams>(
     step: Option<Event>,
     log: &mut Log,
 ) -> Result<(), AllocError>
-    requires { IsBehind Z.lists Z.runs step net.now log.old }
-    ensures { OnOk result (AreFronts Z.lists net.now log.new) }
+    requires { IsBehind Z.flow step net.now log.old }
+    ensures { OnOk result (AreFronts Z.flow net.now log.new) }
 {
     match step {
         Some(event) => note_event(net, event, log),
@@ -77,10 +77,10 @@ pub fn replay<H: Host, Z: Streams>(
     steps: &[Option<Event>],
     log: &mut Log,
 ) -> Result<(), Stop>
-    requires logged { AreFronts Z.lists net.old log.old }
-    ensures done { OnOk result (Steps net.old steps.now net.new × AreFronts Z.lists net.new log.new) }
+    requires logged { AreFronts Z.flow net.old log.old }
+    ensures done { OnOk result (Steps net.old steps.now net.new × AreFronts Z.flow net.new log.new) }
     ensures refused { IfErr result (λ stop. IsStop net.old steps.now net.new stop) }
-    ensures stands { IfErr result (λ stop. KeepsLog Z.lists net.new log.new stop) }
+    ensures stands { IfErr result (λ stop. KeepsLog Z.flow net.new log.new stop) }
 {
     for (i, step) in steps.iter().enumerate() {
         net.kept();

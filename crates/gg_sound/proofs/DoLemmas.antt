@@ -32,8 +32,8 @@ use Rattle.gg_sound.proofs.BeginLemmas.{unit-begins, memory-begins, memory-sides
 abbrev pub start_in : State → Kind → Start
 start_in begins kind = record { cycle = 0; state = begins; ratios = kind.ratios }
 
--- A machine of this kind that begins in this state, with these rows of its own, does n cycles: its outs give, and its ins are given,
--- what these signals have in the circuit's rows.
+-- A machine of this kind that begins in this state, with these rows of its own, does n cycles: its outs give, and its
+-- ins are given, what these signals have in the circuit's rows.
 pub record DoesCycles (rows : List (List ℕ)) (n : ℕ) (ins outs : List ℕ) (kind : Kind) (begins : State) (own : List (List ℕ)) : Type 0 where
   pub able : n ≤ kind.limit
   pub does : Runs kind.behaviour kind (start_in begins kind) own n

@@ -1,5 +1,6 @@
 -- The channels of a plan and those of its network.
 use Rattle.std.proofs.Common.{◌≡◌, ℕ, zero, suc, ◌+◌, ◌<◌, List, [], ◌∷◌, None, length, get_or, refl, sym, ◌∙◌, ap, subst, arith}
+use Rattle.std.specs.Prelude.{All}
 use Rattle.gg_cut.specs.declared.plan.Channel.{Channel}
 use Rattle.gg_cut.specs.declared.plan.Plan.{Plan}
 use Rattle.gg_cut.specs.declared.wires.Wire.{Wire as Link}
@@ -10,7 +11,8 @@ use Rattle.gg_net.specs.Network.{wire_at}
 use Rattle.gg_flat.proofs.ListLemmas.{some-item}
 use Rattle.gg_sound.specs.Built.{machine_in, place_in, wire_of, wires_from, wires_of_plan}
 
--- The channels of a plan are these links, whose ends are machines of the plan, and which its machines list. Each may hold a token.
+-- The channels of a plan are these links, whose ends are machines of the plan, and which its machines list. Each may
+-- hold a token.
 pub record AreLinks (plan : Plan) (links : List Link) : Type 0 where
   pub count : length plan.channels ≡ length links
   pub producer : (c : ℕ) (any : Channel) → c < length plan.channels → (get_or plan.channels c any).producer ≡ (link_at links c).producer
@@ -32,8 +34,14 @@ wire-from plan a (channel ∷ channels) zero any lt = ap (λ k. wire_of plan k c
 wire-from plan a (channel ∷ channels) (suc c) any lt =
     wire-from plan (suc a) channels c any (omega (arith, lt)) ∙ ap (λ k. wire_of plan k (get_or channels c any)) (let same : suc a + c ≡ a + suc c = omega arith in same)
 
--- A channel of the network leads where its link does, and stands at the places at which the link's machines list it. It may hold
--- a token, and opens without one.
+-- each of them opens without a token
+pub free-from : (plan : Plan) (a : ℕ) (channels : List Channel) → All (λ (wire : Wire). wire.first ≡ None) (wires_from plan a channels)
+free-from plan a [] c any lt = absurd (omega (arith, lt))
+free-from plan a (channel ∷ channels) zero any lt = refl
+free-from plan a (channel ∷ channels) (suc c) any lt = free-from plan (suc a) channels c any (omega (arith, lt))
+
+-- A channel of the network leads where its link does, and stands at the places at which the link's machines list it.
+-- It may hold a token, and opens without one.
 pub record IsLinkedAs (plan : Plan) (links : List Link) (c : ℕ) : Type 0 where
   pub producer : (wire_at (wires_of_plan plan) c).producer ≡ (link_at links c).producer
   pub out : (wire_at (wires_of_plan plan) c).out ≡ place_in (channels_from links (link_at links c).producer) c

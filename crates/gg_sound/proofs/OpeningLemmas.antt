@@ -2,8 +2,8 @@
 use Rattle.std.proofs.Common.{◌≡◌, ℕ, ◌<◌, List, None, false, length, refl, sym, ◌∙◌, ap, subst, arith}
 use Rattle.std.specs.Prelude.{Option, replicate}
 use Rattle.std.proofs.lemmas.List.{length-replicate, get_or-map}
-use Rattle.gg_flat.specs.State.{State, opening}
-use Rattle.gg_flat.specs.Streams.{Flow, state_in}
+use Rattle.gg_flat.specs.State.{opening}
+use Rattle.gg_flat.specs.Streams.{state_in}
 use Rattle.gg_order.specs.Design.{Ordered}
 use Rattle.gg_partfile.specs.declared.request.Request.{Request}
 use Rattle.gg_cut.specs.declared.listed.Listed.{Listed}
@@ -30,17 +30,11 @@ flags-of : (n : ℕ) → replicate n false ≡ replicate (length (replicate n fa
 flags-of n = ap (λ (k : ℕ). replicate k false) (sym (length-replicate n false))
 
 module _ (design : Ordered) (request : Request) (default : ℕ) (plan : Plan) (columns : List (List ℕ)) (n : ℕ) (rows : List (List ℕ)) (machines : List Machine) (given : IsGiven design request default plan columns n rows) (built : AreBuilt plan columns n machines) where
-  abbrev flow : Flow
-  flow = flow_of plan design rows
-
   abbrev listed : Listed
   listed = listed_of design.tree request
 
   abbrev links : List Link
   links = wires_of design.circuit design.tree (listed_of design.tree request)
-
-  abbrev zeros : State
-  zeros = opening design.circuit
 
   -- a machine with this body begins in its part of the opening
   opens : (m : ℕ) (own : planned.Machine) (body : Body) (machine : Machine) → IsBody design listed links m body → state_in (states_of plan (opening design.circuit)) m ≡ body_state body (opening design.circuit) → IsBuilt columns n own body machine → IsOpening (flow_of plan design rows) m machine

@@ -6,13 +6,13 @@ use Rattle.gg_build.proofs.OpenLemmas.{lists_of, opens, opened}
 use Rattle.gg_build.proofs.opening.build.Goals as goal
 
 pub seats_of-requires-clause-ready : goal.seats_of-requires-clause-ready
-seats_of-requires-clause-ready g c = all-ready c.args.plan.now c.args.trace.now.columns c.args.trace.now.rows g.Z.Streams.lists g.Z.Streams.runs c.requires
+seats_of-requires-clause-ready g c = all-ready c.args.plan.now c.args.trace.now.columns c.args.trace.now.rows g.Z.Streams.flow c.requires
 
 pub seats_of-requires-clause-few : goal.seats_of-requires-clause-few
-seats_of-requires-clause-few g c = few c.args.plan.now c.args.trace.now.columns c.args.trace.now.rows g.Z.Streams.lists g.Z.Streams.runs c.requires
+seats_of-requires-clause-few g c = few c.args.plan.now c.args.trace.now.columns c.args.trace.now.rows g.Z.Streams.flow c.requires
 
 pub wires_of-requires : goal.wires_of-requires
-wires_of-requires g c = faultless c.args.plan.now c.args.trace.now.columns c.args.trace.now.rows g.Z.Streams.lists g.Z.Streams.runs c.requires
+wires_of-requires g c = faultless c.args.plan.now c.args.trace.now.columns c.args.trace.now.rows g.Z.Streams.flow c.requires
 
 pub new-requires-after_bounds : goal.new-requires-after_bounds
 new-requires-after_bounds g c κs within =
@@ -22,10 +22,8 @@ new-requires-after_bounds g c κs within =
     let hosts = c.in_ok-hosts.field-0.hosts.items in
     let stations = c.in_ok-hosts.field-0.stations.items in
     let wires = c.in_ok-wires.wires.items in
-    let values = g.Z.Streams.lists in
-    let runs = g.Z.Streams.runs in
-    subst (Opens values runs (lists_of plan columns n hosts stations c.in_ok-hosts.ensures) stations wires) (sym c.rows-end.ensures.count)
-    (opens plan columns n hosts stations c.in_ok-hosts.ensures values runs wires c.requires c.in_ok-wires.ensures)
+    subst (Opens g.Z.Streams.flow (lists_of plan columns n hosts stations c.in_ok-hosts.ensures) stations wires) (sym c.rows-end.ensures.count)
+    (opens plan columns n hosts stations c.in_ok-hosts.ensures g.Z.Streams.flow wires c.requires c.in_ok-wires.ensures)
 
 pub returns : goal.returns
 returns g c =

@@ -1,5 +1,9 @@
-use Rattle.gg_layout.proofs.LayoutLemmas.{plan-layout}
+use Rattle.gg_layout.proofs.LayoutLemmas.{plan-layout, plan-in-order}
 use Rattle.gg_layout.proofs.laws.plan_has_layout.Goals as goal
 
 pub returns : goal.returns
-returns c = λ design request default plan columns n rows machines given built. plan-layout design request default plan columns n rows machines given built
+returns c =
+    record {
+      layout = λ design request default plan columns n rows machines given built. plan-layout design request default plan columns n rows machines given built;
+      order = λ design request default plan columns n rows machines given built. plan-in-order design request default plan columns n rows machines given built;
+    }

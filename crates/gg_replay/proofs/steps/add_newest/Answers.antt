@@ -6,4 +6,4 @@ use Rattle.gg_replay.proofs.steps.add_newest.Goals as goal
 
 pub returns-in-Some : goal.returns-in-Some
 returns-in-Some g c =
-    on_ok_weaker c.push.result (λ is. subst (AreFronts g.Z.Streams.lists c.args.net.now) (sym is) (newest-added g.Z.Streams.lists g.Z.Streams.runs c.args.net.now c.args.log.now c.args.channel c.in-Some.token c.requires (c.in-Some.ensures {u = tt}).1)) c.push.ensures
+    on_ok_weaker c.push.result (λ is. subst (AreFronts g.Z.Streams.flow c.args.net.now) (sym is) (newest-added g.Z.Streams.flow c.args.net.now c.args.log.now c.args.channel c.in-Some.token c.requires (c.in-Some.ensures {u = tt}).1)) c.push.ensures

@@ -4,4 +4,4 @@ use Rattle.gg_replay.specs.Log.{AreFronts}
 use Rattle.gg_replay.proofs.steps.replay.Given as goal
 
 abbrev pub invariant-loop-i : goal.invariant-loop-i
-invariant-loop-i g l = Steps l.initial.net (take l.i l.steps) l.net × AreFronts g.Z.Streams.lists l.net l.log
+invariant-loop-i g l = Steps l.initial.net (take l.i l.steps) l.net × AreFronts g.Z.Streams.flow l.net l.log

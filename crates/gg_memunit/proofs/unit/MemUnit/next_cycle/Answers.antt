@@ -13,14 +13,14 @@ invariant_of-self c =
     let unit = c.self.inside in
     let kept = c.self.invariant in
     let zeros : c.fill.new.self.items ≡ replicate (length unit.inputs.items) 0 = search rules in
-    let empty : c.fill-2.new.self.items ≡ replicate (length unit.latches.items) None = search rules in
-    let clear : c.fill-3.new.self.items ≡ replicate (length unit.flags.items) false = search rules in
+    let empty : c.clean.new.latches.items ≡ replicate (length unit.latches.items) None = search rules in
+    let clear : c.clean.new.flags.items ≡ replicate (length unit.flags.items) false = search rules in
     record {
       memory = kept.memory;
       held = kept.held;
       ins = ap length empty ∙ length-replicate (length unit.latches.items) None ∙ kept.ins;
       outs = ap length clear ∙ length-replicate (length unit.flags.items) false ∙ kept.outs;
-      tokens = tokens-cleared unit.inputs.items c.fill.new.self.items unit.latches.items c.fill-2.new.self.items kept.tokens zeros empty;
+      tokens = tokens-cleared unit.inputs.items c.fill.new.self.items unit.latches.items c.clean.new.latches.items kept.tokens zeros empty;
     }
 
 pub returns-clause-next : goal.returns-clause-next

@@ -1,2 +1,0 @@
--- What the contracts and proofs of the tests speak of.
-pub mod Lists
