@@ -41,7 +41,7 @@ abbrev served_memory : Layout
 served_memory =
     record {
       links = wire 2 0 [] ∷ wire 3 0 [] ∷ wire 0 1 (0 ∷ []) ∷ wire 0 1 [] ∷ wire 1 0 (2 ∷ 3 ∷ []) ∷ wire 0 1 (0 ∷ []) ∷ wire 0 1 (1 ∷ []) ∷ wire 1 0 (5 ∷ 6 ∷ [])
-      ∷ wire 0 1 (0 ∷ []) ∷ wire 0 1 [] ∷ wire 0 1 (1 ∷ []) ∷ wire 0 1 [] ∷ wire 0 1 (0 ∷ []) ∷ wire 0 1 [] ∷ wire 0 1 (1 ∷ []) ∷ wire 0 1 [] ∷ wire 0 4 (4 ∷ []) ∷ wire 0 5 (7 ∷ []) ∷ [];
+          ∷ wire 0 1 (0 ∷ []) ∷ wire 0 1 [] ∷ wire 0 1 (1 ∷ []) ∷ wire 0 1 [] ∷ wire 0 1 (0 ∷ []) ∷ wire 0 1 [] ∷ wire 0 1 (1 ∷ []) ∷ wire 0 1 [] ∷ wire 0 4 (4 ∷ []) ∷ wire 0 5 (7 ∷ []) ∷ [];
       port_counts = 0 ∷ 4 ∷ 0 ∷ 0 ∷ 0 ∷ 0 ∷ [];
       turns = [] ∷ writers ∷ [] ∷ [] ∷ [] ∷ [] ∷ [];
       end = 4;

@@ -3,7 +3,6 @@ use Rattle.std.proofs.Common.{◌≡◌, ℕ, suc, ◌+◌, ◌-◌, ◌*◌, �
 use Rattle.std.specs.Prelude.{nat_lt, take}
 use Rattle.std.proofs.lemmas.Bool.{lt-ltb, le-ltb}
 use Rattle.std.proofs.lemmas.List.{length-map, length-drop, length-take-le, get_or-drop, get_or-take, ext_get_or}
-use Rattle.std.proofs.Math.ListN as exact
 use Rattle.gg_flat.specs.Line.{value_at}
 use Rattle.gg_flat.specs.Streams.{Flow}
 use Rattle.gg_node.specs.Machine.{Behaviour, RunsPiece, GivesColumn, KeepsLast, Machine, no_machine, machine_at, latch_at, flag_at}
@@ -13,7 +12,7 @@ use Rattle.gg_net.specs.Kept.{Kept, MachineAt, BetweenAt, HasKept, IsSound, IsSt
 use Rattle.gg_net.specs.Step.{latch_of, flag_of}
 use Rattle.gg_net.proofs.CountLemmas.{same-machine, same-network}
 use Rattle.gg_net.proofs.MachineLemmas.{state-once}
-use Rattle.gg_net.proofs.MayLemmas.{consumer-there, producer-there}
+use Rattle.gg_net.proofs.MayLemmas.{consumer-there}
 use Rattle.gg_marking.specs.Marking.{Layout}
 use Rattle.gg_marking.specs.Fits.{HasLayout, marking_of}
 use Rattle.gg_marking.proofs.CountLemmas.{cycle-at, puts-are, takes-are}
@@ -102,8 +101,8 @@ module _ (flow : Flow) (net : Network) (kept : Kept flow net) (layout : Layout) 
         cycle = cycle-is m known;
         served = served-is m known;
         state = subst (λ n. IsStateOf kind.behaviour (start_at flow kind m) kind.ports (rows_at flow.runs m) (counts.cycles m) n x.state) (served-is m known)
-        (subst (λ n. IsStateOf kind.behaviour (start_at flow kind m) kind.ports (rows_at flow.runs m) n x.served x.state) (cycle-is m known)
-        (subst (λ (k : Kind). IsStateOf k.behaviour (start_at flow kind m) k.ports (rows_at flow.runs m) x.cycle x.served x.state) at.kind at.stands));
+            (subst (λ n. IsStateOf kind.behaviour (start_at flow kind m) kind.ports (rows_at flow.runs m) n x.served x.state) (cycle-is m known)
+            (subst (λ (k : Kind). IsStateOf k.behaviour (start_at flow kind m) k.ports (rows_at flow.runs m) x.cycle x.served x.state) at.kind at.stands));
         latches = λ c c_known is.
             subst (λ k. latch_at (machine_at net.machines k).latches (wire_at net.wires c).place ≡ latch_if (nat_lt (counts.cycles k) (counts.takes c)) (value_at (list_at flow.lists c) (counts.cycles k))) is (latch-at c c_known);
         flags = λ c c_known is.

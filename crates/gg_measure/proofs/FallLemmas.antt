@@ -1,5 +1,5 @@
 -- What a list of steps does to the measure, when it can be lengthened, and where it ends if it can't.
-use Rattle.std.proofs.Common.{◌≡◌, ◌↔◌, ℕ, suc, ◌+◌, ◌-◌, ◌*◌, ◌<◌, List, [], ◌∷◌, Option, Some, None, length, refl, ap, subst, ◌∙◌, inl, inr, arith}
+use Rattle.std.proofs.Common.{◌≡◌, ◌↔◌, ◌+◌, ◌-◌, ◌*◌, ◌<◌, List, [], ◌∷◌, Option, Some, None, length, refl, ap, ◌∙◌, inl, inr, arith}
 use Rattle.gg_flat.specs.Streams.{Flow}
 use Rattle.gg_net.specs.declared.event.Event.{Event}
 use Rattle.gg_net.specs.Network.{Network, frame_of}
@@ -15,7 +15,6 @@ use Rattle.gg_marking.proofs.GoesLemmas.{free-ready}
 use Rattle.gg_marking.proofs.StepsLemmas.{steps-kept}
 use Rattle.gg_counts.specs.Counts.{counts_of, CanRun}
 use Rattle.gg_counts.specs.Measure.{left, sum_below, all_dues}
-use Rattle.gg_counts.specs.Leads.{end_marking}
 use Rattle.gg_counts.proofs.SumLemmas.{sum-same}
 use Rattle.gg_counts.proofs.EndLemmas.{goes-or-ends, end-left, opening-left}
 use Rattle.gg_measure.specs.Nets.{AllStandAt, AreDrained, HaveKept, dues_at, net_left}

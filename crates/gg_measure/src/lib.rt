@@ -19,7 +19,8 @@ mod try_event;
 mod turn;
 
 pub use laws::{
-    made_by_counts, nets_are_allowed, none_left, one_end, reached_exactly, steps_end_so, steps_fall, steps_up,
+    made_by_counts, nets_are_allowed, none_left, one_end, reached_exactly, steps_end_so,
+    steps_fall, steps_up,
 };
 pub use run::{run_to, run_to_end};
 pub use tells::{left, possible};

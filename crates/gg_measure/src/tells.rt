@@ -5,7 +5,7 @@ ghost use Rattle.gg_net.specs.Step.{Ready};
 ghost use Rattle.gg_measure.specs.Nets.{AllStandAt, NoServe, wire_left, machine_left, net_left};
 ghost use Rattle.gg_measure.specs.Turns.{NoneFound};
 
-use crate::try_event::{due, may};
+use crate::try_event::may;
 use gg_net::{Event, Net, Streams};
 use gg_node::Host;
 
@@ -29,7 +29,7 @@ fn serve_event<H: Host, Z: Streams>(net: &Net<H, Z>, machine: u32) -> Option<Eve
     requires { machine < length net.now.machines }
     ensures { MatchOption result (NoServe net.now machine) (Ready net.now) }
 {
-    let port = due(net, machine)?;
+    let port = net.due(machine)?;
     let serve = Event::Serve { machine, port };
     if may(net, serve) {
         return Some(serve);

@@ -7,6 +7,6 @@ returns-clause-count c = λ layout k old new events can shape allowed is. (repla
 
 pub returns-clause-longer : goal.returns-clause-longer
 returns-clause-longer c = λ layout k old new events can shape allowed is. (
-    λ lt. let more = left-longer layout can k old events new shape allowed is lt in (Some more.0, more.1, more.2),
-    λ more. longer-left layout can k old events new shape allowed is more.0 more.1 more.2,
+  λ lt. let more = left-longer layout can k old events new shape allowed is lt in (Some more.0, more.1, more.2),
+  λ more. longer-left layout can k old events new shape allowed is more.0 more.1 more.2,
 )
