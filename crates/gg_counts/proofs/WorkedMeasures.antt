@@ -31,8 +31,8 @@ two-units-one = refl
 two-units-end : left two_units (counts_of two_units (end_marking two_units)) ≡ 0
 two-units-end = refl
 
--- ---- a memory of two readers and two writers as a machine of its own: the hub 0, the memory 1, sources 2 and 3, trays 4
--- and 5; a step serves the port of a writer, and the readers read at once
+-- ---- a memory of two readers and two writers as a machine of its own: the hub 0, the memory 1, sources 2 and 3, trays
+-- 4 and 5; a step serves the port of a writer, and the readers read at once
 
 abbrev writers : List Turn
 writers = record { number = 2; fields = 8 ∷ 9 ∷ 10 ∷ 11 ∷ [] } ∷ record { number = 3; fields = 12 ∷ 13 ∷ 14 ∷ 15 ∷ [] } ∷ []

@@ -14,8 +14,8 @@ ghost use Rattle.gg_measure.specs.At.{IsAt};
 ghost use Rattle.gg_measure.specs.Nets.{AllStandAt, AreDrained, HaveKept, dues_at, net_left};
 
 /// The layout of a network that is kept can run. The counts are allowed and have begun. The measure of the network is
-/// that of its marking. Before the first cycle it is a product: the number of cycles times twice the number of channels,
-/// the number of machines and the number of served ports together.
+/// that of its marking. Before the first cycle it is a product: the number of cycles times the sum of twice the channels,
+/// the machines and the served ports.
 pub fn nets_are_allowed()
     ensures runs { (flow : Flow) (net : Network) (layout : Layout) → Kept flow net → HasLayout (frame_of net) layout → CanRun layout × IsMarkingOf layout (marking_of net) }
     ensures allowed { (flow : Flow) (net : Network) (layout : Layout) → Kept flow net → HasLayout (frame_of net) layout → IsAllowed layout (counts_of layout (marking_of net)) }
@@ -36,8 +36,8 @@ pub fn made_by_counts()
     ensures exactly { (flow : Flow) (old : Network) (layout : Layout) (counts : Counts) → Kept flow old → HasLayout (frame_of old) layout → marking_of old ≡ opening_marking layout flow.begin → (IsAllowed layout counts × HasBegun layout flow.begin counts) ↔ ((events : List Event) × (new : Network) × Steps old (map (λ e. Some e) events) new × AreSame layout counts (counts_of layout (marking_of new))) }
 {}
 
-/// From a network before its first cycle steps lead to a network with given counts exactly if the counts are allowed and
-/// have begun, and it is the network with these counts. There is only one.
+/// From a network before its first cycle steps lead to a network with these counts exactly if the counts are allowed
+/// and have begun, and it is the network with these counts. There is only one.
 pub fn reached_exactly()
     ensures exactly { (flow : Flow) (old new : Network) (layout : Layout) (counts : Counts) → Kept flow old → HasLayout (frame_of old) layout → marking_of old ≡ opening_marking layout flow.begin → (IsAllowed layout counts × HasBegun layout flow.begin counts × IsAt flow (frame_of old) counts new) ↔ ((events : List Event) × Steps old (map (λ e. Some e) events) new × AreSame layout counts (counts_of layout (marking_of new))) }
     ensures one { (flow : Flow) (frame : Frame) (counts : Counts) (one other : Network) → IsSound flow frame → IsAt flow frame counts one → IsAt flow frame counts other → one ≡ other }

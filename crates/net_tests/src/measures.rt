@@ -96,36 +96,37 @@ fn are_alike<Z: Streams>(
     true
 }
 
-// Whether a tray holds these values.
-fn holds(node: &Node<'_>, values: &[u128]) -> bool {
-    match node.column() {
-        Some(column) => column == values,
-        None => false,
+// Whether the last machine of a network is a tray that keeps these values, one for each cycle from 0 on.
+fn keeps<Z: Streams>(net: &Net<Node<'_>, Z>, values: &[u128]) -> bool {
+    net.within_limits();
+    let machines = net.machines();
+    if machines == 0 {
+        return false;
     }
+    let tray = net.host((machines - 1) as u32);
+    for (cycle, value) in values.iter().enumerate() {
+        if tray.value(cycle as u64) != Some(*value) {
+            return false;
+        }
+    }
+    tray.value(values.len() as u64).is_none()
 }
 
-// Whether the last tray of a network holds these values.
-fn last_holds<Z: Streams>(net: Net<Node<'_>, Z>, values: &[u128]) -> bool {
-    let parts = net.parts();
-    match parts.hosts.last() {
-        Some(node) => holds(node, values),
-        None => false,
-    }
-}
-
-// Whether of two networks before their first cycle, the one ends as `possible` leads and the other as `run_to` does, with as many steps as
-// expected and in the same state.
+// Whether two networks end alike, of which the one goes as `possible` answers and the other as `run_to` does. Both are
+// before their first cycle.
 pub(crate) fn end_alike<Z: Streams>(
-    mut one: Net<Node<'_>, Z>,
-    mut other: Net<Node<'_>, Z>,
+    one: &mut Net<Node<'_>, Z>,
+    other: &mut Net<Node<'_>, Z>,
     case: &Case,
 ) -> bool {
-    let opens = left(&one) == case.left;
-    let followed = follow(&mut one, case.left) == case.left;
-    let ran = run_in_two(&mut other, case);
-    let alike = is_done(&one) && is_done(&other) && are_alike(&one, &other, case);
-    let both = last_holds(one, case.kept) && last_holds(other, case.kept);
-    opens && followed && ran && alike && both
+    left(one) == case.left
+        && follow(one, case.left) == case.left
+        && run_in_two(other, case)
+        && is_done(one)
+        && is_done(other)
+        && are_alike(one, other, case)
+        && keeps(one, case.kept)
+        && keeps(other, case.kept)
 }
 
 // Two units that feed each other in one cycle.

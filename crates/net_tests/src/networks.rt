@@ -204,8 +204,8 @@ fn is_twice_built<Z: Streams>(
 {
     let _ = design;
     match build::<Z>(alloc, plan, inputs) {
-        Ok(one) => match build::<Z>(alloc, plan, inputs) {
-            Ok(other) => end_alike(one, other, case),
+        Ok(mut one) => match build::<Z>(alloc, plan, inputs) {
+            Ok(mut other) => end_alike(&mut one, &mut other, case),
             Err(_) => false,
         },
         Err(_) => false,
