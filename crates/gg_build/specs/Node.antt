@@ -1,7 +1,7 @@
 -- The machine of a node.
 -- Source: ICCAD 2019 (units and memories of a target as models of their own, each on a host).
-use Rattle.std.specs.Prelude.{◌≡◌, ℕ, List, [], ◌∷◌}
-use Rattle.gg_node.specs.Machine.{IsTray, Machine}
+use Rattle.std.specs.Prelude.{List, [], ◌∷◌}
+use Rattle.gg_node.specs.Machine.{Machine}
 use Rattle.gg_build.specs.declared.node.Node.{Node}
 use Rattle.gg_build.specs.declared.node.Node.TheVariants as node
 
@@ -15,8 +15,3 @@ machine_of (node.Tray machine) = machine
 -- the machines of a node: only one
 abbrev pub machines_of : Node → List Machine
 machines_of node = machine_of node ∷ []
-
--- The machine keeps values, and these are the values that it has kept.
-pub record HasColumn (machine : Machine) (column : List ℕ) : Type 0 where
-  pub keeps : IsTray machine.behaviour
-  pub is : column ≡ machine.kept

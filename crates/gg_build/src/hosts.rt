@@ -1,9 +1,9 @@
 //! The hosts of a plan's machines.
 ghost use Rattle.std.specs.Prelude.{◌≡◌, ◌++◌, ◌∷◌, [], None, false, IfOk, length, slice_index_or};
 ghost use Rattle.gg_flat.specs.Line.{value_at};
-ghost use Rattle.gg_node.specs.Machine.{source_machine, tray_machine};
+ghost use Rattle.gg_node.specs.Machine.{source_machine, tray_machine, cycle_limit};
 ghost use Rattle.gg_sound.specs.Alone.{IsCutAgain};
-ghost use Rattle.gg_sound.specs.Built.{IsUnitOf, IsMemoryOf, IsBuilt};
+ghost use Rattle.gg_sound.specs.Built.{IsUnitOf, IsMemoryOf, IsBuilt, tray_rows};
 ghost use Rattle.gg_build.specs.Hosts.{IsUnitPart, IsMemoryPart, IsSourceOf, CanBuild, IsHost};
 
 use crate::node::Node;
@@ -99,9 +99,9 @@ fn source_host<'a>(alloc: Global, trace: &Trace, outs: &[u32]) -> Result<Hosted<
 
 // The host of a tray.
 fn tray_host<'a>(alloc: Global, trace: &Trace) -> Result<Hosted<'a>, AllocError>
-    ensures { IfOk result (λ made. IsHost (λ machine. machine ≡ tray_machine trace.now.rows trace.now.rows 0 [] None) made.node made.ports.items) }
+    ensures { IfOk result (λ made. IsHost (λ machine. machine ≡ tray_machine (tray_rows trace.now.rows) cycle_limit 0 [] None) made.node made.ports.items) }
 {
-    let tray = Tray::new(alloc, trace.rows())?;
+    let tray = Tray::new(alloc, trace.rows().max(1))?;
     Ok(Hosted {
         node: Node::Tray(tray),
         ports: Vec::new(alloc),

@@ -8,8 +8,8 @@
 //!   list them, and as many cycles to do as the trace has rows. The hub and the units run their parts of the circuit,
 //!   and need exactly what they depend on. Each listed memory is a machine of its own, and its ports are served one by
 //!   one. A source gives the column of its top input. A tray has room for each row.
-//! - A [`Node`] is the host of such a machine, of any kind. It passes each call on to that host. [`Node::column`]
-//!   returns what a tray has kept.
+//! - A [`Node`] is the host of such a machine, of any kind. It passes each call on to that host. [`Node::value`]
+//!   returns the value of a cycle that a tray keeps.
 //!
 //! Each machine has a host of its own. Except for the programs of units (gg_program), time and memory are linear in the
 //! plan, its pieces and the trace.

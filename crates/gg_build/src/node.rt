@@ -1,9 +1,9 @@
 //! `Node`: the hosts of a plan's machines.
-ghost use Rattle.std.specs.Prelude.{◌≡◌, ℕ, ◌<◌, length, is_some, slice_set, MatchOption};
-ghost use Rattle.gg_node.specs.Machine.{IsTray, machine_at, latch_at, flag_at, missing, due};
+ghost use Rattle.std.specs.Prelude.{◌≡◌, ℕ, ◌<◌, None, length, is_some, slice_set};
+ghost use Rattle.gg_node.specs.Machine.{IsTray, machine_at, latch_at, flag_at, missing, due, kept_value};
 ghost use Rattle.gg_node.specs.Token.{IsToken, IsNextState};
 ghost use Rattle.gg_node.specs.Step.{MayLatch, MayFire, MayServe, MayFinish, with_latch, with_flag, with_served, finished};
-ghost use Rattle.gg_build.specs.Node.{machine_of, machines_of, HasColumn};
+ghost use Rattle.gg_build.specs.Node.{machine_of, machines_of};
 
 use gg_fame1::Unit;
 use gg_memunit::MemUnit;
@@ -23,9 +23,10 @@ pub enum Node<'a> {
 }
 
 impl<'a> Node<'a> {
-    /// The values that a tray has kept, by cycle. `None` exactly if the machine isn't a tray.
-    pub fn column(&self) -> Option<&[u128]>
-        ensures { MatchOption result (¬ IsTray (machine_of self.now).behaviour) (λ column. HasColumn (machine_of self.now) column.now) }
+    /// The value of a cycle that a tray keeps. `None` if the tray doesn't keep it, or if the machine isn't a tray.
+    pub fn value(&self, cycle: u64) -> Option<u128>
+        ensures tray { IsTray (machine_of self.now).behaviour → result ≡ kept_value (machine_of self.now) cycle }
+        ensures other { ¬ IsTray (machine_of self.now).behaviour → result ≡ None }
     {
         match self {
             Node::Unit(host) => {
@@ -40,7 +41,7 @@ impl<'a> Node<'a> {
                 let _ = host.column();
                 None
             }
-            Node::Tray(host) => Some(host.column()),
+            Node::Tray(host) => host.value(cycle),
         }
     }
 }

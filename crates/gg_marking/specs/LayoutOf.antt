@@ -17,6 +17,7 @@ last_below test (suc n) = if test n then n else last_below test n
 abbrev pub channel_into : List Wire → ℕ → ℕ → ℕ
 channel_into wires m i = last_below (λ c. (wire_at wires c).consumer == m && (wire_at wires c).place == i) (length wires)
 
+-- a channel of the layout
 abbrev pub link_of : Frame → ℕ → Link
 link_of frame c =
     record {
@@ -27,9 +28,11 @@ link_of frame c =
       needs = map (channel_into frame.wires (wire_at frame.wires c).producer) (needs_at (kind_at frame.kinds (wire_at frame.wires c).producer).needs (wire_at frame.wires c).out);
     }
 
+-- a port of a machine that is served
 abbrev pub turn_of : Frame → ℕ → Port → Turn
 turn_of frame m port = record { number = port.number; fields = map (channel_into frame.wires m) (fields_of port.access) }
 
+-- the layout of a network with this frame
 abbrev pub layout_of : Frame → Layout
 layout_of frame =
     record {

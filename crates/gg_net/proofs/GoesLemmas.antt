@@ -13,15 +13,10 @@ use Rattle.gg_net.specs.Step.{CanFire, CanFinish, after_latch, after_fire, after
 use Rattle.gg_net.specs.Kept.{list_at, Kept}
 use Rattle.gg_net.proofs.MachineLemmas.{token_is, token_there, next_there, next_once}
 use Rattle.gg_net.proofs.PortLemmas.{any_port}
+use Rattle.gg_net.proofs.FrameLemmas.{machine-known, machine-there}
 use Rattle.gg_net.proofs.StepLemmas.{all-served}
 
 module _ (flow : Flow) (net : Network) (kept : Kept flow net) where
-  there : (m : ℕ) → m < length (map kind_of net.machines) → m < length net.machines
-  there m below = omega (arith, below, length-map net.machines kind_of)
-
-  known : (m : ℕ) → m < length net.machines → m < length (map kind_of net.machines)
-  known m below = omega (arith, below, length-map net.machines kind_of)
-
   -- the value that a channel gets next
   abbrev next_value : ℕ → ℕ
   next_value c = value_at (list_at flow.lists c) (entered_by (wire_at net.wires c).first (producer_of net c).cycle)
@@ -30,13 +25,13 @@ module _ (flow : Flow) (net : Network) (kept : Kept flow net) where
   fire-there c can =
       let p : ℕ = (wire_at net.wires c).producer in
       let below : p < length (map kind_of net.machines) = kept.sound.wired.producer c can.can.0 in
-      token_there flow (frame_of net) kept.sound p below (producer_of net c) (kept.machines p (there p below)) c can.can.0 refl can.can.1 can.clear can.needed
+      token_there flow (frame_of net) kept.sound p below (producer_of net c) (kept.machines p (machine-there net p below)) c can.can.0 refl can.can.1 can.clear can.needed
 
   fire-is : (c token : ℕ) → CanFire net c → IsToken (producer_of net c) (wire_at net.wires c).out token → token ≡ next_value c
   fire-is c token can is =
       let p : ℕ = (wire_at net.wires c).producer in
       let below : p < length (map kind_of net.machines) = kept.sound.wired.producer c can.can.0 in
-      token_is flow (frame_of net) kept.sound p below (producer_of net c) (kept.machines p (there p below)) c token can.can.0 refl can.can.1 can.clear is
+      token_is flow (frame_of net) kept.sound p below (producer_of net c) (kept.machines p (machine-there net p below)) c token can.can.0 refl can.can.1 can.clear is
 
   whole : (m : ℕ) → CanFinish net m → (machine_at net.machines m).served ≡ length (machine_at net.machines m).ports
   whole m can = let x : Machine = machine_at net.machines m in all-served x.ports x.served any_port (kept.machines m can.there).served can.served
@@ -47,7 +42,7 @@ module _ (flow : Flow) (net : Network) (kept : Kept flow net) where
   goes (Fire c) can = (after_fire net c (next_value c), record { ready = can; after = record { token = next_value c; is = fire-there c can; after = refl } })
   goes (Serve m p) can = (after_serve net m, record { ready = can; after = refl })
   goes (Finish m) can =
-      let next : (state : State) × IsNextState (machine_at net.machines m) state = next_there flow (frame_of net) kept.sound m (known m can.there) (machine_at net.machines m) (kept.machines m can.there) can.below can.latched (whole m can) in
+      let next : (state : State) × IsNextState (machine_at net.machines m) state = next_there flow (frame_of net) kept.sound m (machine-known net m can.there) (machine_at net.machines m) (kept.machines m can.there) can.below can.latched (whole m can) in
       (after_finish net m next.0, record { ready = can; after = record { state = next.0; is = next.1; after = refl } })
 
   -- It can be done in one way only.
@@ -60,5 +55,5 @@ module _ (flow : Flow) (net : Network) (kept : Kept flow net) where
   goes-once (Serve m p) one other step same = step.after ∙ sym same.after
   goes-once (Finish m) one other step same =
       step.after.after
-      ∙ ap (after_finish net m) (next_once flow (frame_of net) kept.sound m (known m step.ready.there) (machine_at net.machines m) (kept.machines m step.ready.there) step.after.state same.after.state step.ready.below step.ready.latched (whole m step.ready) step.after.is same.after.is)
+      ∙ ap (after_finish net m) (next_once flow (frame_of net) kept.sound m (machine-known net m step.ready.there) (machine_at net.machines m) (kept.machines m step.ready.there) step.after.state same.after.state step.ready.below step.ready.latched (whole m step.ready) step.after.is same.after.is)
       ∙ sym same.after.after

@@ -1,3 +1,4 @@
+pub mod FrameLemmas
 pub mod LatchLemmas
 pub mod StateLemmas
 pub mod MachineLemmas
@@ -15,6 +16,7 @@ pub mod PartLemmas
 pub mod CloseLemmas
 pub mod TrayLemmas
 pub mod WorkedNets
-pub mod WorkedPipes
 pub mod OpenLemmas
-pub mod FedLemmas
+pub mod WorkedOpenings
+pub mod WorkedPipes
+pub mod WorkedLoops

@@ -15,6 +15,7 @@ use Rattle.gg_net.specs.Step.{CanLatch, CanFire, front_of}
 use Rattle.gg_net.specs.Kept.{list_at, rows_at, start_at, RunsRows, Runs, Asks, IsSound, MachineAt, Kept}
 use Rattle.gg_net.proofs.MachineLemmas.{asks, does, behaviour-is, place-within, out-within}
 use Rattle.gg_net.proofs.ChannelLemmas.{front-is}
+use Rattle.gg_net.proofs.FrameLemmas.{machine-there}
 use Rattle.gg_net.proofs.StateLemmas.{settled-at}
 
 module _ (flow : Flow) (frame : Frame) (sound : IsSound flow frame) (m : ℕ) (below : m < length frame.kinds) where
@@ -42,17 +43,11 @@ module _ (flow : Flow) (frame : Frame) (sound : IsSound flow frame) (m : ℕ) (b
   known-by (KeepsLast rows) t is lt = tt
 
 module _ (flow : Flow) (net : Network) (kept : Kept flow net) where
-  known : (m : ℕ) → m < length net.machines → m < length (map kind_of net.machines)
-  known m there = omega (arith, there, length-map net.machines kind_of)
-
-  there : (m : ℕ) → m < length (map kind_of net.machines) → m < length net.machines
-  there m below = omega (arith, below, length-map net.machines kind_of)
-
   pub consumer-there : (c : ℕ) → c < length net.wires → (wire_at net.wires c).consumer < length net.machines
-  consumer-there c lt = there (wire_at net.wires c).consumer (kept.sound.wired.consumer c lt)
+  consumer-there c lt = machine-there net (wire_at net.wires c).consumer (kept.sound.wired.consumer c lt)
 
   pub producer-there : (c : ℕ) → c < length net.wires → (wire_at net.wires c).producer < length net.machines
-  producer-there c lt = there (wire_at net.wires c).producer (kept.sound.wired.producer c lt)
+  producer-there c lt = machine-there net (wire_at net.wires c).producer (kept.sound.wired.producer c lt)
 
   pub may-latch : (c : ℕ) → CanLatch net c → MayLatch (consumer_of net c) (wire_at net.wires c).place (front_of net c)
   may-latch c can =
@@ -61,7 +56,7 @@ module _ (flow : Flow) (net : Network) (kept : Kept flow net) where
       let lt : c < length net.wires = can.can.0 in
       let below : m < length (map kind_of net.machines) = kept.sound.wired.consumer c lt in
       let x : Machine = consumer_of net c in
-      let at : MachineAt flow (frame_of net) m x = kept.machines m (there m below) in
+      let at : MachineAt flow (frame_of net) m x = kept.machines m (machine-there net m below) in
       let token : front_of net c ≡ value_at (list_at flow.lists c) x.cycle =
       front-is (list_at flow.lists c) w.capacity (takes net c) (entered net c) (queue_at net.queues c) (kept.channels c lt) can.held ∙ ap (value_at (list_at flow.lists c)) (ap (got_by x.cycle) can.empty) in
       record {
@@ -79,7 +74,7 @@ module _ (flow : Flow) (net : Network) (kept : Kept flow net) where
       let lt : c < length net.wires = can.can.0 in
       let below : m < length (map kind_of net.machines) = kept.sound.wired.producer c lt in
       let x : Machine = producer_of net c in
-      let at : MachineAt flow (frame_of net) m x = kept.machines m (there m below) in
+      let at : MachineAt flow (frame_of net) m x = kept.machines m (machine-there net m below) in
       record {
         there = out-within flow (frame_of net) kept.sound m below x at c lt refl;
         clear = can.clear;

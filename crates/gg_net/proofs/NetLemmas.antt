@@ -12,6 +12,7 @@ use Rattle.gg_net.specs.Step.{fields_at, due_fields}
 use Rattle.gg_net.specs.Kept.{Kept}
 use Rattle.gg_net.proofs.LatchLemmas.{first-among}
 use Rattle.gg_net.proofs.MachineLemmas.{due-port}
+use Rattle.gg_net.proofs.FrameLemmas.{machine-known, kind-is}
 
 module _ (flow : Flow) (net : Network) (kept : Kept flow net) where
   -- a queue is within its capacity
@@ -19,18 +20,12 @@ module _ (flow : Flow) (net : Network) (kept : Kept flow net) where
   queue-few c known = (kept.channels c known).room
 
   module _ (m : ℕ) (there : m < length net.machines) where
-    kind-is : kind_at (frame_of net).kinds m ≡ kind_of (machine_at net.machines m)
-    kind-is = exact.get_or-map kind_of net.machines m no_machine
-
-    known : m < length (map kind_of net.machines)
-    known = omega (arith, there, length-map net.machines kind_of)
-
     -- an in that an out needs exists
     pub missing-within : (o i : ℕ) → missing (machine_at net.machines m) o ≡ Some i → i < length (machine_at net.machines m).latches
     missing-within o i is =
         let x : Machine = machine_at net.machines m in
         let has : Contains (needs_at x.needs o) i = first-among x.latches (needs_at x.needs o) i is in
-        subst (λ (k : Kind). i < k.ins) kind-is (kept.sound.wired.needs m o i known (subst (λ (k : Kind). Contains (needs_at k.needs o) i) (sym kind-is) has))
+        subst (λ (k : Kind). i < k.ins) (kind-is net m) (kept.sound.wired.needs m o i (machine-known net m there) (subst (λ (k : Kind). Contains (needs_at k.needs o) i) (sym (kind-is net m)) has))
 
     -- a field of the port that is due exists
     pub field-within : (p i : ℕ) → due (machine_at net.machines m) ≡ Some p → first_empty (machine_at net.machines m).latches (due_fields (machine_at net.machines m)) ≡ Some i → i < length (machine_at net.machines m).latches
@@ -39,6 +34,6 @@ module _ (flow : Flow) (net : Network) (kept : Kept flow net) where
         let q : Port = (due-port (slice_get x.ports x.served) p is).0 in
         let port : slice_get x.ports x.served ≡ Some q = (due-port (slice_get x.ports x.served) p is).1 in
         let has : Contains (fields_of q.access) i = subst (λ (o : Option Port). Contains (fields_at o) i) port (first-among x.latches (due_fields x) i first) in
-        let all : All (λ (r : Port). All (λ j. j < length x.latches) (fields_of r.access)) x.ports = subst (λ (k : Kind). All (λ (r : Port). All (λ j. j < k.ins) (fields_of r.access)) k.ports) kind-is (kept.sound.wired.fields m known) in
+        let all : All (λ (r : Port). All (λ j. j < length x.latches) (fields_of r.access)) x.ports = subst (λ (k : Kind). All (λ (r : Port). All (λ j. j < k.ins) (fields_of r.access)) k.ports) (kind-is net m) (kept.sound.wired.fields m (machine-known net m there)) in
         let fields : All (λ j. j < length x.latches) (fields_of q.access) = subst (λ (r : Port). All (λ j. j < length x.latches) (fields_of r.access)) (get_or_from_slice_get x.ports x.served q q port) (all x.served q (slice_get_within x.ports x.served q port)) in
         subst (λ j. j < length x.latches) has.2 (fields has.0 i has.1)

@@ -1,5 +1,5 @@
--- A network taken apart among the owners of its machines, and put together again: what an owner has to know to do a step
--- of its machine, and what the owners together have to know so that the parts are a network.
+-- A network taken apart among the owners of its machines, and put together again: what an owner has to know to do a
+-- step of its machine, and what the owners together have to know so that the parts are a network.
 use Rattle.std.proofs.Common.{◌≡◌, ◌≢◌, ℕ, suc, ◌<◌, ◌≤◌, List, Option, None, Some, Bool, true, false, length, map, refl, sym, ap, subst, ◌∙◌, arith, get_or-set_same, get_or-set_other}
 use Rattle.std.specs.Prelude.{IfSome, slice_get, slice_index_or}
 use Rattle.std.proofs.lemmas.List.{length-map, ext_get_or}

@@ -17,6 +17,7 @@ use Rattle.gg_net.specs.Kept.{list_at, NeedsChannel, BetweenAt, Kept}
 use Rattle.gg_net.proofs.LatchLemmas.{first-among, none-empty}
 use Rattle.gg_net.proofs.MayLemmas.{producer-there, consumer-there}
 use Rattle.gg_net.proofs.NetLemmas.{missing-within}
+use Rattle.gg_net.proofs.FrameLemmas.{machine-known, kind-is}
 
 -- ---- over plain variables
 
@@ -121,12 +122,6 @@ module _ (flow : Flow) (net : Network) (kept : Kept flow net) (t : ℕ) (below :
   abbrev MayGo : Type 0
   MayGo = (event : Event) × Ready net event
 
-  known-at : (m : ℕ) → m < length net.machines → m < length (map kind_of net.machines)
-  known-at m there = omega (arith, there, length-map net.machines kind_of)
-
-  kind-is : (m : ℕ) → kind_at (frame_of net).kinds m ≡ kind_of (machine_at net.machines m)
-  kind-is m = exact.get_or-map kind_of net.machines m no_machine
-
   -- A consumer that is least far waits for a channel: its token may be latched, or its producer is least far too and
   -- hasn't given it.
   waits : (c : ℕ) → c < length net.wires → latch_of net c ≡ None → (consumer_of net c).cycle ≡ t → MayGo ⊎ (((producer_of net c).cycle ≡ t) × (flag_of net c ≡ false))
@@ -164,11 +159,11 @@ module _ (flow : Flow) (net : Network) (kept : Kept flow net) (t : ℕ) (below :
       let x : Machine = producer_of net c in
       let there : p < length net.machines = producer-there flow net kept c known in
       let within : i < length x.latches = missing-within flow net kept p there o i needed in
-      let place : i < (kind_at (frame_of net).kinds p).ins = omega (arith, within, ap (λ (k : Kind). k.ins) (kind-is p)) in
-      let d : ℕ = (kept.sound.wired.into p i (known-at p there) place).0 in
-      let in_at : IsAtIn net.wires p i d = (kept.sound.wired.into p i (known-at p there) place).1 in
+      let place : i < (kind_at (frame_of net).kinds p).ins = omega (arith, within, ap (λ (k : Kind). k.ins) (kind-is net p)) in
+      let d : ℕ = (kept.sound.wired.into p i (machine-known net p there) place).0 in
+      let in_at : IsAtIn net.wires p i d = (kept.sound.wired.into p i (machine-known net p there) place).1 in
       let has : Contains (needs_at x.needs o) i = first-among x.latches (needs_at x.needs o) i needed in
-      let needs : NeedsChannel (frame_of net) c d = record { known = known; place = i; needed = subst (λ (k : Kind). Contains (needs_at k.needs o) i) (sym (kind-is p)) has; at = in_at } in
+      let needs : NeedsChannel (frame_of net) c d = record { known = known; place = i; needed = subst (λ (k : Kind). Contains (needs_at k.needs o) i) (sym (kind-is net p)) has; at = in_at } in
       let empty : latch_of net d ≡ None = ap (λ m. latch_at (machine_at net.machines m).latches (wire_at net.wires d).place) in_at.machine ∙ ap (latch_at x.latches) in_at.place ∙ first-is-empty x.latches (needs_at x.needs o) i needed in
       ⊎_elim
       (λ (go : MayGo). go)
@@ -189,8 +184,8 @@ module _ (flow : Flow) (net : Network) (kept : Kept flow net) (t : ℕ) (below :
     ends-by (Some q) is fired latched =
         let served : x.served < length x.ports = slice_get_within x.ports x.served q is in
         let q-is : slice_index_or x.ports x.served q ≡ q = get_or_from_slice_get x.ports x.served q q is in
-        let numbers : All (λ (port : Port). port.number < x.port_count) x.ports = subst (λ (k : Kind). All (λ (port : Port). port.number < k.port_count) k.ports) (kind-is m) (kept.sound.wired.numbers m (known-at m there)) in
-        let all : All (λ (port : Port). All (λ i. i < length x.latches) (fields_of port.access)) x.ports = subst (λ (k : Kind). All (λ (port : Port). All (λ i. i < k.ins) (fields_of port.access)) k.ports) (kind-is m) (kept.sound.wired.fields m (known-at m there)) in
+        let numbers : All (λ (port : Port). port.number < x.port_count) x.ports = subst (λ (k : Kind). All (λ (port : Port). port.number < k.port_count) k.ports) (kind-is net m) (kept.sound.wired.numbers m (machine-known net m there)) in
+        let all : All (λ (port : Port). All (λ i. i < length x.latches) (fields_of port.access)) x.ports = subst (λ (k : Kind). All (λ (port : Port). All (λ i. i < k.ins) (fields_of port.access)) k.ports) (kind-is net m) (kept.sound.wired.fields m (machine-known net m there)) in
         let fields : All (λ i. i < length x.latches) (fields_of q.access) = subst (λ (port : Port). All (λ i. i < length x.latches) (fields_of port.access)) q-is (all x.served q served) in (
           Serve m q.number,
           record {
@@ -207,17 +202,17 @@ module _ (flow : Flow) (net : Network) (kept : Kept flow net) (t : ℕ) (below :
         ⊎_elim
         (λ (clear : ClearAt x.flags).
         let o : ℕ = clear.out in
-        let place : o < (kind_at (frame_of net).kinds m).outs = omega (arith, clear.known, ap (λ (k : Kind). k.outs) (kind-is m)) in
-        let c : ℕ = (kept.sound.wired.from m o (known-at m there) place).0 in
-        let out_at : IsAtOut net.wires m o c = (kept.sound.wired.from m o (known-at m there) place).1 in
+        let place : o < (kind_at (frame_of net).kinds m).outs = omega (arith, clear.known, ap (λ (k : Kind). k.outs) (kind-is net m)) in
+        let c : ℕ = (kept.sound.wired.from m o (machine-known net m there) place).0 in
+        let out_at : IsAtOut net.wires m o c = (kept.sound.wired.from m o (machine-known net m there) place).1 in
         fires (suc (rank c)) c (omega arith) out_at.known (ap (λ k. (machine_at net.machines k).cycle) out_at.machine ∙ at)
         (ap (λ k. flag_at (machine_at net.machines k).flags (wire_at net.wires c).out) out_at.machine ∙ ap (flag_at x.flags) out_at.out ∙ clear.clear))
         (λ (fired : AllFired x). ⊎_elim
         (λ (empty : EmptyAt x.latches).
         let i : ℕ = empty.place in
-        let place : i < (kind_at (frame_of net).kinds m).ins = omega (arith, empty.known, ap (λ (k : Kind). k.ins) (kind-is m)) in
-        let d : ℕ = (kept.sound.wired.into m i (known-at m there) place).0 in
-        let in_at : IsAtIn net.wires m i d = (kept.sound.wired.into m i (known-at m there) place).1 in
+        let place : i < (kind_at (frame_of net).kinds m).ins = omega (arith, empty.known, ap (λ (k : Kind). k.ins) (kind-is net m)) in
+        let d : ℕ = (kept.sound.wired.into m i (machine-known net m there) place).0 in
+        let in_at : IsAtIn net.wires m i d = (kept.sound.wired.into m i (machine-known net m there) place).1 in
         ⊎_elim
         (λ (go : MayGo). go)
         (λ (is : ((producer_of net d).cycle ≡ t) × (flag_of net d ≡ false)). fires (suc (rank d)) d (omega arith) in_at.known is.0 is.1)

@@ -22,6 +22,7 @@ use Rattle.gg_net.specs.Kept.{list_at, IsSound, MachineAt, BetweenAt, Kept}
 use Rattle.gg_net.proofs.LatchLemmas.{has-value}
 use Rattle.gg_net.proofs.MachineLemmas.{token_is, out-within, place-within, own_latch, own_fire, own_serve, own_finish}
 use Rattle.gg_net.proofs.PortLemmas.{any_port}
+use Rattle.gg_net.proofs.FrameLemmas.{machine-known, machine-there}
 use Rattle.gg_net.proofs.ChannelLemmas.{entered-suc, between-same, front-is, taken-one, put-one}
 
 -- ---- over plain variables
@@ -46,9 +47,6 @@ all-served ports n any within none =
 -- ---- a network in which one machine was changed
 
 module _ (flow : Flow) (net : Network) (kept : Kept flow net) where
-  kinds-count : length (map kind_of net.machines) ≡ length net.machines
-  kinds-count = length-map net.machines kind_of
-
   module _ (m : ℕ) (there : m < length net.machines) (y : Machine) (own : MachineAt flow (frame_of net) m y) (queues : List (List ℕ)) where
     abbrev changed : Network
     changed = record net { machines = slice_set net.machines m y; queues = queues }
@@ -102,7 +100,7 @@ module _ (flow : Flow) (net : Network) (kept : Kept flow net) where
       let x : Machine = consumer_of net c in
       let known : c < length net.wires = can.can.0 in
       let below : m < length (map kind_of net.machines) = kept.sound.wired.consumer c known in
-      let there : m < length net.machines = omega (arith, below, kinds-count) in
+      let there : m < length net.machines = machine-there net m below in
       let at : MachineAt flow (frame_of net) m x = kept.machines m there in
       let between : BetweenAt (list_at flow.lists c) w.capacity (takes net c) (entered net c) (queue_at net.queues c) = kept.channels c known in
       let took : takes net c ≡ x.cycle = ap (got_by x.cycle) can.empty in
@@ -134,7 +132,7 @@ module _ (flow : Flow) (net : Network) (kept : Kept flow net) where
       let x : Machine = producer_of net c in
       let known : c < length net.wires = can.can.0 in
       let below : m < length (map kind_of net.machines) = kept.sound.wired.producer c known in
-      let there : m < length net.machines = omega (arith, below, kinds-count) in
+      let there : m < length net.machines = machine-there net m below in
       let at : MachineAt flow (frame_of net) m x = kept.machines m there in
       let between : BetweenAt (list_at flow.lists c) w.capacity (takes net c) (entered net c) (queue_at net.queues c) = kept.channels c known in
       let put : puts net c ≡ x.cycle = ap (given_by x.cycle) can.clear in
@@ -163,7 +161,7 @@ module _ (flow : Flow) (net : Network) (kept : Kept flow net) where
   kept-serve m p can =
       let x : Machine = machine_at net.machines m in
       let there : m < length net.machines = can.there.0 in
-      let below : m < length (map kind_of net.machines) = omega (arith, there, kinds-count) in
+      let below : m < length (map kind_of net.machines) = machine-known net m there in
       let y : Machine = with_served x in
       let own : MachineAt flow (frame_of net) m y = own_serve flow (frame_of net) kept.sound m below x (kept.machines m there) p can.below can.fired can.due can.fields in
       joined m there y own net.queues kept.queues (λ d lt.
@@ -177,7 +175,7 @@ module _ (flow : Flow) (net : Network) (kept : Kept flow net) where
   kept-finish m next can goes =
       let x : Machine = machine_at net.machines m in
       let there : m < length net.machines = can.there in
-      let below : m < length (map kind_of net.machines) = omega (arith, there, kinds-count) in
+      let below : m < length (map kind_of net.machines) = machine-known net m there in
       let at : MachineAt flow (frame_of net) m x = kept.machines m there in
       let y : Machine = finished x next in
       let whole : x.served ≡ length x.ports = all-served x.ports x.served any_port at.served can.served in

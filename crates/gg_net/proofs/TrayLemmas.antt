@@ -1,12 +1,12 @@
 -- A tray tells the values of its channel, as long as it keeps them.
-use Rattle.std.proofs.Common.{◌≡◌, ℕ, ◌-◌, ◌+◌, ◌<◌, ◌≤◌, List, Option, None, Some, Bool, true, false, length, refl, sym, ap, subst, ◌∙◌, ⊎_elim, arith}
-use Rattle.std.specs.Prelude.{if◌then◌else◌, ◌&&◌, nat_le, nat_lt, slice_get}
+use Rattle.std.proofs.Common.{◌≡◌, ℕ, ◌-◌, ◌+◌, ◌<◌, ◌≤◌, List, Option, None, Some, Bool, true, length, refl, sym, ap, subst, ◌∙◌, ⊎_elim, arith}
+use Rattle.std.specs.Prelude.{if◌then◌else◌, ◌&&◌, nat_lt, slice_get}
 use Rattle.std.proofs.lemmas.Bool.{cases_lt, le-leb, lt-leb, lt-ltb, le-ltb}
 use Rattle.std.proofs.lemmas.Option.{slice_get-get_or, none-some, same_Some}
 use Rattle.gg_flat.specs.Line.{value_at}
 use Rattle.gg_flat.specs.Streams.{Flow}
-use Rattle.gg_node.specs.Machine.{KeepsLast, Behaviour, Machine, machine_at, first_kept, kept_value}
-use Rattle.gg_net.specs.Network.{Network, wire_at, consumer_of, frame_of}
+use Rattle.gg_node.specs.Machine.{KeepsLast, Behaviour, Machine, first_kept, kept_value}
+use Rattle.gg_net.specs.Network.{Network, wire_at, consumer_of}
 use Rattle.gg_net.specs.Kept.{list_at, HasKept, Keeps, Kept}
 use Rattle.gg_net.proofs.MayLemmas.{consumer-there}
 
@@ -39,9 +39,9 @@ module _ (list : List ℕ) (begin rows : ℕ) (machine : Machine) (has : HasKept
   tells t begun lt near =
       told t
       (⊎_elim
-        (λ (few : length machine.kept < rows). omega (arith, begun, has.whole few))
-        (λ (full : rows ≤ length machine.kept). omega (arith, near, full, has.between.held))
-        (cases_lt (length machine.kept) rows))
+      (λ (few : length machine.kept < rows). omega (arith, begun, has.whole few))
+      (λ (full : rows ≤ length machine.kept). omega (arith, near, full, has.between.held))
+      (cases_lt (length machine.kept) rows))
       lt
 
   -- no others are
@@ -50,9 +50,9 @@ module _ (list : List ℕ) (begin rows : ℕ) (machine : Machine) (has : HasKept
       ⊎_elim
       (λ (lt : t < has.base). absurd (none-some value (sym (none-before t lt) ∙ is)))
       (λ (ge : has.base ≤ t). ⊎_elim
-        (λ (lt : t < machine.cycle). (omega (arith, ge, has.begun), lt, omega (arith, ge, has.between.held, has.between.room), same_Some value (value_at list t) (sym is ∙ told t ge lt)))
-        (λ (le : machine.cycle ≤ t). absurd (none-some value (sym (none-after t ge le) ∙ is)))
-        (cases_lt t machine.cycle))
+      (λ (lt : t < machine.cycle). (omega (arith, ge, has.begun), lt, omega (arith, ge, has.between.held, has.between.room), same_Some value (value_at list t) (sym is ∙ told t ge lt)))
+      (λ (le : machine.cycle ≤ t). absurd (none-some value (sym (none-after t ge le) ∙ is)))
+      (cases_lt t machine.cycle))
       (cases_lt t has.base)
 
 module _ (flow : Flow) (net : Network) (kept : Kept flow net) (c rows : ℕ) (known : c < length net.wires) (is : (consumer_of net c).behaviour ≡ KeepsLast rows) where

@@ -1,5 +1,5 @@
--- Networks worked by hand: two units that feed each other, and a memory that is served; what each event makes of them, why
--- an event is refused, and what must not hold.
+-- Networks worked by hand: two units that feed each other, and a memory that is served; what each event makes of them,
+-- why an event is refused, and what must not hold.
 use Rattle.std.proofs.Common.{◌≡◌, ℕ, zero, suc, ◌<◌, List, [], ◌∷◌, Option, Some, None, Bool, true, false, refl, arith, lit<}
 use Rattle.std.specs.Prelude.{◌+◌, ◌≤◌, slice_index_or, All, Contains, length}
 use Rattle.std.proofs.lemmas.Option.{none-some}
@@ -19,7 +19,8 @@ use Rattle.gg_net.specs.Network.{Network, IsAtIn, puts, takes, entered_by, serve
 use Rattle.gg_net.specs.Step.{CanFire, CanServe, after_latch, after_fire, after_serve, after_finish, LatchRefused, FireRefused, ServeRefused, FinishRefused}
 use Rattle.gg_net.specs.Kept.{list_at, rows_at, start_at, Runs, Answers, Asks, Solves, IsWired, NeedsChannel, HasNoRing, BetweenAt}
 use Rattle.gg_net.specs.Net.{IsWithinLimits, queue_limit, opening_net}
-use Rattle.gg_net.specs.Fixture.{fed_wires, fed_flow}
+use Rattle.gg_net.specs.declared.shape.Station.{Station}
+use Rattle.gg_flat.specs.Streams.{Flow}
 
 -- ---- two units: the out of `a` is its register, which takes its in; the out of `b` is its in
 
@@ -237,7 +238,7 @@ counted-once = refl
 one-more : serves (after_serve (alone (memory 0 with_reader true)) 0) 0 ≡ 1
 one-more = refl
 
--- ---- a memory whose reader gives its word in the same cycle: it is port 0, which isn't served, and the writer is port 1
+-- ---- a memory whose reader gives its word in the same cycle: it is port 0, which isn't served; the writer is port 1
 
 abbrev at_once : ℕ → Bool → Machine
 at_once served flag = record (memory served with_reader flag) { needs = (0 ∷ 1 ∷ []) ∷ []; ports = record { number = 1; access = ByWriter 0 (record { addr = 2; en = 3; word = 4; mask = 5; clock = None }) } ∷ [] }
@@ -274,6 +275,20 @@ never-served : (p : ℕ) → CanServe (alone read_only) 0 p → ⊥
 never-served p can = let is : ◌≡◌ {A = Option ℕ} None (Some p) = can.due in cc
 
 -- ---- a source that feeds a tray: the values that its channel should carry, and rows without values, solve the network
+
+-- the source gives 4 and then 6
+abbrev pub fed_hosts : List (List Machine)
+fed_hosts = (source_machine (4 ∷ 6 ∷ []) 0 (false ∷ []) ∷ []) ∷ (tray_machine 2 2 0 [] None ∷ []) ∷ []
+
+abbrev pub fed_stations : List Station
+fed_stations = record { host = 0; thread = 0; ins = []; outs = 0 ∷ []; ports = [] } ∷ record { host = 1; thread = 0; ins = 0 ∷ []; outs = []; ports = [] } ∷ []
+
+abbrev pub fed_wires : List Wire
+fed_wires = record { producer = 0; out = 0; consumer = 1; place = 0; capacity = 1; first = None } ∷ []
+
+-- neither has rows
+abbrev pub fed_flow : Flow
+fed_flow = record { lists = (4 ∷ 6 ∷ []) ∷ []; runs = [] ∷ [] ∷ []; begin = 0; states = no_state ∷ no_state ∷ [] }
 
 abbrev pub fed : Network
 fed = opening_net (source_machine (4 ∷ 6 ∷ []) 0 (false ∷ []) ∷ tray_machine 2 2 0 [] None ∷ []) fed_wires 2

@@ -1,7 +1,7 @@
 -- A network worked by hand that begins at cycle 1, with a channel that opens with a token: a source sets a counter,
 -- whose values go to a tray one cycle later.
-use Rattle.std.proofs.Common.{◌≡◌, ℕ, zero, suc, ◌+◌, ◌<◌, ◌≤◌, List, [], ◌∷◌, Some, None, false, length, drop, refl, sym, arith, lit<}
-use Rattle.std.specs.Prelude.{Contains}
+use Rattle.std.proofs.Common.{◌≡◌, ℕ, zero, suc, ◌+◌, ◌<◌, ◌≤◌, List, [], ◌∷◌, Some, None, false, length, drop, refl, sym, ap, arith, lit<}
+use Rattle.std.specs.Prelude.{All, Contains}
 use Rattle.std.proofs.lemmas.Option.{none-some, same_Some}
 use Rattle.gg_bits.specs.Shape.{Fits}
 use Rattle.gg_flat.specs.Line.{value_at, shape_at}
@@ -17,13 +17,16 @@ use Rattle.gg_flat.proofs.UniqueLemmas.{Settled-once}
 use Rattle.gg_flat.proofs.DependLemmas.{depends-reached}
 use Rattle.gg_flat.proofs.WorkedCircuits.{loaded, loaded_order}
 use Rattle.gg_flat.proofs.WorkedForms.{only, both, three, loaded-formed, loaded-ordered}
-use Rattle.gg_node.specs.Machine.{RunsPiece, Machine, no_state, needs_at, source_machine, tray_machine}
+use Rattle.gg_node.specs.Machine.{RunsPiece, Port, Machine, no_state, machine_at, needs_at, source_machine, tray_machine}
+use Rattle.gg_node.specs.Step.{fields_of}
 use Rattle.gg_net.specs.declared.shape.Wire.{Wire}
 use Rattle.gg_net.specs.declared.event.Refusal.TheVariants.{Full}
-use Rattle.gg_net.specs.Network.{Network, wire_at, entered_by, puts, takes, entered, kind_at, frame_of}
-use Rattle.gg_net.specs.Step.{CanLatch, FireRefused}
-use Rattle.gg_net.specs.Kept.{list_at, rows_at, start_at, in_columns, Runs, RunsRows, Answers, Asks, Solves, BetweenAt, HasKept}
-use Rattle.gg_net.specs.Net.{opening_net}
+use Rattle.gg_net.specs.Network.{Network, wire_at, IsAtIn, IsAtOut, queue_at, entered_by, puts, takes, entered, kind_at, frame_of}
+use Rattle.gg_net.specs.Step.{CanLatch, CanFire, FireRefused, after_latch}
+use Rattle.gg_net.specs.Kept.{list_at, rows_at, start_at, in_columns, Runs, RunsRows, Answers, Asks, Solves, IsWired, NeedsChannel, BetweenAt, HasKept, Kept}
+use Rattle.gg_net.specs.Net.{IsOpening, opening_net}
+use Rattle.gg_net.proofs.OpenLemmas.{machine-open}
+use Rattle.gg_net.proofs.WorkedNets.{no-needs}
 
 abbrev holds : ℕ → State
 holds v = record { registers = v ∷ []; banks = [] }
@@ -35,8 +38,11 @@ counts = record { behaviour = RunsPiece loaded; limit = 10; ratios = []; needs =
 abbrev wires : List Wire
 wires = record { producer = 0; out = 0; consumer = 1; place = 0; capacity = 1; first = None } ∷ record { producer = 1; out = 0; consumer = 2; place = 0; capacity = 1; first = Some 7 } ∷ []
 
+abbrev machines : List Machine
+machines = source_machine (0 ∷ 1 ∷ 0 ∷ []) 1 (false ∷ []) ∷ counts ∷ tray_machine 2 10 1 [] None ∷ []
+
 abbrev piped : Network
-piped = opening_net (source_machine (0 ∷ 1 ∷ 0 ∷ []) 1 (false ∷ []) ∷ counts ∷ tray_machine 2 10 1 [] None ∷ []) wires 3
+piped = opening_net machines wires 3
 
 -- the counter's rows in cycles 1 and 2; the tray gets 7 in cycle 1, and then what the counter had a cycle before
 abbrev rows : List (List ℕ)
@@ -71,7 +77,7 @@ none-by zero [] lt is = absurd (omega (arith, is))
 none-by zero (next ∷ path) lt is = absurd is.0.names
 none-by (suc place) path lt is = absurd (omega (arith, lt))
 
-none-reached : (place : ℕ) → place < 1 → Reaches loaded 1 (value_at loaded.ins place) → Contains {X = ℕ} [] place
+pub none-reached : (place : ℕ) → place < 1 → Reaches loaded 1 (value_at loaded.ins place) → Contains {X = ℕ} [] place
 none-reached place lt to = none-by place to.path lt to.reads
 
 runs-rows : RunsRows loaded (kind_at (frame_of piped).kinds 1) start rows 3
@@ -133,7 +139,90 @@ not-another solves = let is : ◌≡◌ {A = ℕ} 7 8 = solves.opens 1 7 (lit< t
 not-at-once : Solves (record flow { lists = (0 ∷ 1 ∷ 0 ∷ []) ∷ (0 ∷ 3 ∷ 5 ∷ 0 ∷ []) ∷ [] }) (frame_of piped) → ⊥
 not-at-once solves = let is : ◌≡◌ {A = ℕ} 7 3 = solves.opens 1 7 (lit< tt) refl in omega (arith, is)
 
+-- ---- the wiring
+
+into : (m i : ℕ) → m < 3 → i < (kind_at (frame_of piped).kinds m).ins → (c : ℕ) × IsAtIn wires m i c
+into zero i there below = absurd (omega (arith, below))
+into (suc zero) zero there below = (0, record { known = lit< tt; machine = refl; place = refl })
+into (suc zero) (suc i) there below = absurd (omega (arith, below))
+into (suc (suc zero)) zero there below = (1, record { known = lit< tt; machine = refl; place = refl })
+into (suc (suc zero)) (suc i) there below = absurd (omega (arith, below))
+into (suc (suc (suc m))) i there below = absurd (omega (arith, there))
+
+from : (m o : ℕ) → m < 3 → o < (kind_at (frame_of piped).kinds m).outs → (c : ℕ) × IsAtOut wires m o c
+from zero zero there below = (0, record { known = lit< tt; machine = refl; out = refl })
+from zero (suc o) there below = absurd (omega (arith, below))
+from (suc zero) zero there below = (1, record { known = lit< tt; machine = refl; out = refl })
+from (suc zero) (suc o) there below = absurd (omega (arith, below))
+from (suc (suc zero)) o there below = absurd (omega (arith, below))
+from (suc (suc (suc m))) o there below = absurd (omega (arith, there))
+
+one-in : (c d : ℕ) → c < 2 → d < 2 → (wire_at wires c).consumer ≡ (wire_at wires d).consumer → c ≡ d
+one-in zero zero low high same = refl
+one-in zero (suc zero) low high same = absurd (omega (arith, same))
+one-in (suc zero) zero low high same = absurd (omega (arith, same))
+one-in (suc zero) (suc zero) low high same = refl
+one-in (suc (suc c)) d low high same = absurd (omega (arith, low))
+one-in zero (suc (suc d)) low high same = absurd (omega (arith, high))
+one-in (suc zero) (suc (suc d)) low high same = absurd (omega (arith, high))
+
+one-out : (c d : ℕ) → c < 2 → d < 2 → (wire_at wires c).producer ≡ (wire_at wires d).producer → c ≡ d
+one-out zero zero low high same = refl
+one-out zero (suc zero) low high same = absurd (omega (arith, same))
+one-out (suc zero) zero low high same = absurd (omega (arith, same))
+one-out (suc zero) (suc zero) low high same = refl
+one-out (suc (suc c)) d low high same = absurd (omega (arith, low))
+one-out zero (suc (suc d)) low high same = absurd (omega (arith, high))
+one-out (suc zero) (suc (suc d)) low high same = absurd (omega (arith, high))
+
+needs : (m o i : ℕ) → m < 3 → Contains (needs_at (kind_at (frame_of piped).kinds m).needs o) i → i < (kind_at (frame_of piped).kinds m).ins
+needs zero o i there has = absurd (no-needs o i has)
+needs (suc zero) o i there has = absurd (no-needs o i has)
+needs (suc (suc zero)) o i there has = absurd (omega (arith, has.1))
+needs (suc (suc (suc m))) o i there has = absurd (omega (arith, there))
+
+wired : IsWired (frame_of piped)
+wired =
+    record {
+      some = both (λ c. 0 < (wire_at wires c).capacity) (lit< tt) (lit< tt);
+      producer = both (λ c. (wire_at wires c).producer < 3) (lit< tt) (lit< tt);
+      out = both (λ c. (wire_at wires c).out < (kind_at (frame_of piped).kinds (wire_at wires c).producer).outs) (lit< tt) (lit< tt);
+      consumer = both (λ c. (wire_at wires c).consumer < 3) (lit< tt) (lit< tt);
+      place = both (λ c. (wire_at wires c).place < (kind_at (frame_of piped).kinds (wire_at wires c).consumer).ins) (lit< tt) (lit< tt);
+      into = into;
+      from = from;
+      one_in = λ c d low high same place. one-in c d low high same;
+      needs = needs;
+      fields = three (λ m. All (λ (port : Port). All (λ i. i < (kind_at (frame_of piped).kinds m).ins) (fields_of port.access)) (kind_at (frame_of piped).kinds m).ports) (λ k d lt. absurd (omega (arith, lt))) (λ k d lt. absurd (omega (arith, lt))) (λ k d lt. absurd (omega (arith, lt)));
+      numbers = three (λ m. All (λ (port : Port). port.number < (kind_at (frame_of piped).kinds m).port_count) (kind_at (frame_of piped).kinds m).ports) (λ k d lt. absurd (omega (arith, lt))) (λ k d lt. absurd (omega (arith, lt))) (λ k d lt. absurd (omega (arith, lt)));
+      one_out = λ c d low high same out. one-out c d low high same;
+    }
+
+-- no channel needs another
+lower : (c d : ℕ) → NeedsChannel (frame_of piped) c d → value_at (0 ∷ 0 ∷ []) d < value_at (0 ∷ 0 ∷ []) c
+lower zero d needs = absurd (no-needs 0 needs.place needs.needed)
+lower (suc zero) d needs = absurd (no-needs 0 needs.place needs.needed)
+lower (suc (suc c)) d needs = absurd (omega (arith, needs.known))
+
+-- with a capacity of 0 it isn't wired
+not-without-room : IsWired (record (frame_of piped) { wires = record { producer = 0; out = 0; consumer = 1; place = 0; capacity = 0; first = None } ∷ record { producer = 1; out = 0; consumer = 2; place = 0; capacity = 1; first = Some 7 } ∷ [] }) → ⊥
+not-without-room wired = let some : 0 < 0 = wired.some 0 (lit< tt) in omega (arith, some)
+
 -- ---- the opening
+
+opening : (m : ℕ) → m < 3 → IsOpening flow m (machine_at machines m)
+opening =
+    three (λ m. IsOpening flow m (machine_at machines m))
+    (record { cycle = refl; state = refl; served = refl; latches = refl; flags = refl; kept = refl })
+    (record { cycle = refl; state = refl; served = refl; latches = refl; flags = refl; kept = refl })
+    (record { cycle = refl; state = refl; served = refl; latches = refl; flags = refl; kept = refl })
+
+-- a machine that is in cycle 0, or in another state, isn't before its first cycle
+not-at-zero : IsOpening flow 1 (record counts { cycle = 0 }) → ⊥
+not-at-zero open_at = let is : ◌≡◌ {A = ℕ} 0 1 = open_at.cycle in omega (arith, is)
+
+not-from-zeros : IsOpening flow 1 (record counts { state = holds 0 }) → ⊥
+not-from-zeros open_at = let is : ◌≡◌ {A = ℕ} 0 3 = ap (λ (state : State). value_at state.registers 0) open_at.state in omega (arith, is)
 
 two-entered : entered piped 1 ≡ 2
 two-entered = refl
@@ -141,15 +230,44 @@ two-entered = refl
 one-put : puts piped 1 ≡ 1
 one-put = refl
 
+opens-empty : BetweenAt (0 ∷ 1 ∷ 0 ∷ []) 1 (takes piped 0) (entered piped 0) []
+opens-empty = record { held = refl; room = omega arith; tokens = λ j lt. absurd (omega (arith, lt)) }
+
 opens-with : BetweenAt (0 ∷ 7 ∷ 3 ∷ 5 ∷ []) 1 (takes piped 1) (entered piped 1) (7 ∷ [])
 opens-with = record { held = refl; room = omega arith; tokens = only (λ j. value_at (7 ∷ []) j ≡ value_at (0 ∷ 7 ∷ 3 ∷ 5 ∷ []) (1 + j)) refl }
+
+-- without its token, or with the token twice, the queue doesn't agree with the list, whatever the capacity is
+not-empty : (capacity : ℕ) → BetweenAt (0 ∷ 7 ∷ 3 ∷ 5 ∷ []) capacity (takes piped 1) (entered piped 1) [] → ⊥
+not-empty capacity between = let held : ◌≡◌ {A = ℕ} 1 2 = between.held in omega (arith, held)
+
+not-put-twice : (capacity : ℕ) → BetweenAt (0 ∷ 7 ∷ 3 ∷ 5 ∷ []) capacity (takes piped 1) (entered piped 1) (7 ∷ 7 ∷ []) → ⊥
+not-put-twice capacity between = let held : ◌≡◌ {A = ℕ} 3 2 = between.held in omega (arith, held)
+
+kept : Kept flow piped
+kept =
+    record {
+      queues = refl;
+      sound = record { wired = wired; no_ring = record { ranks = 0 ∷ 0 ∷ []; lower = lower }; solves = solved };
+      machines = λ m there. machine-open flow machines wires 3 (omega arith) m (opening m there);
+      channels = both (λ c. BetweenAt (list_at flow.lists c) (wire_at wires c).capacity (takes piped c) (entered piped c) (queue_at piped.queues c)) opens-empty opens-with;
+    }
 
 -- the queue is full before the first token is put; its token may be latched
 full-at-once : FireRefused piped 1 (Full 1 1)
 full-at-once = ((lit< tt, lit< tt), refl, refl, omega arith, refl, refl)
 
+no-room : CanFire piped 1 → ⊥
+no-room can = let room : 1 < 1 = can.room in omega (arith, room)
+
+not-full-of-none : FireRefused piped 1 (Full 1 0) → ⊥
+not-full-of-none refused = let is : ◌≡◌ {A = ℕ} 0 1 = refused.4 in omega (arith, is)
+
 may-latch : CanLatch piped 1
 may-latch = record { can = (lit< tt, lit< tt); empty = refl; held = lit< tt }
+
+-- then there is room
+after-latch : CanFire (after_latch piped 1) 1
+after-latch = record { can = (lit< tt, lit< tt); clear = refl; needed = refl; room = lit< tt }
 
 -- ---- a tray that keeps the last two of the values from cycle 1 on
 
@@ -161,3 +279,6 @@ kept-last = record { base = 2; between = record { held = refl; room = omega arit
 
 not-fewer : HasKept (0 ∷ 7 ∷ 3 ∷ 5 ∷ []) 1 2 4 (5 ∷ []) → ⊥
 not-fewer has = let whole : has.base ≡ 1 = has.whole (lit< tt) in omega (arith, whole, has.between.held)
+
+not-from-before : HasKept (0 ∷ 7 ∷ 3 ∷ 5 ∷ []) 1 2 2 (0 ∷ 7 ∷ []) → ⊥
+not-from-before has = omega (arith, has.begun, has.between.held)

@@ -4,5 +4,4 @@ pub mod Kept
 pub mod Queue
 pub mod Seats
 pub mod Net
-pub mod Fixture
 pub mod Parted

@@ -8,17 +8,18 @@
 //!   `specs/` say. Else it returns the first condition that fails, and the network stays as it was. [`Net::test`]
 //!   returns what `step` would return.
 //! - After any events in any order, a network agrees with its lists of values ([`Net::kept`]). Each queue is the part
-//!   of the channel's list from the number of tokens taken to the number of tokens put. Each latch holds its channel's
-//!   value of the cycle. Each machine is in the state of its own run. A tray has kept the values of its channel.
-//! - [`Net::new`] builds the network before its first cycle. [`Net::parts`] takes a network apart, and [`Net::of`] puts
-//!   the parts together to the same network again.
+//!   of the channel's list from the number of tokens taken to the number of tokens that have entered: those that were
+//!   put, and the one that the channel may open with. Each latch holds its channel's value of the cycle. Each machine
+//!   is in the state of its own run. A tray has kept the last values of its channel, and tells them ([`trays_tell`]).
+//! - [`Net::new`] builds the network before its first cycle, whose number and states the flow of values gives.
+//!   [`Net::parts`] takes a network apart, and [`Net::of`] puts the parts together to the same network again.
 //! - While a machine has cycles left, some event may be done ([`goes_on`]).
 //! - An event that may be done can be done, in one way only, and isn't refused ([`goes_once`]). A refusal has one cause
 //!   ([`refused_once`]). A network is determined by its counts ([`counted_once`]).
-//! - The other calls return facts about a network, as the definitions say. Only `new` allocates. The other calls look
-//!   at one machine at most, with its ins, outs and ports.
+//! - The other calls return facts about a network, as the definitions say. Only `Net::new` and [`Queue::new`] allocate.
+//!   The other calls look at one machine at most, with its ins, outs and ports.
 //!
-//! The lists of values are part of the type of a network ([`Streams`]). No code reads them.
+//! The flow of values is part of the type of a network ([`Streams`]). No code reads it.
 #![tactic(auto)]
 
 mod event;

@@ -6,9 +6,8 @@ ghost use Rattle.gg_net.specs.Network.{wire_at, queue_at, IsAtIn, IsAtOut};
 ghost use Rattle.gg_net.specs.Step.{due_fields, IsFirstClear, IsFirstEmpty};
 
 use crate::net::Net;
-use crate::seats;
 use crate::shape::Wire;
-use crate::waits;
+use crate::{seats, waits};
 use gg_flat::Streams;
 use gg_node::Host;
 

@@ -64,7 +64,7 @@ impl Tray {
         })
     }
 
-    /// The value of a cycle. `None` if the cycle isn't finished, if the tray has forgotten its value, or if the cycle is
+    /// The value of a cycle. `None` exactly if the cycle isn't finished, if its value was forgotten, or if the cycle is
     /// before the first one of the tray.
     pub fn value(&self, cycle: u64) -> Option<u128>
         ensures keeps { IsTray self.now.behaviour }

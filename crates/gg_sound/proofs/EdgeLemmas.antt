@@ -1,5 +1,6 @@
 -- What sources and trays do.
 use Rattle.std.proofs.Common.{◌≡◌, ℕ, zero, suc, ◌+◌, ◌-◌, ◌<◌, ◌≤◌, List, [], ◌∷◌, ◌++◌, None, false, length, get_or, refl, sym, ◌∙◌, ap, subst, arith}
+use Rattle.std.proofs.Math.Nat.{le-max_right}
 use Rattle.std.proofs.lemmas.List.{get_or-map}
 use Rattle.gg_flat.specs.Line.{value_at, shape_at}
 use Rattle.gg_flat.specs.Circuit.{FlatCircuit, signal_shapes}
@@ -12,8 +13,9 @@ use Rattle.gg_cut.specs.declared.wires.Wire.{Wire as Link}
 use Rattle.gg_cut.specs.Channels.{wire, numbered, source_wires, wires_of, first_source, first_tray}
 use Rattle.gg_cut.specs.Plan.{wire_at as link_at, channels_from, signals_of}
 use Rattle.gg_cut.proofs.WireLemmas.{rest_wires, source-gives}
-use Rattle.gg_node.specs.Machine.{Machine, no_state, source_machine, tray_machine}
+use Rattle.gg_node.specs.Machine.{Machine, no_state, source_machine, tray_machine, cycle_limit}
 use Rattle.gg_net.specs.Network.{kind_of}
+use Rattle.gg_sound.specs.Built.{tray_rows}
 use Rattle.gg_sound.proofs.NumberLemmas.{one-is}
 use Rattle.gg_sound.proofs.ListedLemmas.{given-in}
 use Rattle.gg_sound.proofs.SideLemmas.{source-gives-one}
@@ -76,12 +78,12 @@ module _ (circuit : FlatCircuit) (tree : InstanceTree) (listed : Listed) (m : �
 
 -- ---- trays
 
-pub tray-does : (rows : List (List ℕ)) (n : ℕ) (ins outs : List ℕ) (machine : Machine) → length ins ≡ 1 → length outs ≡ 0 → machine ≡ tray_machine n n 0 [] None → DoesCycles rows n ins outs (kind_of machine) no_state []
-tray-does rows n ins outs machine one none is =
+pub tray-does : (rows : List (List ℕ)) (n : ℕ) (ins outs : List ℕ) (machine : Machine) → length ins ≡ 1 → length outs ≡ 0 → n ≤ cycle_limit → machine ≡ tray_machine (tray_rows n) cycle_limit 0 [] None → DoesCycles rows n ins outs (kind_of machine) no_state []
+tray-does rows n ins outs machine one none most is =
     subst (λ (t : Machine). DoesCycles rows n ins outs (kind_of t) no_state []) (sym is)
     (record {
-      able = omega arith;
-      does = (refl, refl, λ some. some);
+      able = most;
+      does = (refl, refl, λ some. omega (arith, le-max_right n 1));
       answers = λ o t few lt. absurd (omega (arith, few, none));
       asks = λ i t few lt. tt;
     })

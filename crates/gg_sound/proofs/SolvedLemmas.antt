@@ -73,7 +73,7 @@ module _ (design : Ordered) (request : Request) (default : ℕ) (plan : Plan) (c
   body-does m own Tray machine lt outs body is =
       tray-does rows n (ins_of_machine m) (outs_of_machine m) machine
       (in-count m ∙ tray-takes design.circuit design.tree listed (plans.links-once design request default plan columns n rows machines given built) m body lt)
-      (out-count m ∙ tray-gives-none design.circuit design.tree listed m body) is
+      (out-count m ∙ tray-gives-none design.circuit design.tree listed m body) given.most is
 
   machine-does : (m : ℕ) → m < length plan.machines → DoesCycles rows n (ins_of_machine m) (outs_of_machine m) (kind_at (map kind_of machines) m) (state_in (states_of plan (opening design.circuit)) m) (rows_at (rows_of plan rows) m)
   machine-does m lt =

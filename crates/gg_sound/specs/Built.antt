@@ -2,7 +2,7 @@
 -- that its channels carry are gg_cut's `columns_of`. `flow_of` has all that it computes.
 -- Source: MEMOCODE 2009 (a synchronous circuit as a network of its parts, whose streams are the circuit's own); ICCAD
 -- 2019 (units and memories of a target as models of their own, with sources for its inputs and sinks for its outputs).
-use Rattle.std.specs.Prelude.{◌≡◌, ℕ, suc, ◌^◌, ◌<◌, ◌≤◌, ◌==◌, ◌++◌, List, [], ◌∷◌, None, false, length, map, slice_index_or, unwrap_or}
+use Rattle.std.specs.Prelude.{◌≡◌, ℕ, suc, ◌^◌, ◌<◌, ◌≤◌, ◌==◌, ◌++◌, List, [], ◌∷◌, None, false, length, map, max, slice_index_or, unwrap_or}
 use Rattle.gg_flat.specs.Line.{value_at}
 use Rattle.gg_flat.specs.Run.{IsRun, IsColumns}
 use Rattle.gg_flat.specs.State.{State, opening}
@@ -85,13 +85,17 @@ pub record IsMemoryOf (part : Part) (machine : Machine) : Type 0 where
   pub is_memory : memory.IsMemoryPiece alone.piece
   pub is : machine ≡ memory.opening_unit alone.piece
 
+-- the most values that the tray of a network with n cycles keeps: all that it gets, but at least one
+abbrev pub tray_rows : ℕ → ℕ
+tray_rows n = max n 1
+
 -- The machine of the network for a machine of the plan. `columns` are the columns of the top's inputs, by number of
 -- channel: the channels of the top's inputs come first.
 abbrev pub IsBuilt : List (List ℕ) → ℕ → planned.Machine → Body → Machine → Type 0
 IsBuilt columns n own (Cut part) machine = IsUnitOf part machine
 IsBuilt columns n own (Memory part) machine = IsMemoryOf part machine
 IsBuilt columns n own Source machine = machine ≡ source_machine (slice_index_or columns (value_at own.outs 0) []) 0 (false ∷ [])
-IsBuilt columns n own Tray machine = machine ≡ tray_machine n n 0 [] None
+IsBuilt columns n own Tray machine = machine ≡ tray_machine (tray_rows n) cycle_limit 0 [] None
 
 -- the machines of the network of a plan, by number
 pub record AreBuilt (plan : Plan) (columns : List (List ℕ)) (n : ℕ) (machines : List Machine) : Type 0 where

@@ -1,4 +1,3 @@
-use Rattle.gg_flat.specs.Streams.{Flow}
 use Rattle.gg_net.specs.Network.{consumer_of}
 use Rattle.gg_net.specs.Kept.{list_at}
 use Rattle.gg_net.proofs.TrayLemmas.{tells, tells-only, tray-keeps}

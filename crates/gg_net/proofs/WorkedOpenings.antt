@@ -1,18 +1,15 @@
--- A source and a tray open a network for two cycles.
-use Rattle.std.proofs.Common.{◌≡◌, ℕ, zero, suc, ◌<◌, List, [], ◌∷◌, refl, sym, subst, ◌∙◌, arith, lit<}
+-- The parts of a network worked by hand: a source and a tray, which open it for two cycles.
+use Rattle.std.proofs.Common.{◌≡◌, ℕ, zero, suc, ◌<◌, [], ◌∷◌, refl, sym, ◌∙◌, arith, lit<}
 use Rattle.std.specs.Prelude.{length, slice_index_or}
 use Rattle.gg_flat.specs.Line.{value_at}
 use Rattle.gg_flat.proofs.WorkedForms.{only, both}
-use Rattle.gg_flat.specs.Streams.{Flow}
-use Rattle.gg_node.specs.Machine.{Machine, machine_at}
-use Rattle.gg_net.specs.declared.shape.Wire.{Wire}
+use Rattle.gg_node.specs.Machine.{machine_at}
 use Rattle.gg_net.specs.declared.shape.Station.{Station}
 use Rattle.gg_net.specs.Network.{IsAtIn, IsAtOut, kind_at, frame_of}
 use Rattle.gg_net.specs.Kept.{NeedsChannel}
 use Rattle.gg_net.specs.Seats.{hosted, IsSeated, HasStation, AreSeated, machines_by}
 use Rattle.gg_net.specs.Net.{IsListed, AreListed, IsOpening, Opens}
-use Rattle.gg_net.specs.Fixture.{fed_hosts, fed_stations, fed_wires, fed_flow, IsFed}
-use Rattle.gg_net.proofs.WorkedNets.{fed, fed-wired, fed-solved, no-needs, within-limits}
+use Rattle.gg_net.proofs.WorkedNets.{fed_hosts, fed_stations, fed_wires, fed_flow, fed, fed-wired, fed-solved, no-needs, within-limits}
 
 host-is : (m : ℕ) (s : Station) → m < 2 → (slice_index_or fed_stations m s).host ≡ m
 host-is m s lt = both (λ k. (slice_index_or fed_stations k s).host ≡ k) refl refl m lt
@@ -75,11 +72,3 @@ fed-opens =
       limits = within-limits;
       sound = record { wired = fed-wired; no_ring = record { ranks = 0 ∷ []; lower = lower }; solves = fed-solved };
     }
-
-pub opens : (flow : Flow) (hosts : List (List Machine)) (stations : List Station) (wires : List Wire) (end : ℕ) → IsFed flow hosts stations wires end → Opens flow hosts stations wires end
-opens flow hosts stations wires end is =
-    subst (λ (f : Flow). Opens f hosts stations wires end) (sym is.flow_is)
-    (subst (λ (h : List (List Machine)). Opens fed_flow h stations wires end) (sym is.hosts_are)
-    (subst (λ (s : List Station). Opens fed_flow fed_hosts s wires end) (sym is.stations_are)
-    (subst (λ (w : List Wire). Opens fed_flow fed_hosts fed_stations w end) (sym is.wires_are)
-    (subst (λ n. Opens fed_flow fed_hosts fed_stations fed_wires n) (sym is.end_is) fed-opens))))
