@@ -175,17 +175,10 @@ fn runs<Z: Streams>(mut net: Net<Node<'_>, Z>, case: &Case) -> bool {
     begins && goes(&mut net, case.steps, case.end.saturating_sub(1)) && closes(&net, case)
 }
 
-// Whether the network of a plan runs as expected.
-fn is_built<Z: Streams>(
-    alloc: Global,
-    design: &Design,
-    plan: &Plan,
-    inputs: &Trace,
-    case: &Case,
-) -> bool
-    requires { IsToRun plan.now inputs.now.columns inputs.now.rows Z.lists Z.runs }
+// Whether the network of a plan runs as expected by the steps of the case.
+fn is_built_once<Z: Streams>(alloc: Global, plan: &Plan, inputs: &Trace, case: &Case) -> bool
+    requires { IsToRun plan.now inputs.now.columns inputs.now.rows Z.flow }
 {
-    let _ = design;
     match build::<Z>(alloc, plan, inputs) {
         Ok(net) => runs(net, case),
         Err(_) => false,
@@ -193,7 +186,20 @@ fn is_built<Z: Streams>(
 }
 
 // Whether two networks of a plan end alike, in two orders of steps.
-fn is_twice_built<Z: Streams>(
+fn is_built_twice<Z: Streams>(alloc: Global, plan: &Plan, inputs: &Trace, case: &Case) -> bool
+    requires { IsToRun plan.now inputs.now.columns inputs.now.rows Z.flow }
+{
+    match build::<Z>(alloc, plan, inputs) {
+        Ok(mut one) => match build::<Z>(alloc, plan, inputs) {
+            Ok(mut other) => end_alike(&mut one, &mut other, case),
+            Err(_) => false,
+        },
+        Err(_) => false,
+    }
+}
+
+// Whether the network of a plan runs as expected.
+fn is_built<Z: Streams>(
     alloc: Global,
     design: &Design,
     plan: &Plan,
@@ -203,13 +209,7 @@ fn is_twice_built<Z: Streams>(
     requires { IsToRun plan.now inputs.now.columns inputs.now.rows Z.flow }
 {
     let _ = design;
-    match build::<Z>(alloc, plan, inputs) {
-        Ok(mut one) => match build::<Z>(alloc, plan, inputs) {
-            Ok(mut other) => end_alike(&mut one, &mut other, case),
-            Err(_) => false,
-        },
-        Err(_) => false,
-    }
+    is_built_once::<Z>(alloc, plan, inputs, case) && is_built_twice::<Z>(alloc, plan, inputs, case)
 }
 
 // Whether the network of a design and a request runs as expected, for channels of capacity 1.
@@ -223,10 +223,7 @@ fn is_cut(alloc: Global, design: &Design, request: &Request, inputs: &Trace, cas
     let _ = design.tree();
     let _ = inputs.rows();
     match cut(alloc, design, request, 1) {
-        Ok(plan) => {
-            is_built::<Brand>(alloc, design, &plan, inputs, case)
-                && is_twice_built::<Brand>(alloc, design, &plan, inputs, case)
-        }
+        Ok(plan) => is_built::<Brand>(alloc, design, &plan, inputs, case),
         Err(fault) => {
             drop(fault);
             false
