@@ -10,4 +10,5 @@ pub mod EndLemmas
 pub mod CountsLemmas
 pub mod ReachLemmas
 pub mod GoalLemmas
+pub mod ReplayLemmas
 pub mod WorkedMeasures

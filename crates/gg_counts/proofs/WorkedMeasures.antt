@@ -1,11 +1,11 @@
 -- Measures and layouts worked by hand.
-use Rattle.std.proofs.Common.{◌≡◌, ℕ, zero, suc, ◌<◌, ◌≤◌, List, [], ◌∷◌, false, true, Some, refl, arith}
+use Rattle.std.proofs.Common.{◌≡◌, ℕ, zero, suc, ◌<◌, ◌≤◌, ◌*◌, List, [], ◌∷◌, false, true, Some, refl, arith}
 use Rattle.std.specs.Prelude.{All}
 use Rattle.gg_net.specs.declared.event.Event.TheVariants.{Latch, Fire, Finish}
 use Rattle.gg_net.specs.declared.event.Refusal.TheVariants.{Unfired, NeedsInput, NoToken, Full}
-use Rattle.gg_marking.specs.Marking.{Link, Layout, Marking, opening_marking, held, refusal, after}
+use Rattle.gg_marking.specs.Marking.{Link, Turn, Layout, Marking, opening_marking, held, refusal, after}
 use Rattle.gg_counts.specs.Counts.{counts_of, early, CanRun, IsAllowed, Flows}
-use Rattle.gg_counts.specs.Measure.{left}
+use Rattle.gg_counts.specs.Measure.{left, all_dues}
 use Rattle.gg_counts.specs.Leads.{Leads, end_marking}
 
 -- ---- two units that feed each other in one cycle: the hub 0, the units 1 and 2, a source 3, a tray 4
@@ -30,6 +30,32 @@ two-units-one = refl
 
 two-units-end : left two_units (counts_of two_units (end_marking two_units)) ≡ 0
 two-units-end = refl
+
+-- ---- a memory of two readers and two writers as a machine of its own: the hub 0, the memory 1, sources 2 and 3, trays
+-- 4 and 5; a step serves the port of a writer, and the readers read at once
+
+abbrev writers : List Turn
+writers = record { number = 2; fields = 8 ∷ 9 ∷ 10 ∷ 11 ∷ [] } ∷ record { number = 3; fields = 12 ∷ 13 ∷ 14 ∷ 15 ∷ [] } ∷ []
+
+abbrev served_memory : Layout
+served_memory =
+    record {
+      links = wire 2 0 [] ∷ wire 3 0 [] ∷ wire 0 1 (0 ∷ []) ∷ wire 0 1 [] ∷ wire 1 0 (2 ∷ 3 ∷ []) ∷ wire 0 1 (0 ∷ []) ∷ wire 0 1 (1 ∷ []) ∷ wire 1 0 (5 ∷ 6 ∷ [])
+          ∷ wire 0 1 (0 ∷ []) ∷ wire 0 1 [] ∷ wire 0 1 (1 ∷ []) ∷ wire 0 1 [] ∷ wire 0 1 (0 ∷ []) ∷ wire 0 1 [] ∷ wire 0 1 (1 ∷ []) ∷ wire 0 1 [] ∷ wire 0 4 (4 ∷ []) ∷ wire 0 5 (7 ∷ []) ∷ [];
+      port_counts = 0 ∷ 4 ∷ 0 ∷ 0 ∷ 0 ∷ 0 ∷ [];
+      turns = [] ∷ writers ∷ [] ∷ [] ∷ [] ∷ [] ∷ [];
+      end = 4;
+    }
+
+served-left : left served_memory (counts_of served_memory (opening_marking served_memory 0)) ≡ 176
+served-left = refl
+
+-- eight of them are the serves of two writers in four cycles
+served-dues : all_dues served_memory * 4 ≡ 8
+served-dues = refl
+
+served-end : left served_memory (counts_of served_memory (end_marking served_memory)) ≡ 0
+served-end = refl
 
 -- ---- a source that feeds a tray
 

@@ -100,7 +100,7 @@ pub record AreSame (layout : Layout) (old new : Counts) : Type 0 where
 abbrev pub one_at : ℕ → ℕ → ℕ
 one_at a b = if a == b then 1 else 0
 
--- how often an event puts a token into a channel, takes one from it, finishes a machine's cycle, serves one of its ports
+-- how often an event puts a token into a channel, takes one from it, finishes a machine's cycle, serves a port of it
 abbrev pub fires : Event → ℕ → ℕ
 fires (Latch d) c = 0
 fires (Fire d) c = one_at d c

@@ -1,7 +1,8 @@
 //! Laws: facts about the definitions. Each is the contract of a function with an empty body.
-ghost use Rattle.std.specs.Prelude.{◌≡◌, ◌↔◌, ℕ, suc, ◌+◌, ◌-◌, ◌*◌, ◌<◌, ◌≤◌, List, None, length};
+ghost use Rattle.std.specs.Prelude.{◌≡◌, ◌↔◌, ℕ, suc, ◌+◌, ◌-◌, ◌*◌, ◌<◌, ◌≤◌, ◌++◌, List, [], ◌∷◌, Option, None, Ok, length};
 ghost use Rattle.gg_net.specs.declared.event.Event.{Event};
 ghost use Rattle.gg_marking.specs.Marking.{Layout, Marking, opening_marking, held, refusal, after};
+ghost use Rattle.gg_marking.specs.Goes.{replayed_from};
 ghost use Rattle.gg_counts.specs.Counts.{Counts, counts_of, early, HasBegun, IsAllowed, AreAtMost, AreSame, Raises, CanRun, IsMarkingOf};
 ghost use Rattle.gg_counts.specs.Measure.{left, all_dues};
 ghost use Rattle.gg_counts.specs.Leads.{Leads, IsStuck, end_marking};
@@ -44,4 +45,11 @@ pub fn ends_so()
 /// begun.
 pub fn reached_by_counts()
     ensures { (layout : Layout) (begin : ℕ) (counts : Counts) → CanRun layout → begin ≤ layout.end → (IsAllowed layout counts × HasBegun layout begin counts) ↔ ((marking : Marking) × (events : List Event) × Leads layout (opening_marking layout begin) events marking × AreSame layout counts (counts_of layout marking)) }
+{}
+
+/// Steps that are replayed to their end lower the measure by one each. They can be followed by one more exactly if they
+/// are fewer than the measure where they begin.
+pub fn replays_while_left()
+    ensures count { (layout : Layout) (k : ℕ) (old new : Marking) (events : List (Option Event)) → CanRun layout → IsMarkingOf layout old → IsAllowed layout (counts_of layout old) → replayed_from layout k old events ≡ Ok new → length events + left layout (counts_of layout new) ≡ left layout (counts_of layout old) }
+    ensures longer { (layout : Layout) (k : ℕ) (old new : Marking) (events : List (Option Event)) → CanRun layout → IsMarkingOf layout old → IsAllowed layout (counts_of layout old) → replayed_from layout k old events ≡ Ok new → (length events < left layout (counts_of layout old)) ↔ ((event : Option Event) × (next : Marking) × (replayed_from layout k old (events ++ event ∷ []) ≡ Ok next)) }
 {}

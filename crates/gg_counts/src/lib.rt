@@ -6,13 +6,15 @@
 //!
 //! - a step raises one count by one, keeps counts allowed, and lowers the measure by one ([`keeps_allowed`]);
 //! - from the opening, counts are reached exactly if they are allowed and have begun ([`opens_allowed`],
-//!   [`reached_by_counts`]); from any counts all higher ones are reached ([`leads_up`]);
+//!   [`reached_by_counts`]); from allowed counts all allowed ones that are nowhere lower are reached ([`leads_up`]);
 //! - counts determine the marking ([`one_marking_by_counts`]);
-//! - steps that can't go on end at the end, and their number is the measure ([`ends_so`]).
+//! - steps that can't go on end at the end, and their number is the measure ([`ends_so`]); fewer steps can go on
+//!   ([`replays_while_left`]).
 #![tactic(auto)]
 
 mod laws;
 
 pub use laws::{
     ends_so, keeps_allowed, leads_up, one_marking_by_counts, opens_allowed, reached_by_counts,
+    replays_while_left,
 };

@@ -99,7 +99,7 @@ module _ (flow : Flow) (net : Network) (kept : Kept flow net) where
 
 -- ---- the token that was given
 
-entered-mono : (first : Option ℕ) (n end : ℕ) → n ≤ end → entered_by first n ≤ entered_by first end
+pub entered-mono : (first : Option ℕ) (n end : ℕ) → n ≤ end → entered_by first n ≤ entered_by first end
 entered-mono None n end le = le
 entered-mono (Some token) n end le = omega (arith, le)
 

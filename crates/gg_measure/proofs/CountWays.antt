@@ -13,6 +13,8 @@ use Rattle.gg_counts.specs.Leads.{Leads}
 use Rattle.gg_counts.proofs.CountsLemmas.{allowed-same, by-shape, by-same, by-allowed}
 use Rattle.gg_counts.proofs.EndLemmas.{opening-lowest}
 use Rattle.gg_counts.proofs.LeadLemmas.{leads-up}
+use Rattle.gg_measure.specs.At.{IsAt}
+use Rattle.gg_measure.proofs.AtLemmas.{is-at, at-once}
 use Rattle.gg_measure.proofs.NetLemmas.{can-run, shape-of, allowed-of, begun-of}
 use Rattle.gg_measure.proofs.WayLemmas.{leads-net}
 use Rattle.gg_counts.proofs.ReachLemmas.{back, begun-by}
@@ -52,3 +54,24 @@ made-exactly flow old layout counts kept has opens = (
         begun-by layout flow.begin (counts_of layout (marking_of made.1)) counts (begun-of flow made.1 new_kept layout new_has) same,
       ),
 )
+
+-- Steps lead from there to a network with these counts exactly if they are allowed and have begun and it is the one
+-- network with them.
+pub reached-exactly : (flow : Flow) (old new : Network) (layout : Layout) (counts : Counts) → Kept flow old → HasLayout (frame_of old) layout → marking_of old ≡ opening_marking layout flow.begin
+    → (IsAllowed layout counts × HasBegun layout flow.begin counts × IsAt flow (frame_of old) counts new) ↔ ((events : List Event) × Steps old (map (λ e. Some e) events) new × AreSame layout counts (counts_of layout (marking_of new)))
+reached-exactly flow old new layout counts kept has opens = (
+  λ both.
+      let made : (events : List Event) × (net : Network) × Steps old (map (λ e. Some e) events) net × AreSame layout counts (counts_of layout (marking_of net)) =
+      (made-exactly flow old layout counts kept has opens).0 (both.0, both.1) in
+      let one : made.1 ≡ new = at-once flow (frame_of old) kept.sound counts made.1 new (at-there made.0 made.1 made.2 made.3) both.2 in
+      (made.0, subst (Steps old (map (λ e. Some e) made.0)) one made.2, subst (λ net. AreSame layout counts (counts_of layout (marking_of net))) one made.3),
+  λ made.
+      let both : IsAllowed layout counts × HasBegun layout flow.begin counts = (made-exactly flow old layout counts kept has opens).1 (made.0, new, made.1, made.2) in
+      (both.0, both.1, at-there made.0 new made.1 made.2),
+)
+  where
+    at-there : (events : List Event) (net : Network) → Steps old (map (λ e. Some e) events) net → AreSame layout counts (counts_of layout (marking_of net)) → IsAt flow (frame_of old) counts net
+    at-there events net steps same =
+        let frames : frame_of net ≡ frame_of old = steps-frame old (map (λ e. Some e) events) net steps in
+        let net_kept : Kept flow net = steps-kept flow old (map (λ e. Some e) events) net kept steps in
+        subst (λ frame. IsAt flow frame counts net) frames (is-at flow net net_kept layout (subst (λ frame. HasLayout frame layout) (sym frames) has) counts same)

@@ -29,7 +29,7 @@ entered-opens None n = omega arith
 entered-opens (Some token) n = omega arith
 
 -- what a tray has kept are the last values
-last-of : (list : List ℕ) (begin rows cycle : ℕ) (kept : List ℕ) → HasKept list begin rows cycle kept → AreLast list begin rows cycle kept
+pub last-of : (list : List ℕ) (begin rows cycle : ℕ) (kept : List ℕ) → HasKept list begin rows cycle kept → AreLast list begin rows cycle kept
 last-of list begin rows cycle kept has =
     record {
       count = elim (cases_lt (length kept) rows) [

@@ -1,30 +1,34 @@
 -- Steps of a network one after another: what they keep, and where they end.
-use Rattle.std.proofs.Common.{◌≡◌, ℕ, suc, ◌+◌, ◌<◌, ◌≤◌, max, ◌++◌, List, [], ◌∷◌, None, Bool, true, false, ◌||◌, length, refl, ap, sym, subst, ◌∙◌, inl, inr, arith, true≢false}
+use Rattle.std.proofs.Common.{◌≡◌, ℕ, suc, ◌+◌, ◌*◌, ◌<◌, ◌≤◌, max, ◌++◌, List, [], ◌∷◌, None, Bool, true, false, ◌||◌, length, refl, ap, sym, subst, ◌∙◌, inl, inr, arith, true≢false}
 use Rattle.std.proofs.lemmas.Bool.{cases_lt}
 use Rattle.std.proofs.lemmas.List.{length-map}
+use Rattle.std.proofs.lemmas.Option.{slice_get_within}
+use Rattle.std.proofs.Math.Nat.{mul-le-mul_left}
+use Rattle.std.proofs.Math.ListN as exact
+use Rattle.gg_node.specs.Machine.{no_machine}
 use Rattle.gg_flat.specs.Streams.{Flow}
 use Rattle.gg_flat.specs.Line.{value_at}
 use Rattle.gg_net.specs.declared.event.Event.{Event}
 use Rattle.gg_net.specs.declared.event.Event.TheVariants.{Latch, Fire, Serve, Finish}
-use Rattle.gg_net.specs.Network.{Network, Frame, kind_of, frame_of}
+use Rattle.gg_net.specs.Network.{Network, Frame, Kind, kind_of, kind_at, frame_of}
 use Rattle.gg_net.specs.Kept.{Kept}
 use Rattle.gg_net.specs.Step.{Ready, Step}
 use Rattle.gg_net.proofs.StepLemmas.{kept-step}
 use Rattle.gg_net.proofs.ProgressLemmas.{goes-on}
-use Rattle.gg_marking.specs.Marking.{Layout, Marking, puts, takes, refusal, after}
+use Rattle.gg_marking.specs.Marking.{Layout, Marking, turns_at, puts, takes, refusal, after}
 use Rattle.gg_marking.specs.Fits.{HasLayout, marking_of}
 use Rattle.gg_marking.proofs.CountLemmas.{cycle-at, puts-are, takes-are}
 use Rattle.gg_marking.proofs.GoesLemmas.{ready-free, step-marks, step-frame}
-use Rattle.gg_counts.specs.Counts.{counts_of, fires, latches, finishes, IsAllowed, Raises, Free}
+use Rattle.gg_counts.specs.Counts.{counts_of, dues, fires, latches, finishes, accesses, IsAllowed, Raises, Free}
 use Rattle.gg_counts.specs.Measure.{left}
-use Rattle.gg_measure.specs.Nets.{IsAtWork, AllStandAt, IsIdle, StepBelow, StepsBelow, Goes, StaysWithin, machine_of, cycle_at, net_left}
+use Rattle.gg_measure.specs.Nets.{IsAtWork, AllStandAt, IsIdle, StepBelow, StepsBelow, Goes, StaysWithin, machine_of, cycle_at, dues_at, net_left}
 use Rattle.gg_counts.proofs.SumLemmas.{one-cases}
 use Rattle.gg_counts.proofs.FreeLemmas.{is-free}
 use Rattle.gg_counts.proofs.LeadLemmas.{Went, went}
 use Rattle.gg_marking.specs.LayoutOf.{layout_of}
 use Rattle.gg_marking.proofs.LayoutLemmas.{has-layout}
 use Rattle.gg_marking.proofs.GoesLemmas.{free-ready}
-use Rattle.gg_measure.proofs.NetLemmas.{can-run, shape-of, allowed-of, left-is}
+use Rattle.gg_measure.proofs.NetLemmas.{can-run, shape-of, allowed-of, left-is, dues-are, serves-are}
 use Rattle.gg_counts.proofs.GoalLemmas.{goes-below, machine_by}
 
 -- ---- the layout
@@ -56,6 +60,10 @@ module _ (flow : Flow) (net : Network) (kept : Kept flow net) where
 
   same-count : (new : Network) (event : Event) → Step net event new → length new.machines ≡ length net.machines
   same-count new event step = sym (length-map new.machines kind_of) ∙ ap (λ (frame : Frame). length frame.kinds) (step-frame net event new step) ∙ length-map net.machines kind_of
+
+  same-dues : (new : Network) (event : Event) → Step net event new → (m : ℕ) → dues_at new m ≡ dues_at net m
+  same-dues new event step m =
+      ap (λ (kind : Kind). length kind.ports) (sym (exact.get_or-map kind_of new.machines m no_machine) ∙ ap (λ (frame : Frame). kind_at frame.kinds m) (step-frame net event new step) ∙ exact.get_or-map kind_of net.machines m no_machine)
 
   work-on : (new : Network) (event : Event) (cycle m : ℕ) → (work : IsAtWork cycle m net) → Step net event new → (after (layout_of (frame_of net)) (marking_of net) event).cycles ≡ (marking_of net).cycles → IsAtWork cycle m new
   work-on new event cycle m work step same =
@@ -174,6 +182,9 @@ module _ (flow : Flow) (cycle : ℕ) where
     by_b : HasLayout (frame_of b) layout
     by_b = run-by flow a kept b layout event step.step (laid-out flow a kept)
 
+    abbrev serves_by : Network → ℕ → ℕ
+    serves_by net m = (counts_of layout (marking_of net)).serves m
+
     next : marking_of b ≡ after layout (marking_of a) event
     next = step-marks flow a kept layout (laid-out flow a kept) event b step.step
 
@@ -195,9 +206,6 @@ module _ (flow : Flow) (cycle : ℕ) where
     wires-same : b.wires ≡ a.wires
     wires-same = ap (λ (frame : Frame). frame.wires) (step-frame a event b step.step)
 
-    machines-same : length b.machines ≡ length a.machines
-    machines-same = same-count flow a kept b event step.step
-
     -- a count that an event raises was below the cycle
     finish-low : (e : Event) → Free layout (counts_of layout (marking_of a)) e → value_at (marking_of a).cycles (machine_by layout e) < cycle → (m : ℕ) → value_at (marking_of a).cycles m + finishes e m ≤ max cycle (value_at (marking_of a).cycles m)
     finish-low (Latch d) is lt m = omega arith
@@ -217,6 +225,25 @@ module _ (flow : Flow) (cycle : ℕ) where
     take-low (Serve k p) is lt c = omega arith
     take-low (Finish k) is lt c = omega arith
 
+    serve-low : (e : Event) → Free layout (counts_of layout (marking_of a)) e → value_at (marking_of a).cycles (machine_by layout e) < cycle → (m : ℕ)
+        → serves_by a m + accesses e m ≤ max (dues layout m * cycle) (serves_by a m)
+    serve-low (Latch d) is lt m = omega arith
+    serve-low (Fire d) is lt m = omega arith
+    serve-low (Serve k p) is lt m =
+        elim (one-cases k m) [
+          | inl here ↦ omega (
+            arith,
+            here.1,
+            ap (serves_by a) here.0,
+            ap (λ j. dues layout j * cycle) here.0,
+            is.count,
+            slice_get_within (turns_at layout k) is.served is.turn is.due,
+            mul-le-mul_left (dues layout k) lt,
+          )
+          | inr other ↦ omega (arith, other.1)
+        ]
+    serve-low (Finish k) is lt m = omega arith
+
     step-within : StaysWithin cycle a b
     step-within =
         record {
@@ -225,19 +252,30 @@ module _ (flow : Flow) (cycle : ℕ) where
               omega (arith, puts-are a layout (laid-out flow a kept) c known, puts-are b layout by_b c (omega (arith, known, ap length wires-same)), ap (λ (x : Marking). puts layout x c) next, raises.puts c (omega (arith, known, (laid-out flow a kept).channels)), put-low event free below c);
           takes = λ c known.
               omega (arith, takes-are a layout (laid-out flow a kept) c known, takes-are b layout by_b c (omega (arith, known, ap length wires-same)), ap (λ (x : Marking). takes layout x c) next, raises.takes c (omega (arith, known, (laid-out flow a kept).channels)), take-low event free below c);
-          wires = wires-same;
-          machines = machines-same;
+          serves = λ m known.
+              let in_layout : m < length layout.turns = omega (arith, known, (laid-out flow a kept).machines, length-map a.machines kind_of) in
+              omega (
+                arith,
+                serves-are flow a kept layout (laid-out flow a kept) m in_layout,
+                serves-are flow b b_kept layout by_b m in_layout,
+                ap (λ (x : Marking). (counts_of layout x).serves m) next,
+                raises.serves m in_layout,
+                serve-low event free below m,
+                ap (λ n. n * cycle) (dues-are flow a kept layout (laid-out flow a kept) m in_layout),
+              );
         }
 
   pub steps-within : (a : Network) (events : List Event) (b : Network) → Kept flow a → StepsBelow cycle a events b → StaysWithin cycle a b
-  steps-within a [] b kept steps = subst (StaysWithin cycle a) (sym steps) (record { cycles = λ m known. omega arith; puts = λ c known. omega arith; takes = λ c known. omega arith; wires = refl; machines = refl })
+  steps-within a [] b kept steps = subst (StaysWithin cycle a) (sym steps) (record { cycles = λ m known. omega arith; puts = λ c known. omega arith; takes = λ c known. omega arith; serves = λ m known. omega arith })
   steps-within a (event ∷ events) b kept steps =
       let one : StaysWithin cycle a steps.0 = step-within a steps.0 event kept steps.1 in
       let rest : StaysWithin cycle steps.0 b = steps-within steps.0 events b (kept-step flow a event steps.0 kept steps.1.step) steps.2 in
+      let count : length steps.0.machines ≡ length a.machines = same-count flow a kept steps.0 event steps.1.step in
+      let wires : length steps.0.wires ≡ length a.wires = ap (λ (frame : Frame). length frame.wires) (step-frame a event steps.0 steps.1.step) in
+      let ports : (m : ℕ) → dues_at steps.0 m ≡ dues_at a m = λ m. same-dues flow a kept steps.0 event steps.1.step m in
       record {
-        cycles = λ m known. omega (arith, one.cycles m known, rest.cycles m (omega (arith, known, one.machines)));
-        puts = λ c known. omega (arith, one.puts c known, rest.puts c (omega (arith, known, ap length one.wires)));
-        takes = λ c known. omega (arith, one.takes c known, rest.takes c (omega (arith, known, ap length one.wires)));
-        wires = rest.wires ∙ one.wires;
-        machines = rest.machines ∙ one.machines;
+        cycles = λ m known. omega (arith, one.cycles m known, rest.cycles m (omega (arith, known, count)));
+        puts = λ c known. omega (arith, one.puts c known, rest.puts c (omega (arith, known, wires)));
+        takes = λ c known. omega (arith, one.takes c known, rest.takes c (omega (arith, known, wires)));
+        serves = λ m known. omega (arith, one.serves m known, rest.serves m (omega (arith, known, count)), ap (λ n. n * cycle) (ports m));
       }

@@ -6,3 +6,5 @@ pub mod TurnLemmas
 pub mod WayLemmas
 pub mod CountWays
 pub mod OrderLemmas
+pub mod FallLemmas
+pub mod AtLemmas

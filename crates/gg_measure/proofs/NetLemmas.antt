@@ -255,7 +255,7 @@ module _ (flow : Flow) (net : Network) (kept : Kept flow net) (layout : Layout) 
   pub dues-are : (m : ℕ) → m < length layout.turns → dues layout m ≡ dues_at net m
   dues-are m known = (has.turns m (kind-there m known)).count ∙ ap (λ (kind : Kind). length kind.ports) (kind-is m)
 
-  serves-are : (m : ℕ) → m < length layout.turns → network.serves net m ≡ counts.serves m
+  pub serves-are : (m : ℕ) → m < length layout.turns → network.serves net m ≡ counts.serves m
   serves-are m known =
       ap (λ n. n * (machine_at net.machines m).cycle + (machine_at net.machines m).served) (sym (dues-are m known))
       ∙ ap (λ n. dues layout m * n + (machine_at net.machines m).served) (sym (cycle-at net m))

@@ -202,7 +202,9 @@ module _ (flow : Flow) (cycle : ℕ) (start net new : Network) (moved done : Boo
   pub run-ends : done ≡ false → Kept flow new → cycle ≤ start.end → ((m : ℕ) → m < length start.machines → cycle_at start m ≤ cycle) → AllStandAt cycle new
   run-ends none kept within most =
       all-stand flow new kept cycle (omega (arith, within, ap (λ (frame : Frame). frame.end) (goes-frame cycle start new (moved || done) all-steps)))
-      (λ m known. omega (arith, run-bounds.cycles m (omega (arith, known, run-bounds.machines)), most m (omega (arith, known, run-bounds.machines))))
+      (λ m known.
+      let there : m < length start.machines = omega (arith, known, goes-count cycle start new (moved || done) all-steps) in
+      omega (arith, run-bounds.cycles m there, most m there))
       (λ m known below. round.idle none m (omega (arith, known, goes-count cycle net new done round.goes)) below)
 
 -- ---- a search for an event

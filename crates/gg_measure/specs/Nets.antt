@@ -86,13 +86,12 @@ pub record Goes (cycle : ℕ) (old : Network) (moved : Bool) (new : Network) : T
   pub none : moved ≡ false → events ≡ []
   pub some : moved ≡ true → 0 < length events
 
--- Counts after steps are at most the cycle, or what they were before.
-pub record StaysWithin (cycle : ℕ) (a b : Network) : Type 0 where
-  pub cycles : (m : ℕ) → m < length a.machines → cycle_at b m ≤ max cycle (cycle_at a m)
-  pub puts : (c : ℕ) → c < length a.wires → network.puts b c ≤ max cycle (network.puts a c)
-  pub takes : (c : ℕ) → c < length a.wires → network.takes b c ≤ max cycle (network.takes a c)
-  pub wires : b.wires ≡ a.wires
-  pub machines : length b.machines ≡ length a.machines
+-- No count is above what so many cycles make of it, or above what it was before.
+pub record StaysWithin (cycle : ℕ) (old new : Network) : Type 0 where
+  pub cycles : (m : ℕ) → m < length old.machines → cycle_at new m ≤ max cycle (cycle_at old m)
+  pub puts : (c : ℕ) → c < length old.wires → network.puts new c ≤ max cycle (network.puts old c)
+  pub takes : (c : ℕ) → c < length old.wires → network.takes new c ≤ max cycle (network.takes old c)
+  pub serves : (m : ℕ) → m < length old.machines → network.serves new m ≤ max (dues_at old m * cycle) (network.serves old m)
 
 -- Steps of machines that are below a cycle lead from one network to another.
 pub record HasRun (cycle : ℕ) (old new : Network) : Type 0 where

@@ -3,13 +3,18 @@
 //! The crate promises, of all networks with gg_net's invariant `Kept`:
 //!
 //! - counts are allowed and have begun, as gg_counts says of layouts that can run ([`nets_are_allowed`]);
-//! - from a network before its first cycle steps lead to each allowed counts that have begun ([`made_by_counts`]), and
-//!   from any network to each other whose counts are nowhere lower ([`steps_up`]);
+//! - from a network before its first cycle steps lead to a network with given counts exactly if the counts are allowed
+//!   and have begun, and it is the one network with these counts ([`reached_exactly`], [`made_by_counts`]);
+//! - from any network steps lead to each other whose counts are nowhere lower ([`steps_up`]);
 //! - the same steps in two orders lead to one network ([`one_end`]);
-//! - the measure is 0 exactly if all machines stand at the end ([`none_left`]);
+//! - a step lowers the measure by one, and a list of steps can be lengthened exactly if it has fewer steps than the
+//!   measure where it begins ([`steps_fall`]); the measure is 0 exactly if all machines stand at the end
+//!   ([`none_left`]);
+//! - a list of steps that can't be lengthened ends with all machines at the end, each queue as long as it opened, and
+//!   the last values of its channel in each tray ([`steps_end_so`]);
 //! - [`left`] returns the measure, and [`possible`] a step that may be done, as long as there is one;
-//! - [`run_to`] brings all machines to a cycle by steps of machines below it, [`run_to_end`] to the end. Then each queue
-//!   holds as many tokens as it opened with, and each tray has kept the last values of its channel.
+//! - [`run_to`] brings all machines to a cycle by steps of machines below it, and no count further. [`run_to_end`]
+//!   brings them to the end.
 #![tactic(auto)]
 
 mod laws;
@@ -18,6 +23,9 @@ mod tells;
 mod try_event;
 mod turn;
 
-pub use laws::{made_by_counts, nets_are_allowed, none_left, one_end, steps_up};
+pub use laws::{
+    made_by_counts, nets_are_allowed, none_left, one_end, reached_exactly, steps_end_so,
+    steps_fall, steps_up,
+};
 pub use run::{run_to, run_to_end};
 pub use tells::{left, possible};

@@ -17,8 +17,9 @@ fn go_round<H: Host, Z: Streams>(net: &mut Net<H, Z>, cycle: u64) -> bool
     round(net, cycle)
 }
 
-/// Does steps of the machines that are below a cycle until all stand at it, in the fixed order: machine by machine, for
-/// each all its channels' tokens that it may take, then all that it may give, then its ports, then the end of its cycle.
+/// Does steps of the machines that are below a cycle until all stand at it, in a fixed order: the machines by number, and
+/// for each all tokens that it may take, by its ins, then all that it may give, by its outs, then its ports, then the end
+/// of its cycle; and again.
 pub fn run_to<H: Host, Z: Streams>(net: &mut Net<H, Z>, cycle: u64)
     requires within { cycle ≤ net.old.end }
     requires none_above { (m : ℕ) → m < length net.old.machines → cycle_at net.old m ≤ cycle }
@@ -49,13 +50,4 @@ pub fn run_to_end<H: Host, Z: Streams>(net: &mut Net<H, Z>)
     let end = net.end();
     run_to(net, end);
     net.kept();
-}
-
-// A caller: what is left before a run to the end, and after it.
-#[allow(dead_code)]
-fn run_and_tell<H: Host, Z: Streams>(net: &mut Net<H, Z>) -> bool
-    ensures { result ≡ true }
-{
-    run_to_end(net);
-    crate::tells::possible(net).is_none()
 }

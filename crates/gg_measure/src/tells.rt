@@ -2,10 +2,10 @@
 ghost use Rattle.std.specs.Prelude.{◌≡◌, ℕ, ◌<◌, length, MatchOption};
 ghost use Rattle.gg_net.specs.declared.event.Event.TheVariants.{Latch, Fire, Finish};
 ghost use Rattle.gg_net.specs.Step.{Ready};
-ghost use Rattle.gg_measure.specs.Nets.{AllStandAt, NoServe, net_left};
+ghost use Rattle.gg_measure.specs.Nets.{AllStandAt, NoServe, wire_left, machine_left, net_left};
 ghost use Rattle.gg_measure.specs.Turns.{NoneFound};
 
-use crate::try_event::{due, may};
+use crate::try_event::may;
 use gg_net::{Event, Net, Streams};
 use gg_node::Host;
 
@@ -29,7 +29,7 @@ fn serve_event<H: Host, Z: Streams>(net: &Net<H, Z>, machine: u32) -> Option<Eve
     requires { machine < length net.now.machines }
     ensures { MatchOption result (NoServe net.now machine) (Ready net.now) }
 {
-    let port = due(net, machine)?;
+    let port = net.due(machine)?;
     let serve = Event::Serve { machine, port };
     if may(net, serve) {
         return Some(serve);
@@ -78,22 +78,44 @@ pub fn possible<H: Host, Z: Streams>(net: &Net<H, Z>) -> Option<Event>
     find_event(net)
 }
 
+// What is left of a channel: the tokens that are still to be put, and those that are still to be taken.
+fn channel_left<H: Host, Z: Streams>(net: &Net<H, Z>, channel: u32) -> u64
+    requires { channel < length net.now.wires }
+    ensures { result ≡ wire_left net.now channel }
+{
+    net.kept();
+    net.within_limits();
+    let puts = net.end() - net.puts(channel);
+    let takes = net.end() - net.takes(channel);
+    puts + takes
+}
+
+// What is left of a machine: the cycles that it still has to finish, and the times that its ports are still to be
+// served.
+fn machine_left<H: Host, Z: Streams>(net: &Net<H, Z>, machine: u32) -> u64
+    requires { machine < length net.now.machines }
+    ensures { result ≡ machine_left net.now machine }
+{
+    net.kept();
+    net.within_limits();
+    let end = net.end();
+    let cycles = end - net.cycle(machine);
+    let serves = u64::from(net.dues(machine)) * end - net.serves(machine);
+    cycles + serves
+}
+
 /// The measure: the number of steps that are still to be done.
 pub fn left<H: Host, Z: Streams>(net: &Net<H, Z>) -> u64
     ensures { result ≡ net_left net.now }
 {
     net.kept();
     net.within_limits();
-    let end = net.end();
     let mut left = 0;
     for c in 0..net.channels() {
-        let channel = c as u32;
-        left += (end - net.puts(channel)) + (end - net.takes(channel));
+        left += channel_left(net, c as u32);
     }
     for m in 0..net.machines() {
-        let machine = m as u32;
-        left += (end - net.cycle(machine))
-            + (u64::from(net.dues(machine)) * end - net.serves(machine));
+        left += machine_left(net, m as u32);
     }
     left
 }

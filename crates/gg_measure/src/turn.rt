@@ -4,7 +4,7 @@ ghost use Rattle.gg_node.specs.Machine.{machine_at};
 ghost use Rattle.gg_measure.specs.Nets.{IsAtWork, IsIdle, NoLatch, NoFire, NoServe, Goes, cycle_at};
 ghost use Rattle.gg_measure.specs.Turns.{HasServedOne, HadTurn, HasGoneRound};
 
-use crate::try_event::{attempt, in_channel, out_channel, serve_due};
+use crate::try_event::{attempt, serve_due};
 use gg_net::{Event, Net, Streams};
 use gg_node::Host;
 
@@ -15,22 +15,6 @@ fn either(one: bool, other: bool) -> bool
     one || other
 }
 
-// The number of ins of a machine.
-fn in_count<H: Host, Z: Streams>(net: &Net<H, Z>, machine: u32) -> usize
-    requires { machine < length net.now.machines }
-    ensures { result ≡ length (machine_at net.now.machines machine).latches }
-{
-    net.shape().stations[machine as usize].ins.as_slice().len()
-}
-
-// The number of outs of a machine.
-fn out_count<H: Host, Z: Streams>(net: &Net<H, Z>, machine: u32) -> usize
-    requires { machine < length net.now.machines }
-    ensures { result ≡ length (machine_at net.now.machines machine).flags }
-{
-    net.shape().stations[machine as usize].outs.as_slice().len()
-}
-
 // Latches the front tokens of all channels into a machine for which that may be done. Returns whether it was for any.
 fn latch_all<H: Host, Z: Streams>(net: &mut Net<H, Z>, machine: u32, cycle: u64) -> bool
     requires { IsAtWork cycle machine net.old }
@@ -39,11 +23,11 @@ fn latch_all<H: Host, Z: Streams>(net: &mut Net<H, Z>, machine: u32, cycle: u64)
     ensures none { result ≡ false → NoLatch net.new machine }
 {
     net.kept();
-    let count = in_count(net, machine);
+    let count = net.in_count(machine);
     let mut moved = false;
     for place in 0..count {
         net.kept();
-        let channel = in_channel(net, machine, place);
+        let channel = net.in_channel(machine, place);
         let done = attempt(net, Event::Latch { channel });
         moved = either(moved, done);
     }
@@ -58,11 +42,11 @@ fn fire_all<H: Host, Z: Streams>(net: &mut Net<H, Z>, machine: u32, cycle: u64) 
     ensures none { result ≡ false → NoFire net.new machine }
 {
     net.kept();
-    let count = out_count(net, machine);
+    let count = net.out_count(machine);
     let mut moved = false;
     for place in 0..count {
         net.kept();
-        let channel = out_channel(net, machine, place);
+        let channel = net.out_channel(machine, place);
         let done = attempt(net, Event::Fire { channel });
         moved = either(moved, done);
     }

@@ -49,7 +49,7 @@ machine_from : Kind → ℕ → State → ℕ → List (Option ℕ) → List Boo
 machine_from kind cycle state served latches flags kept =
     record { behaviour = kind.behaviour; limit = kind.limit; ratios = kind.ratios; needs = kind.needs; port_count = kind.port_count; ports = kind.ports; cycle = cycle; state = state; served = served; latches = latches; flags = flags; kept = kept }
 
-same-machine : (x y : Machine) → kind_of x ≡ kind_of y → x.cycle ≡ y.cycle → x.state ≡ y.state → x.served ≡ y.served → x.latches ≡ y.latches → x.flags ≡ y.flags → x.kept ≡ y.kept → x ≡ y
+pub same-machine : (x y : Machine) → kind_of x ≡ kind_of y → x.cycle ≡ y.cycle → x.state ≡ y.state → x.served ≡ y.served → x.latches ≡ y.latches → x.flags ≡ y.flags → x.kept ≡ y.kept → x ≡ y
 unfolding machine_from
 same-machine x y kind cycle state served latches flags kept =
     ap (λ k. machine_from k x.cycle x.state x.served x.latches x.flags x.kept) kind
@@ -59,6 +59,14 @@ same-machine x y kind cycle state served latches flags kept =
     ∙ ap (λ l. machine_from (kind_of y) y.cycle y.state y.served l x.flags x.kept) latches
     ∙ ap (λ f. machine_from (kind_of y) y.cycle y.state y.served y.latches f x.kept) flags
     ∙ ap (λ k. machine_from (kind_of y) y.cycle y.state y.served y.latches y.flags k) kept
+
+-- networks with the same frame, the same machines and the same queues are the same
+pub same-network : (a b : Network) → frame_of a ≡ frame_of b → a.machines ≡ b.machines → a.queues ≡ b.queues → a ≡ b
+same-network a b frame machines queues =
+    ap (λ (xs : List Machine). record { machines = xs; wires = a.wires; queues = a.queues; end = a.end }) machines
+    ∙ ap (λ (wires : List Wire). record { machines = b.machines; wires = wires; queues = a.queues; end = a.end }) (ap (λ (f : Frame). f.wires) frame)
+    ∙ ap (λ (qs : List (List ℕ)). record { machines = b.machines; wires = b.wires; queues = qs; end = a.end }) queues
+    ∙ ap (λ n. record { machines = b.machines; wires = b.wires; queues = b.queues; end = n }) (ap (λ (f : Frame). f.end) frame)
 
 -- ---- one machine
 
@@ -159,8 +167,6 @@ module _ (flow : Flow) (a b : Network) (is : Kept flow a) (was : Kept flow b) (f
   -- Two networks that are kept by one flow are the same if their frames and their counts are.
   pub counted-once : a ≡ b
   counted-once =
-      ap (λ (machines : List Machine). record { machines = machines; wires = a.wires; queues = a.queues; end = a.end }) (ext_get_or no_machine a.machines b.machines there machine-same)
-      ∙ ap (λ (wires : List Wire). record { machines = b.machines; wires = wires; queues = a.queues; end = a.end }) wires-same
-      ∙ ap (λ (queues : List (List ℕ)). record { machines = b.machines; wires = b.wires; queues = queues; end = a.end })
+      same-network a b frame
+      (ext_get_or no_machine a.machines b.machines there machine-same)
       (ext_get_or [] a.queues b.queues (is.queues ∙ ap length wires-same ∙ sym was.queues) (λ c lt. queue-same c (omega (arith, lt, is.queues))))
-      ∙ ap (λ n. record { machines = b.machines; wires = b.wires; queues = b.queues; end = n }) (ap (λ (f : Frame). f.end) frame)

@@ -13,6 +13,8 @@ mod files;
 #[cfg(test)]
 mod logs;
 #[cfg(test)]
+mod measures;
+#[cfg(test)]
 mod models;
 #[cfg(test)]
 mod networks;

@@ -5,6 +5,7 @@ ghost use Rattle.gg_cut.specs.Fault.{IsSmall};
 ghost use Rattle.gg_flat.specs.Run.{IsColumns};
 
 use crate::files::{design_of, inputs_of, request_of};
+use crate::measures::end_alike;
 use crate::texts::{COUNTER, COUNTER_TRACE, THREE_CYCLES, memory};
 use gg_build::{Node, build};
 use gg_cut::Plan;
@@ -18,20 +19,24 @@ use std::marker::Brand;
 use std::test::Fail;
 
 // What is expected of a network.
-struct Case {
+pub(crate) struct Case {
     // the numbers of machines, channels and cycles
-    machines: u32,
-    channels: u32,
-    end: u64,
+    pub(crate) machines: u32,
+    pub(crate) channels: u32,
+    pub(crate) end: u64,
+    // the number of all steps
+    pub(crate) left: u64,
     // a step that is refused before the first cycle, and why
-    refused: Event,
-    cause: Refusal,
+    pub(crate) refused: Event,
+    pub(crate) cause: Refusal,
     // the steps of a cycle
-    steps: &'static [Event],
+    pub(crate) steps: &'static [Event],
     // of machine 1: the numbers of its memory's ports, of those that are served in a cycle, and of all times that one was served
-    ports: u32,
-    dues: u32,
-    serves: u64,
+    pub(crate) ports: u32,
+    pub(crate) dues: u32,
+    pub(crate) serves: u64,
+    // what the tray of the last output keeps
+    pub(crate) kept: &'static [u128],
 }
 
 // The counter: its output goes ahead of its input.
@@ -39,6 +44,7 @@ static COUNTING: Case = Case {
     machines: 3,
     channels: 2,
     end: 4,
+    left: 28,
     refused: Event::Latch { channel: 0 },
     cause: Refusal::NoToken { channel: 0 },
     steps: &[
@@ -53,6 +59,7 @@ static COUNTING: Case = Case {
     ports: 0,
     dues: 0,
     serves: 0,
+    kept: &[0, 0, 1, 2],
 };
 
 // A memory of latency 0 that is a machine of its own: its data waits for its address.
@@ -60,6 +67,7 @@ static SERVING: Case = Case {
     machines: 3,
     channels: 8,
     end: 3,
+    left: 60,
     refused: Event::Fire { channel: 2 },
     cause: Refusal::NeedsInput { channel: 0 },
     steps: &[
@@ -90,6 +98,7 @@ static SERVING: Case = Case {
     ports: 2,
     dues: 1,
     serves: 3,
+    kept: &[0, 7, 7],
 };
 
 // Whether these steps can be done so many times.
@@ -166,6 +175,29 @@ fn runs<Z: Streams>(mut net: Net<Node<'_>, Z>, case: &Case) -> bool {
     begins && goes(&mut net, case.steps, case.end.saturating_sub(1)) && closes(&net, case)
 }
 
+// Whether the network of a plan runs as expected by the steps of the case.
+fn is_built_once<Z: Streams>(alloc: Global, plan: &Plan, inputs: &Trace, case: &Case) -> bool
+    requires { IsToRun plan.now inputs.now.columns inputs.now.rows Z.flow }
+{
+    match build::<Z>(alloc, plan, inputs) {
+        Ok(net) => runs(net, case),
+        Err(_) => false,
+    }
+}
+
+// Whether two networks of a plan end alike, in two orders of steps.
+fn is_built_twice<Z: Streams>(alloc: Global, plan: &Plan, inputs: &Trace, case: &Case) -> bool
+    requires { IsToRun plan.now inputs.now.columns inputs.now.rows Z.flow }
+{
+    match build::<Z>(alloc, plan, inputs) {
+        Ok(mut one) => match build::<Z>(alloc, plan, inputs) {
+            Ok(mut other) => end_alike(&mut one, &mut other, case),
+            Err(_) => false,
+        },
+        Err(_) => false,
+    }
+}
+
 // Whether the network of a plan runs as expected.
 fn is_built<Z: Streams>(
     alloc: Global,
@@ -174,16 +206,13 @@ fn is_built<Z: Streams>(
     inputs: &Trace,
     case: &Case,
 ) -> bool
-    requires { IsToRun plan.now inputs.now.columns inputs.now.rows Z.lists Z.runs }
+    requires { IsToRun plan.now inputs.now.columns inputs.now.rows Z.flow }
 {
     let _ = design;
-    match build::<Z>(alloc, plan, inputs) {
-        Ok(net) => runs(net, case),
-        Err(_) => false,
-    }
+    is_built_once::<Z>(alloc, plan, inputs, case) && is_built_twice::<Z>(alloc, plan, inputs, case)
 }
 
-// Whether the network of a design and a request runs as expected, for channels of capacity 2.
+// Whether the network of a design and a request runs as expected, for channels of capacity 1.
 fn is_cut(alloc: Global, design: &Design, request: &Request, inputs: &Trace, case: &Case) -> bool
     requires small { IsSmall request.now }
     requires fed { IsColumns design.now.circuit inputs.now.rows inputs.now.columns }
@@ -193,7 +222,7 @@ fn is_cut(alloc: Global, design: &Design, request: &Request, inputs: &Trace, cas
     let _ = design.piece();
     let _ = design.tree();
     let _ = inputs.rows();
-    match cut(alloc, design, request, 2) {
+    match cut(alloc, design, request, 1) {
         Ok(plan) => is_built::<Brand>(alloc, design, &plan, inputs, case),
         Err(fault) => {
             drop(fault);
@@ -214,7 +243,13 @@ fn is_fed(alloc: Global, design: &Design, partition: &str, trace: &str, case: &C
 }
 
 // Whether the network of a circuit and a partition runs as expected on a trace.
-fn is_network(alloc: Global, circuit: &str, partition: &str, trace: &str, case: &Case) -> bool {
+pub(crate) fn is_network(
+    alloc: Global,
+    circuit: &str,
+    partition: &str,
+    trace: &str,
+    case: &Case,
+) -> bool {
     match design_of(alloc, circuit) {
         Some(design) => is_fed(alloc, &design, partition, trace, case),
         None => false,

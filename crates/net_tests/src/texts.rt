@@ -16,6 +16,20 @@ pub(crate) const PASS: &str =
 pub(crate) const TOGGLE: &str =
     "circuit Toggle :\nmodule Toggle :\ninput clock : Clock\noutput o : UInt<1>\nreg r : UInt<1>, clock\no <= r\nr <= not(r)\n";
 
+/// Two units that feed each other in one cycle.
+pub(crate) const PAIR: &str =
+    "circuit Pair :\nmodule A :\ninput clock : Clock\ninput x : UInt<8>\ninput k : UInt<8>\noutput p : UInt<8>\noutput q : UInt<8>\np <= x\nq <= xor(x, k)\nmodule B :\ninput m : UInt<8>\noutput n : UInt<8>\nn <= bits(shl(m, 1), 7, 0)\nmodule Pair :\ninput clock : Clock\ninput x : UInt<8>\noutput q : UInt<8>\ninst a of A\ninst b of B\na.clock <= clock\na.x <= x\nb.m <= a.p\na.k <= b.n\nq <= a.q\n";
+
+/// A trace of two cycles for the two units.
+pub(crate) const PAIR_TRACE: &str = "cycle x\n0 0f\n1 81\n";
+
+/// A memory of three words with two readers and two writers, all at one address.
+pub(crate) const FOUR_PORTS: &str =
+    "circuit Mem :\nmodule Mem :\ninput clock : Clock\ninput a : UInt<2>\ninput v : UInt<8>\noutput o0 : UInt<8>\noutput o1 : UInt<8>\nmem m :\ndata-type => UInt<8>\ndepth => 3\nread-latency => 0\nwrite-latency => 1\nreader => r\nreader => s\nwriter => w\nwriter => x\nread-under-write => undefined\nm.r.clk <= clock\nm.s.clk <= clock\nm.w.clk <= clock\nm.x.clk <= clock\nm.r.addr <= a\nm.s.addr <= a\nm.w.addr <= a\nm.x.addr <= a\nm.r.en <= UInt<1>(\"h1\")\nm.s.en <= bits(v, 0, 0)\nm.w.en <= UInt<1>(\"h1\")\nm.x.en <= UInt<1>(\"h1\")\nm.w.mask <= UInt<1>(\"h1\")\nm.x.mask <= UInt<1>(\"h1\")\nm.w.data <= v\nm.x.data <= not(v)\no0 <= m.r.data\no1 <= m.s.data\n";
+
+/// A trace of four cycles for that memory.
+pub(crate) const FOUR_PORTS_TRACE: &str = "cycle a v\n0 1 0f\n1 1 21\n2 3 55\n3 1 00\n";
+
 /// A trace of three cycles without inputs.
 pub(crate) const THREE_CYCLES: &str = "cycle\n0\n1\n2\n";
 

@@ -1,0 +1,245 @@
+//! gg_measure: what is left to do in a network, and doing it in two orders.
+ghost use Rattle.std.specs.Prelude.{◌≡◌, ◌<◌, ◌≤◌, ℕ, true, length};
+ghost use Rattle.gg_measure.specs.Nets.{cycle_at};
+
+use crate::networks::{Case, is_network};
+use crate::texts::{FOUR_PORTS, FOUR_PORTS_TRACE, PAIR, PAIR_TRACE};
+use gg_build::Node;
+use gg_measure::{left, possible, run_to, run_to_end};
+use gg_net::{Event, Net, Refusal, Streams};
+use std::test::Fail;
+
+// Does the steps that `possible` answers, one after another. Returns how many were done, at most this many.
+fn follow<Z: Streams>(net: &mut Net<Node<'_>, Z>, most: u64) -> u64 {
+    for done in 0..most {
+        let Some(event) = possible(net) else {
+            return done;
+        };
+        if net.step(event).is_err() {
+            return done;
+        }
+    }
+    most
+}
+
+// Whether no machine is above a cycle.
+fn is_at_most<Z: Streams>(net: &Net<Node<'_>, Z>, cycle: u64) -> bool
+    ensures { result ≡ true → (m : ℕ) → m < length net.now.machines → cycle_at net.now m ≤ cycle }
+{
+    net.within_limits();
+    for machine in 0..net.machines() {
+        if net.cycle(machine as u32) > cycle {
+            return false;
+        }
+    }
+    true
+}
+
+// Runs a network that is before its first cycle to cycle 1, and then to its end. Returns whether what was left at cycle
+// 1 is what the other cycles take.
+fn run_in_two<Z: Streams>(net: &mut Net<Node<'_>, Z>, case: &Case) -> bool {
+    let begins = net.end() >= 1 && is_at_most(net, 1);
+    if begins {
+        run_to(net, 1);
+    }
+    let middle = left(net);
+    run_to_end(net);
+    begins && middle == case.left - case.left / case.end.max(1)
+}
+
+// Whether nothing is left to do.
+fn is_done<Z: Streams>(net: &Net<Node<'_>, Z>) -> bool {
+    left(net) == 0 && possible(net).is_none()
+}
+
+// Whether a machine has the same counts in two networks.
+fn is_machine_alike<Z: Streams>(
+    one: &Net<Node<'_>, Z>,
+    other: &Net<Node<'_>, Z>,
+    machine: u32,
+) -> bool {
+    (machine as usize) < one.machines()
+        && (machine as usize) < other.machines()
+        && one.cycle(machine) == other.cycle(machine)
+        && one.serves(machine) == other.serves(machine)
+}
+
+// Whether a channel has the same counts and the same newest token in two networks.
+fn is_channel_alike<Z: Streams>(
+    one: &Net<Node<'_>, Z>,
+    other: &Net<Node<'_>, Z>,
+    channel: u32,
+) -> bool {
+    (channel as usize) < one.channels()
+        && (channel as usize) < other.channels()
+        && one.puts(channel) == other.puts(channel)
+        && one.takes(channel) == other.takes(channel)
+        && one.newest(channel) == other.newest(channel)
+}
+
+// Whether two networks have the same counts.
+fn are_alike<Z: Streams>(
+    one: &Net<Node<'_>, Z>,
+    other: &Net<Node<'_>, Z>,
+    case: &Case,
+) -> bool {
+    for machine in 0..case.machines {
+        if !is_machine_alike(one, other, machine) {
+            return false;
+        }
+    }
+    for channel in 0..case.channels {
+        if !is_channel_alike(one, other, channel) {
+            return false;
+        }
+    }
+    true
+}
+
+// Whether the last machine of a network is a tray that keeps these values, one for each cycle from 0 on.
+fn keeps<Z: Streams>(net: &Net<Node<'_>, Z>, values: &[u128]) -> bool {
+    net.within_limits();
+    let machines = net.machines();
+    if machines == 0 {
+        return false;
+    }
+    let tray = net.host((machines - 1) as u32);
+    for (cycle, value) in values.iter().enumerate() {
+        if tray.value(cycle as u64) != Some(*value) {
+            return false;
+        }
+    }
+    tray.value(values.len() as u64).is_none()
+}
+
+// Whether two networks end alike, of which the one goes as `possible` answers and the other as `run_to` does. Both are
+// before their first cycle.
+pub(crate) fn end_alike<Z: Streams>(
+    one: &mut Net<Node<'_>, Z>,
+    other: &mut Net<Node<'_>, Z>,
+    case: &Case,
+) -> bool {
+    left(one) == case.left
+        && follow(one, case.left) == case.left
+        && run_in_two(other, case)
+        && is_done(one)
+        && is_done(other)
+        && are_alike(one, other, case)
+        && keeps(one, case.kept)
+        && keeps(other, case.kept)
+}
+
+// Two units that feed each other in one cycle.
+static FEEDING: Case = Case {
+    machines: 5,
+    channels: 8,
+    end: 2,
+    left: 42,
+    refused: Event::Fire { channel: 6 },
+    cause: Refusal::NeedsInput { channel: 5 },
+    steps: &[
+        Event::Fire { channel: 0 },
+        Event::Latch { channel: 0 },
+        Event::Fire { channel: 1 },
+        Event::Latch { channel: 1 },
+        Event::Fire { channel: 3 },
+        Event::Latch { channel: 3 },
+        Event::Fire { channel: 5 },
+        Event::Latch { channel: 5 },
+        Event::Fire { channel: 6 },
+        Event::Latch { channel: 6 },
+        Event::Fire { channel: 2 },
+        Event::Latch { channel: 2 },
+        Event::Fire { channel: 4 },
+        Event::Latch { channel: 4 },
+        Event::Fire { channel: 7 },
+        Event::Latch { channel: 7 },
+        Event::Finish { machine: 0 },
+        Event::Finish { machine: 1 },
+        Event::Finish { machine: 2 },
+        Event::Finish { machine: 3 },
+        Event::Finish { machine: 4 },
+    ],
+    ports: 0,
+    dues: 0,
+    serves: 0,
+    kept: &[0x11, 0x83],
+};
+
+// A memory whose two writers are served one after the other.
+static WRITING: Case = Case {
+    machines: 6,
+    channels: 18,
+    end: 4,
+    left: 176,
+    refused: Event::Fire { channel: 4 },
+    cause: Refusal::NeedsInput { channel: 2 },
+    steps: &[
+        Event::Fire { channel: 0 },
+        Event::Latch { channel: 0 },
+        Event::Fire { channel: 1 },
+        Event::Latch { channel: 1 },
+        Event::Fire { channel: 2 },
+        Event::Latch { channel: 2 },
+        Event::Fire { channel: 3 },
+        Event::Latch { channel: 3 },
+        Event::Fire { channel: 4 },
+        Event::Latch { channel: 4 },
+        Event::Fire { channel: 5 },
+        Event::Latch { channel: 5 },
+        Event::Fire { channel: 6 },
+        Event::Latch { channel: 6 },
+        Event::Fire { channel: 7 },
+        Event::Latch { channel: 7 },
+        Event::Fire { channel: 8 },
+        Event::Latch { channel: 8 },
+        Event::Fire { channel: 9 },
+        Event::Latch { channel: 9 },
+        Event::Fire { channel: 10 },
+        Event::Latch { channel: 10 },
+        Event::Fire { channel: 11 },
+        Event::Latch { channel: 11 },
+        Event::Fire { channel: 12 },
+        Event::Latch { channel: 12 },
+        Event::Fire { channel: 13 },
+        Event::Latch { channel: 13 },
+        Event::Fire { channel: 14 },
+        Event::Latch { channel: 14 },
+        Event::Fire { channel: 15 },
+        Event::Latch { channel: 15 },
+        Event::Fire { channel: 16 },
+        Event::Latch { channel: 16 },
+        Event::Fire { channel: 17 },
+        Event::Latch { channel: 17 },
+        Event::Serve {
+            machine: 1,
+            port: 2,
+        },
+        Event::Serve {
+            machine: 1,
+            port: 3,
+        },
+        Event::Finish { machine: 0 },
+        Event::Finish { machine: 1 },
+        Event::Finish { machine: 2 },
+        Event::Finish { machine: 3 },
+        Event::Finish { machine: 4 },
+        Event::Finish { machine: 5 },
+    ],
+    ports: 4,
+    dues: 2,
+    serves: 8,
+    kept: &[0, 0xf0, 0, 0],
+};
+
+#[test]
+fn two_units_end_alike(rt: HostRuntime) -> Result<(), Fail> {
+    assert!(rt; is_network(rt.alloc(), PAIR, "{\"units\":[\"a\",\"b\"]}", PAIR_TRACE, &FEEDING));
+    Ok(())
+}
+
+#[test]
+fn a_memory_of_four_ports_ends_alike(rt: HostRuntime) -> Result<(), Fail> {
+    assert!(rt; is_network(rt.alloc(), FOUR_PORTS, "{\"memories\":[\"m\"]}", FOUR_PORTS_TRACE, &WRITING));
+    Ok(())
+}
