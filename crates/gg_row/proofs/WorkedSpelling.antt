@@ -1,14 +1,19 @@
 -- Rows of the second spelling, worked by hand: `connect`, `invalidate`, `regreset`, `public` and numbers with their radix.
-use Rattle.std.proofs.Common.{true, false, [], ◌∷◌, codes, refl}
+use Rattle.std.proofs.Common.{◌≡◌, ℕ, Bool, true, false, List, [], ◌∷◌, Some, codes, refl, sym, ap, ◌∙◌}
+use Rattle.std.specs.Str.{bytes_eq}
+use Rattle.std.proofs.lemmas.Bool.{both_ways}
 use Rattle.gg_bits.specs.declared.types.Kind.TheVariants.{UInt, SInt}
 use Rattle.gg_bits.specs.declared.ops.Op2.TheVariants as two
+use Rattle.gg_lex.specs.declared.token.Tok.{Tok}
 use Rattle.gg_lex.specs.declared.token.Tok.TheVariants.{Word, Number, Text, Symbol}
 use Rattle.gg_lex.specs.declared.token.Symbol.TheVariants.{Connect, Arrow, Colon, Comma, Dot, OpenParen, CloseParen, Less, Greater, Equals}
+use Rattle.gg_ast.specs.declared.expression.Radix.{Radix}
 use Rattle.gg_ast.specs.declared.expression.Radix.TheVariants.{Binary, Octal, Decimal, Hexadecimal}
 use Rattle.gg_ast.specs.declared.expression.Reference.TheVariants as reference
 use Rattle.gg_ast.specs.declared.module.GroundType.TheVariants as plain_type
 use Rattle.gg_ast.specs.Row.{Row, ModuleRow, NodeRow, RegisterResetRow, ConnectRow, InvalidRow}
-use Rattle.gg_ast.specs.Term.{NamedTerm, ConstantTerm, BinaryTerm}
+use Rattle.gg_ast.specs.Term.{Term, NamedTerm, ConstantTerm, BinaryTerm}
+use Rattle.gg_row.specs.Reading.{row_at}
 use Rattle.gg_row.proofs.WorkedRows.{IsRow, read, sole, none, named, a, b, c, k, literal}
 
 -- Connections, and sinks that are invalid.
@@ -148,26 +153,53 @@ module_named = read refl
 public_named : IsRow (ModuleRow (codes "public")) (Word (codes "module") ∷ Word (codes "public") ∷ Symbol Colon ∷ [])
 public_named = read refl
 
--- Near misses: places that change, and what is missing or too much.
+-- Near misses: places that change, and what is missing or too much. A row that the tokens spell passes a test that the other fails.
+abbrev is_named : List ℕ → Term → Bool
+is_named name (NamedTerm (reference.Local n)) = bytes_eq n name
+is_named name other = false
+
+abbrev condition_is_c : Row → Bool
+condition_is_c (RegisterResetRow name ty clock condition init) = is_named (codes "c") condition
+condition_is_c other = false
+
+abbrev sink_is_a : Row → Bool
+sink_is_a (ConnectRow (reference.Local n) source) = bytes_eq n (codes "a")
+sink_is_a other = false
+
+abbrev is_eight : Radix → Bool
+is_eight Octal = true
+is_eight other = false
+
+abbrev is_octal : Row → Bool
+is_octal (NodeRow name (ConstantTerm l)) = is_eight l.radix
+is_octal other = false
+
+abbrev is_negative : Row → Bool
+is_negative (NodeRow name (ConstantTerm l)) = l.negative
+is_negative other = false
+
+other : (test : Row → Bool) {right row : Row} {ts : List Tok} → row_at ts ≡ Some right → test right ≡ true → test row ≡ false → IsRow row ts → ⊥
+other test {right} {row} {ts} found passes fails h = both_ways (test row) fails (ap test (sym (sole found h)) ∙ passes)
+
 -- regreset r : UInt<8>, k, c, a
 reset_turned : IsRow (RegisterResetRow (codes "r") (plain_type.UInt 8) k a c) (Word (codes "regreset") ∷ Word (codes "r") ∷ Symbol Colon ∷ Word (codes "UInt") ∷ Symbol Less ∷ Number (codes "8") ∷ Symbol Greater ∷ Symbol Comma ∷ Word (codes "k") ∷ Symbol Comma ∷ Word (codes "c") ∷ Symbol Comma ∷ Word (codes "a") ∷ []) → ⊥
-reset_turned h = let same = sole {row = RegisterResetRow (codes "r") (plain_type.UInt 8) k c a} refl h in cc
+reset_turned h = other condition_is_c {right = RegisterResetRow (codes "r") (plain_type.UInt 8) k c a} refl refl refl h
 
 -- connect a, b
 connection_turned : IsRow (ConnectRow (reference.Local (codes "b")) a) (Word (codes "connect") ∷ Word (codes "a") ∷ Symbol Comma ∷ Word (codes "b") ∷ []) → ⊥
-connection_turned h = let same = sole {row = ConnectRow (reference.Local (codes "a")) b} refl h in cc
+connection_turned h = other sink_is_a {right = ConnectRow (reference.Local (codes "a")) b} refl refl refl h
 
 -- node n = UInt<6>(0o17)
 radix_taken_for_another : IsRow (NodeRow (codes "n") (ConstantTerm (literal UInt 6 Hexadecimal false (codes "17")))) (Word (codes "node") ∷ Word (codes "n") ∷ Symbol Equals ∷ Word (codes "UInt") ∷ Symbol Less ∷ Number (codes "6") ∷ Symbol Greater ∷ Symbol OpenParen ∷ Number (codes "0o17") ∷ Symbol CloseParen ∷ []) → ⊥
-radix_taken_for_another h = let same = sole {row = NodeRow (codes "n") (ConstantTerm (literal UInt 6 Octal false (codes "17")))} refl h in cc
+radix_taken_for_another h = other is_octal {right = NodeRow (codes "n") (ConstantTerm (literal UInt 6 Octal false (codes "17")))} refl refl refl h
 
 -- node n = SInt<4>(-0h3)
 sign_dropped : IsRow (NodeRow (codes "n") (ConstantTerm (literal SInt 4 Hexadecimal false (codes "3")))) (Word (codes "node") ∷ Word (codes "n") ∷ Symbol Equals ∷ Word (codes "SInt") ∷ Symbol Less ∷ Number (codes "4") ∷ Symbol Greater ∷ Symbol OpenParen ∷ Number (codes "-0h3") ∷ Symbol CloseParen ∷ []) → ⊥
-sign_dropped h = let same = sole {row = NodeRow (codes "n") (ConstantTerm (literal SInt 4 Hexadecimal true (codes "3")))} refl h in cc
+sign_dropped h = other is_negative {right = NodeRow (codes "n") (ConstantTerm (literal SInt 4 Hexadecimal true (codes "3")))} refl refl refl h
 
 -- node n = SInt<4>(0h-3)
 inner_sign_dropped : IsRow (NodeRow (codes "n") (ConstantTerm (literal SInt 4 Hexadecimal false (codes "3")))) (Word (codes "node") ∷ Word (codes "n") ∷ Symbol Equals ∷ Word (codes "SInt") ∷ Symbol Less ∷ Number (codes "4") ∷ Symbol Greater ∷ Symbol OpenParen ∷ Number (codes "0h-3") ∷ Symbol CloseParen ∷ []) → ⊥
-inner_sign_dropped h = let same = sole {row = NodeRow (codes "n") (ConstantTerm (literal SInt 4 Hexadecimal true (codes "3")))} refl h in cc
+inner_sign_dropped h = other is_negative {right = NodeRow (codes "n") (ConstantTerm (literal SInt 4 Hexadecimal true (codes "3")))} refl refl refl h
 
 -- connect a b
 no_comma : (row : Row) → IsRow row (Word (codes "connect") ∷ Word (codes "a") ∷ Word (codes "b") ∷ []) → ⊥
