@@ -1,16 +1,17 @@
 -- Where a line may be cut: after blanks and after tokens, whose last byte is ASCII.
-use Rattle.std.proofs.Common.{◌≡◌, ℕ, zero, suc, ◌+◌, ◌-◌, ◌<◌, ◌≤◌, true, List, [], ◌∷◌, ◌++◌, length, get_or, take, drop, IsUtf8, sym, ap, ◌∙◌, subst, ⊎_elim, refl, arith, length-append, length-take-le, get_or-take}
+use Rattle.std.proofs.Common.{◌≡◌, ℕ, zero, suc, ◌+◌, ◌-◌, ◌<◌, ◌≤◌, Bool, true, false, List, [], ◌∷◌, ◌++◌, length, get_or, take, drop, IsUtf8, sym, ap, ◌∙◌, subst, ⊎_elim, refl, arith, length-append, length-take-le, get_or-take}
+use Rattle.std.specs.Prelude.{if◌then◌else◌, ◌==◌}
 use Rattle.std.specs.List.{All, prefix_len}
 use Rattle.std.specs.Str.{IsCharBoundary}
-use Rattle.std.specs.Char.{is_ascii_digit}
-use Rattle.std.proofs.lemmas.Bool.{cases_eq, cases_lt, ne_eqb, eq-eqb, MatchBool-at_false, MatchBool-at_true}
+use Rattle.std.specs.Char.{is_ascii_digit, is_ascii_hexdigit}
+use Rattle.std.proofs.lemmas.Bool.{cases_eq, cases_lt, ne_eqb, eq-eqb, eqb-true, false≢true, MatchBool-at_false, MatchBool-at_true}
 use Rattle.std.proofs.lemmas.Bool.Decides.{nat_tests}
 use Rattle.std.proofs.lemmas.List.{get_or_at}
 use Rattle.std.proofs.lemmas.List.Sums.{prefix_len_passes, prefix_len-le-length}
 use Rattle.std.proofs.lemmas.List.Elements.{All-cons, All-append, All-weaker, All-same}
 use Rattle.std.proofs.lemmas.Str.{IsUtf8-drop, IsCharBoundary-start, IsCharBoundary-after_ascii}
-use Rattle.gg_lex.specs.Bytes.{is_blank, starts_word, is_word_byte, is_tail_byte}
-use Rattle.gg_lex.specs.Tokens.{IsToken, IsFirst, IsWord, IsNumber, IsText, IsDigits, spelling}
+use Rattle.gg_lex.specs.Bytes.{is_blank, starts_word, is_word_byte, is_tail_byte, is_binary_digit, is_octal_digit, is_digit_behind}
+use Rattle.gg_lex.specs.Tokens.{IsToken, IsFirst, IsWord, IsDecimal, AreDigitsBehind, IsRadixNumber, IsNumber, IsText, IsDigits, spelling}
 use Rattle.gg_lex.specs.Lines.{after_blanks}
 use Rattle.gg_lex.specs.declared.token.TokenKind.{TokenKind}
 use Rattle.gg_lex.specs.declared.token.TokenKind.TheVariants as kinds
@@ -47,13 +48,50 @@ word_is_ascii bs (first, body, tail, spelt, starts, all, all_tail) =
 digits_are_ascii : (bs : List ℕ) → IsDigits bs → All (λ b. b < 128) bs
 digits_are_ascii bs digits = All-weaker (λ b. is_ascii_digit b ≡ true) (λ b. b < 128) digit_is_ascii bs digits.1
 
-number_is_ascii : (bs : List ℕ) → IsNumber bs → All (λ b. b < 128) bs
-number_is_ascii [] number = absurd number
-number_is_ascii (b ∷ bs) number =
+decimal_is_ascii : (bs : List ℕ) → IsDecimal bs → All (λ b. b < 128) bs
+decimal_is_ascii [] number = absurd number
+decimal_is_ascii (b ∷ bs) number =
     ⊎_elim
     (λ sign. All-cons (λ (a : ℕ). a < 128) b bs (omega (arith, sign)) (digits_are_ascii bs (MatchBool-at_true _ _ (eq-eqb b 45 sign) number)))
     (λ plain. digits_are_ascii (b ∷ bs) (MatchBool-at_false _ _ (ne_eqb b 45 plain) number))
     (cases_eq b 45)
+
+-- a digit that may follow a letter is ASCII, and so is the letter
+behind_is_ascii : (letter b : ℕ) → is_digit_behind letter b ≡ true → (letter < 128) × (b < 128)
+behind_is_ascii letter b digit = by (letter == 98) (letter == 111) (letter == 100) (letter == 104) refl refl refl refl digit
+  where
+    by : (w x y z : Bool) → (letter == 98) ≡ w → (letter == 111) ≡ x → (letter == 100) ≡ y → (letter == 104) ≡ z
+        → (if w then is_binary_digit b else (if x then is_octal_digit b else (if y then is_ascii_digit b else (if z then is_ascii_hexdigit b else false)))) ≡ true → (letter < 128) × (b < 128)
+    by true x y z p q r s h = (omega (arith, eqb-true letter 98 p), grind (arith, nat_tests))
+    by false true y z p q r s h = (omega (arith, eqb-true letter 111 q), grind (arith, nat_tests))
+    by false false true z p q r s h = (omega (arith, eqb-true letter 100 r), grind (arith, nat_tests))
+    by false false false true p q r s h = (omega (arith, eqb-true letter 104 s), grind (arith, nat_tests))
+    by false false false false p q r s h = absurd (false≢true h)
+
+letter_is_ascii : (letter : ℕ) (ds : List ℕ) → AreDigitsBehind letter ds → letter < 128
+letter_is_ascii letter ds are = (behind_is_ascii letter (get_or ds 0 0) (are.1 0 0 are.0)).0
+
+abbrev is_ascii : ℕ → Type 0
+is_ascii b = b < 128
+
+radix_is_ascii : (bs : List ℕ) → IsRadixNumber bs → All is_ascii bs
+radix_is_ascii bs number =
+    let letter = letter_is_ascii number.letter number.digits number.are in
+    let digits : All is_ascii number.digits = All-weaker (λ b. is_digit_behind number.letter b ≡ true) is_ascii (λ b digit. (behind_is_ascii number.letter b digit).1) number.digits number.are.1 in
+    let from_letter : All is_ascii (number.letter ∷ number.digits) = All-cons is_ascii number.letter number.digits letter digits in
+    let from_zero : All is_ascii (48 ∷ number.letter ∷ number.digits) = All-cons is_ascii 48 (number.letter ∷ number.digits) (omega arith) from_letter in
+    let from_sign : All is_ascii (45 ∷ number.digits) = All-cons is_ascii 45 number.digits (omega arith) digits in
+    let sign_inside : All is_ascii (number.letter ∷ 45 ∷ number.digits) = All-cons is_ascii number.letter (45 ∷ number.digits) letter from_sign in
+    ⊎_elim
+    (λ plain. All-same is_ascii bs _ plain from_zero)
+    (λ signed. ⊎_elim
+      (λ inner. All-same is_ascii bs _ inner (All-cons is_ascii 48 (number.letter ∷ 45 ∷ number.digits) (omega arith) sign_inside))
+      (λ outer. All-same is_ascii bs _ outer (All-cons is_ascii 45 (48 ∷ number.letter ∷ number.digits) (omega arith) from_zero))
+      signed)
+    number.spelt
+
+number_is_ascii : (bs : List ℕ) → IsNumber bs → All is_ascii bs
+number_is_ascii bs number = ⊎_elim (decimal_is_ascii bs) (radix_is_ascii bs) number
 
 text_ends_in_ascii : (quoted : List ℕ) → LastIsAscii (34 ∷ (quoted ++ 34 ∷ []))
 text_ends_in_ascii quoted =

@@ -6,9 +6,9 @@ use Rattle.std.specs.Char.{is_ascii_digit}
 use Rattle.std.specs.Str.{bytes_eq}
 use Rattle.std.proofs.lemmas.Bool.{cases_Bool, cases_eq, cases_lt}
 use Rattle.std.proofs.lemmas.Slice.Eq.{bytes_eq-Decides}
-use Rattle.gg_lex.specs.Bytes.{starts_word, begins_number}
-use Rattle.gg_lex.specs.Tokens.{IsFirst, BeginsNoToken, IsDigits, IsNumber, spelling, token_of}
-use Rattle.gg_lex.specs.Fronts.{FindsFront, FindsQuote, LeadsSymbol, IsFrontOfTwo}
+use Rattle.gg_lex.specs.Bytes.{starts_word, begins_number, is_digit_behind}
+use Rattle.gg_lex.specs.Tokens.{IsFirst, BeginsNoToken, IsDigits, IsDecimal, AreDigitsBehind, IsRadixNumber, IsNumber, spelling, token_of}
+use Rattle.gg_lex.specs.Fronts.{FindsFront, radix_head, FindsQuote, LeadsSymbol, IsFrontOfTwo}
 use Rattle.gg_lex.specs.Ends.{FindsBracket, FindsInfo}
 use Rattle.gg_lex.specs.Lines.{after_blanks, OpensInfo, ClosesBehind, IsComment, IsEnd, Begins, Lexes}
 use Rattle.gg_lex.specs.declared.token.Tok.{Tok}
@@ -16,7 +16,7 @@ use Rattle.gg_lex.specs.declared.token.TokenKind.{TokenKind}
 use Rattle.gg_lex.specs.declared.token.TokenKind.TheVariants as kinds
 use Rattle.gg_lex.specs.declared.token.Symbol.{Symbol}
 use Rattle.gg_lex.proofs.Words.{longest_word}
-use Rattle.gg_lex.proofs.Numbers.{longest_digits, no_digits, unsigned_front, signed_number, no_signed_number}
+use Rattle.gg_lex.proofs.Numbers.{IsRun, longest_run, no_run, unsigned_front, signed_decimal, no_signed_decimal, no_head, radix_front, no_radix_digits, with_radix, without_radix}
 use Rattle.gg_lex.proofs.Quotes.{QuotedBefore, quote_here, escape_here, plain_here, no_quote, longest_text, no_text}
 use Rattle.gg_lex.proofs.Leads.{no_empty, only_word, only_number, only_text, first_of_kind, none_of_kind, first_of_two, first_of_one, no_first}
 use Rattle.gg_lex.proofs.LineEnds.{IsEnd-after_info, IsEnd-without_info, info_from_bracket, no_info_from_bracket, no_info_unopened, no_bracket_past}
@@ -36,23 +36,38 @@ token kind bs n first = inl (record { kind = kind; size = n; first = first })
 
 -- ---- numbers
 
-digits : (bs : List ℕ) → (found : Option ℕ) × FindsFront IsDigits bs found
-digits bs =
+run : (p : ℕ → Bool) (bs : List ℕ) → (found : Option ℕ) × FindsFront (IsRun p) bs found
+run p bs =
     ⊎_elim
-    (λ none. (None, no_digits bs _ refl none))
-    (λ some. (Some (prefix_len is_ascii_digit bs), longest_digits bs _ refl some))
-    (cases_eq (prefix_len is_ascii_digit bs) 0)
+    (λ none. (None, no_run p bs _ refl none))
+    (λ some. (Some (prefix_len p bs), longest_run p bs _ refl some))
+    (cases_eq (prefix_len p bs) 0)
 
-signed : (bs : List ℕ) → 0 < length bs → get_or bs 0 0 ≡ 45 → (found : Option ℕ) × FindsFront IsDigits (drop 1 bs) found → (found : Option ℕ) × FindsFront IsNumber bs found
-signed bs nonempty sign (None, none) = (None, no_signed_number bs nonempty sign none)
-signed bs nonempty sign (Some n, some) = (Some (n + 1), signed_number bs n nonempty sign some)
+signed : (bs : List ℕ) → 0 < length bs → get_or bs 0 0 ≡ 45 → (found : Option ℕ) × FindsFront IsDigits (drop 1 bs) found → (found : Option ℕ) × FindsFront IsDecimal bs found
+signed bs nonempty sign (None, none) = (None, no_signed_decimal bs nonempty sign none)
+signed bs nonempty sign (Some n, some) = (Some (n + 1), signed_decimal bs n nonempty sign some)
+
+decimal : (bs : List ℕ) → 0 < length bs → (found : Option ℕ) × FindsFront IsDecimal bs found
+decimal bs nonempty =
+    ⊎_elim
+    (λ sign. signed bs nonempty sign (run is_ascii_digit (drop 1 bs)))
+    (λ plain. let found = run is_ascii_digit bs in (found.0, unsigned_front bs found.0 nonempty plain found.1))
+    (cases_eq (get_or bs 0 0) 45)
+
+behind : (bs : List ℕ) (n letter : ℕ) → radix_head bs ≡ Some (n, letter) → (found : Option ℕ) × FindsFront (AreDigitsBehind letter) (drop n bs) found → (found : Option ℕ) × FindsFront IsRadixNumber bs found
+behind bs n letter head (None, none) = (None, no_radix_digits bs n letter head none)
+behind bs n letter head (Some k, some) = (Some (n + k), radix_front bs n letter k head some)
+
+with_head : (bs : List ℕ) (head : Option (ℕ × ℕ)) → radix_head bs ≡ head → (found : Option ℕ) × FindsFront IsRadixNumber bs found
+with_head bs None none = (None, no_head bs none)
+with_head bs (Some (n, letter)) head = behind bs n letter head (run (is_digit_behind letter) (drop n bs))
+
+number_from : (bs : List ℕ) → (radix : Option ℕ) × FindsFront IsRadixNumber bs radix → (decimal : Option ℕ) × FindsFront IsDecimal bs decimal → (found : Option ℕ) × FindsFront IsNumber bs found
+number_from bs (Some n, radix) decimal = (Some n, with_radix bs n radix)
+number_from bs (None, no_radix) (found, decimal) = (found, without_radix bs found no_radix decimal)
 
 number : (bs : List ℕ) → 0 < length bs → (found : Option ℕ) × FindsFront IsNumber bs found
-number bs nonempty =
-    ⊎_elim
-    (λ sign. signed bs nonempty sign (digits (drop 1 bs)))
-    (λ plain. let found = digits bs in (found.0, unsigned_front bs found.0 nonempty plain found.1))
-    (cases_eq (get_or bs 0 0) 45)
+number bs nonempty = number_from bs (with_head bs (radix_head bs) refl) (decimal bs nonempty)
 
 number_token : (bs : List ℕ) → 0 < length bs → begins_number (get_or bs 0 0) ≡ true → (found : Option ℕ) × FindsFront IsNumber bs found → HasToken bs
 number_token bs nonempty begins (None, none) = inr (none_of_kind kinds.Number bs nonempty (only_number _ begins) none)

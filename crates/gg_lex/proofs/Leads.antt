@@ -4,8 +4,9 @@ use Rattle.std.specs.Char.{is_ascii_digit}
 use Rattle.std.proofs.lemmas.Bool.{false≢true, both_ways, or_right, or_left, eq-eqb, cases_eq, cases_lt, MatchBool-at_false, ne_eqb}
 use Rattle.std.proofs.lemmas.Bool.Decides.{nat_tests}
 use Rattle.gg_lex.specs.Bytes.{starts_word, begins_number}
-use Rattle.gg_lex.specs.Tokens.{IsToken, IsFirst, BeginsNoToken, IsNumber, spelling}
+use Rattle.gg_lex.specs.Tokens.{IsToken, IsFirst, BeginsNoToken, IsDecimal, IsRadixNumber, IsNumber, spelling}
 use Rattle.gg_lex.specs.Fronts.{IsLongest, HasNoFront, LeadsSymbol, IsFrontOfTwo}
+use Rattle.gg_lex.proofs.Numbers.{radix_long}
 use Rattle.gg_lex.specs.declared.token.TokenKind.{TokenKind}
 use Rattle.gg_lex.specs.declared.token.TokenKind.TheVariants as kinds
 use Rattle.gg_lex.specs.declared.token.Symbol.{Symbol}
@@ -18,12 +19,22 @@ Leads kinds.Number b = begins_number b ≡ true
 Leads kinds.Text b = b ≡ 34
 Leads (kinds.Symbol symbol) b = get_or (spelling symbol) 0 0 ≡ b
 
-leads_number : (b : ℕ) (bs : List ℕ) → IsNumber (b ∷ bs) → begins_number b ≡ true
-leads_number b bs number =
+leads_decimal : (b : ℕ) (bs : List ℕ) → IsDecimal (b ∷ bs) → begins_number b ≡ true
+leads_decimal b bs number =
     ⊎_elim
     (λ sign. or_left (eqb b 45) (is_ascii_digit b) (eq-eqb b 45 sign))
     (λ plain. or_right (eqb b 45) (is_ascii_digit b) ((MatchBool-at_false _ _ (ne_eqb b 45 plain) number).1 0 b (omega arith)))
     (cases_eq b 45)
+
+leads_radix : (b : ℕ) (bs : List ℕ) → IsRadixNumber (b ∷ bs) → begins_number b ≡ true
+leads_radix b bs number =
+    ⊎_elim
+    (λ plain. let first : b ≡ 48 = cc in ap begins_number first)
+    (λ signed. ⊎_elim (λ inner. let first : b ≡ 48 = cc in ap begins_number first) (λ outer. let first : b ≡ 45 = cc in ap begins_number first) signed)
+    number.spelt
+
+leads_number : (b : ℕ) (bs : List ℕ) → IsNumber (b ∷ bs) → begins_number b ≡ true
+leads_number b bs number = ⊎_elim (leads_decimal b bs) (leads_radix b bs) number
 
 pub leads : (kind : TokenKind) (b : ℕ) (bs : List ℕ) → IsToken kind (b ∷ bs) → Leads kind b
 leads kinds.Word b bs (first, body, tail, spelt, starts, all, all_tail) =
@@ -36,7 +47,7 @@ leads (kinds.Symbol symbol) b bs spelt = sym (ap (λ (l : List ℕ). get_or l 0 
 -- no token is empty
 pub no_empty : (kind : TokenKind) → IsToken kind [] → ⊥
 no_empty kinds.Word (first, body, tail, spelt, starts, all, all_tail) = cc
-no_empty kinds.Number number = number
+no_empty kinds.Number number = ⊎_elim (λ decimal. decimal) (λ radix. omega (arith, radix_long [] radix)) number
 no_empty kinds.Text (quoted, spelt, is_quoted) = cc
 no_empty (kinds.Symbol symbol) spelt = no_empty_symbol symbol spelt
   where

@@ -1,7 +1,10 @@
 -- The definitions of tokens, file information and blanks at small lines. Some bytes are given by their numbers: 9 a tab, 13 a
 -- carriage return, 32 a space, 34 a quote, 45 a `-`, 64 a `@`, 91 and 93 brackets, 92 a backslash, 97 and 98 `a` and `b`.
-use Rattle.std.proofs.Common.{◌≡◌, ℕ, zero, suc, ◌+◌, ◌<◌, ◌≤◌, true, false, [], ◌∷◌, map, unwrap_or, codes, refl, ap, arith, lit≤}
-use Rattle.gg_lex.specs.Bytes.{starts_word, is_word_byte, is_tail_byte}
+use Rattle.std.proofs.Common.{◌≡◌, ℕ, zero, suc, ◌+◌, ◌<◌, ◌≤◌, true, false, [], ◌∷◌, map, unwrap_or, codes, refl, ap, arith, lit≤, inl, inr, ⊎_elim}
+use Rattle.std.proofs.lemmas.Bool.{false≢true}
+use Rattle.std.proofs.lemmas.List.Sums.{AllPass-from_list_all}
+use Rattle.gg_lex.proofs.Numbers.{radix_long, outer_has, inner_has, plain_has}
+use Rattle.gg_lex.specs.Bytes.{starts_word, is_word_byte, is_tail_byte, is_digit_behind}
 use Rattle.gg_lex.specs.Lines.{after_blanks, ClosesBehind, IsInfo}
 use Rattle.gg_lex.specs.Tokens.{IsQuoted, IsNumber, token_of}
 use Rattle.gg_lex.specs.declared.token.TokenKind.TheVariants as kinds
@@ -43,7 +46,7 @@ backslash_alone h = h.1 refl
 
 -- a sign without digits is no number
 sign_alone : IsNumber (45 ∷ []) → ⊥
-sign_alone h = omega (arith, h.0)
+sign_alone h = ⊎_elim (λ decimal. omega (arith, decimal.0)) (λ radix. omega (arith, radix_long _ radix)) h
 
 -- `@[a]b` begins with a file information of four bytes
 first_bracket : (k : ℕ) → 1 ≤ k → k + 2 < 4 → ClosesBehind (64 ∷ 91 ∷ 97 ∷ 93 ∷ 98 ∷ []) k → ⊥
@@ -53,3 +56,35 @@ first_bracket (suc (suc k)) low high closes = omega (arith, high)
 
 information : IsInfo (64 ∷ 91 ∷ 97 ∷ 93 ∷ 98 ∷ []) 4
 information = record { opens = (refl, refl); last = (2, lit≤ tt, refl, (refl, λ e. omega (arith, ap (λ byte. unwrap_or byte 0) e))); first = first_bracket }
+
+-- Numbers with their radix. A `-` stands before the `0` or before the digits, `-0h-8` has two; `0h` has no digits; `B` and `x`
+-- are the letters of no radix; 2 is no binary digit, and 8 no octal one.
+hexadecimal : IsNumber (codes "0h1fF")
+hexadecimal = inr (record { letter = 104; digits = codes "1fF"; are = (lit≤ tt, AllPass-from_list_all (is_digit_behind 104) (codes "1fF") refl); spelt = inl refl })
+
+sign_inside : IsNumber (codes "0b-1")
+sign_inside = inr (record { letter = 98; digits = codes "1"; are = (lit≤ tt, AllPass-from_list_all (is_digit_behind 98) (codes "1") refl); spelt = inr (inl refl) })
+
+sign_outside : IsNumber (codes "-0o17")
+sign_outside = inr (record { letter = 111; digits = codes "17"; are = (lit≤ tt, AllPass-from_list_all (is_digit_behind 111) (codes "17") refl); spelt = inr (inr refl) })
+
+ten : IsNumber (codes "0d19")
+ten = inr (record { letter = 100; digits = codes "19"; are = (lit≤ tt, AllPass-from_list_all (is_digit_behind 100) (codes "19") refl); spelt = inl refl })
+
+two_signs : IsNumber (codes "-0h-8") → ⊥
+two_signs h = ⊎_elim (λ decimal. false≢true (decimal.1 1 0 (lit≤ tt))) (λ radix. false≢true ((outer_has 104 (codes "-8") radix).1 0 0 (lit≤ tt))) h
+
+without_digits : IsNumber (codes "0h") → ⊥
+without_digits h = ⊎_elim (λ decimal. false≢true (decimal.1 1 0 (lit≤ tt))) (λ radix. omega (arith, radix_long _ radix)) h
+
+upper_letter : IsNumber (codes "0B1") → ⊥
+upper_letter h = ⊎_elim (λ decimal. false≢true (decimal.1 1 0 (lit≤ tt))) (λ radix. false≢true ((plain_has 66 (codes "1") (λ e. omega (arith, e)) radix).1 0 0 (lit≤ tt))) h
+
+other_letter : IsNumber (codes "0x1") → ⊥
+other_letter h = ⊎_elim (λ decimal. false≢true (decimal.1 1 0 (lit≤ tt))) (λ radix. false≢true ((plain_has 120 (codes "1") (λ e. omega (arith, e)) radix).1 0 0 (lit≤ tt))) h
+
+no_binary_digit : IsNumber (codes "0b12") → ⊥
+no_binary_digit h = ⊎_elim (λ decimal. false≢true (decimal.1 1 0 (lit≤ tt))) (λ radix. false≢true ((plain_has 98 (codes "12") (λ e. omega (arith, e)) radix).1 1 0 (lit≤ tt))) h
+
+no_octal_digit : IsNumber (codes "0o-8") → ⊥
+no_octal_digit h = ⊎_elim (λ decimal. false≢true (decimal.1 1 0 (lit≤ tt))) (λ radix. false≢true ((inner_has 111 (codes "8") radix).1 0 0 (lit≤ tt))) h

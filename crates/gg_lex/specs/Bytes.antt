@@ -1,9 +1,9 @@
 -- The classes of bytes that the tokens of a FIRRTL line are made of (FIRRTL Specification, "Notes on Syntax":
 -- identifiers, integer and string literals, comments).
-use Rattle.std.specs.Prelude.{ℕ, Bool, ◌||◌, ◌==◌}
-use Rattle.std.specs.Char.{is_ascii_alphabetic, is_ascii_alphanumeric, is_ascii_digit}
+use Rattle.std.specs.Prelude.{ℕ, Bool, false, ◌||◌, ◌&&◌, ◌==◌, nat_lt, if◌then◌else◌}
+use Rattle.std.specs.Char.{is_ascii_alphabetic, is_ascii_alphanumeric, is_ascii_digit, is_ascii_hexdigit}
 use Rattle.gg_lex.specs.declared.bytes.Class.{Class}
-use Rattle.gg_lex.specs.declared.bytes.Class.TheVariants.{Blank, WordByte, TailByte, Digit}
+use Rattle.gg_lex.specs.declared.bytes.Class.TheVariants.{Blank, WordByte, TailByte, BinaryDigit, OctalDigit, DecimalDigit, HexDigit}
 
 -- The characters, other than letters and digits, by which classes, texts, comments and file information are defined,
 -- with their ASCII codes.
@@ -21,6 +21,9 @@ dollar = 36
 
 abbrev pub minus : ℕ
 minus = 45
+
+abbrev pub zero_digit : ℕ
+zero_digit = 48
 
 abbrev pub semicolon : ℕ
 semicolon = 59
@@ -52,6 +55,19 @@ starts_word b = is_ascii_alphabetic b || b == underscore
 abbrev pub begins_number : ℕ → Bool
 begins_number b = b == minus || is_ascii_digit b
 
+abbrev pub is_binary_digit : ℕ → Bool
+is_binary_digit b = b == 48 || b == 49
+
+abbrev pub is_octal_digit : ℕ → Bool
+is_octal_digit b = nat_lt 47 b && nat_lt b 56
+
+-- The digits that may follow a letter: each radix has its letter, `b` for 2, `o` for 8, `d` for 10 and `h` for 16, whose
+-- digits may be of either case. No digit may follow any other letter.
+abbrev pub is_digit_behind : ℕ → ℕ → Bool
+is_digit_behind letter b =
+    if letter == 98 then is_binary_digit b
+    else (if letter == 111 then is_octal_digit b else (if letter == 100 then is_ascii_digit b else (if letter == 104 then is_ascii_hexdigit b else false)))
+
 -- a letter, a digit, `_` or `$`, which may be in a word
 abbrev pub is_word_byte : ℕ → Bool
 is_word_byte b = is_ascii_alphanumeric b || b == underscore || b == dollar
@@ -65,4 +81,7 @@ abbrev pub is_in_class : Class → ℕ → Bool
 is_in_class Blank = is_blank
 is_in_class WordByte = is_word_byte
 is_in_class TailByte = is_tail_byte
-is_in_class Digit = is_ascii_digit
+is_in_class BinaryDigit = is_binary_digit
+is_in_class OctalDigit = is_octal_digit
+is_in_class DecimalDigit = is_ascii_digit
+is_in_class HexDigit = is_ascii_hexdigit

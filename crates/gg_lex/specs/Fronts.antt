@@ -1,15 +1,34 @@
 -- The longest front of some bytes that has a property, such as being a word.
-use Rattle.std.specs.Prelude.{◌≡◌, ◌≢◌, ◌<◌, ℕ, IsFalse, slice_index, ◌≤◌, List, length, take, slice_get, Option, Some, None}
-use Rattle.gg_lex.specs.Bytes.{quote, starts_word, begins_number}
+use Rattle.std.specs.Prelude.{◌≡◌, ◌≢◌, ◌<◌, ℕ, false, IsFalse, slice_index, ◌≤◌, ◌==◌, ◌&&◌, if◌then◌else◌, List, [], ◌∷◌, length, take, slice_get, Option, Some, None}
+use Rattle.std.specs.List.{AllPass}
+use Rattle.gg_lex.specs.Bytes.{quote, minus, zero_digit, starts_word, begins_number, is_digit_behind, is_in_class}
 use Rattle.gg_lex.specs.Tokens.{IsFirst, BeginsNoToken, IsQuoted, spelling}
+use Rattle.gg_lex.specs.declared.bytes.Class.{Class}
 use Rattle.gg_lex.specs.declared.token.Front.{Front}
 use Rattle.gg_lex.specs.declared.token.Symbol.{Symbol}
+
+-- where a number with its radix may begin: how many bytes are before its digits, and the letter of the radix
+abbrev pub radix_head : List ℕ → Option (ℕ × ℕ)
+radix_head [] = None
+radix_head (a ∷ []) = None
+radix_head (a ∷ b ∷ []) = None
+radix_head (a ∷ b ∷ c ∷ bs) =
+    if a == minus && b == zero_digit then Some (3, c) else (if a == zero_digit then (if c == minus then Some (3, b) else Some (2, b)) else None)
 
 -- the first n bytes have the property, and no longer front has it
 pub record IsLongest (Has : List ℕ → Type 0) (bs : List ℕ) (n : ℕ) : Type 0 where
   pub within : n ≤ length bs
   pub has : Has (take n bs)
   pub longest : (m : ℕ) → m ≤ length bs → Has (take m bs) → m ≤ n
+
+-- one or more bytes of the class
+abbrev pub IsRunOf : Class → List ℕ → Type 0
+IsRunOf class bs = (0 < length bs) × AllPass (is_in_class class) bs
+
+-- the class of the digits of the radix with this letter; no radix has it
+abbrev pub TellsDigits : ℕ → Option Class → Type 0
+TellsDigits letter None = (b : ℕ) → is_digit_behind letter b ≡ false
+TellsDigits letter (Some class) = (b : ℕ) → is_digit_behind letter b ≡ is_in_class class b
 
 -- no front has the property
 abbrev pub HasNoFront : (List ℕ → Type 0) → List ℕ → Type 0

@@ -1,10 +1,10 @@
 -- What the bytes of each token are, and which token a list of bytes begins with (FIRRTL Specification, "Notes on
 -- Syntax" and the grammar's terminals).
-use Rattle.std.specs.Prelude.{◌≡◌, ◌≢◌, ℕ, ◌-◌, ◌<◌, ◌≤◌, List, [], ◌∷◌, ◌++◌, length, take, drop, codes, IsTrue, ◌==◌}
+use Rattle.std.specs.Prelude.{◌≡◌, ◌≢◌, ◌⊎◌, ℕ, ◌-◌, ◌<◌, ◌≤◌, List, [], ◌∷◌, ◌++◌, length, take, drop, codes, IsTrue, ◌==◌}
 use Rattle.std.specs.Bool.{MatchBool}
 use Rattle.std.specs.List.{AllPass}
 use Rattle.std.specs.Char.{is_ascii_digit}
-use Rattle.gg_lex.specs.Bytes.{quote, minus, backslash, starts_word, is_word_byte, is_tail_byte}
+use Rattle.gg_lex.specs.Bytes.{quote, minus, zero_digit, backslash, starts_word, is_word_byte, is_tail_byte, is_digit_behind}
 use Rattle.gg_lex.specs.declared.token.Symbol.{Symbol}
 use Rattle.gg_lex.specs.declared.token.Symbol.TheVariants.{Connect, Arrow, PartialConnect, Colon, Comma, Dot, OpenParen, CloseParen, Less, Greater, Equals, OpenBracket, CloseBracket, OpenBrace, CloseBrace, OpenAnnotations}
 use Rattle.gg_lex.specs.declared.token.TokenKind.{TokenKind}
@@ -40,10 +40,26 @@ IsWord bs =
 abbrev pub IsDigits : List ℕ → Type 0
 IsDigits bs = (0 < length bs) × AllPass is_ascii_digit bs
 
--- a number: digits, with or without a `-` before them
+-- a decimal number: digits, with or without a `-` before them
+abbrev pub IsDecimal : List ℕ → Type 0
+IsDecimal [] = ⊥
+IsDecimal (b ∷ bs) = MatchBool (b == minus) (IsDigits bs) (IsDigits (b ∷ bs))
+
+-- one or more digits of the radix with this letter
+abbrev pub AreDigitsBehind : ℕ → List ℕ → Type 0
+AreDigitsBehind letter bs = (0 < length bs) × AllPass (is_digit_behind letter) bs
+
+-- a number with its radix: `0`, the letter of the radix, and digits, as in `0h1f`; a `-` may stand before the `0` or before
+-- the digits, but not before both
+pub record IsRadixNumber (bs : List ℕ) : Type 0 where
+  pub letter : ℕ
+  pub digits : List ℕ
+  pub are : AreDigitsBehind letter digits
+  pub spelt : (bs ≡ zero_digit ∷ letter ∷ digits) ⊎ (bs ≡ zero_digit ∷ letter ∷ minus ∷ digits) ⊎ (bs ≡ minus ∷ zero_digit ∷ letter ∷ digits)
+
+-- a number, with its radix or decimal
 abbrev pub IsNumber : List ℕ → Type 0
-IsNumber [] = ⊥
-IsNumber (b ∷ bs) = MatchBool (b == minus) (IsDigits bs) (IsDigits (b ∷ bs))
+IsNumber bs = IsDecimal bs ⊎ IsRadixNumber bs
 
 -- what is between the quotes of a text: no quote except after a backslash, which takes the next character with it (the
 -- bytes after the first of a non-ASCII character are neither quotes nor backslashes)

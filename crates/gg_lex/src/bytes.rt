@@ -2,6 +2,7 @@
 ghost use Rattle.std.specs.Prelude.{◌≡◌, ◌≤◌, length};
 ghost use Rattle.std.specs.List.{prefix_len};
 ghost use Rattle.gg_lex.specs.Bytes.{is_in_class, starts_word, begins_number};
+ghost use Rattle.gg_lex.specs.Fronts.{TellsDigits};
 
 /// A class of bytes. A run is made of bytes of one class.
 #[derive(Clone, Copy, Debug, PartialEq, Eq)]
@@ -12,7 +13,14 @@ pub(crate) enum Class {
     WordByte,
     /// A letter or `-`.
     TailByte,
-    Digit,
+    /// `0` or `1`.
+    BinaryDigit,
+    /// `0` to `7`.
+    OctalDigit,
+    /// `0` to `9`.
+    DecimalDigit,
+    /// `0` to `9`, or a letter from `a` to `f` of either case.
+    HexDigit,
 }
 
 impl Class {
@@ -24,7 +32,10 @@ impl Class {
             Class::Blank => byte == b' ' || byte == b'\t',
             Class::WordByte => byte.is_ascii_alphanumeric() || byte == b'_' || byte == b'$',
             Class::TailByte => byte.is_ascii_alphabetic() || byte == b'-',
-            Class::Digit => byte.is_ascii_digit(),
+            Class::BinaryDigit => byte == b'0' || byte == b'1',
+            Class::OctalDigit => b'/' < byte && byte < b'8',
+            Class::DecimalDigit => byte.is_ascii_digit(),
+            Class::HexDigit => byte.is_ascii_hexdigit(),
         }
     }
 }
@@ -41,6 +52,19 @@ pub(crate) fn begins_number(byte: u8) -> bool
     ensures { result ≡ begins_number byte }
 {
     byte == b'-' || byte.is_ascii_digit()
+}
+
+/// The class of the digits of the radix that has this letter.
+pub(crate) fn digits_behind(letter: u8) -> Option<Class>
+    ensures { TellsDigits letter result }
+{
+    match letter {
+        b'b' => Some(Class::BinaryDigit),
+        b'o' => Some(Class::OctalDigit),
+        b'd' => Some(Class::DecimalDigit),
+        b'h' => Some(Class::HexDigit),
+        _ => None,
+    }
 }
 
 /// How many bytes at the front are of this class.

@@ -10,4 +10,5 @@ mod WorkedFaults
 mod WorkedForms
 mod WorkedMemories
 mod WorkedPlaces
+mod WorkedSpelling
 mod WorkedText

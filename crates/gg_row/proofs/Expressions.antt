@@ -1,5 +1,5 @@
 -- An expression that is spelt is read.
-use Rattle.std.proofs.Common.{◌≡◌, ℕ, zero, suc, ◌<◌, ◌≤◌, List, [], ◌∷◌, length, Bool, true, false, Option, None, Some, IsTrue, refl, sym, ap, ◌∙◌, subst, arith}
+use Rattle.std.proofs.Common.{◌≡◌, ℕ, zero, suc, ◌<◌, ◌≤◌, List, [], ◌∷◌, length, Bool, true, false, Option, None, Some, IsTrue, inl, inr, ⊎_elim, refl, sym, ap, ◌∙◌, subst, arith}
 use Rattle.std.specs.Prelude.{if◌then◌else◌, codes, is_some, ◌==◌}
 use Rattle.std.specs.List.{list_all}
 use Rattle.std.proofs.lemmas.Bool.{and_parts}
@@ -25,8 +25,8 @@ use Rattle.gg_row.specs.declared.words.Operation.{Operation}
 use Rattle.gg_row.specs.declared.words.Operation.TheVariants.{Unary, Binary as Binary2, Fixed, Mux}
 use Rattle.gg_bits.specs.Spelling.{text1, text2, text_const}
 use Rattle.gg_row.specs.Words.{kind_text, operation_of}
-use Rattle.gg_row.specs.Forms.{IsNatural, SpellsReference, SpellsType, SpellsLiteral, SpellsParameters, SpellsExpr, are_digits, signed, number_token, is_digit_of}
-use Rattle.gg_row.specs.Reading.{◌>>=◌, symbol_at, name_at, natural_at, third_at, second_at, reference_at, width_at, kind_at, type_at, checked_digits, signed_digits, digits_at, literal_of, literal_at, one_parameter_at, parameters_at, is_second, unary_at, binary_at, fixed_at, mux_at, operands_at, call_at, form_at, expr_at}
+use Rattle.gg_row.specs.Forms.{IsNatural, SpellsReference, SpellsType, SpellsLiteral, SpellsNumber, SpellsWithRadix, SpellsParameters, SpellsExpr, are_digits, signed, number_token, letter_of, is_digit_of}
+use Rattle.gg_row.specs.Reading.{◌>>=◌, symbol_at, name_at, natural_at, third_at, second_at, reference_at, width_at, kind_at, type_at, checked_digits, signed_digits, zero_radix, radix_or_decimal, split_radix, number_digits, digits_at, literal_of, literal_at, one_parameter_at, parameters_at, is_second, unary_at, binary_at, fixed_at, mux_at, operands_at, call_at, form_at, expr_at}
 use Rattle.gg_row.proofs.Leaves.{goes_on, not_chosen, name_at-here, natural_at-here, is_true}
 use Rattle.gg_row.proofs.WordLaws.{operation_of-here}
 
@@ -93,11 +93,79 @@ signed-read radix false (b ∷ bs) h =
     ap (λ t. if t then checked_digits radix true bs else checked_digits radix false (b ∷ bs)) (not_minus radix b (and_parts (is_digit_of radix b) (list_all (is_digit_of radix) bs) (is_true (are_digits radix (b ∷ bs)) h)).0)
     ∙ checked-read radix false (b ∷ bs) h
 
-digits-read : (radix : Radix) (negative : Bool) (digits : List ℕ) (rest : List Tok) → IsTrue (are_digits radix digits) → digits_at (number_token radix (signed negative digits) ∷ rest) ≡ Some (record { radix = radix; negative = negative; digits = digits }, rest)
-digits-read Binary negative digits rest h = ap (λ o. o >>= λ d. Some (d, rest)) (signed-read Binary negative digits h)
-digits-read Octal negative digits rest h = ap (λ o. o >>= λ d. Some (d, rest)) (signed-read Octal negative digits h)
-digits-read Decimal negative digits rest h = ap (λ o. o >>= λ d. Some (d, rest)) (signed-read Decimal negative digits h)
-digits-read Hexadecimal negative digits rest h = ap (λ o. o >>= λ d. Some (d, rest)) (signed-read Hexadecimal negative digits h)
+-- a decimal digit is the letter of no radix, so decimal digits are not split
+digit_no_letter : (b : ℕ) → is_digit_of Decimal b ≡ true → zero_radix b ≡ None
+digit_no_letter b digit = rw (no_d, no_b, no_o, no_h) refl
+  where
+    no_d : (b == 100) ≡ false
+    no_d = grind arith
+
+    no_b : (b == 98) ≡ false
+    no_b = grind arith
+
+    no_o : (b == 111) ≡ false
+    no_o = grind arith
+
+    no_h : (b == 104) ≡ false
+    no_h = grind arith
+
+decimal_split : (bs : List ℕ) → IsTrue (are_digits Decimal bs) → split_radix bs ≡ (Decimal, bs)
+decimal_split [] h = refl
+decimal_split (b ∷ []) h = refl
+decimal_split (b ∷ c ∷ bs) h = by (b == 48)
+  where
+    second : is_digit_of Decimal c ≡ true
+    second =
+        let all = and_parts (is_digit_of Decimal b) (list_all (is_digit_of Decimal) (c ∷ bs)) (is_true (are_digits Decimal (b ∷ c ∷ bs)) h) in
+        (and_parts (is_digit_of Decimal c) (list_all (is_digit_of Decimal) bs) all.1).0
+
+    by : (t : Bool) → (if t then radix_or_decimal (zero_radix c) (b ∷ c ∷ bs) bs else (Decimal, b ∷ c ∷ bs)) ≡ (Decimal, b ∷ c ∷ bs)
+    by true = ap (λ (o : Option Radix). radix_or_decimal o (b ∷ c ∷ bs) bs) (digit_no_letter c second)
+    by false = refl
+
+zero_radix-here : (radix : Radix) → zero_radix (letter_of radix) ≡ Some radix
+zero_radix-here Binary = refl
+zero_radix-here Octal = refl
+zero_radix-here Decimal = refl
+zero_radix-here Hexadecimal = refl
+
+split_radix-here : (radix : Radix) (bs : List ℕ) → split_radix (48 ∷ letter_of radix ∷ bs) ≡ (radix, bs)
+split_radix-here radix bs = ap (λ (o : Option Radix). radix_or_decimal o (48 ∷ letter_of radix ∷ bs) bs) (zero_radix-here radix)
+
+-- the parts of a number, once they are known
+below-read : (bs digits : List ℕ) (radix : Radix) → split_radix bs ≡ (radix, digits) → number_digits (45 ∷ bs) ≡ checked_digits radix true digits
+below-read bs digits radix e = ap (λ (p : Radix × List ℕ). checked_digits p.0 true p.1) e
+
+above-read : (b : ℕ) (bs digits : List ℕ) (radix : Radix) → (b == 45) ≡ false → split_radix (b ∷ bs) ≡ (radix, digits) → number_digits (b ∷ bs) ≡ signed_digits radix digits
+above-read b bs digits radix plain e =
+    ap (λ t. if t then checked_digits (split_radix bs).0 true (split_radix bs).1 else signed_digits (split_radix (b ∷ bs)).0 (split_radix (b ∷ bs)).1) plain
+    ∙ ap (λ (p : Radix × List ℕ). signed_digits p.0 p.1) e
+
+module _ (radix : Radix) (digits : List ℕ) (are : IsTrue (are_digits radix digits)) where
+  with_radix-read : (negative : Bool) (bytes : List ℕ) → SpellsWithRadix radix negative digits bytes → number_digits bytes ≡ Some (record { radix = radix; negative = negative; digits = digits })
+  with_radix-read false bytes e = rw e (above-read 48 (letter_of radix ∷ digits) digits radix refl (split_radix-here radix digits) ∙ signed-read radix false digits are)
+  with_radix-read true bytes (inl e) = rw e (below-read (48 ∷ letter_of radix ∷ digits) digits radix (split_radix-here radix digits) ∙ checked-read radix true digits are)
+  with_radix-read true bytes (inr e) = rw e (above-read 48 (letter_of radix ∷ 45 ∷ digits) (45 ∷ digits) radix refl (split_radix-here radix (45 ∷ digits)) ∙ signed-read radix true digits are)
+
+decimal-read : (negative : Bool) (digits : List ℕ) → IsTrue (are_digits Decimal digits) → number_digits (signed negative digits) ≡ Some (record { radix = Decimal; negative = negative; digits = digits })
+decimal-read true digits h = below-read digits digits Decimal (decimal_split digits h) ∙ checked-read Decimal true digits h
+decimal-read false [] h = absurd (cc)
+decimal-read false (b ∷ bs) h =
+    above-read b bs (b ∷ bs) Decimal (not_minus Decimal b (and_parts (is_digit_of Decimal b) (list_all (is_digit_of Decimal) bs) (is_true (are_digits Decimal (b ∷ bs)) h)).0) (decimal_split (b ∷ bs) h)
+    ∙ signed-read Decimal false (b ∷ bs) h
+
+token-read : (radix : Radix) (negative : Bool) (digits : List ℕ) (rest : List Tok) → IsTrue (are_digits radix digits) → digits_at (number_token radix (signed negative digits) ∷ rest) ≡ Some (record { radix = radix; negative = negative; digits = digits }, rest)
+token-read Binary negative digits rest h = ap (λ o. o >>= λ d. Some (d, rest)) (signed-read Binary negative digits h)
+token-read Octal negative digits rest h = ap (λ o. o >>= λ d. Some (d, rest)) (signed-read Octal negative digits h)
+token-read Decimal negative digits rest h = ap (λ o. o >>= λ d. Some (d, rest)) (decimal-read negative digits h)
+token-read Hexadecimal negative digits rest h = ap (λ o. o >>= λ d. Some (d, rest)) (signed-read Hexadecimal negative digits h)
+
+digits-read : (radix : Radix) (negative : Bool) (digits : List ℕ) (number : Tok) (rest : List Tok) → SpellsNumber radix negative digits number → digits_at (number ∷ rest) ≡ Some (record { radix = radix; negative = negative; digits = digits }, rest)
+digits-read radix negative digits number rest h =
+    ⊎_elim
+    (λ token. ap (λ t. digits_at (t ∷ rest)) token ∙ token-read radix negative digits rest h.digits_are)
+    (λ with. ap (λ t. digits_at (t ∷ rest)) with.2 ∙ ap (λ o. o >>= λ d. Some (d, rest)) (with_radix-read radix digits h.digits_are negative with.0 with.1))
+    h.spelt
 
 kind-read : (k : Kind) (rest : List Tok) → kind_at (Word (kind_text k) ∷ rest) ≡ Some (k, rest)
 kind-read kind.UInt rest = refl
@@ -105,12 +173,12 @@ kind-read kind.SInt rest = refl
 
 literal-read : (l : Literal) (ts rest : List Tok) → SpellsLiteral l ts rest → literal_at ts ≡ Some (l, rest)
 literal-read l ts rest h =
-    let number = number_token l.radix (signed l.negative l.digits) in
+    let number = h.1 in
     let behind_kind = Symbol Less ∷ (Number h.0 ∷ (Symbol Greater ∷ (Symbol OpenParen ∷ (number ∷ (Symbol CloseParen ∷ rest))))) in
     let behind_width = Symbol OpenParen ∷ (number ∷ (Symbol CloseParen ∷ rest)) in
-    rw h.3 (goes_on (kind_at (Word (kind_text l.kind) ∷ behind_kind)) (λ k. width_at k.1 >>= λ w. symbol_at OpenParen w.1 >>= λ t. digits_at t >>= λ d. symbol_at CloseParen d.1 >>= λ u. Some (literal_of k.0 w.0 d.0, u)) (l.kind, behind_kind) (kind-read l.kind behind_kind)
-    ∙ goes_on (width_at behind_kind) (λ w. symbol_at OpenParen w.1 >>= λ t. digits_at t >>= λ d. symbol_at CloseParen d.1 >>= λ u. Some (literal_of l.kind w.0 d.0, u)) (l.width, behind_width) (width-read h.0 l.width behind_width h.1)
-    ∙ goes_on (digits_at (number ∷ (Symbol CloseParen ∷ rest))) (λ d. symbol_at CloseParen d.1 >>= λ u. Some (literal_of l.kind l.width d.0, u)) (record { radix = l.radix; negative = l.negative; digits = l.digits }, Symbol CloseParen ∷ rest) (digits-read l.radix l.negative l.digits _ h.2))
+    rw h.4 (goes_on (kind_at (Word (kind_text l.kind) ∷ behind_kind)) (λ k. width_at k.1 >>= λ w. symbol_at OpenParen w.1 >>= λ t. digits_at t >>= λ d. symbol_at CloseParen d.1 >>= λ u. Some (literal_of k.0 w.0 d.0, u)) (l.kind, behind_kind) (kind-read l.kind behind_kind)
+    ∙ goes_on (width_at behind_kind) (λ w. symbol_at OpenParen w.1 >>= λ t. digits_at t >>= λ d. symbol_at CloseParen d.1 >>= λ u. Some (literal_of l.kind w.0 d.0, u)) (l.width, behind_width) (width-read h.0 l.width behind_width h.2)
+    ∙ goes_on (digits_at (number ∷ (Symbol CloseParen ∷ rest))) (λ d. symbol_at CloseParen d.1 >>= λ u. Some (literal_of l.kind l.width d.0, u)) (record { radix = l.radix; negative = l.negative; digits = l.digits }, Symbol CloseParen ∷ rest) (digits-read l.radix l.negative l.digits number _ h.3))
 
 -- ---- operations
 
@@ -185,7 +253,7 @@ parameters-shorter Tail n m ts rest h = let e = ap length h.3 in omega arith
 
 pub expr-shorter : (e : Term) (ts rest : List Tok) → SpellsExpr e ts rest → length rest < length ts
 expr-shorter (NamedTerm r) ts rest h = reference-shorter r ts rest h
-expr-shorter (ConstantTerm l) ts rest h = let e = ap length h.3 in omega arith
+expr-shorter (ConstantTerm l) ts rest h = let e = ap length h.4 in omega arith
 expr-shorter (UnaryTerm o a) ts rest h = let e = ap length h.1 in let f = expr-shorter a h.0 (Symbol CloseParen ∷ rest) h.2 in omega arith
 expr-shorter (BinaryTerm o a b) ts rest h =
     let e = ap length h.2 in
@@ -210,7 +278,7 @@ as_call sub word o t x named read = call-read sub word o t named ∙ read
 as_literal : (sub : List Tok → Option (Term × List Tok)) (l : Literal) (ts rest : List Tok) → SpellsLiteral l ts rest → form_at sub ts ≡ Some (ConstantTerm l, rest)
 as_literal sub l ts rest h =
     let e : literal_at ts ≡ Some (l, rest) = literal-read l ts rest h in
-    let second : (is_second OpenParen ts ≡ false) × (is_second Less ts ≡ true) = rw h.3 (refl, refl) in
+    let second : (is_second OpenParen ts ≡ false) × (is_second Less ts ≡ true) = rw h.4 (refl, refl) in
     ap (λ x. if x then call_at sub ts else (if is_second Less ts then (literal_at ts >>= λ k. Some (ConstantTerm k.0, k.1)) else (reference_at ts >>= λ k. Some (NamedTerm k.0, k.1)))) second.0
     ∙ ap (λ x. if x then (literal_at ts >>= λ k. Some (ConstantTerm k.0, k.1)) else (reference_at ts >>= λ k. Some (NamedTerm k.0, k.1))) second.1
     ∙ ap (λ o. o >>= λ k. Some (ConstantTerm k.0, k.1)) e

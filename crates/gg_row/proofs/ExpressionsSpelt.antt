@@ -1,5 +1,6 @@
 -- An expression that is read is spelt so.
-use Rattle.std.proofs.Common.{◌≡◌, ℕ, zero, suc, List, [], ◌∷◌, Bool, true, false, Option, None, Some, IsTrue, refl, sym, ap, ◌∙◌, subst, arith}
+use Rattle.std.proofs.Common.{◌≡◌, ℕ, zero, suc, List, [], ◌∷◌, Bool, true, false, Option, None, Some, IsTrue, ◌⊎◌, inl, inr, ⊎_elim, refl, sym, ap, ◌∙◌, subst, arith}
+use Rattle.std.proofs.lemmas.Bool.{eqb-true}
 use Rattle.std.specs.Prelude.{if◌then◌else◌, codes, ◌==◌}
 use Rattle.std.proofs.lemmas.Option.{same_Some}
 use Rattle.gg_bits.specs.declared.types.Kind.{Kind}
@@ -25,8 +26,8 @@ use Rattle.gg_row.specs.declared.digits.Digits.{Digits}
 use Rattle.gg_bits.specs.Spelling.{text1, text2, text_const}
 use Rattle.gg_row.specs.Words.{kind_text, operation_of}
 use Rattle.gg_ast.specs.Names.{IsName}
-use Rattle.gg_row.specs.Forms.{IsNatural, SpellsReference, SpellsType, SpellsLiteral, SpellsParameters, SpellsExpr, are_digits, signed, number_token}
-use Rattle.gg_row.specs.Reading.{◌>>=◌, symbol_at, word_at, name_at, natural_at, third_at, second_at, reference_at, width_at, kind_at, ground_type, type_at, checked_digits, signed_digits, radix_of, text_digits, digits_at, literal_of, literal_at, operation_at, one_parameter_at, two_parameters_at, parameters_at, is_second, unary_at, binary_at, fixed_at, mux_at, operands_at, call_at, expr_at}
+use Rattle.gg_row.specs.Forms.{IsNatural, SpellsReference, SpellsType, SpellsLiteral, SpellsNumber, SpellsWithRadix, SpellsParameters, SpellsExpr, are_digits, signed, number_token, letter_of}
+use Rattle.gg_row.specs.Reading.{◌>>=◌, symbol_at, word_at, name_at, natural_at, third_at, second_at, reference_at, width_at, kind_at, ground_type, type_at, checked_digits, signed_digits, radix_of, text_digits, zero_radix, radix_or_decimal, split_radix, number_digits, digits_at, literal_of, literal_at, operation_at, one_parameter_at, two_parameters_at, parameters_at, is_second, unary_at, binary_at, fixed_at, mux_at, operands_at, call_at, expr_at}
 use Rattle.gg_row.proofs.Leaves.{bound, chosen, not_chosen, symbol_at-spells, word_at-spells, name_at-spells, natural_at-spells}
 use Rattle.gg_row.proofs.WordLaws.{operation_text, operation_of-spells}
 
@@ -156,17 +157,13 @@ signed-spells radix [] d h = absurd (cc)
 signed-spells radix (b ∷ bs) d h = signed_by radix b bs d (b == 45) refl h
 
 -- the token that spells these digits of a literal
-record SpellsDigits (d : Digits) (t : Tok) : Type 0 where
-  digits : IsTrue (are_digits d.radix d.digits)
-  spelt : t ≡ number_token d.radix (signed d.negative d.digits)
-
-in_number : (w : List ℕ) (d : Digits) → AreSigned Decimal w d → SpellsDigits d (Number w)
-in_number w d s = record { digits = subst (λ r. IsTrue (are_digits r d.digits)) (sym s.same) s.digits; spelt = ap Number s.spelt ∙ ap (λ r. number_token r (signed d.negative d.digits)) (sym s.same) }
+abbrev SpellsDigits : Digits → Tok → Type 0
+SpellsDigits d t = SpellsNumber d.radix d.negative d.digits t
 
 -- a text that is the first byte of a radix and then digits spells the digits
 radix_byte : (b : ℕ) (bs : List ℕ) (radix : Radix) (d : Digits) → radix_of b ≡ Some radix → AreSigned radix bs d → SpellsDigits d (Text (b ∷ bs))
 radix_byte b bs radix d e s =
-    record { digits = subst (λ r. IsTrue (are_digits r d.digits)) (sym s.same) s.digits; spelt = with_radix (b == 98) (b == 111) (b == 104) refl refl refl e ∙ ap (λ r. number_token r (signed d.negative d.digits)) (sym s.same) }
+    record { digits_are = subst (λ r. IsTrue (are_digits r d.digits)) (sym s.same) s.digits; spelt = inl (with_radix (b == 98) (b == 111) (b == 104) refl refl refl e ∙ ap (λ r. number_token r (signed d.negative d.digits)) (sym s.same)) }
   where
     with_radix : (x y z : Bool) → (b == 98) ≡ x → (b == 111) ≡ y → (b == 104) ≡ z
         → (if x then Some Binary else (if y then Some Octal else (if z then Some Hexadecimal else None))) ≡ Some radix → Text (b ∷ bs) ≡ number_token radix (signed d.negative d.digits)
@@ -175,14 +172,78 @@ radix_byte b bs radix d e s =
     with_radix false false true p q r f = let at : b ≡ 104 = grind arith in ap (λ n. Text (n ∷ bs)) at ∙ ap (λ l. Text (104 ∷ l)) s.spelt ∙ ap (λ k. number_token k (signed d.negative d.digits)) (same_Some Hexadecimal radix f)
     with_radix false false false p q r f = absurd (cc)
 
+-- the letter behind a `0` is the radix' own
+zero_radix-is : (b : ℕ) (radix : Radix) → zero_radix b ≡ Some radix → b ≡ letter_of radix
+zero_radix-is b radix e = by (b == 100) (b == 98) (b == 111) (b == 104) refl refl refl refl e
+  where
+    by : (w x y z : Bool) → (b == 100) ≡ w → (b == 98) ≡ x → (b == 111) ≡ y → (b == 104) ≡ z
+        → (if w then Some Decimal else (if x then Some Binary else (if y then Some Octal else (if z then Some Hexadecimal else None)))) ≡ Some radix → b ≡ letter_of radix
+    by true x y z o p q r f = eqb-true b 100 o ∙ ap letter_of (same_Some Decimal radix f)
+    by false true y z o p q r f = eqb-true b 98 p ∙ ap letter_of (same_Some Binary radix f)
+    by false false true z o p q r f = eqb-true b 111 q ∙ ap letter_of (same_Some Octal radix f)
+    by false false false true o p q r f = eqb-true b 104 r ∙ ap letter_of (same_Some Hexadecimal radix f)
+    by false false false false o p q r f = absurd (cc)
+
+-- bytes are `0`, the letter of their radix and the digits behind it, or decimal and digits as a whole
+abbrev IsSplit : List ℕ → Radix × List ℕ → Type 0
+IsSplit bs parts = (bs ≡ 48 ∷ letter_of parts.0 ∷ parts.1) ⊎ ((parts.0 ≡ Decimal) × (parts.1 ≡ bs))
+
+split_radix-is : (bs : List ℕ) → IsSplit bs (split_radix bs)
+split_radix-is [] = inr (refl, refl)
+split_radix-is (b ∷ []) = inr (refl, refl)
+split_radix-is (b ∷ letter ∷ bs) = by (b == 48) refl
+  where
+    behind : (o : Option Radix) → b ≡ 48 → zero_radix letter ≡ o → IsSplit (b ∷ letter ∷ bs) (radix_or_decimal o (b ∷ letter ∷ bs) bs)
+    behind None first e = inr (refl, refl)
+    behind (Some radix) first e = inl (ap (λ x. x ∷ letter ∷ bs) first ∙ ap (λ x. 48 ∷ x ∷ bs) (zero_radix-is letter radix e))
+
+    by : (t : Bool) → (b == 48) ≡ t → IsSplit (b ∷ letter ∷ bs) (if t then radix_or_decimal (zero_radix letter) (b ∷ letter ∷ bs) bs else (Decimal, b ∷ letter ∷ bs))
+    by true e = behind (zero_radix letter) (eqb-true b 48 e) refl
+    by false e = inr (refl, refl)
+
+-- behind a `-`: the digits of a negative number
+below_zero : (bs : List ℕ) (parts : Radix × List ℕ) (d : Digits) → IsSplit bs parts → checked_digits parts.0 true parts.1 ≡ Some d → SpellsDigits d (Number (45 ∷ bs))
+below_zero bs (radix, digits) d split h =
+    let c = checked_by radix true digits d (are_digits radix digits) refl h in
+    let token = Number (45 ∷ bs) in
+    let here : SpellsNumber radix true d.digits token =
+    record { digits_are = c.3; spelt = ⊎_elim
+      (λ with. inr (45 ∷ bs, inl (ap (λ l. 45 ∷ l) with ∙ ap (λ l. 45 ∷ 48 ∷ letter_of radix ∷ l) (sym c.2)), refl))
+      (λ plain. inl (ap (λ l. Number (45 ∷ l)) (sym plain.1 ∙ sym c.2) ∙ ap (λ r. number_token r (45 ∷ d.digits)) (sym plain.0)))
+      split } in
+    subst (λ r. SpellsNumber r d.negative d.digits token) (sym c.0) (subst (λ n. SpellsNumber radix n d.digits token) (sym c.1) here)
+
+-- without a `-` in front: the digits may have one
+not_below : (bs : List ℕ) (parts : Radix × List ℕ) (d : Digits) → IsSplit bs parts → signed_digits parts.0 parts.1 ≡ Some d → SpellsDigits d (Number bs)
+not_below bs (radix, digits) d split h =
+    let s = signed-spells radix digits d h in
+    let here : SpellsNumber radix d.negative d.digits (Number bs) =
+    record { digits_are = s.digits; spelt = ⊎_elim
+      (λ with. inr (bs, signs d.negative d.digits (with ∙ ap (λ l. 48 ∷ letter_of radix ∷ l) s.spelt), refl))
+      (λ plain. inl (ap Number (sym plain.1 ∙ s.spelt) ∙ ap (λ r. number_token r (signed d.negative d.digits)) (sym plain.0)))
+      split } in
+    subst (λ r. SpellsNumber r d.negative d.digits (Number bs)) (sym s.same) here
+  where
+    signs : (negative : Bool) (ds : List ℕ) → bs ≡ 48 ∷ letter_of radix ∷ signed negative ds → SpellsWithRadix radix negative ds bs
+    signs true ds e = inr e
+    signs false ds e = e
+
+number-spells : (bs : List ℕ) (d : Digits) → number_digits bs ≡ Some d → SpellsDigits d (Number bs)
+number-spells [] d h = absurd (cc)
+number-spells (b ∷ bs) d h = by (b == 45) refl h
+  where
+    by : (t : Bool) → (b == 45) ≡ t → (if t then checked_digits (split_radix bs).0 true (split_radix bs).1 else signed_digits (split_radix (b ∷ bs)).0 (split_radix (b ∷ bs)).1) ≡ Some d → SpellsDigits d (Number (b ∷ bs))
+    by true e f = subst (λ x. SpellsDigits d (Number (x ∷ bs))) (sym (eqb-true b 45 e)) (below_zero bs (split_radix bs) d (split_radix-is bs) f)
+    by false e f = not_below (b ∷ bs) (split_radix (b ∷ bs)) d (split_radix-is (b ∷ bs)) f
+
 digits-spells : (ts rest : List Tok) (d : Digits) → digits_at ts ≡ Some (d, rest) → (t : Tok) × SpellsDigits d t × (ts ≡ t ∷ rest)
 digits-spells [] rest d h = absurd (cc)
 digits-spells (Word w ∷ ts) rest d h = absurd (cc)
 digits-spells (Symbol m ∷ ts) rest d h = absurd (cc)
 digits-spells (Number w ∷ ts) rest d h =
-    let n = bound (signed_digits Decimal w) (λ d. Some (d, ts)) (d, rest) h in
+    let n = bound (number_digits w) (λ d. Some (d, ts)) (d, rest) h in
     let same = same_Some (n.0, ts) (d, rest) n.2 in
-    (Number w, in_number w d (subst (λ (p : Digits × List Tok). AreSigned Decimal w p.0) same (signed-spells Decimal w n.0 n.1)), ap (λ (p : Digits × List Tok). Number w ∷ p.1) same)
+    (Number w, subst (λ (p : Digits × List Tok). SpellsDigits p.0 (Number w)) same (number-spells w n.0 n.1), ap (λ (p : Digits × List Tok). Number w ∷ p.1) same)
 digits-spells (Text [] ∷ ts) rest d h = absurd (cc)
 digits-spells (Text (b ∷ bs) ∷ ts) rest d h =
     let n = bound (text_digits (b ∷ bs)) (λ d. Some (d, ts)) (d, rest) h in
@@ -199,12 +260,12 @@ literal-spells ts rest l h =
     let c = bound (symbol_at CloseParen d.0.1) (λ u. Some (literal_of k.0.0 w.0.0 d.0.0, u)) (l, rest) d.2 in
     let width = width-spells k.0.1 w.0.1 w.0.0 w.1 in
     let number = digits-spells o.0 d.0.1 d.0.0 d.1 in
-    let inner : o.0 ≡ number_token d.0.0.radix (signed d.0.0.negative d.0.0.digits) ∷ (Symbol CloseParen ∷ c.0) =
-    number.2 ∙ ap (λ t. t ∷ d.0.1) number.1.spelt ∙ ap (λ l. number_token d.0.0.radix (signed d.0.0.negative d.0.0.digits) ∷ l) (symbol_at-spells CloseParen d.0.1 c.0 c.1) in
+    let inner : o.0 ≡ number.0 ∷ (Symbol CloseParen ∷ c.0) = number.2 ∙ ap (λ l. number.0 ∷ l) (symbol_at-spells CloseParen d.0.1 c.0 c.1) in
     subst (λ (p : Literal × List Tok). SpellsLiteral p.0 ts p.1) (same_Some (literal_of k.0.0 w.0.0 d.0.0, c.0) (l, rest) c.2) (
       width.digits,
+      number.0,
       width.natural,
-      number.1.digits,
+      number.1,
       kind-spells ts k.0.1 k.0.0 k.1 ∙ ap (λ x. Word (kind_text k.0.0) ∷ x) (width.spelt ∙ ap (λ x. Symbol Less ∷ (Number width.digits ∷ (Symbol Greater ∷ x))) (symbol_at-spells OpenParen w.0.1 o.0 o.1 ∙ ap (λ x. Symbol OpenParen ∷ x) inner)),
     )
 

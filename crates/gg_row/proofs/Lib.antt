@@ -12,3 +12,4 @@ pub mod WordLaws
 pub mod WordNames
 mod WorkedFields
 mod WorkedRows
+mod WorkedSpelling

@@ -1,5 +1,5 @@
 -- Each name in a row that the tokens of a line spell is a name.
-use Rattle.std.proofs.Common.{List, [], ◌∷◌, Option, Some, None}
+use Rattle.std.proofs.Common.{List, [], ◌∷◌, Option, Some, None, ◌⊎◌, inl, inr}
 use Rattle.std.specs.Prelude.{ℕ, MatchOption, IfSome}
 use Rattle.std.specs.List.{All}
 use Rattle.std.proofs.lemmas.List.Elements.{All-nil, All-cons}
@@ -16,6 +16,7 @@ use Rattle.gg_ast.specs.declared.statement.MemoryField.TheVariants as field
 use Rattle.gg_ast.specs.declared.statement.StmtKind.{StmtKind}
 use Rattle.gg_ast.specs.declared.statement.StmtKind.TheVariants as statement
 use Rattle.gg_ast.specs.Names.{IsName, AreNamesOfReference, AreNamesOfTerm, AreNamesOfArgument, AreNamesOfMemoryField, AreNamesOfKind}
+use Rattle.gg_ast.specs.Row.{RegisterResetRow, ConnectRow, InvalidRow}
 use Rattle.gg_ast.specs.Term.{Term, NamedTerm, ConstantTerm, UnaryTerm, BinaryTerm, FixedTerm, MuxTerm}
 use Rattle.gg_row.specs.declared.row.LineRow.{LineRow}
 use Rattle.gg_row.specs.declared.row.LineRow.TheVariants as line
@@ -54,8 +55,27 @@ arguments-named (a ∷ []) ts rest h =
 arguments-named (a ∷ (b ∷ more)) ts rest (t, h, k) =
     All-cons AreNamesOfArgument a (b ∷ more) (argument-named a ts (Symbol Comma ∷ t) h) (arguments-named (b ∷ more) t rest k)
 
-register-named : (name : List ℕ) (ty : GroundType) (clock : Term) (ts rest : List Tok) → SpellsRegister name ty clock ts rest → IsName name × AreNamesOfTerm clock
-register-named name ty clock ts rest (t, u, named, is, h, k) = (named, expr-named clock u rest k)
+register-named : (word name : List ℕ) (ty : GroundType) (clock : Term) (ts rest : List Tok) → SpellsRegister word name ty clock ts rest → IsName name × AreNamesOfTerm clock
+register-named word name ty clock ts rest (t, u, named, is, h, k) = (named, expr-named clock u rest k)
+
+-- a row of two spellings
+register_reset-named : (name : List ℕ) (ty : GroundType) (clock condition init : Term) (ts : List Tok) → SpellsRow (RegisterResetRow name ty clock condition init) ts
+    → IsName name × AreNamesOfTerm clock × AreNamesOfTerm condition × AreNamesOfTerm init
+register_reset-named name ty clock condition init ts (inl h) =
+    let r = register-named _ name ty clock ts _ h.1 in
+    let s = reset-named condition init h.0 _ h.2 in
+    (r.0, r.1, s.0, s.1)
+register_reset-named name ty clock condition init ts (inr h) =
+    let r = register-named _ name ty clock ts _ h.2 in
+    (r.0, r.1, expr-named condition h.0 (Symbol Comma ∷ h.1) h.3, expr-named init h.1 [] h.4)
+
+connect-named : (sink : Reference) (source : Term) (ts : List Tok) → SpellsRow (ConnectRow sink source) ts → AreNamesOfReference sink × AreNamesOfTerm source
+connect-named sink source ts (inl (t, r, e)) = (reference-named sink ts (Symbol Connect ∷ t) r, expr-named source t [] e)
+connect-named sink source ts (inr (t, u, is, r, e)) = (reference-named sink t (Symbol Comma ∷ u) r, expr-named source u [] e)
+
+invalid-named : (sink : Reference) (ts : List Tok) → SpellsRow (InvalidRow sink) ts → AreNamesOfReference sink
+invalid-named sink ts (inl r) = reference-named sink ts _ r
+invalid-named sink ts (inr (t, is, r)) = reference-named sink t [] r
 
 more-named : (names : List (List ℕ)) (ts : List Tok) → SpellsMoreNames names ts → All IsName names
 more-named [] ts h = All-nil IsName
@@ -78,16 +98,13 @@ kind-named : (kind : StmtKind) (ts : List Tok) → MatchOption (statement_row ki
 kind-named (statement.Wire name ty) ts h = h.1
 kind-named (statement.Node name value) ts h = (h.1, expr-named value h.0 [] h.3)
 kind-named (statement.Register name ty clock None) ts h =
-    let named = register-named name ty clock ts [] h in
+    let named = register-named _ name ty clock ts [] h in
     (named.0, named.1, tt)
 kind-named (statement.Register name ty clock (Some reset)) ts h = absurd h
 kind-named (statement.Instance name m) ts h = (h.0, h.1)
 kind-named (statement.Memory name fields) ts h = absurd h
-kind-named (statement.Connect sink source) ts h = spelt h
-  where
-    spelt : (t : List Tok) × SpellsReference sink ts (Symbol Connect ∷ t) × SpellsExpr source t [] → AreNamesOfReference sink × AreNamesOfTerm source
-    spelt (t, r, e) = (reference-named sink ts (Symbol Connect ∷ t) r, expr-named source t [] e)
-kind-named (statement.Invalid sink) ts h = reference-named sink ts _ h
+kind-named (statement.Connect sink source) ts h = connect-named sink source ts h
+kind-named (statement.Invalid sink) ts h = invalid-named sink ts h
 kind-named statement.Skip ts h = tt
 kind-named (statement.Stop clock condition code label) ts h =
     let s = h in
@@ -102,11 +119,8 @@ line-named (line.Circuit name) ts h = h.0
 line-named (line.Module name) ts h = h.0
 line-named (line.Port direction name ty) ts h = h.1
 line-named (line.Statement kind) ts h = kind-named kind ts h
-line-named (line.RegisterReset name ty clock condition init) ts h =
-    let r = register-named name ty clock ts _ h.1 in
-    let s = reset-named condition init h.0 _ h.2 in
-    (r.0, r.1, s.0, s.1)
-line-named (line.RegisterOpen name ty clock) ts h = register-named name ty clock ts _ h
+line-named (line.RegisterReset name ty clock condition init) ts h = register_reset-named name ty clock condition init ts h
+line-named (line.RegisterOpen name ty clock) ts h = register-named _ name ty clock ts _ h
 line-named (line.Reset condition init) ts h = reset-named condition init ts [] h
 line-named (line.Memory name) ts h = h.0
 line-named (line.Field f) ts h = field-named f ts h

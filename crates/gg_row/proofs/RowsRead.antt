@@ -1,5 +1,5 @@
 -- A row that the tokens of a line spell is read.
-use Rattle.std.proofs.Common.{◌≡◌, ℕ, zero, suc, ◌<◌, ◌≤◌, List, [], ◌∷◌, ◌++◌, length, Bool, true, false, Option, None, Some, refl, ap, ◌∙◌, arith, append_assoc}
+use Rattle.std.proofs.Common.{◌≡◌, ℕ, zero, suc, ◌<◌, ◌≤◌, List, [], ◌∷◌, ◌++◌, length, Bool, true, false, Option, None, Some, inl, inr, refl, ap, ◌∙◌, arith, append_assoc}
 use Rattle.std.specs.Prelude.{if◌then◌else◌, codes, is_some}
 use Rattle.std.specs.Str.{bytes_eq}
 use Rattle.gg_lex.specs.declared.token.Tok.{Tok}
@@ -17,8 +17,8 @@ use Rattle.gg_row.specs.declared.words.Keyword.{Keyword}
 use Rattle.gg_row.specs.declared.words.Keyword.TheVariants as keyword
 use Rattle.gg_row.specs.Words.{direction_text}
 use Rattle.gg_ast.specs.Names.{IsName}
-use Rattle.gg_row.specs.Forms.{IsNatural, SpellsReference, SpellsType, SpellsExpr, SpellsReset, SpellsLabel, SpellsArgument, SpellsArguments, SpellsRegister, SpellsRow}
-use Rattle.gg_row.specs.Reading.{◌>>=◌, choose, symbol_at, word_at, name_at, natural_at, end_at, type_at, reference_at, one_parameter_at, text_at, expression_at, last_expression_at, version_at, header_at, declared_at, last_declared_at, node_at, reset_at, clocked_at, instance_at, label_at, stop_at, argument_at, arguments_at, report_at, field_at, body_at, keyword_at, driven_at, connection_at, is_invalid, is_connection, row_at}
+use Rattle.gg_row.specs.Forms.{IsNatural, SpellsReference, SpellsType, SpellsExpr, SpellsReset, SpellsLabel, SpellsArgument, SpellsArguments, SpellsRegister, SpellsRegreset, SpellsConnect, SpellsInvalidate, SpellsRow}
+use Rattle.gg_row.specs.Reading.{◌>>=◌, choose, symbol_at, word_at, name_at, natural_at, end_at, type_at, reference_at, one_parameter_at, text_at, expression_at, last_expression_at, version_at, header_at, declared_at, last_declared_at, node_at, reset_at, clocked_at, public_at, last_pair_at, instance_at, label_at, stop_at, argument_at, arguments_at, report_at, field_at, body_at, keyword_at, driven_at, connection_at, is_invalid, is_connection, row_at}
 use Rattle.gg_row.proofs.FieldLaws.{word_of, field-read}
 use Rattle.gg_row.proofs.Leaves.{goes_on, not_chosen, name_at-here, natural_at-here}
 use Rattle.gg_row.proofs.WordLaws.{keyword_text, keyword_of-here}
@@ -103,7 +103,7 @@ reset-read c i t u rest p q =
     goes_on (expression_at t) (λ c. symbol_at Comma c.1 >>= λ v. expression_at v >>= λ i. symbol_at CloseParen i.1 >>= λ w. Some ((c.0, i.0), w)) (c, Symbol Comma ∷ u) (expression-read c t _ p (ends_comma u))
     ∙ goes_on (expression_at u) (λ i. symbol_at CloseParen i.1 >>= λ w. Some ((c, i.0), w)) (i, Symbol CloseParen ∷ rest) (expression-read i u _ q (ends_close rest))
 
-register-read : (name : List ℕ) (ty : GroundType) (clock : Term) (ts rest : List Tok) (row : Row) → Ends rest → SpellsRegister name ty clock ts rest → clocked_at name ty clock rest ≡ Some row → row_at ts ≡ Some row
+register-read : (name : List ℕ) (ty : GroundType) (clock : Term) (ts rest : List Tok) (row : Row) → Ends rest → SpellsRegister (codes "reg") name ty clock ts rest → clocked_at name ty clock rest ≡ Some row → row_at ts ≡ Some row
 register-read name ty clock ts rest row ends h e =
     rw h.3 (keyword-read keyword.Register (Word name ∷ (Symbol Colon ∷ h.0)) row (named (codes "reg") name (Symbol Colon ∷ h.0) refl)
     (goes_on (declared_at (Word name ∷ (Symbol Colon ∷ h.0))) (λ d. symbol_at Comma d.1 >>= λ t. expression_at t >>= λ c. clocked_at d.0.0 d.0.1 c.0 c.1) ((name, ty), Symbol Comma ∷ h.1) (declared-read name ty h.0 (Symbol Comma ∷ h.1) h.2 h.4)
@@ -139,7 +139,7 @@ first_word : (e : Term) (ts rest : List Tok) → SpellsExpr e ts rest → text_a
 first_word (NamedTerm (reference.Local a)) ts rest h = rw h.1 refl
 first_word (NamedTerm (reference.PortOf a b)) ts rest h = rw h.2 refl
 first_word (NamedTerm (reference.FieldOf a b c)) ts rest h = rw h.3 refl
-first_word (ConstantTerm l) ts rest h = rw h.3 refl
+first_word (ConstantTerm l) ts rest h = rw h.4 refl
 first_word (UnaryTerm o a) ts rest h = rw h.1 refl
 first_word (BinaryTerm o a b) ts rest h = rw h.2 refl
 first_word (FixedTerm o a n m) ts rest h = rw h.2 refl
@@ -183,13 +183,55 @@ report-read word args label t u p q =
     goes_on (arguments_at (length t) [] t) (λ a. label_at a.1 >>= λ l. Some (ReportRow word a.0 l)) (args, u) (arguments-read args (length t) [] t u p (omega arith))
     ∙ goes_on (label_at u) (λ l. Some (ReportRow word args l)) label (label-read label u q)
 
+-- ---- the second spelling
+
+-- a line whose second token begins a reference, and isn't followed by `invalid`, begins with no sink
+no_sink : (w : List ℕ) (sink : Reference) (t rest : List Tok) → word_at (codes "invalid") rest ≡ None → SpellsReference sink t rest → is_connection (Word w ∷ t) ≡ false
+no_sink w (reference.Local a) t rest e h = rw h.1 (named w a rest e)
+no_sink w (reference.PortOf a b) t rest e h = rw h.2 (named w a _ refl)
+no_sink w (reference.FieldOf a b c) t rest e h = rw h.3 (named w a _ refl)
+
+public-read : (name : List ℕ) → IsName name → public_at (Word (codes "module") ∷ (Word name ∷ (Symbol Colon ∷ []))) ≡ Some (ModuleRow name)
+public-read name n = goes_on (header_at (Word name ∷ (Symbol Colon ∷ []))) (λ n. Some (ModuleRow n)) name (header-read name n)
+
+sink_and_source-read : (sink : Reference) (source : Term) (ts : List Tok) → SpellsConnect sink source ts → row_at ts ≡ Some (ConnectRow sink source)
+sink_and_source-read sink source ts h =
+    rw h.2 (keyword-read keyword.Connect h.0 (ConnectRow sink source) (no_sink (codes "connect") sink h.0 (Symbol Comma ∷ h.1) refl h.3)
+    (goes_on (reference_at h.0) (λ r. symbol_at Comma r.1 >>= λ t. last_expression_at t >>= λ e. Some (ConnectRow r.0 e)) (sink, Symbol Comma ∷ h.1) (reference-read sink h.0 (Symbol Comma ∷ h.1) refl h.3)
+    ∙ goes_on (last_expression_at h.1) (λ e. Some (ConnectRow sink e)) source (last-read source h.1 h.4)))
+
+invalidate-read : (sink : Reference) (ts : List Tok) → SpellsInvalidate sink ts → row_at ts ≡ Some (InvalidRow sink)
+invalidate-read sink ts h =
+    rw h.1 (keyword-read keyword.Invalidate h.0 (InvalidRow sink) (no_sink (codes "invalidate") sink h.0 [] refl h.2)
+    (goes_on (reference_at h.0) (λ r. end_at r.1 >>= λ u. Some (InvalidRow r.0)) (sink, []) (reference-read sink h.0 [] refl h.2)))
+
+last_pair-read : (c i : Term) (t u : List Tok) → SpellsExpr c t (Symbol Comma ∷ u) → SpellsExpr i u [] → last_pair_at (Symbol Comma ∷ t) ≡ Some (c, i)
+last_pair-read c i t u p q =
+    goes_on (expression_at t) (λ c. symbol_at Comma c.1 >>= λ v. last_expression_at v >>= λ i. Some (c.0, i)) (c, Symbol Comma ∷ u) (expression-read c t _ p (ends_comma u))
+    ∙ goes_on (last_expression_at u) (pair_with c) i (last-read i u q)
+  where
+    pair_with : Term → Term → Option (Term × Term)
+    pair_with x y = Some (x, y)
+
+regreset-read : (name : List ℕ) (ty : GroundType) (clock c i : Term) (ts : List Tok) → SpellsRegreset name ty clock c i ts → row_at ts ≡ Some (RegisterResetRow name ty clock c i)
+regreset-read name ty clock c i ts h = from h.2
+  where
+    from : SpellsRegister (codes "regreset") name ty clock ts (Symbol Comma ∷ h.0) → row_at ts ≡ Some (RegisterResetRow name ty clock c i)
+    from r =
+        rw r.3 (keyword-read keyword.Regreset (Word name ∷ (Symbol Colon ∷ r.0)) (RegisterResetRow name ty clock c i) (named (codes "regreset") name (Symbol Colon ∷ r.0) refl)
+        (goes_on (declared_at (Word name ∷ (Symbol Colon ∷ r.0))) (λ d. symbol_at Comma d.1 >>= λ t. expression_at t >>= λ x. last_pair_at x.1 >>= λ p. Some (RegisterResetRow d.0.0 d.0.1 x.0 p.0 p.1)) ((name, ty), Symbol Comma ∷ r.1) (declared-read name ty r.0 (Symbol Comma ∷ r.1) r.2 r.4)
+        ∙ goes_on (expression_at r.1) (λ x. last_pair_at x.1 >>= λ p. Some (RegisterResetRow name ty x.0 p.0 p.1)) (clock, Symbol Comma ∷ h.0) (expression-read clock r.1 (Symbol Comma ∷ h.0) r.5 (ends_comma h.0))
+        ∙ goes_on (last_pair_at (Symbol Comma ∷ h.0)) (λ p. Some (RegisterResetRow name ty clock p.0 p.1)) (c, i) (last_pair-read c i h.0 h.1 h.3 h.4)))
+
 -- a row that is spelt is read
 pub row-read : (row : Row) (ts : List Tok) → SpellsRow row ts → row_at ts ≡ Some row
 row-read (VersionRow a b c) ts h = rw h.6 (keyword-read keyword.Version (Word (codes "version") ∷ (Number h.0 ∷ (Symbol Dot ∷ (Number h.1 ∷ (Symbol Dot ∷ (Number h.2 ∷ [])))))) (VersionRow a b c) refl (version-read h.0 h.1 h.2 a b c h.3 h.4 h.5))
 row-read (CircuitRow name) ts h =
     rw h.1 (keyword-read keyword.Circuit (Word name ∷ (Symbol Colon ∷ [])) (CircuitRow name) (named (codes "circuit") name (Symbol Colon ∷ []) refl) (goes_on (header_at (Word name ∷ (Symbol Colon ∷ []))) (λ n. Some (CircuitRow n)) name (header-read name h.0)))
-row-read (ModuleRow name) ts h =
-    rw h.1 (keyword-read keyword.Module (Word name ∷ (Symbol Colon ∷ [])) (ModuleRow name) (named (codes "module") name (Symbol Colon ∷ []) refl) (goes_on (header_at (Word name ∷ (Symbol Colon ∷ []))) (λ n. Some (ModuleRow n)) name (header-read name h.0)))
+row-read (ModuleRow name) ts (n, inl is) =
+    rw is (keyword-read keyword.Module (Word name ∷ (Symbol Colon ∷ [])) (ModuleRow name) (named (codes "module") name (Symbol Colon ∷ []) refl) (goes_on (header_at (Word name ∷ (Symbol Colon ∷ []))) (λ n. Some (ModuleRow n)) name (header-read name n)))
+row-read (ModuleRow name) ts (n, inr is) =
+    rw is (keyword-read keyword.Public (Word (codes "module") ∷ (Word name ∷ (Symbol Colon ∷ []))) (ModuleRow name) refl (public-read name n))
 row-read (PortRow direction name ty) ts h =
     rw h.2 (keyword-read (keyword.Port direction) (Word name ∷ (Symbol Colon ∷ h.0)) (PortRow direction name ty) (named (direction_text direction) name (Symbol Colon ∷ h.0) refl)
     (goes_on (last_declared_at (Word name ∷ (Symbol Colon ∷ h.0))) (λ d. Some (PortRow direction d.0 d.1)) (name, ty) (last_declared-read name ty h.0 h.1 h.3)))
@@ -199,7 +241,8 @@ row-read (WireRow name ty) ts h =
 row-read (NodeRow name value) ts h =
     rw h.2 (keyword-read keyword.Node (Word name ∷ (Symbol Equals ∷ h.0)) (NodeRow name value) (named (codes "node") name (Symbol Equals ∷ h.0) refl) (node-read name value h.0 h.1 h.3))
 row-read (RegisterRow name ty clock) ts h = register-read name ty clock ts [] (RegisterRow name ty clock) ends_end h refl
-row-read (RegisterResetRow name ty clock condition init) ts h =
+row-read (RegisterResetRow name ty clock condition init) ts (inr h) = regreset-read name ty clock condition init ts h
+row-read (RegisterResetRow name ty clock condition init) ts (inl h) =
     register-read name ty clock ts _ (RegisterResetRow name ty clock condition init) (ends_word (codes "with") _) h.1 (inline-read name ty clock condition init h.0 h.2)
 row-read (RegisterOpenRow name ty clock) ts h = register-read name ty clock ts _ (RegisterOpenRow name ty clock) (ends_word (codes "with") _) h refl
 row-read (ResetRow condition init) ts h = reset_row-read condition init ts h
@@ -210,8 +253,10 @@ row-read (MemoryRow name) ts h =
 row-read (FieldRow f) ts h =
     let read = field-read f ts h in
     rw read.1 (keyword-read (keyword.Field (word_of f)) (Symbol Arrow ∷ read.0) (FieldRow f) refl (goes_on (field_at (word_of f) read.0) (λ x. Some (FieldRow x)) f read.2))
-row-read (ConnectRow sink source) ts h = connect-read sink source ts h.0 h.1 h.2
-row-read (InvalidRow sink) ts h = driven-by sink ts (Word (codes "is") ∷ (Word (codes "invalid") ∷ [])) (InvalidRow sink) (is_undriven sink ts h) refl h refl
+row-read (ConnectRow sink source) ts (inl h) = connect-read sink source ts h.0 h.1 h.2
+row-read (ConnectRow sink source) ts (inr h) = sink_and_source-read sink source ts h
+row-read (InvalidRow sink) ts (inr h) = invalidate-read sink ts h
+row-read (InvalidRow sink) ts (inl h) = driven-by sink ts (Word (codes "is") ∷ (Word (codes "invalid") ∷ [])) (InvalidRow sink) (is_undriven sink ts h) refl h refl
 row-read SkipRow ts h = rw h (keyword-read keyword.Skip [] SkipRow refl refl)
 row-read (StopRow clock condition code label) ts h =
     rw h.4 (keyword-read keyword.Stop (Symbol OpenParen ∷ h.0) (StopRow clock condition code label) refl (stop-read clock condition code label h.0 h.1 h.3 h.2 h.5 h.6 h.7 h.8))

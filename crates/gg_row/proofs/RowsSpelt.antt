@@ -1,5 +1,5 @@
 -- A row that is read is spelt so.
-use Rattle.std.proofs.Common.{◌≡◌, ℕ, zero, suc, List, [], ◌∷◌, ◌++◌, length, Bool, true, false, Option, None, Some, refl, sym, ap, ◌∙◌, subst, append_assoc}
+use Rattle.std.proofs.Common.{◌≡◌, ℕ, zero, suc, List, [], ◌∷◌, ◌++◌, length, Bool, true, false, Option, None, Some, inl, inr, refl, sym, ap, ◌∙◌, subst, append_assoc}
 use Rattle.std.specs.Prelude.{if◌then◌else◌, codes}
 use Rattle.std.proofs.lemmas.Option.{same_Some}
 use Rattle.gg_lex.specs.declared.token.Tok.{Tok}
@@ -18,7 +18,7 @@ use Rattle.gg_row.specs.declared.words.Keyword.TheVariants as keyword
 use Rattle.gg_row.specs.Words.{direction_text, report_text, field_text, keyword_of}
 use Rattle.gg_ast.specs.Names.{IsName}
 use Rattle.gg_row.specs.Forms.{SpellsReference, SpellsType, SpellsExpr, SpellsReset, SpellsLabel, SpellsArgument, SpellsArguments, SpellsRegister, SpellsRow}
-use Rattle.gg_row.specs.Reading.{◌>>=◌, choose, symbol_at, word_at, name_at, natural_at, end_at, type_at, reference_at, one_parameter_at, text_at, expression_at, last_expression_at, version_at, header_at, declared_at, last_declared_at, node_at, reset_at, reset_row_at, inline_reset_at, with_at, clocked_at, register_at, instance_at, label_at, stop_at, argument_at, arguments_at, report_at, field_at, field_row_at, body_at, keyword_at, invalid_at, driven_at, connection_at, is_connection, row_at}
+use Rattle.gg_row.specs.Reading.{◌>>=◌, choose, symbol_at, word_at, name_at, natural_at, end_at, type_at, reference_at, one_parameter_at, text_at, expression_at, last_expression_at, version_at, header_at, declared_at, last_declared_at, node_at, reset_at, reset_row_at, inline_reset_at, with_at, clocked_at, register_at, instance_at, public_at, connect_at, invalidate_at, last_pair_at, regreset_at, label_at, stop_at, argument_at, arguments_at, report_at, field_at, field_row_at, body_at, keyword_at, invalid_at, driven_at, connection_at, is_connection, row_at}
 use Rattle.gg_row.proofs.Leaves.{bound, ended, chosen, not_chosen, symbol_at-spells, word_at-spells, name_at-spells, natural_at-spells, end_at-spells, text_at-spells}
 use Rattle.gg_row.proofs.FieldLaws.{field-spells}
 use Rattle.gg_row.proofs.WordLaws.{keyword_text, keyword_of-spells}
@@ -42,7 +42,7 @@ invalid-spells sink ts rest row h e =
     let stop = ended invalid.0 (InvalidRow sink) row invalid.2 in
     let tail : rest ≡ Word (codes "is") ∷ (Word (codes "invalid") ∷ []) =
     word_at-spells (codes "is") rest is.0 is.1 ∙ ap (λ l. Word (codes "is") ∷ l) (word_at-spells (codes "invalid") is.0 invalid.0 invalid.1 ∙ ap (λ l. Word (codes "invalid") ∷ l) stop.0) in
-    subst (λ r. SpellsRow r ts) stop.1 (subst (λ l. SpellsReference sink ts l) tail h)
+    subst (λ r. SpellsRow r ts) stop.1 (inl (subst (λ l. SpellsReference sink ts l) tail h))
 
 driven-spells : (sink : Reference) (ts rest : List Tok) (row : Row) (o : Option (List Tok)) → symbol_at Connect rest ≡ o → SpellsReference sink ts rest → driven_at sink rest ≡ Some row → SpellsRow row ts
 driven-spells sink ts rest row None c h e =
@@ -51,7 +51,7 @@ driven-spells sink ts rest row None c h e =
 driven-spells sink ts rest row (Some t) c h e =
     let go : List Tok → Option Row = λ t. last_expression_at t >>= λ e. Some (ConnectRow sink e) in
     let x = bound (last_expression_at t) (λ e. Some (ConnectRow sink e)) row (sym (chosen (symbol_at Connect rest) go (invalid_at sink rest) t c) ∙ e) in
-    subst (λ r. SpellsRow r ts) (same_Some (ConnectRow sink x.0) row x.2) (t, subst (λ l. SpellsReference sink ts l) (symbol_at-spells Connect rest t c) h, last-spells t x.0 x.1)
+    subst (λ r. SpellsRow r ts) (same_Some (ConnectRow sink x.0) row x.2) (inl (t, subst (λ l. SpellsReference sink ts l) (symbol_at-spells Connect rest t c) h, last-spells t x.0 x.1))
 
 connection-spells : (ts : List Tok) (row : Row) → connection_at ts ≡ Some row → SpellsRow row ts
 connection-spells ts row e =
@@ -141,7 +141,7 @@ reset_row-spells ts row h =
 
 -- what follows the clock of a register, if the tokens in `all` before it spell the register
 module _ (name : List ℕ) (ty : GroundType) (clock : Term) (all : List Tok) where
-  inline-spells : (ts u t : List Tok) (row : Row) → SpellsRegister name ty clock all ts → ts ≡ Word (codes "with") ∷ u → u ≡ Symbol Colon ∷ t → inline_reset_at name ty clock t ≡ Some row → SpellsRow row all
+  inline-spells : (ts u t : List Tok) (row : Row) → SpellsRegister (codes "reg") name ty clock all ts → ts ≡ Word (codes "with") ∷ u → u ≡ Symbol Colon ∷ t → inline_reset_at name ty clock t ≡ Some row → SpellsRow row all
   inline-spells ts u t row h with_ colon e =
       let o = bound (symbol_at OpenParen t) (λ t. word_at (codes "reset") t >>= λ u. reset_at u >>= λ r. symbol_at CloseParen r.1 >>= λ v. end_at v >>= λ w. Some (RegisterResetRow name ty clock r.0.0 r.0.1)) row e in
       let w = bound (word_at (codes "reset") o.0) (λ u. reset_at u >>= λ r. symbol_at CloseParen r.1 >>= λ v. end_at v >>= λ w. Some (RegisterResetRow name ty clock r.0.0 r.0.1)) row o.2 in
@@ -151,27 +151,27 @@ module _ (name : List ℕ) (ty : GroundType) (clock : Term) (all : List Tok) whe
       let tail : ts ≡ Word (codes "with") ∷ (Symbol Colon ∷ (Symbol OpenParen ∷ o.0)) = with_ ∙ ap (λ l. Word (codes "with") ∷ l) (colon ∙ ap (λ l. Symbol Colon ∷ l) (symbol_at-spells OpenParen t o.0 o.1)) in
       let inner : SpellsReset r.0.0.0 r.0.0.1 o.0 r.0.1 = subst (λ l. SpellsReset r.0.0.0 r.0.0.1 l r.0.1) (sym (word_at-spells (codes "reset") o.0 w.0 w.1)) (reset-spells w.0 r.0.1 r.0.0.0 r.0.0.1 r.1) in
       let closed : r.0.1 ≡ Symbol CloseParen ∷ [] = symbol_at-spells CloseParen r.0.1 c.0 c.1 ∙ ap (λ l. Symbol CloseParen ∷ l) stop.0 in
-      subst (λ x. SpellsRow x all) stop.1 (o.0, subst (λ l. SpellsRegister name ty clock all l) tail h, subst (λ l. SpellsReset r.0.0.0 r.0.0.1 o.0 l) closed inner)
+      subst (λ x. SpellsRow x all) stop.1 (inl (o.0, subst (λ l. SpellsRegister (codes "reg") name ty clock all l) tail h, subst (λ l. SpellsReset r.0.0.0 r.0.0.1 o.0 l) closed inner))
 
-  with-by : (ts u t : List Tok) (row : Row) (o : Option (List Tok)) → end_at t ≡ o → SpellsRegister name ty clock all ts → ts ≡ Word (codes "with") ∷ u → u ≡ Symbol Colon ∷ t → choose (end_at t) (λ v. Some (RegisterOpenRow name ty clock)) (inline_reset_at name ty clock t) ≡ Some row → SpellsRow row all
+  with-by : (ts u t : List Tok) (row : Row) (o : Option (List Tok)) → end_at t ≡ o → SpellsRegister (codes "reg") name ty clock all ts → ts ≡ Word (codes "with") ∷ u → u ≡ Symbol Colon ∷ t → choose (end_at t) (λ v. Some (RegisterOpenRow name ty clock)) (inline_reset_at name ty clock t) ≡ Some row → SpellsRow row all
   with-by ts u t row None x h with_ colon e =
       inline-spells ts u t row h with_ colon (sym (not_chosen (end_at t) (λ v. Some (RegisterOpenRow name ty clock)) (inline_reset_at name ty clock t) x) ∙ e)
   with-by ts u t row (Some v) x h with_ colon e =
       let same = same_Some (RegisterOpenRow name ty clock) row (sym (chosen (end_at t) (λ v. Some (RegisterOpenRow name ty clock)) (inline_reset_at name ty clock t) v x) ∙ e) in
       let tail : ts ≡ Word (codes "with") ∷ (Symbol Colon ∷ []) = with_ ∙ ap (λ l. Word (codes "with") ∷ l) (colon ∙ ap (λ l. Symbol Colon ∷ l) (end_at-spells t v x)) in
-      subst (λ r. SpellsRow r all) same (subst (λ l. SpellsRegister name ty clock all l) tail h)
+      subst (λ r. SpellsRow r all) same (subst (λ l. SpellsRegister (codes "reg") name ty clock all l) tail h)
 
-  with-spells : (ts : List Tok) (row : Row) → SpellsRegister name ty clock all ts → with_at name ty clock ts ≡ Some row → SpellsRow row all
+  with-spells : (ts : List Tok) (row : Row) → SpellsRegister (codes "reg") name ty clock all ts → with_at name ty clock ts ≡ Some row → SpellsRow row all
   with-spells ts row h e =
       let w = bound (word_at (codes "with") ts) (λ t. symbol_at Colon t >>= λ u. choose (end_at u) (λ v. Some (RegisterOpenRow name ty clock)) (inline_reset_at name ty clock u)) row e in
       let c = bound (symbol_at Colon w.0) (λ u. choose (end_at u) (λ v. Some (RegisterOpenRow name ty clock)) (inline_reset_at name ty clock u)) row w.2 in
       with-by ts w.0 c.0 row (end_at c.0) refl h (word_at-spells (codes "with") ts w.0 w.1) (symbol_at-spells Colon w.0 c.0 c.1) c.2
 
-  clocked-spells : (ts : List Tok) (row : Row) (o : Option (List Tok)) → end_at ts ≡ o → SpellsRegister name ty clock all ts → clocked_at name ty clock ts ≡ Some row → SpellsRow row all
+  clocked-spells : (ts : List Tok) (row : Row) (o : Option (List Tok)) → end_at ts ≡ o → SpellsRegister (codes "reg") name ty clock all ts → clocked_at name ty clock ts ≡ Some row → SpellsRow row all
   clocked-spells ts row None x h e = with-spells ts row h (sym (not_chosen (end_at ts) (λ u. Some (RegisterRow name ty clock)) (with_at name ty clock ts) x) ∙ e)
   clocked-spells ts row (Some v) x h e =
       let same = same_Some (RegisterRow name ty clock) row (sym (chosen (end_at ts) (λ u. Some (RegisterRow name ty clock)) (with_at name ty clock ts) v x) ∙ e) in
-      subst (λ r. SpellsRow r all) same (subst (λ l. SpellsRegister name ty clock all l) (end_at-spells ts v x) h)
+      subst (λ r. SpellsRow r all) same (subst (λ l. SpellsRegister (codes "reg") name ty clock all l) (end_at-spells ts v x) h)
 
 register-spells : (ts : List Tok) (row : Row) → register_at ts ≡ Some row → SpellsRow row (Word (codes "reg") ∷ ts)
 register-spells ts row h =
@@ -179,7 +179,7 @@ register-spells ts row h =
     let m = bound (symbol_at Comma d.0.1) (λ t. expression_at t >>= λ c. clocked_at d.0.0.0 d.0.0.1 c.0 c.1) row d.2 in
     let c = bound (expression_at m.0) (λ c. clocked_at d.0.0.0 d.0.0.1 c.0 c.1) row m.2 in
     let known = declared-spells ts d.0.1 d.0.0.0 d.0.0.1 d.1 in
-    let register : SpellsRegister d.0.0.0 d.0.0.1 c.0.0 (Word (codes "reg") ∷ ts) c.0.1 =
+    let register : SpellsRegister (codes "reg") d.0.0.0 d.0.0.1 c.0.0 (Word (codes "reg") ∷ ts) c.0.1 =
     (known.t, m.0, known.named, ap (λ l. Word (codes "reg") ∷ l) known.tokens, subst (λ l. SpellsType d.0.0.1 known.t l) (symbol_at-spells Comma d.0.1 m.0 m.1) known.typed, expression-spells m.0 c.0.1 c.0.0 c.1) in
     clocked-spells d.0.0.0 d.0.0.1 c.0.0 (Word (codes "reg") ∷ ts) c.0.1 row (end_at c.0.1) refl register c.2
 
@@ -285,6 +285,66 @@ field_row-spells word ts row h =
     subst (λ r. SpellsRow r (Word (field_text word) ∷ ts)) (same_Some (FieldRow f.0) row f.2)
     (field-spells word a.0 (Word (field_text word) ∷ ts) f.0 (ap (λ l. Word (field_text word) ∷ l) (symbol_at-spells Arrow ts a.0 a.1)) f.1)
 
+-- ---- the second spelling
+
+public-spells : (ts : List Tok) (row : Row) → public_at ts ≡ Some row → SpellsRow row (Word (codes "public") ∷ ts)
+public-spells ts row h =
+    let w = bound (word_at (codes "module") ts) (λ t. header_at t >>= λ name. Some (ModuleRow name)) row h in
+    let n = bound (header_at w.0) (λ name. Some (ModuleRow name)) row w.2 in
+    let x = header-spells w.0 n.0 n.1 in
+    subst (λ r. SpellsRow r (Word (codes "public") ∷ ts)) (same_Some (ModuleRow n.0) row n.2)
+    (x.0, inr (ap (λ l. Word (codes "public") ∷ l) (word_at-spells (codes "module") ts w.0 w.1 ∙ ap (λ l. Word (codes "module") ∷ l) x.1)))
+
+connect-spells : (ts : List Tok) (row : Row) → connect_at ts ≡ Some row → SpellsRow row (Word (codes "connect") ∷ ts)
+connect-spells ts row h =
+    let r = bound (reference_at ts) (λ r. symbol_at Comma r.1 >>= λ t. last_expression_at t >>= λ e. Some (ConnectRow r.0 e)) row h in
+    let c = bound (symbol_at Comma r.0.1) (λ t. last_expression_at t >>= λ e. Some (ConnectRow r.0.0 e)) row r.2 in
+    let e = bound (last_expression_at c.0) (λ e. Some (ConnectRow r.0.0 e)) row c.2 in
+    subst (λ x. SpellsRow x (Word (codes "connect") ∷ ts)) (same_Some (ConnectRow r.0.0 e.0) row e.2)
+    (inr (ts, c.0, refl, subst (λ l. SpellsReference r.0.0 ts l) (symbol_at-spells Comma r.0.1 c.0 c.1) (reference-spells ts r.0.1 r.0.0 r.1), last-spells c.0 e.0 e.1))
+
+invalidate-spells : (ts : List Tok) (row : Row) → invalidate_at ts ≡ Some row → SpellsRow row (Word (codes "invalidate") ∷ ts)
+invalidate-spells ts row h =
+    let r = bound (reference_at ts) (λ r. end_at r.1 >>= λ u. Some (InvalidRow r.0)) row h in
+    let stop = ended r.0.1 (InvalidRow r.0.0) row r.2 in
+    subst (λ x. SpellsRow x (Word (codes "invalidate") ∷ ts)) stop.1 (inr (ts, refl, subst (λ l. SpellsReference r.0.0 ts l) stop.0 (reference-spells ts r.0.1 r.0.0 r.1)))
+
+-- the tokens `, CONDITION , INIT`
+record SpellsPair (condition init : Term) (ts : List Tok) : Type 0 where
+  t : List Tok
+  u : List Tok
+  tokens : ts ≡ Symbol Comma ∷ t
+  first : SpellsExpr condition t (Symbol Comma ∷ u)
+  last : SpellsExpr init u []
+
+last_pair-spells : (ts : List Tok) (p : Term × Term) → last_pair_at ts ≡ Some p → SpellsPair p.0 p.1 ts
+last_pair-spells ts p h =
+    let m = bound (symbol_at Comma ts) (λ t. expression_at t >>= λ c. symbol_at Comma c.1 >>= λ u. last_expression_at u >>= λ i. Some (c.0, i)) p h in
+    let c = bound (expression_at m.0) (λ c. symbol_at Comma c.1 >>= λ u. last_expression_at u >>= λ i. Some (c.0, i)) p m.2 in
+    let n = bound (symbol_at Comma c.0.1) (λ u. last_expression_at u >>= λ i. Some (c.0.0, i)) p c.2 in
+    let i = bound (last_expression_at n.0) (λ i. Some (c.0.0, i)) p n.2 in
+    subst (λ (q : Term × Term). SpellsPair q.0 q.1 ts) (same_Some (c.0.0, i.0) p i.2) (record {
+      t = m.0;
+      u = n.0;
+      tokens = symbol_at-spells Comma ts m.0 m.1;
+      first = subst (λ l. SpellsExpr c.0.0 m.0 l) (symbol_at-spells Comma c.0.1 n.0 n.1) (expression-spells m.0 c.0.1 c.0.0 c.1);
+      last = last-spells n.0 i.0 i.1;
+    })
+
+regreset-spells : (ts : List Tok) (row : Row) → regreset_at ts ≡ Some row → SpellsRow row (Word (codes "regreset") ∷ ts)
+regreset-spells ts row h =
+    let d = bound (declared_at ts) (λ d. symbol_at Comma d.1 >>= λ t. expression_at t >>= λ c. last_pair_at c.1 >>= λ p. Some (RegisterResetRow d.0.0 d.0.1 c.0 p.0 p.1)) row h in
+    let m = bound (symbol_at Comma d.0.1) (λ t. expression_at t >>= λ c. last_pair_at c.1 >>= λ p. Some (RegisterResetRow d.0.0.0 d.0.0.1 c.0 p.0 p.1)) row d.2 in
+    let c = bound (expression_at m.0) (λ c. last_pair_at c.1 >>= λ p. Some (RegisterResetRow d.0.0.0 d.0.0.1 c.0 p.0 p.1)) row m.2 in
+    let p = bound (last_pair_at c.0.1) (λ p. Some (RegisterResetRow d.0.0.0 d.0.0.1 c.0.0 p.0 p.1)) row c.2 in
+    let known = declared-spells ts d.0.1 d.0.0.0 d.0.0.1 d.1 in
+    let pair = last_pair-spells c.0.1 p.0 p.1 in
+    let all = Word (codes "regreset") ∷ ts in
+    let register : SpellsRegister (codes "regreset") d.0.0.0 d.0.0.1 c.0.0 all c.0.1 =
+    (known.t, m.0, known.named, ap (λ l. Word (codes "regreset") ∷ l) known.tokens, subst (λ l. SpellsType d.0.0.1 known.t l) (symbol_at-spells Comma d.0.1 m.0 m.1) known.typed, expression-spells m.0 c.0.1 c.0.0 c.1) in
+    subst (λ x. SpellsRow x all) (same_Some (RegisterResetRow d.0.0.0 d.0.0.1 c.0.0 p.0.0 p.0.1) row p.2)
+    (inr (pair.t, pair.u, subst (λ l. SpellsRegister (codes "regreset") d.0.0.0 d.0.0.1 c.0.0 all l) pair.tokens register, pair.first, pair.last))
+
 body-spells : (k : Keyword) (ts : List Tok) (row : Row) → body_at k ts ≡ Some row → SpellsRow row (Word (keyword_text k) ∷ ts)
 body-spells keyword.Version ts row h = version-spells ts row h
 body-spells keyword.Circuit ts row h =
@@ -294,7 +354,7 @@ body-spells keyword.Circuit ts row h =
 body-spells keyword.Module ts row h =
     let n = bound (header_at ts) (λ name. Some (ModuleRow name)) row h in
     let x = header-spells ts n.0 n.1 in
-    subst (λ r. SpellsRow r (Word (codes "module") ∷ ts)) (same_Some (ModuleRow n.0) row n.2) (x.0, ap (λ l. Word (codes "module") ∷ l) x.1)
+    subst (λ r. SpellsRow r (Word (codes "module") ∷ ts)) (same_Some (ModuleRow n.0) row n.2) (x.0, inl (ap (λ l. Word (codes "module") ∷ l) x.1))
 body-spells (keyword.Port direction) ts row h =
     let d = bound (last_declared_at ts) (λ d. Some (PortRow direction d.0 d.1)) row h in
     let x = last_declared-spells ts d.0 d.1 in
@@ -317,6 +377,10 @@ body-spells keyword.Skip ts row h =
     subst (λ r. SpellsRow r (Word (codes "skip") ∷ ts)) stop.1 (ap (λ l. Word (codes "skip") ∷ l) stop.0)
 body-spells keyword.Stop ts row h = stop-spells ts row h
 body-spells (keyword.Report word) ts row h = report-spells word ts row h
+body-spells keyword.Public ts row h = public-spells ts row h
+body-spells keyword.Connect ts row h = connect-spells ts row h
+body-spells keyword.Invalidate ts row h = invalidate-spells ts row h
+body-spells keyword.Regreset ts row h = regreset-spells ts row h
 
 keyword-spells : (ts : List Tok) (row : Row) → (keyword_at ts >>= λ k. body_at k.0 k.1) ≡ Some row → SpellsRow row ts
 keyword-spells [] row h = absurd (cc)

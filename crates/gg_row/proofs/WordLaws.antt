@@ -15,7 +15,7 @@ use Rattle.gg_row.specs.declared.words.Operation.TheVariants.{Unary, Binary, Fix
 use Rattle.gg_row.specs.declared.words.Keyword.{Keyword}
 use Rattle.gg_row.specs.declared.words.Keyword.TheVariants as keyword
 use Rattle.gg_bits.specs.Spelling.{text1, text2, text_const, written_as, all1, all2, all_const, named1, named2, named_const}
-use Rattle.gg_row.specs.Words.{direction_text, report_text, field_text, find_word, operation_of, head_words, tail_words, field_words, keyword_of}
+use Rattle.gg_row.specs.Words.{direction_text, report_text, field_text, find_word, operation_of, head_words, tail_words, field_words, second_words, keyword_of}
 use Rattle.gg_row.proofs.Leaves.{equal_bytes}
 
 -- in each entry of the table, the word is the spelling of the value
@@ -126,15 +126,22 @@ keyword_text (keyword.Field word) = field_text word
 keyword_text keyword.Skip = codes "skip"
 keyword_text keyword.Stop = codes "stop"
 keyword_text (keyword.Report word) = report_text word
+keyword_text keyword.Public = codes "public"
+keyword_text keyword.Connect = codes "connect"
+keyword_text keyword.Invalidate = codes "invalidate"
+keyword_text keyword.Regreset = codes "regreset"
 
 pub keyword_of-spells : (word : List ℕ) (k : Keyword) → keyword_of word ≡ Some k → word ≡ keyword_text k
 keyword_of-spells word k h =
-    elim (first_or (option_or (find_word word head_words) (find_word word tail_words)) _ k h) [
-      | inl known ↦ elim (first_or (find_word word head_words) _ k known) [
-        | inl a ↦ find_word-spells keyword_text word head_words k (refl, (refl, (refl, (refl, (refl, (refl, (refl, (refl, tt)))))))) a
-        | inr b ↦ find_word-spells keyword_text word tail_words k (refl, (refl, (refl, (refl, (refl, (refl, (refl, (refl, (refl, tt))))))))) b
+    elim (first_or (option_or (option_or (find_word word head_words) (find_word word tail_words)) (find_word word field_words)) _ k h) [
+      | inl first ↦ elim (first_or (option_or (find_word word head_words) (find_word word tail_words)) _ k first) [
+        | inl known ↦ elim (first_or (find_word word head_words) _ k known) [
+          | inl a ↦ find_word-spells keyword_text word head_words k (refl, (refl, (refl, (refl, (refl, (refl, (refl, (refl, tt)))))))) a
+          | inr b ↦ find_word-spells keyword_text word tail_words k (refl, (refl, (refl, (refl, (refl, (refl, (refl, (refl, (refl, tt))))))))) b
+        ]
+        | inr c ↦ find_word-spells keyword_text word field_words k (refl, (refl, (refl, (refl, (refl, (refl, (refl, tt))))))) c
       ]
-      | inr c ↦ find_word-spells keyword_text word field_words k (refl, (refl, (refl, (refl, (refl, (refl, (refl, tt))))))) c
+      | inr d ↦ find_word-spells keyword_text word second_words k (refl, (refl, (refl, (refl, tt)))) d
     ]
 
 pub keyword_of-here : (k : Keyword) → keyword_of (keyword_text k) ≡ Some k
@@ -162,3 +169,7 @@ keyword_of-here (keyword.Report report.Printf) = refl
 keyword_of-here (keyword.Report report.Assert) = refl
 keyword_of-here (keyword.Report report.Assume) = refl
 keyword_of-here (keyword.Report report.Cover) = refl
+keyword_of-here keyword.Public = refl
+keyword_of-here keyword.Connect = refl
+keyword_of-here keyword.Invalidate = refl
+keyword_of-here keyword.Regreset = refl

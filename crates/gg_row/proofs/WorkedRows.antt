@@ -35,7 +35,7 @@ pub record IsRow (row : Row) (ts : List Tok) : Type 0 where
 pub read : {row : Row} {ts : List Tok} → row_at ts ≡ Some row → IsRow row ts
 read {row} {ts} found = record { spelt = row-spells ts row found }
 
-sole : {row other : Row} {ts : List Tok} → row_at ts ≡ Some row → IsRow other ts → row ≡ other
+pub sole : {row other : Row} {ts : List Tok} → row_at ts ≡ Some row → IsRow other ts → row ≡ other
 sole {row} {other} {ts} found is = same_Some row other (sym found ∙ spelt-row_at ts other is.spelt)
 
 pub none : {row : Row} {ts : List Tok} → row_at ts ≡ None → IsRow row ts → ⊥
@@ -44,22 +44,22 @@ none {row} {ts} nothing is =
     cc
 
 -- the operands a, b and c, and the clock k
-abbrev named : List ℕ → Term
+abbrev pub named : List ℕ → Term
 named name = NamedTerm (reference.Local name)
 
-abbrev a : Term
+abbrev pub a : Term
 a = named (codes "a")
 
-abbrev b : Term
+abbrev pub b : Term
 b = named (codes "b")
 
-abbrev c : Term
+abbrev pub c : Term
 c = named (codes "c")
 
-abbrev k : Term
+abbrev pub k : Term
 k = named (codes "k")
 
-abbrev literal : Kind → ℕ → Radix → Bool → List ℕ → Literal
+abbrev pub literal : Kind → ℕ → Radix → Bool → List ℕ → Literal
 literal kind width radix negative digits = record { kind = kind; width = width; radix = radix; negative = negative; digits = digits }
 
 abbrev arguments : List Argument

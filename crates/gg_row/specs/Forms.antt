@@ -1,6 +1,6 @@
 -- The forms of a line: which tokens spell which row (FIRRTL Specification, "Grammar"). Each definition goes by cases on
 -- what is spelt. If more may follow, the definition is on two lists: the tokens, and the rest after it.
-use Rattle.std.specs.Prelude.{◌≡◌, ℕ, ◌^◌, Bool, true, false, ◌&&◌, IsTrue, List, [], ◌∷◌, Option, None, Some, ◌==◌, nat_lt, ◌||◌, codes}
+use Rattle.std.specs.Prelude.{◌≡◌, ◌⊎◌, ℕ, ◌^◌, Bool, true, false, ◌&&◌, IsTrue, List, [], ◌∷◌, Option, None, Some, ◌==◌, nat_lt, ◌||◌, codes}
 use Rattle.std.specs.List.{list_all}
 use Rattle.std.specs.Char.{is_ascii_digit, is_ascii_hexdigit}
 use Rattle.std.specs.Str.Parse.{digits_value}
@@ -66,18 +66,34 @@ abbrev pub signed : Bool → List ℕ → List ℕ
 signed true digits = 45 ∷ digits
 signed false digits = digits
 
--- a literal's number: a number, or a text that begins with the letter of its radix
+-- a literal's number without the letter of a radix before it, which is decimal, or as a text that begins with the letter
 abbrev pub number_token : Radix → List ℕ → Tok
 number_token Binary digits = Text (98 ∷ digits)
 number_token Octal digits = Text (111 ∷ digits)
 number_token Decimal digits = Number digits
 number_token Hexadecimal digits = Text (104 ∷ digits)
 
--- UInt<n>("h1f"), SInt<n>(-3) and the like
+abbrev pub letter_of : Radix → ℕ
+letter_of Binary = 98
+letter_of Octal = 111
+letter_of Decimal = 100
+letter_of Hexadecimal = 104
+
+-- a number with its radix: `0`, the letter of the radix, the digits; a `-` is before the `0` or before the digits
+abbrev pub SpellsWithRadix : Radix → Bool → List ℕ → List ℕ → Type 0
+SpellsWithRadix radix false digits bytes = bytes ≡ 48 ∷ letter_of radix ∷ digits
+SpellsWithRadix radix true digits bytes = (bytes ≡ 45 ∷ 48 ∷ letter_of radix ∷ digits) ⊎ (bytes ≡ 48 ∷ letter_of radix ∷ 45 ∷ digits)
+
+-- a literal's number, of digits of its radix
+pub record SpellsNumber (radix : Radix) (negative : Bool) (digits : List ℕ) (token : Tok) : Type 0 where
+  pub digits_are : IsTrue (are_digits radix digits)
+  pub spelt : (token ≡ number_token radix (signed negative digits)) ⊎ ((bytes : List ℕ) × SpellsWithRadix radix negative digits bytes × (token ≡ Number bytes))
+
+-- UInt<n>("h1f"), UInt<n>(0h1f), SInt<n>(-3) and the like
 abbrev pub SpellsLiteral : Literal → List Tok → List Tok → Type 0
 SpellsLiteral l ts rest =
-    (width : List ℕ) × IsNatural width l.width × IsTrue (are_digits l.radix l.digits)
-    × (ts ≡ Word (kind_text l.kind) ∷ (Symbol Less ∷ (Number width ∷ (Symbol Greater ∷ (Symbol OpenParen ∷ (number_token l.radix (signed l.negative l.digits) ∷ (Symbol CloseParen ∷ rest)))))))
+    (width : List ℕ) × (number : Tok) × IsNatural width l.width × SpellsNumber l.radix l.negative l.digits number
+    × (ts ≡ Word (kind_text l.kind) ∷ (Symbol Less ∷ (Number width ∷ (Symbol Greater ∷ (Symbol OpenParen ∷ (number ∷ (Symbol CloseParen ∷ rest)))))))
 
 -- the parameters of an operation, and its closing bracket: two for `bits`, one for any other
 abbrev pub SpellsParameters : OpN → ℕ → ℕ → List Tok → List Tok → Type 0
@@ -126,10 +142,38 @@ SpellsArguments [] ts rest = ⊥
 SpellsArguments (a ∷ []) ts rest = SpellsArgument a ts (Symbol CloseParen ∷ rest)
 SpellsArguments (a ∷ (b ∷ more)) ts rest = (t : List Tok) × SpellsArgument a ts (Symbol Comma ∷ t) × SpellsArguments (b ∷ more) t rest
 
--- NAME : TYPE , CLOCK after the word `reg`
-abbrev pub SpellsRegister : List ℕ → GroundType → Term → List Tok → List Tok → Type 0
-SpellsRegister name ty clock ts rest =
-    (t : List Tok) × (u : List Tok) × IsName name × (ts ≡ Word (codes "reg") ∷ (Word name ∷ (Symbol Colon ∷ t))) × SpellsType ty t (Symbol Comma ∷ u) × SpellsExpr clock u rest
+-- NAME : TYPE , CLOCK after this word
+abbrev pub SpellsRegister : List ℕ → List ℕ → GroundType → Term → List Tok → List Tok → Type 0
+SpellsRegister word name ty clock ts rest =
+    (t : List Tok) × (u : List Tok) × IsName name × (ts ≡ Word word ∷ (Word name ∷ (Symbol Colon ∷ t))) × SpellsType ty t (Symbol Comma ∷ u) × SpellsExpr clock u rest
+
+-- reg NAME : TYPE , CLOCK with : ( reset => ( CONDITION , INIT ) )
+abbrev pub SpellsRegisterWith : List ℕ → GroundType → Term → Term → Term → List Tok → Type 0
+SpellsRegisterWith name ty clock condition init ts =
+    (t : List Tok) × SpellsRegister (codes "reg") name ty clock ts (Word (codes "with") ∷ (Symbol Colon ∷ (Symbol OpenParen ∷ t)))
+    × SpellsReset condition init t (Symbol CloseParen ∷ [])
+
+-- regreset NAME : TYPE , CLOCK , CONDITION , INIT
+abbrev pub SpellsRegreset : List ℕ → GroundType → Term → Term → Term → List Tok → Type 0
+SpellsRegreset name ty clock condition init ts =
+    (t : List Tok) × (u : List Tok) × SpellsRegister (codes "regreset") name ty clock ts (Symbol Comma ∷ t) × SpellsExpr condition t (Symbol Comma ∷ u) × SpellsExpr init u []
+
+-- SINK <= SOURCE
+abbrev pub SpellsConnection : Reference → Term → List Tok → Type 0
+SpellsConnection sink source ts = (t : List Tok) × SpellsReference sink ts (Symbol Connect ∷ t) × SpellsExpr source t []
+
+-- connect SINK , SOURCE
+abbrev pub SpellsConnect : Reference → Term → List Tok → Type 0
+SpellsConnect sink source ts =
+    (t : List Tok) × (u : List Tok) × (ts ≡ Word (codes "connect") ∷ t) × SpellsReference sink t (Symbol Comma ∷ u) × SpellsExpr source u []
+
+-- SINK is invalid
+abbrev pub SpellsInvalid : Reference → List Tok → Type 0
+SpellsInvalid sink ts = SpellsReference sink ts (Word (codes "is") ∷ (Word (codes "invalid") ∷ []))
+
+-- invalidate SINK
+abbrev pub SpellsInvalidate : Reference → List Tok → Type 0
+SpellsInvalidate sink ts = (t : List Tok) × (ts ≡ Word (codes "invalidate") ∷ t) × SpellsReference sink t []
 
 -- names up to the end
 abbrev pub SpellsMoreNames : List (List ℕ) → List Tok → Type 0
@@ -159,26 +203,24 @@ SpellsRow (VersionRow a b c) ts =
     (x : List ℕ) × (y : List ℕ) × (z : List ℕ) × IsNatural x a × IsNatural y b × IsNatural z c
     × (ts ≡ Word (codes "FIRRTL") ∷ (Word (codes "version") ∷ (Number x ∷ (Symbol Dot ∷ (Number y ∷ (Symbol Dot ∷ (Number z ∷ [])))))))
 SpellsRow (CircuitRow name) ts = IsName name × (ts ≡ Word (codes "circuit") ∷ (Word name ∷ (Symbol Colon ∷ [])))
-SpellsRow (ModuleRow name) ts = IsName name × (ts ≡ Word (codes "module") ∷ (Word name ∷ (Symbol Colon ∷ [])))
+SpellsRow (ModuleRow name) ts =
+    IsName name × ((ts ≡ Word (codes "module") ∷ (Word name ∷ (Symbol Colon ∷ []))) ⊎ (ts ≡ Word (codes "public") ∷ (Word (codes "module") ∷ (Word name ∷ (Symbol Colon ∷ [])))))
 SpellsRow (PortRow direction name ty) ts =
     (t : List Tok) × IsName name × (ts ≡ Word (direction_text direction) ∷ (Word name ∷ (Symbol Colon ∷ t))) × SpellsType ty t []
 SpellsRow (WireRow name ty) ts =
     (t : List Tok) × IsName name × (ts ≡ Word (codes "wire") ∷ (Word name ∷ (Symbol Colon ∷ t))) × SpellsType ty t []
 SpellsRow (NodeRow name value) ts =
     (t : List Tok) × IsName name × (ts ≡ Word (codes "node") ∷ (Word name ∷ (Symbol Equals ∷ t))) × SpellsExpr value t []
-SpellsRow (RegisterRow name ty clock) ts = SpellsRegister name ty clock ts []
-SpellsRow (RegisterResetRow name ty clock condition init) ts =
-    (t : List Tok) × SpellsRegister name ty clock ts (Word (codes "with") ∷ (Symbol Colon ∷ (Symbol OpenParen ∷ t)))
-    × SpellsReset condition init t (Symbol CloseParen ∷ [])
-SpellsRow (RegisterOpenRow name ty clock) ts = SpellsRegister name ty clock ts (Word (codes "with") ∷ (Symbol Colon ∷ []))
+SpellsRow (RegisterRow name ty clock) ts = SpellsRegister (codes "reg") name ty clock ts []
+SpellsRow (RegisterResetRow name ty clock condition init) ts = SpellsRegisterWith name ty clock condition init ts ⊎ SpellsRegreset name ty clock condition init ts
+SpellsRow (RegisterOpenRow name ty clock) ts = SpellsRegister (codes "reg") name ty clock ts (Word (codes "with") ∷ (Symbol Colon ∷ []))
 SpellsRow (ResetRow condition init) ts = SpellsReset condition init ts []
 SpellsRow (InstanceRow name m) ts =
     IsName name × IsName m × (ts ≡ Word (codes "inst") ∷ (Word name ∷ (Word (codes "of") ∷ (Word m ∷ []))))
 SpellsRow (MemoryRow name) ts = IsName name × (ts ≡ Word (codes "mem") ∷ (Word name ∷ (Symbol Colon ∷ [])))
 SpellsRow (FieldRow f) ts = SpellsField f ts
-SpellsRow (ConnectRow sink source) ts =
-    (t : List Tok) × SpellsReference sink ts (Symbol Connect ∷ t) × SpellsExpr source t []
-SpellsRow (InvalidRow sink) ts = SpellsReference sink ts (Word (codes "is") ∷ (Word (codes "invalid") ∷ []))
+SpellsRow (ConnectRow sink source) ts = SpellsConnection sink source ts ⊎ SpellsConnect sink source ts
+SpellsRow (InvalidRow sink) ts = SpellsInvalid sink ts ⊎ SpellsInvalidate sink ts
 SpellsRow SkipRow ts = ts ≡ Word (codes "skip") ∷ []
 SpellsRow (StopRow clock condition code label) ts =
     (t : List Tok) × (u : List Tok) × (digits : List ℕ) × (v : List Tok) × (ts ≡ Word (codes "stop") ∷ (Symbol OpenParen ∷ t))

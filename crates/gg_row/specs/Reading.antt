@@ -149,10 +149,31 @@ abbrev pub text_digits : List ℕ → Option Digits
 text_digits [] = None
 text_digits (b ∷ bs) = radix_of b >>= λ radix. signed_digits radix bs
 
+-- the radix that the letter behind a `0` names
+abbrev pub zero_radix : ℕ → Option Radix
+zero_radix b = if b == 100 then Some Decimal else radix_of b
+
+-- the radix of a number, and its digits: behind `0` and a letter, or all of the bytes, in decimal
+abbrev pub radix_or_decimal : Option Radix → List ℕ → List ℕ → Radix × List ℕ
+radix_or_decimal None all digits = (Decimal, all)
+radix_or_decimal (Some radix) all digits = (radix, digits)
+
+abbrev pub split_radix : List ℕ → Radix × List ℕ
+split_radix [] = (Decimal, [])
+split_radix (b ∷ []) = (Decimal, b ∷ [])
+split_radix (b ∷ letter ∷ digits) = if b == 48 then radix_or_decimal (zero_radix letter) (b ∷ letter ∷ digits) digits else (Decimal, b ∷ letter ∷ digits)
+
+-- a `-` may be before the radix, or else before the digits
+abbrev pub number_digits : List ℕ → Option Digits
+number_digits [] = None
+number_digits (b ∷ bs) =
+    if b == 45 then checked_digits (split_radix bs).0 true (split_radix bs).1
+    else signed_digits (split_radix (b ∷ bs)).0 (split_radix (b ∷ bs)).1
+
 abbrev pub digits_at : List Tok → Option (Digits × List Tok)
 digits_at [] = None
 digits_at (Word w ∷ ts) = None
-digits_at (Number w ∷ ts) = signed_digits Decimal w >>= λ d. Some (d, ts)
+digits_at (Number w ∷ ts) = number_digits w >>= λ d. Some (d, ts)
 digits_at (Text w ∷ ts) = text_digits w >>= λ d. Some (d, ts)
 digits_at (Symbol mark ∷ ts) = None
 
@@ -279,6 +300,14 @@ clocked_at name ty clock ts = choose (end_at ts) (λ u. Some (RegisterRow name t
 abbrev pub register_at : List Tok → Option Row
 register_at ts = declared_at ts >>= λ d. symbol_at Comma d.1 >>= λ t. expression_at t >>= λ c. clocked_at d.0.0 d.0.1 c.0 c.1
 
+-- , CONDITION , INIT up to the end
+abbrev pub last_pair_at : List Tok → Option (Term × Term)
+last_pair_at ts = symbol_at Comma ts >>= λ t. expression_at t >>= λ c. symbol_at Comma c.1 >>= λ u. last_expression_at u >>= λ i. Some (c.0, i)
+
+abbrev pub regreset_at : List Tok → Option Row
+regreset_at ts =
+    declared_at ts >>= λ d. symbol_at Comma d.1 >>= λ t. expression_at t >>= λ c. last_pair_at c.1 >>= λ p. Some (RegisterResetRow d.0.0 d.0.1 c.0 p.0 p.1)
+
 abbrev pub instance_at : List Tok → Option Row
 instance_at ts = name_at ts >>= λ n. word_at (codes "of") n.1 >>= λ t. name_at t >>= λ m. end_at m.1 >>= λ u. Some (InstanceRow n.0 m.0)
 
@@ -362,6 +391,18 @@ field_at field_word.ReadUnderWrite ts = last_read_under_write_at ts >>= λ w. So
 abbrev pub field_row_at : FieldWord → List Tok → Option Row
 field_row_at word ts = symbol_at Arrow ts >>= λ t. field_at word t >>= λ f. Some (FieldRow f)
 
+-- module NAME :
+abbrev pub public_at : List Tok → Option Row
+public_at ts = word_at (codes "module") ts >>= λ t. header_at t >>= λ name. Some (ModuleRow name)
+
+-- SINK , SOURCE
+abbrev pub connect_at : List Tok → Option Row
+connect_at ts = reference_at ts >>= λ r. symbol_at Comma r.1 >>= λ t. last_expression_at t >>= λ e. Some (ConnectRow r.0 e)
+
+-- SINK
+abbrev pub invalidate_at : List Tok → Option Row
+invalidate_at ts = reference_at ts >>= λ r. end_at r.1 >>= λ u. Some (InvalidRow r.0)
+
 -- the row whose first word is this keyword, by the tokens after it
 abbrev pub body_at : Keyword → List Tok → Option Row
 body_at keyword.Version ts = version_at ts
@@ -378,6 +419,10 @@ body_at (keyword.Field word) ts = field_row_at word ts
 body_at keyword.Skip ts = end_at ts >>= λ u. Some SkipRow
 body_at keyword.Stop ts = stop_at ts
 body_at (keyword.Report word) ts = report_at word ts
+body_at keyword.Public ts = public_at ts
+body_at keyword.Connect ts = connect_at ts
+body_at keyword.Invalidate ts = invalidate_at ts
+body_at keyword.Regreset ts = regreset_at ts
 
 abbrev pub keyword_at : List Tok → Option (Keyword × List Tok)
 keyword_at [] = None

@@ -78,5 +78,11 @@ field_words =
     ∷ ((codes "write-latency", keyword.Field field.WriteLatency) ∷ ((codes "reader", keyword.Field field.Reader) ∷ ((codes "writer", keyword.Field field.Writer)
     ∷ ((codes "read-under-write", keyword.Field field.ReadUnderWrite) ∷ []))))))
 
+-- the first words of the second spelling
+abbrev pub second_words : List (List ℕ × Keyword)
+second_words =
+    (codes "public", keyword.Public) ∷ ((codes "connect", keyword.Connect) ∷ ((codes "invalidate", keyword.Invalidate) ∷ ((codes "regreset", keyword.Regreset) ∷ [])))
+
 abbrev pub keyword_of : List ℕ → Option Keyword
-keyword_of word = option_or (option_or (find_word word head_words) (find_word word tail_words)) (find_word word field_words)
+keyword_of word =
+    option_or (option_or (option_or (find_word word head_words) (find_word word tail_words)) (find_word word field_words)) (find_word word second_words)

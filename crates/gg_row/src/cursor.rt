@@ -2,9 +2,9 @@
 ghost use Rattle.std.specs.Prelude.{◌≡◌, [], ◌∷◌, ◌++◌, MatchBool, MatchResult, is_some, length};
 ghost use Rattle.gg_row.specs.Reading.{Reads, Passes, Finds, TakesName, more_names_at, names_at, symbol_at, word_at, name_at, natural_at, digits_at, operation_at, is_second, end_at, text_at, keyword_at, is_invalid, is_connection};
 
-use crate::digits::{Digits, natural_value, signed_digits, text_digits};
+use crate::digits::{Digits, natural_value, number_digits, text_digits};
 use crate::words::{Keyword, Operation, find_keyword, find_operation};
-use gg_ast::{Radix, is_name};
+use gg_ast::is_name;
 use gg_bits::{Name, Names};
 use gg_lex::{Symbol, Tok};
 use std::alloc::{AllocError, Global};
@@ -146,7 +146,7 @@ impl<'a> Cursor<'a> {
         match self.rest {
             [Tok::Number(found), rest @ ..] => {
                 self.rest = rest;
-                signed_digits(alloc, Radix::Decimal, found.as_bytes())
+                number_digits(alloc, found.as_bytes())
             }
             [Tok::Text(found), rest @ ..] => {
                 self.rest = rest;
@@ -222,7 +222,7 @@ impl<'a> Cursor<'a> {
         }
     }
 
-    /// The first word of a line that is not a connection.
+    /// The first word of a line whose first word isn't the name of a sink.
     pub(crate) fn keyword(&mut self) -> Result<Keyword, Miss>
         ensures { Reads (λ k. k) result self.new (keyword_at self.old) }
     {
@@ -249,7 +249,7 @@ impl<'a> Cursor<'a> {
         }
     }
 
-    /// Whether the line is a connection, so that its first word is a name.
+    /// Whether the line begins with a sink, so that its first word is a name.
     pub(crate) fn is_connection(&self) -> bool
         ensures { result ≡ is_connection self.now }
     {

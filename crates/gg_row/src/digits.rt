@@ -2,7 +2,7 @@
 ghost use Rattle.std.specs.Prelude.{◌≡◌, IsTrue, OnOk};
 ghost use Rattle.std.specs.List.{list_all};
 ghost use Rattle.gg_row.specs.Forms.{is_digit_of, are_digits};
-ghost use Rattle.gg_row.specs.Reading.{Finds, natural_of, checked_digits, signed_digits, radix_of, text_digits};
+ghost use Rattle.gg_row.specs.Reading.{Finds, natural_of, checked_digits, signed_digits, radix_of, text_digits, zero_radix, split_radix, number_digits};
 
 use crate::cursor::Miss;
 use gg_ast::Radix;
@@ -76,7 +76,7 @@ fn checked_digits(alloc: Global, radix: Radix, negative: bool, bytes: &[u8]) -> 
 }
 
 /// The bytes as digits of the radix, with or without a `-` before them.
-pub(crate) fn signed_digits(alloc: Global, radix: Radix, bytes: &[u8]) -> Result<Digits, Miss>
+fn signed_digits(alloc: Global, radix: Radix, bytes: &[u8]) -> Result<Digits, Miss>
     ensures { Finds (λ d. d) result (signed_digits radix bytes.now) }
 {
     match bytes {
@@ -107,5 +107,46 @@ pub(crate) fn text_digits(alloc: Global, bytes: &[u8]) -> Result<Digits, Miss>
             None => Err(Miss::NoForm),
         },
         [] => Err(Miss::NoForm),
+    }
+}
+
+/// The radix whose letter may be behind a `0`.
+fn zero_radix(letter: u8) -> Option<Radix>
+    ensures { result ≡ zero_radix letter }
+{
+    match letter {
+        b'd' => Some(Radix::Decimal),
+        _ => radix_of(letter),
+    }
+}
+
+/// The radix of a number and its digits: those behind `0` and the letter of a radix, or else all of the bytes, which are
+/// decimal.
+fn split_radix(bytes: &[u8]) -> (Radix, &[u8])
+    ensures radix { result.0 ≡ (split_radix bytes.now).0 }
+    ensures digits { result.1.now ≡ (split_radix bytes.now).1 }
+{
+    match bytes {
+        [b'0', letter, digits @ ..] => match zero_radix(*letter) {
+            Some(radix) => (radix, digits),
+            None => (Radix::Decimal, bytes),
+        },
+        _ => (Radix::Decimal, bytes),
+    }
+}
+
+/// The bytes of a number as a literal's: a `-` may be before the radix, or else before the digits.
+pub(crate) fn number_digits(alloc: Global, bytes: &[u8]) -> Result<Digits, Miss>
+    ensures { Finds (λ d. d) result (number_digits bytes.now) }
+{
+    match bytes {
+        [b'-', unsigned @ ..] => {
+            let (radix, digits) = split_radix(unsigned);
+            checked_digits(alloc, radix, true, digits)
+        }
+        _ => {
+            let (radix, digits) = split_radix(bytes);
+            signed_digits(alloc, radix, digits)
+        }
     }
 }

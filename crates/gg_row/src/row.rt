@@ -2,7 +2,7 @@
 ghost use Rattle.std.specs.Prelude.{◌≡◌, ℕ, List, [], ◌∷◌, ◌++◌, length, map, IfOk, MatchResult};
 ghost use Rattle.gg_ast.specs.Row.{RegisterResetRow};
 ghost use Rattle.gg_ast.specs.Term.{Term};
-ghost use Rattle.gg_row.specs.Reading.{Reads, Finds, expression_at, last_expression_at, version_at, header_at, declared_at, last_declared_at, node_at, reset_at, reset_row_at, inline_reset_at, with_at, clocked_at, register_at, instance_at, field_row_at, label_at, stop_at, argument_at, arguments_at, TakesArgument, report_at, body_at, invalid_at, driven_at, connection_at, row_at};
+ghost use Rattle.gg_row.specs.Reading.{Reads, Finds, expression_at, last_expression_at, version_at, header_at, declared_at, last_declared_at, node_at, reset_at, reset_row_at, inline_reset_at, with_at, clocked_at, register_at, instance_at, field_row_at, label_at, stop_at, argument_at, arguments_at, TakesArgument, report_at, body_at, invalid_at, driven_at, connection_at, public_at, connect_at, invalidate_at, last_pair_at, regreset_at, row_at};
 ghost use Rattle.gg_row.specs.LineRows.{AreNamesOfLine, FindsRow, TellsRow};
 
 use crate::cursor::{Cursor, Miss};
@@ -23,7 +23,7 @@ pub enum LineRow {
     Version(u32, u32, u32),
     /// `circuit NAME :`.
     Circuit(Name),
-    /// `module NAME :`.
+    /// `module NAME :`, possibly with `public` before it.
     Module(Name),
     /// `input NAME : TYPE` or `output NAME : TYPE`.
     Port(Direction, Name, GroundType),
@@ -84,6 +84,10 @@ fn body(alloc: Global, cursor: &mut Cursor, keyword: Keyword) -> Result<LineRow,
         Keyword::Skip => skip(cursor),
         Keyword::Stop => stop(alloc, cursor),
         Keyword::Report(word) => report(alloc, cursor, word),
+        Keyword::Public => public(cursor),
+        Keyword::Connect => connect(alloc, cursor),
+        Keyword::Invalidate => invalidate(cursor),
+        Keyword::Regreset => regreset(alloc, cursor),
     }
 }
 
@@ -109,6 +113,14 @@ fn header(cursor: &mut Cursor) -> Result<Name, Miss>
     cursor.symbol(Symbol::Colon)?;
     cursor.end()?;
     Ok(name)
+}
+
+/// A module's header, after `public`, which changes nothing.
+fn public(cursor: &mut Cursor) -> Result<LineRow, Miss>
+    ensures { FindsRow result (public_at cursor.old) }
+{
+    cursor.word("module")?;
+    Ok(LineRow::Module(header(cursor)?))
 }
 
 /// `NAME : TYPE`.
@@ -276,6 +288,44 @@ fn reset_row(alloc: Global, cursor: &mut Cursor) -> Result<LineRow, Miss>
     Err(Miss::NoForm)
 }
 
+/// A register with a reset, after `regreset`.
+fn regreset(alloc: Global, cursor: &mut Cursor) -> Result<LineRow, Miss>
+    ensures { FindsRow result (regreset_at cursor.old) }
+{
+    let (name, ty) = declared(cursor)?;
+    cursor.symbol(Symbol::Comma)?;
+    let clock = expression(alloc, cursor)?;
+    match last_pair(alloc, cursor) {
+        Ok(found) => {
+            let (condition, init) = found;
+            Ok(LineRow::RegisterReset(name, ty, clock, condition, init))
+        }
+        Err(miss) => {
+            drop(clock);
+            Err(miss)
+        }
+    }
+}
+
+/// `, CONDITION , INIT` up to the end.
+fn last_pair(alloc: Global, cursor: &mut Cursor) -> Result<(Expr, Expr), Miss>
+    ensures { Finds (λ p. p) result (last_pair_at cursor.old) }
+{
+    cursor.symbol(Symbol::Comma)?;
+    let condition = expression(alloc, cursor)?;
+    if !cursor.skip(Symbol::Comma) {
+        drop(condition);
+        return Err(Miss::NoForm);
+    }
+    match last_expression(alloc, cursor) {
+        Ok(init) => Ok((condition, init)),
+        Err(miss) => {
+            drop(condition);
+            Err(miss)
+        }
+    }
+}
+
 /// An instance, after its keyword.
 fn instance(cursor: &mut Cursor) -> Result<LineRow, Miss>
     ensures { FindsRow result (instance_at cursor.old) }
@@ -426,6 +476,25 @@ fn invalid(cursor: &mut Cursor, sink: Reference) -> Result<LineRow, Miss>
 {
     cursor.word("is")?;
     cursor.word("invalid")?;
+    cursor.end()?;
+    Ok(LineRow::Statement(StmtKind::Invalid { sink }))
+}
+
+/// A connection, after `connect`.
+fn connect(alloc: Global, cursor: &mut Cursor) -> Result<LineRow, Miss>
+    ensures { FindsRow result (connect_at cursor.old) }
+{
+    let sink = reference(cursor)?;
+    cursor.symbol(Symbol::Comma)?;
+    let source = last_expression(alloc, cursor)?;
+    Ok(LineRow::Statement(StmtKind::Connect { sink, source }))
+}
+
+/// A sink that is invalid, after `invalidate`.
+fn invalidate(cursor: &mut Cursor) -> Result<LineRow, Miss>
+    ensures { FindsRow result (invalidate_at cursor.old) }
+{
+    let sink = reference(cursor)?;
     cursor.end()?;
     Ok(LineRow::Statement(StmtKind::Invalid { sink }))
 }

@@ -1,6 +1,6 @@
 //! The words of the grammar: operations, and the first words of lines.
 ghost use Rattle.std.specs.Prelude.{◌≡◌};
-ghost use Rattle.gg_row.specs.Words.{find_word, operation_of, head_words, tail_words, field_words, keyword_of};
+ghost use Rattle.gg_row.specs.Words.{find_word, operation_of, head_words, tail_words, field_words, second_words, keyword_of};
 
 use gg_ast::{Direction, Report};
 use gg_bits::{Op1, Op2, OpN};
@@ -47,6 +47,14 @@ pub(crate) enum Keyword {
     Skip,
     Stop,
     Report(Report),
+    /// `public`, before `module`.
+    Public,
+    /// `connect`, a connection.
+    Connect,
+    /// `invalidate`, of a sink.
+    Invalidate,
+    /// `regreset`, a register with a reset.
+    Regreset,
 }
 
 /// The operation that a word names.
@@ -120,11 +128,25 @@ fn field_keyword(word: &str) -> Option<Keyword>
     }
 }
 
-/// The form of a line that is not a connection, by its first word.
+/// The form of a line whose first word is one of these, of the second spelling.
+fn second_keyword(word: &str) -> Option<Keyword>
+    ensures { result ≡ find_word word.now second_words }
+{
+    match word {
+        "public" => Some(Keyword::Public),
+        "connect" => Some(Keyword::Connect),
+        "invalidate" => Some(Keyword::Invalidate),
+        "regreset" => Some(Keyword::Regreset),
+        _ => None,
+    }
+}
+
+/// The form of a line whose first word isn't the name of a sink, by this word.
 pub(crate) fn find_keyword(word: &str) -> Option<Keyword>
     ensures { result ≡ keyword_of word.now }
 {
     head_keyword(word)
         .or(tail_keyword(word))
         .or(field_keyword(word))
+        .or(second_keyword(word))
 }

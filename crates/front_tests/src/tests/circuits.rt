@@ -4,6 +4,10 @@
 pub(crate) const COUNTER: &str =
     "circuit Counter :\n  module Counter :\n    input clock : Clock\n    input reset : UInt<1>\n    output out : UInt<8>\n\n    reg c : UInt<8>, clock with :\n      reset => (UInt<1>(\"h0\"), c) @[Counter.scala 5:20]\n    node n = add(c, UInt<1>(\"h1\"))\n    out <= c\n    c <= mux(reset, UInt<8>(\"h0\"), bits(n, 7, 0))\n";
 
+/// A counter in the second spelling, without an empty line.
+pub(crate) const SECOND: &str =
+    "FIRRTL version 4.0.0\ncircuit Counter :\n  public module Counter :\n    input clock : Clock\n    input reset : UInt<1>\n    output out : UInt<8>\n    regreset c : UInt<8>, clock, UInt<1>(0h0), c\n    node n = add(c, UInt<1>(0b1))\n    connect out, c\n    connect c, mux(reset, UInt<8>(0h0), bits(n, 7, 0))\n";
+
 /// A sum of two inputs.
 pub(crate) const WIDE: &str =
     "circuit Wide :\nmodule Wide :\ninput x : UInt<127>\ninput y : UInt<127>\noutput z : UInt<128>\nz <= add(x, y)\n";

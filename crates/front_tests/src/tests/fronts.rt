@@ -3,7 +3,7 @@
 ghost use Rattle.std.specs.Prelude.{◌<◌, ◌^◌, length};
 
 use super::calls::{Call, Row, check_all};
-use super::circuits::{COUNTER, LATE, LOOP, MEM, PAIR, TOP, WIDE};
+use super::circuits::{COUNTER, LATE, LOOP, MEM, PAIR, SECOND, TOP, WIDE};
 use super::sources::Source::{Bytes, Chain, Edited};
 use gg_front::front;
 use gg_order::Design;
@@ -33,9 +33,35 @@ fn put_design(out: &mut String, design: &Design) -> Result<(), AllocError> {
 }
 
 /// Circuits with a line changed, and bytes that are no text.
-static CIRCUITS: [Row; 45] = [
+static CIRCUITS: [Row; 52] = [
     (Bytes(b"\xff"), "not text"),
     (Edited(COUNTER, 0, ""), "4 signals 1 in 1 out 1 instances"),
+    (Edited(SECOND, 0, ""), "4 signals 1 in 1 out 1 instances"),
+    (
+        Edited(
+            SECOND,
+            9,
+            "wire connect : UInt<8>\nconnect <= c\nconnect out, connect",
+        ),
+        "5 signals 1 in 1 out 1 instances",
+    ),
+    (
+        Edited(SECOND, 7, "regreset c : UInt<8>, clock, c, c"),
+        "F9 line 7 reg",
+    ),
+    (
+        Edited(SECOND, 7, "regreset c : UInt<8>, clock, UInt<1>(0h0), n"),
+        "F3 line 7 n",
+    ),
+    (
+        Edited(SECOND, 8, "node n = add(c, UInt<1>(-0b1))"),
+        "F12 line 8",
+    ),
+    (Edited(SECOND, 9, "connect <= c"), "F3 line 9 connect"),
+    (
+        Edited(SECOND, 9, "connect out, asSInt(c)"),
+        "F9 line 9 connect",
+    ),
     (Edited(COUNTER, 9, "node n add(c, c)"), "syntax line 9"),
     (
         Edited(COUNTER, 3, "input clock : Analog<1>"),

@@ -40,7 +40,7 @@ fn put_token(out: &mut String, token: &Tok) -> Result<(), AllocError> {
     }
 }
 
-static LEXED: [Row; 30] = [
+static LEXED: [Row; 40] = [
     (Whole(""), ""),
     (Whole(" \t "), ""),
     (Whole("a<-1"), "a <- #1 "),
@@ -55,7 +55,20 @@ static LEXED: [Row; 30] = [
     (Whole("-12 007"), "#-12 #007 "),
     (Whole("+5"), "!0"),
     (Whole("--5"), "!0"),
-    (Whole("0b12"), "#0 b12 "),
+    (Whole("0b12"), "#0b1 #2 "),
+    (
+        Whole("0b2 0o8 0hG 0x1 0B1 0d"),
+        "#0 b2 #0 o8 #0 hG #0 x1 #0 B1 #0 d ",
+    ),
+    (Whole("0b01 0o07 0d09 0h0aF"), "#0b01 #0o07 #0d09 #0h0aF "),
+    (Whole("0h-3 -0h3 0d-5 -0"), "#0h-3 #-0h3 #0d-5 #-0 "),
+    (Whole("-0h-8"), "#-0 h- #8 "),
+    (Whole("0b--1"), "#0 b-- #1 "),
+    (Whole("--0b1"), "!0"),
+    (Whole("00b1 0hfFg 0o7-1"), "#00 b1 #0hfF g #0o7 #-1 "),
+    (Whole("a-0h1"), "a- #0h1 "),
+    (Whole("UInt<-1>"), "UInt <- #1 > "),
+    (Whole("UInt<1>(0h0)"), "UInt < #1 > ( #0h0 ) "),
     (Whole("\"a\\\"b\""), "\"a\\\"b\" "),
     (Whole("\"\\\\\" \"\""), "\"\\\\\" \"\" "),
     (Whole("x \"ab"), "x !2"),

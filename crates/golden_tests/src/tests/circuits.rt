@@ -7,7 +7,7 @@ use std::alloc::{AllocError, Global};
 use std::test::Fail;
 
 // Circuits of one module, a trace of each, and the text of its run.
-static RUNS: [(&str, &str, &str); 12] = [
+static RUNS: [(&str, &str, &str); 17] = [
     // the counter with lines that end with CR LF, comments, tabs and file information
     (
         "circuit Counter :\r\nmodule Counter : ; the top\r\n\tinput clock : Clock\r\ninput reset : UInt<1> @[a b] @[c]\r\noutput out : UInt<8>\r\nreg c : UInt<8> , clock with : (reset => (UInt<1>(\"h0\"), c)) ; @[ no\r\nnode n = add(c,UInt<1>(\"h1\"))\r\nout<=c\r\nc <= mux(reset, UInt<8>(\"h0\"), bits(n, 7, 0))",
@@ -23,6 +23,22 @@ static RUNS: [(&str, &str, &str); 12] = [
     // the counter with a line of the version, and a report
     (
         "FIRRTL version 1.2.0\r\ncircuit Counter :\r\n  module Counter :\r\n    input clock : Clock\r\n    input reset : UInt<1>\r\n    output out : UInt<8>\r\n\r\n    reg c : UInt<8>, clock with : (reset => (UInt<1>(\"h0\"), c))\r\n    node n = add(c, UInt<1>(\"h1\"))\r\n    out <= c\r\n    c <= mux(reset, UInt<8>(\"h0\"), bits(n, 7, 0))\r\n    printf(clock, reset, \"x;@[%d]\\n\", c) : p ; done",
+        TRACE,
+        TEXT,
+    ),
+    // the counter in the second spelling, the same with an output that is invalid, and both spellings in one file
+    (
+        "FIRRTL version 4.0.0\ncircuit Counter :\n  public module Counter :\n    input clock : Clock\n    input reset : UInt<1>\n    output out : UInt<8>\n    regreset c : UInt<8>, clock, UInt<1>(0h0), c\n    node n = add(c, UInt<1>(0b1))\n    connect out, c\n    connect c, mux(reset, UInt<8>(0h0), bits(n, 7, 0))\n",
+        TRACE,
+        TEXT,
+    ),
+    (
+        "FIRRTL version 4.0.0\ncircuit Counter :\n  public module Counter :\n    input clock : Clock\n    input reset : UInt<1>\n    output out : UInt<8>\n    regreset c : UInt<8>, clock, UInt<1>(0h0), c\n    node n = add(c, UInt<1>(0b1))\n    invalidate out\n    connect c, mux(reset, UInt<8>(0h0), bits(n, 7, 0))\n",
+        TRACE,
+        "cycle out\n0 00\n1 00\n2 00\n3 00\n",
+    ),
+    (
+        "circuit Counter :\n  module Counter :\n    input clock : Clock\n    input reset : UInt<1>\n    output out : UInt<8>\n    regreset c : UInt<8>, clock, UInt<1>(\"h0\"), c\n    node n = add(c, UInt<1>(0d1))\n    out <= c\n    connect c, mux(reset, UInt<8>(0), bits(n, 7, 0))\n",
         TRACE,
         TEXT,
     ),
@@ -46,6 +62,17 @@ static RUNS: [(&str, &str, &str); 12] = [
     // signed numbers: a shift past the width, a quotient and a remainder
     (
         "circuit Shift :\nmodule Shift :\noutput z : SInt<1>\noutput w : SInt<8>\nz <= shr(SInt<4>(\"h-3\"), 9)\nw <= shr(SInt<4>(\"h-3\"), 9)\n",
+        "cycle\n0\n",
+        "cycle z w\n0 1 ff\n",
+    ),
+    // and with the number's radix before its digits, where the sign may stand at two places
+    (
+        "circuit Shift :\nmodule Shift :\noutput z : SInt<1>\noutput w : SInt<8>\nz <= shr(SInt<4>(-0h3), 9)\nw <= shr(SInt<4>(-0h3), 9)\n",
+        "cycle\n0\n",
+        "cycle z w\n0 1 ff\n",
+    ),
+    (
+        "circuit Shift :\nmodule Shift :\noutput z : SInt<1>\noutput w : SInt<8>\nz <= shr(SInt<4>(0h-3), 9)\nw <= shr(SInt<4>(0h-3), 9)\n",
         "cycle\n0\n",
         "cycle z w\n0 1 ff\n",
     ),
