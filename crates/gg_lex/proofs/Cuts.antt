@@ -85,9 +85,9 @@ radix_is_ascii bs number =
     ⊎_elim
     (λ plain. All-same is_ascii bs _ plain from_zero)
     (λ signed. ⊎_elim
-      (λ inner. All-same is_ascii bs _ inner (All-cons is_ascii 48 (number.letter ∷ 45 ∷ number.digits) (omega arith) sign_inside))
-      (λ outer. All-same is_ascii bs _ outer (All-cons is_ascii 45 (48 ∷ number.letter ∷ number.digits) (omega arith) from_zero))
-      signed)
+    (λ inner. All-same is_ascii bs _ inner (All-cons is_ascii 48 (number.letter ∷ 45 ∷ number.digits) (omega arith) sign_inside))
+    (λ outer. All-same is_ascii bs _ outer (All-cons is_ascii 45 (48 ∷ number.letter ∷ number.digits) (omega arith) from_zero))
+    signed)
     number.spelt
 
 number_is_ascii : (bs : List ℕ) → IsNumber bs → All is_ascii bs

@@ -1,5 +1,5 @@
 -- The longest number at the front of some bytes: with its radix or decimal, a sign or none, and the run of digits after it.
-use Rattle.std.proofs.Common.{◌≡◌, ◌≢◌, ℕ, zero, suc, ◌+◌, ◌<◌, ◌≤◌, ◌⊎◌, inl, inr, Bool, true, false, Option, Some, None, List, [], ◌∷◌, ◌++◌, length, get_or, take, drop, eqb, sym, ap, ◌∙◌, subst, arith, refl, take-append-drop, length-take-le, length-drop, get_or-take, ⊎_elim}
+use Rattle.std.proofs.Common.{◌≡◌, ◌≢◌, ℕ, zero, suc, ◌+◌, ◌<◌, ◌≤◌, inl, inr, Bool, true, false, Option, Some, None, List, [], ◌∷◌, ◌++◌, length, get_or, take, drop, sym, ap, ◌∙◌, subst, arith, refl, take-append-drop, length-take-le, length-drop, get_or-take, ⊎_elim}
 use Rattle.std.specs.Prelude.{if◌then◌else◌, ◌==◌, ◌&&◌}
 use Rattle.std.specs.List.{prefix_len, AllPass}
 use Rattle.std.specs.Char.{is_ascii_digit}
@@ -292,9 +292,9 @@ letter_place bs number =
     ⊎_elim
     (λ plain. (1, omega arith, omega arith, ap (λ (l : List ℕ). is_ascii_digit (get_or l 1 0)) plain ∙ other))
     (λ signed. ⊎_elim
-      (λ inner. (1, omega arith, omega arith, ap (λ (l : List ℕ). is_ascii_digit (get_or l 1 0)) inner ∙ other))
-      (λ outer. (2, omega arith, omega arith, ap (λ (l : List ℕ). is_ascii_digit (get_or l 2 0)) outer ∙ other))
-      signed)
+    (λ inner. (1, omega arith, omega arith, ap (λ (l : List ℕ). is_ascii_digit (get_or l 1 0)) inner ∙ other))
+    (λ outer. (2, omega arith, omega arith, ap (λ (l : List ℕ). is_ascii_digit (get_or l 2 0)) outer ∙ other))
+    signed)
     number.spelt
 
 -- a decimal number at the front of bytes that begin with a number with its radix is shorter than that

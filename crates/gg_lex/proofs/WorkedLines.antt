@@ -1,6 +1,6 @@
 -- Lines and their tokens, worked by hand. Each lemma puts one token at the front of a line; its premises are tests of the line's
 -- bytes, and compute.
-use Rattle.std.proofs.Common.{◌≡◌, ◌≢◌, ℕ, ◌+◌, ◌<◌, ◌≤◌, Bool, true, false, List, [], ◌∷◌, ◌==◌, eqb, Option, Some, None, length, get_or, take, drop, codes, refl, sym, ap, ◌∙◌, arith, lit≤, length-take-le}
+use Rattle.std.proofs.Common.{◌≡◌, ℕ, ◌+◌, ◌<◌, ◌≤◌, Bool, true, false, List, [], ◌∷◌, ◌==◌, Option, Some, None, length, get_or, take, drop, codes, refl, sym, ap, ◌∙◌, arith, lit≤, length-take-le}
 use Rattle.std.specs.Prelude.{if◌then◌else◌, ◌||◌, ◌&&◌}
 use Rattle.std.specs.Char.{is_ascii_digit}
 use Rattle.std.specs.List.{prefix_len, list_any}

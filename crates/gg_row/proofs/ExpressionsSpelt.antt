@@ -207,10 +207,13 @@ below_zero bs (radix, digits) d split h =
     let c = checked_by radix true digits d (are_digits radix digits) refl h in
     let token = Number (45 ∷ bs) in
     let here : SpellsNumber radix true d.digits token =
-    record { digits_are = c.3; spelt = ⊎_elim
-      (λ with. inr (45 ∷ bs, inl (ap (λ l. 45 ∷ l) with ∙ ap (λ l. 45 ∷ 48 ∷ letter_of radix ∷ l) (sym c.2)), refl))
-      (λ plain. inl (ap (λ l. Number (45 ∷ l)) (sym plain.1 ∙ sym c.2) ∙ ap (λ r. number_token r (45 ∷ d.digits)) (sym plain.0)))
-      split } in
+    record {
+      digits_are = c.3;
+      spelt = ⊎_elim
+          (λ with. inr (45 ∷ bs, inl (ap (λ l. 45 ∷ l) with ∙ ap (λ l. 45 ∷ 48 ∷ letter_of radix ∷ l) (sym c.2)), refl))
+          (λ plain. inl (ap (λ l. Number (45 ∷ l)) (sym plain.1 ∙ sym c.2) ∙ ap (λ r. number_token r (45 ∷ d.digits)) (sym plain.0)))
+          split;
+    } in
     subst (λ r. SpellsNumber r d.negative d.digits token) (sym c.0) (subst (λ n. SpellsNumber radix n d.digits token) (sym c.1) here)
 
 -- without a `-` in front: the digits may have one
@@ -218,10 +221,13 @@ not_below : (bs : List ℕ) (parts : Radix × List ℕ) (d : Digits) → IsSplit
 not_below bs (radix, digits) d split h =
     let s = signed-spells radix digits d h in
     let here : SpellsNumber radix d.negative d.digits (Number bs) =
-    record { digits_are = s.digits; spelt = ⊎_elim
-      (λ with. inr (bs, signs d.negative d.digits (with ∙ ap (λ l. 48 ∷ letter_of radix ∷ l) s.spelt), refl))
-      (λ plain. inl (ap Number (sym plain.1 ∙ s.spelt) ∙ ap (λ r. number_token r (signed d.negative d.digits)) (sym plain.0)))
-      split } in
+    record {
+      digits_are = s.digits;
+      spelt = ⊎_elim
+          (λ with. inr (bs, signs d.negative d.digits (with ∙ ap (λ l. 48 ∷ letter_of radix ∷ l) s.spelt), refl))
+          (λ plain. inl (ap Number (sym plain.1 ∙ s.spelt) ∙ ap (λ r. number_token r (signed d.negative d.digits)) (sym plain.0)))
+          split;
+    } in
     subst (λ r. SpellsNumber r d.negative d.digits (Number bs)) (sym s.same) here
   where
     signs : (negative : Bool) (ds : List ℕ) → bs ≡ 48 ∷ letter_of radix ∷ signed negative ds → SpellsWithRadix radix negative ds bs

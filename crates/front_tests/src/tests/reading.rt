@@ -199,43 +199,122 @@ static COUNTERS: [Row; 34] = [
 
 /// The counter in the second spelling: mixed with the first, with names that are words of the second, and refused.
 static SECOND_COUNTERS: [Row; 37] = [
-    (Edited(SECOND, 0, ""), "Counter 2 / Counter 3 4 5 6 7 reg 8 node 9 <= 10 <="),
-    (Edited(SECOND, 3, "module Counter :"), "Counter 2 / Counter 3 4 5 6 7 reg 8 node 9 <= 10 <="),
-    (Edited(SECOND, 7, "reg c : UInt<8>, clock with : (reset => (UInt<1>(\"h0\"), c))"), "Counter 2 / Counter 3 4 5 6 7 reg 8 node 9 <= 10 <="),
-    (Edited(SECOND, 8, "node n = add(c, UInt<1>(\"b1\"))"), "Counter 2 / Counter 3 4 5 6 7 reg 8 node 9 <= 10 <="),
-    (Edited(SECOND, 9, "out <= c"), "Counter 2 / Counter 3 4 5 6 7 reg 8 node 9 <= 10 <="),
-    (Edited(SECOND, 9, "invalidate out ; not connected"), "Counter 2 / Counter 3 4 5 6 7 reg 8 node 9 invalid 10 <="),
-    (Edited(SECOND, 9, "connect <= c"), "Counter 2 / Counter 3 4 5 6 7 reg 8 node 9 <= 10 <="),
-    (Edited(SECOND, 9, "connect connect, connect"), "Counter 2 / Counter 3 4 5 6 7 reg 8 node 9 <= 10 <="),
-    (Edited(SECOND, 9, "connect.out is invalid"), "Counter 2 / Counter 3 4 5 6 7 reg 8 node 9 invalid 10 <="),
-    (Edited(SECOND, 9, "regreset.out <= c"), "Counter 2 / Counter 3 4 5 6 7 reg 8 node 9 <= 10 <="),
-    (Edited(SECOND, 9, "invalidate is invalid"), "Counter 2 / Counter 3 4 5 6 7 reg 8 node 9 invalid 10 <="),
+    (
+        Edited(SECOND, 0, ""),
+        "Counter 2 / Counter 3 4 5 6 7 reg 8 node 9 <= 10 <=",
+    ),
+    (
+        Edited(SECOND, 3, "module Counter :"),
+        "Counter 2 / Counter 3 4 5 6 7 reg 8 node 9 <= 10 <=",
+    ),
+    (
+        Edited(
+            SECOND,
+            7,
+            "reg c : UInt<8>, clock with : (reset => (UInt<1>(\"h0\"), c))",
+        ),
+        "Counter 2 / Counter 3 4 5 6 7 reg 8 node 9 <= 10 <=",
+    ),
+    (
+        Edited(SECOND, 8, "node n = add(c, UInt<1>(\"b1\"))"),
+        "Counter 2 / Counter 3 4 5 6 7 reg 8 node 9 <= 10 <=",
+    ),
+    (
+        Edited(SECOND, 9, "out <= c"),
+        "Counter 2 / Counter 3 4 5 6 7 reg 8 node 9 <= 10 <=",
+    ),
+    (
+        Edited(SECOND, 9, "invalidate out ; not connected"),
+        "Counter 2 / Counter 3 4 5 6 7 reg 8 node 9 invalid 10 <=",
+    ),
+    (
+        Edited(SECOND, 9, "connect <= c"),
+        "Counter 2 / Counter 3 4 5 6 7 reg 8 node 9 <= 10 <=",
+    ),
+    (
+        Edited(SECOND, 9, "connect connect, connect"),
+        "Counter 2 / Counter 3 4 5 6 7 reg 8 node 9 <= 10 <=",
+    ),
+    (
+        Edited(SECOND, 9, "connect.out is invalid"),
+        "Counter 2 / Counter 3 4 5 6 7 reg 8 node 9 invalid 10 <=",
+    ),
+    (
+        Edited(SECOND, 9, "regreset.out <= c"),
+        "Counter 2 / Counter 3 4 5 6 7 reg 8 node 9 <= 10 <=",
+    ),
+    (
+        Edited(SECOND, 9, "invalidate is invalid"),
+        "Counter 2 / Counter 3 4 5 6 7 reg 8 node 9 invalid 10 <=",
+    ),
     (Edited(SECOND, 3, "public Counter :"), "syntax line 3"),
-    (Edited(SECOND, 3, "public wire w : UInt<8>"), "syntax line 3"),
-    (Edited(SECOND, 3, "public public module Counter :"), "syntax line 3"),
-    (Edited(SECOND, 3, "public extmodule Counter :"), "outside line 3 extmodule"),
-    (Edited(SECOND, 4, "input clock : Clock, public"), "syntax line 4"),
+    (
+        Edited(SECOND, 3, "public wire w : UInt<8>"),
+        "syntax line 3",
+    ),
+    (
+        Edited(SECOND, 3, "public public module Counter :"),
+        "syntax line 3",
+    ),
+    (
+        Edited(SECOND, 3, "public extmodule Counter :"),
+        "outside line 3 extmodule",
+    ),
+    (
+        Edited(SECOND, 4, "input clock : Clock, public"),
+        "syntax line 4",
+    ),
     (Edited(SECOND, 6, "output out : UInt<0h8>"), "syntax line 6"),
-    (Edited(SECOND, 6, "output out : { a : UInt<8> }"), "outside line 6 {"),
-    (Edited(SECOND, 7, "regreset c : UInt<8>, clock, UInt<1>(0h0), c, c"), "syntax line 7"),
-    (Edited(SECOND, 7, "regreset c : UInt<8>, clock, UInt<1>(0h0)"), "syntax line 7"),
-    (Edited(SECOND, 7, "regreset c : UInt<8>, clock with :"), "syntax line 7"),
-    (Edited(SECOND, 7, "regreset c : AsyncReset, clock, UInt<1>(0h0), c"), "outside line 7 AsyncReset"),
+    (
+        Edited(SECOND, 6, "output out : { a : UInt<8> }"),
+        "outside line 6 {",
+    ),
+    (
+        Edited(SECOND, 7, "regreset c : UInt<8>, clock, UInt<1>(0h0), c, c"),
+        "syntax line 7",
+    ),
+    (
+        Edited(SECOND, 7, "regreset c : UInt<8>, clock, UInt<1>(0h0)"),
+        "syntax line 7",
+    ),
+    (
+        Edited(SECOND, 7, "regreset c : UInt<8>, clock with :"),
+        "syntax line 7",
+    ),
+    (
+        Edited(SECOND, 7, "regreset c : AsyncReset, clock, UInt<1>(0h0), c"),
+        "outside line 7 AsyncReset",
+    ),
     (Edited(SECOND, 8, "node n = UInt<0b1>(1)"), "syntax line 8"),
-    (Edited(SECOND, 8, "node n = UInt<4>(-0h-8)"), "syntax line 8"),
+    (
+        Edited(SECOND, 8, "node n = UInt<4>(-0h-8)"),
+        "syntax line 8",
+    ),
     (Edited(SECOND, 8, "node n = UInt<4>(0b12)"), "syntax line 8"),
     (Edited(SECOND, 8, "node n = UInt<4>(0x1)"), "syntax line 8"),
-    (Edited(SECOND, 8, "node n = UInt<4>(\"0h1\")"), "syntax line 8"),
-    (Edited(SECOND, 8, "node n = bits(c, 0d7, 0)"), "syntax line 8"),
+    (
+        Edited(SECOND, 8, "node n = UInt<4>(\"0h1\")"),
+        "syntax line 8",
+    ),
+    (
+        Edited(SECOND, 8, "node n = bits(c, 0d7, 0)"),
+        "syntax line 8",
+    ),
     (Edited(SECOND, 9, "connect out c"), "syntax line 9"),
     (Edited(SECOND, 9, "connect out,"), "syntax line 9"),
     (Edited(SECOND, 9, "connect out, c, c"), "syntax line 9"),
     (Edited(SECOND, 9, "connect out <= c"), "syntax line 9"),
     (Edited(SECOND, 9, "connect out[0], c"), "outside line 9 ["),
-    (Edited(SECOND, 9, "connect out, asClock(c)"), "outside line 9 asClock"),
+    (
+        Edited(SECOND, 9, "connect out, asClock(c)"),
+        "outside line 9 asClock",
+    ),
     (Edited(SECOND, 9, "invalidate"), "syntax line 9"),
     (Edited(SECOND, 9, "invalidate out, c"), "syntax line 9"),
-    (Edited(SECOND, 9, "invalidate out is invalid"), "syntax line 9"),
+    (
+        Edited(SECOND, 9, "invalidate out is invalid"),
+        "syntax line 9",
+    ),
 ];
 
 /// Whole texts, and bytes that are none.
