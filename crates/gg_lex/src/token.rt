@@ -9,8 +9,8 @@ use std::fmt;
 pub enum Tok {
     /// A letter or `_`, then letters, digits, `_` and `$`, then dashes and letters.
     Word(Name),
-    /// Decimal digits, with or without a `-` before them, or a number with its radix, such as `0h1f`: `0`, the letter of the
-    /// radix (`b`, `o`, `d` or `h`) and its digits, with at most one `-`, before the `0` or before the digits.
+    /// Decimal digits, with or without a `-` before them. Or a number with its radix, such as `0h1f`: `0`, the letter
+    /// of the radix (`b`, `o`, `d` or `h`) and its digits, with at most one `-`, before the `0` or before the digits.
     Number(Name),
     /// What is between two quotes, its backslashes included.
     Text(Name),

@@ -120,8 +120,8 @@ fn zero_radix(letter: u8) -> Option<Radix>
     }
 }
 
-/// The radix of a number and its digits: those behind `0` and the letter of a radix, or else all of the bytes, which are
-/// decimal.
+/// The radix of a number and its digits: those behind `0` and the letter of a radix, or else all of the bytes, which
+/// are decimal.
 fn split_radix(bytes: &[u8]) -> (Radix, &[u8])
     ensures radix { result.0 ≡ (split_radix bytes.now).0 }
     ensures digits { result.1.now ≡ (split_radix bytes.now).1 }
