@@ -118,7 +118,12 @@ impl Slots {
             self.values.as_mut_slice(),
             self.room.as_mut_slice(),
         );
-        state.advance(piece, edges, self.values.as_slice(), self.room.as_mut_slice());
+        state.advance(
+            piece,
+            edges,
+            self.values.as_slice(),
+            self.room.as_mut_slice(),
+        );
         self.search.clear();
     }
 }

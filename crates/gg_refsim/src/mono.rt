@@ -114,7 +114,8 @@ impl<'a> Mono<'a> {
             &mut self.scratch,
         );
         read_outs(piece.outs(), &self.signals, outs);
-        self.state.advance(piece, &[], &self.signals, &mut self.scratch);
+        self.state
+            .advance(piece, &[], &self.signals, &mut self.scratch);
     }
 }
 

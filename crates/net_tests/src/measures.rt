@@ -78,11 +78,7 @@ fn is_channel_alike<Z: Streams>(
 }
 
 // Whether two networks have the same counts.
-fn are_alike<Z: Streams>(
-    one: &Net<Node<'_>, Z>,
-    other: &Net<Node<'_>, Z>,
-    case: &Case,
-) -> bool {
+fn are_alike<Z: Streams>(one: &Net<Node<'_>, Z>, other: &Net<Node<'_>, Z>, case: &Case) -> bool {
     for machine in 0..case.machines {
         if !is_machine_alike(one, other, machine) {
             return false;
@@ -234,12 +230,28 @@ static WRITING: Case = Case {
 
 #[test]
 fn two_units_end_alike(rt: HostRuntime) -> Result<(), Fail> {
-    assert!(rt; is_network(rt.alloc(), PAIR, "{\"units\":[\"a\",\"b\"]}", PAIR_TRACE, &FEEDING));
+    assert!(rt;
+        is_network(
+            rt.alloc(),
+            PAIR,
+            "{\"units\":[\"a\",\"b\"]}",
+            PAIR_TRACE,
+            &FEEDING
+        )
+    );
     Ok(())
 }
 
 #[test]
 fn a_memory_of_four_ports_ends_alike(rt: HostRuntime) -> Result<(), Fail> {
-    assert!(rt; is_network(rt.alloc(), FOUR_PORTS, "{\"memories\":[\"m\"]}", FOUR_PORTS_TRACE, &WRITING));
+    assert!(rt;
+        is_network(
+            rt.alloc(),
+            FOUR_PORTS,
+            "{\"memories\":[\"m\"]}",
+            FOUR_PORTS_TRACE,
+            &WRITING
+        )
+    );
     Ok(())
 }
