@@ -174,7 +174,7 @@ fn is_built<Z: Streams>(
     inputs: &Trace,
     case: &Case,
 ) -> bool
-    requires { IsToRun plan.now inputs.now.columns inputs.now.rows Z.lists Z.runs }
+    requires { IsToRun plan.now inputs.now.columns inputs.now.rows Z.flow }
 {
     let _ = design;
     match build::<Z>(alloc, plan, inputs) {

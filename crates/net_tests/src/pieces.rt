@@ -37,7 +37,7 @@ fn has_values(alloc: Global, design: &Design, first: u128, second: u128) -> Resu
     let mut signals = piece.zeros(alloc)?;
     piece.settle(design.order(), &state, &[], &mut signals, &mut scratch);
     let found = signals[0];
-    state.advance(piece, &signals, &mut scratch);
+    state.advance(piece, &[], &signals, &mut scratch);
     piece.settle(design.order(), &state, &[], &mut signals, &mut scratch);
     Ok(found == first && signals[0] == second)
 }
