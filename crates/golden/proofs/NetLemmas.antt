@@ -4,14 +4,16 @@ use Rattle.std.specs.Prelude.{IfOk, MatchResult, Option, Result, Ok, Err, codes,
 use Rattle.std.specs.List.{range_with_len}
 use Rattle.std.proofs.lemmas.List.{get_or-map, take_all}
 use Rattle.std.proofs.lemmas.List.FromFn.{get_or-range_with_len, length-range_with_len}
-use Rattle.gg_build.specs.Build.{IsOpeningOf}
+use Rattle.gg_flat.specs.Streams.{Flow}
+use Rattle.gg_build.specs.Build.{IsToRun, IsOpeningOf}
 use Rattle.gg_cut.specs.declared.plan.Channel.{Channel}
 use Rattle.gg_cut.specs.declared.plan.Plan.{Plan}
 use Rattle.gg_io.specs.declared.output.Sink
+use Rattle.gg_node.specs.Machine.{machine_at}
 use Rattle.gg_net.specs.declared.event.Event.{Event}
 use Rattle.gg_net.specs.Kept.{Kept, list_at}
-use Rattle.gg_net.specs.Net.{opening_net}
-use Rattle.gg_net.specs.Network.{Frame, Network, puts, takes}
+use Rattle.gg_net.specs.Net.{IsOpening, opening_net}
+use Rattle.gg_net.specs.Network.{Frame, Network, puts, entered, takes}
 use Rattle.gg_marking.specs.Goes.{Stopped}
 use Rattle.gg_marking.specs.Steps.{Steps, StopsAt}
 use Rattle.gg_marking.proofs.StepsLemmas.{steps-frame}
@@ -19,7 +21,7 @@ use Rattle.gg_replay.specs.Log.{AreFronts, tokens_at}
 use Rattle.gg_replay.specs.ReplayText.{channel_line}
 use Rattle.gg_replay.proofs.OpeningLemmas.{empty-fronts}
 use Rattle.gg_sound.specs.Built.{wires_of_plan}
-use Rattle.gg_sound.proofs.LinkLemmas.{length-from}
+use Rattle.gg_sound.proofs.LinkLemmas.{length-from, free-from}
 use Rattle.gg_sound.proofs.OpeningLemmas.{built-opening}
 use Rattle.gg_steps.specs.Naming.{Naming}
 use Rattle.gg_steps.specs.Steps.{steps_of}
@@ -31,56 +33,58 @@ use Rattle.golden.specs.Replay.{stopped_by}
 use Rattle.golden.specs.Replayed.{NetEnds, NetWent, NetStops, name_in, net_line, net_text, width_in}
 use Rattle.golden.proofs.ReadingLemmas.{IfRefused-map}
 
-module _ (plan : Plan) (columns : List (List ℕ)) (n : ℕ) (lists : List (List ℕ)) (net : Network) (opens : IsOpeningOf plan columns n net) where
+module _ (plan : Plan) (columns : List (List ℕ)) (n : ℕ) (flow : Flow) (net : Network) (opens : IsOpeningOf plan columns n net) where
   -- before the first cycle a log without tokens is right
-  pub opening-log : (log : List (List ℕ)) (count : ℕ) → count ≡ length net.wires → log ≡ replicate count [] → AreFronts lists net log
-  opening-log log count same is =
+  pub opening-log : (log : List (List ℕ)) (count : ℕ) → IsToRun plan columns n flow → count ≡ length net.wires → log ≡ replicate count [] → AreFronts flow net log
+  opening-log log count run same is =
       let machines = opens.machines in
       let opening = opening_net machines (wires_of_plan plan) n in
-      let fronts : AreFronts lists opening (replicate (length (wires_of_plan plan)) []) = empty-fronts lists machines (wires_of_plan plan) n (built-opening plan columns n machines opens.built) in
+      let fronts : AreFronts flow opening (replicate (length (wires_of_plan plan)) []) =
+      empty-fronts flow machines (wires_of_plan plan) n (ap (λ (f : Flow). f.begin) run.flow_is) (free-from plan 0 plan.channels)
+      (λ m lt. subst (λ (f : Flow). IsOpening f m (machine_at machines m)) (sym run.flow_is) (built-opening run.design run.request run.default plan columns n run.rows machines run.given opens.built m lt)) in
       let wires : count ≡ length (wires_of_plan plan) = same ∙ ap (λ (x : Network). length x.wires) opens.is in
       let given : log ≡ replicate (length (wires_of_plan plan)) [] = is ∙ ap (λ k. replicate k []) wires in
-      subst (λ (x : Network). AreFronts lists x log) (sym opens.is) (subst (λ l. AreFronts lists opening l) (sym given) fronts)
+      subst (λ (x : Network). AreFronts flow x log) (sym opens.is) (subst (λ l. AreFronts flow opening l) (sym given) fronts)
 
   -- steps don't change the number of channels
   pub wires-stay : (events : List (Option Event)) (new : Network) → Steps net events new → length new.wires ≡ length plan.channels
   wires-stay events new steps =
       ap (λ (f : Frame). length f.wires) (steps-frame net events new steps) ∙ ap (λ (x : Network). length x.wires) opens.is ∙ length-from plan 0 plan.channels
 
-  module _ (runs : List (List (List ℕ))) (kept : Kept lists runs net) (naming : Naming) (events : List (Option Event)) (new : Network) where
+  module _ (kept : Kept flow net) (naming : Naming) (events : List (Option Event)) (new : Network) where
     abbrev opening : Network
     opening = opening_net opens.machines (wires_of_plan plan) n
 
-    opening-kept : Kept lists runs opening
-    opening-kept = subst (λ (x : Network). Kept lists runs x) opens.is kept
+    opening-kept : Kept flow opening
+    opening-kept = subst (λ (x : Network). Kept flow x) opens.is kept
 
-    pub net-went : {T K : Type 0} {sink : Sink.Ghosts K} {out out' : K} (r : Result T Ending) → Steps net events new → PrintsOn sink out out' (net_text plan lists new) r
-        → NetEnds plan columns n lists runs naming events sink out out' r
+    pub net-went : {T K : Type 0} {sink : Sink.Ghosts K} {out out' : K} (r : Result T Ending) → Steps net events new → PrintsOn sink out out' (net_text plan flow new) r
+        → NetEnds plan columns n flow naming events sink out out' r
     net-went r steps prints = NetWent opens.machines (record { built = opens.built; kept = opening-kept }) new (subst (λ (x : Network). Steps x events new) opens.is steps) prints
 
     pub net-stops : {T K : Type 0} {sink : Sink.Ghosts K} {out : K} (stopped : Stopped) (ending : Ending) → StopsAt 1 net events new stopped → IfRefused (λ said. said ≡ stopped_by naming events stopped) ending
-        → NetEnds {T = T} plan columns n lists runs naming events sink out out (Err ending)
+        → NetEnds {T = T} plan columns n flow naming events sink out out (Err ending)
     net-stops stopped ending stops says =
         NetStops opens.machines (record { built = opens.built; kept = opening-kept }) new stopped (subst (λ (x : Network). StopsAt 1 x events new stopped) opens.is stops) ending refl says refl
 
 -- how the steps end, for equal names and equal steps
-pub net-named : {plan : Plan} {columns : List (List ℕ)} {n : ℕ} {lists : List (List ℕ)} {runs : List (List (List ℕ))} {names own : Naming} {events : List (Option Event)}
+pub net-named : {plan : Plan} {columns : List (List ℕ)} {n : ℕ} {flow : Flow} {names own : Naming} {events : List (Option Event)}
     {T K : Type 0} {sink : Sink.Ghosts K} {out out' : K} {r : Result T Ending} (text : List ℕ) → names ≡ own → events ≡ steps_of names text
-    → NetEnds plan columns n lists runs names events sink out out' r → NetEnds plan columns n lists runs own (steps_of own text) sink out out' r
+    → NetEnds plan columns n flow names events sink out out' r → NetEnds plan columns n flow own (steps_of own text) sink out out' r
 net-named text same is ended = rw (← same) (rw (← is) ended)
 
 -- ---- lines
 
 -- the line of a channel, from its name, width, counts and tokens
-pub line-of : (plan : Plan) (lists log : List (List ℕ)) (net : Network) (c : ℕ) (channels : List Channel) (own : Channel) (name tokens : List ℕ) (width put took : ℕ)
-    → channels ≡ plan.channels → c < length plan.channels → length net.wires ≡ length plan.channels → AreFronts lists net log
+pub line-of : (plan : Plan) (flow : Flow) (log : List (List ℕ)) (net : Network) (c : ℕ) (channels : List Channel) (own : Channel) (name tokens : List ℕ) (width put took : ℕ)
+    → channels ≡ plan.channels → c < length plan.channels → length net.wires ≡ length plan.channels → AreFronts flow net log
     → name ≡ (get_or channels c own).name → width ≡ (get_or channels c own).ty.width → put ≡ puts net c → took ≡ takes net c → tokens ≡ tokens_at log c
-    → channel_line name width put took tokens ≡ net_line plan lists net c
-line-of plan lists log net c channels own name tokens width put took same known wires fronts named wide puts_are takes_are tokens_are =
+    → channel_line name width put took tokens ≡ net_line plan flow net c
+line-of plan flow log net c channels own name tokens width put took same known wires fronts named wide puts_are takes_are tokens_are =
     let here : get_or channels c own ≡ get_or plan.channels c own = ap (λ (l : List Channel). get_or l c own) same in
     let called : name ≡ name_in plan c = named ∙ ap (λ (x : Channel). x.name) here ∙ sym (get_or-map (λ (x : Channel). x.name) plan.channels c own [] known) in
     let across : width ≡ width_in plan c = wide ∙ ap (λ (x : Channel). x.ty.width) here ∙ sym (get_or-map (λ (x : Channel). x.ty.width) plan.channels c own 0 known) in
-    let given : tokens ≡ take (puts net c) (list_at lists c) = tokens_are ∙ fronts.each c (omega (arith, known, wires)) in
+    let given : tokens ≡ take (entered net c) (list_at flow.lists c) = tokens_are ∙ fronts.each c (omega (arith, known, wires)) in
     ap (λ x. channel_line x width put took tokens) called
     ∙ ap (λ x. channel_line (name_in plan c) x put took tokens) across
     ∙ ap (λ x. channel_line (name_in plan c) (width_in plan c) x took tokens) puts_are

@@ -50,7 +50,7 @@ SettledOnce = (circuit : FlatCircuit) (order : List ℕ) (state : State) (inputs
 -- a cycle from the state before cycle t of a run, with its inputs, is cycle t of the run
 pub cycle-row : SettledOnce → (circuit : FlatCircuit) (order : List ℕ) (columns : List (List ℕ)) (n : ℕ) (rows : List (List ℕ)) (t : ℕ)
     (before after : State) (inputs printed : List ℕ) → IsOrder circuit order → IsRun circuit columns n rows → t < n
-    → before ≡ state_at circuit (opening_start circuit) rows t → inputs ≡ inputs_at columns t → (cycle : Cycle circuit before inputs printed after) → cycle.row ≡ row_at rows t
+    → before ≡ state_at circuit (opening_start circuit) rows t → inputs ≡ inputs_at columns t → (cycle : Cycle [] circuit before inputs printed after) → cycle.row ≡ row_at rows t
 cycle-row once circuit order columns n rows t before after inputs printed ordered run lt is given cycle =
     once circuit order before inputs cycle.row (row_at rows t) ordered cycle.settled
     (subst (λ (s : State). Settled circuit s inputs (row_at rows t)) (sym is) (subst (λ (i : List ℕ). Settled circuit (state_at circuit (opening_start circuit) rows t) i (row_at rows t)) (sym given) (run.settled t lt)))
@@ -83,14 +83,14 @@ pub record Follows (circuit : FlatCircuit) (rows : List (List ℕ)) (t : ℕ) (a
 
 pub cycle-follows : SettledOnce → (circuit : FlatCircuit) (order : List ℕ) (columns : List (List ℕ)) (n : ℕ) (rows : List (List ℕ)) (t : ℕ)
     (before after : State) (inputs printed : List ℕ) → IsOrder circuit order → IsRun circuit columns n rows → t < n
-    → before ≡ state_at circuit (opening_start circuit) rows t → inputs ≡ inputs_at columns t → Cycle circuit before inputs printed after → Follows circuit rows t after printed
+    → before ≡ state_at circuit (opening_start circuit) rows t → inputs ≡ inputs_at columns t → Cycle [] circuit before inputs printed after → Follows circuit rows t after printed
 cycle-follows once circuit order columns n rows t before after inputs printed ordered run lt is given cycle =
     let row = cycle-row once circuit order columns n rows t before after inputs printed ordered run lt is given cycle in
     let turned : suc t ≡ t + 1 = omega arith in
     let counted = run.count in
     let within : t < length rows = omega arith in
     record {
-      state = cycle.next ∙ ap (λ (s : State). next_state circuit s cycle.row) is ∙ ap (next_state circuit (state_at circuit (opening_start circuit) rows t)) row ∙ ap (state_at circuit (opening_start circuit) rows) turned;
+      state = cycle.next ∙ ap (λ (s : State). next_state [] circuit s cycle.row) is ∙ ap (next_state [] circuit (state_at circuit (opening_start circuit) rows t)) row ∙ ap (state_at circuit (opening_start circuit) rows) turned;
       row = cycle.outputs_are ∙ ap (outputs circuit) row ∙ outputs-row circuit rows t within circuit.outs;
     }
 
@@ -130,11 +130,11 @@ stop-within T base now now' failed failed' text row whole NoMemory is more front
 
 module _ {K : Type 0} {circuit : FlatCircuit} {inputs : Table} {ports : List Port} {sink : Sink.Ghosts K} {out out' : K} {t : ℕ} {mono : Simulation} {outs outs' : List ℕ}
     (once : SettledOnce) (order : List ℕ) (ordered : IsOrder circuit order) (lt : t < inputs.rows) (row : List ℕ) (given : row ≡ row_of inputs.columns t)
-    (printed : PrintedTo circuit inputs ports sink out out' t mono outs) (mono' : Simulation) (cycle : Cycle mono.circuit mono.state row outs' mono'.state) where
+    (printed : PrintedTo circuit inputs ports sink out out' t mono outs) (mono' : Simulation) (cycle : Cycle [] mono.circuit mono.state row outs' mono'.state) where
   follows-so : (rows : List (List ℕ)) → IsRun circuit inputs.columns inputs.rows rows → Follows circuit rows t mono'.state outs'
   follows-so rows run =
       cycle-follows once circuit order inputs.columns inputs.rows rows t mono.state mono'.state row outs' ordered run lt (printed.state rows run) given
-      (subst (λ (c : FlatCircuit). Cycle c mono.state row outs' mono'.state) printed.same cycle)
+      (subst (λ (c : FlatCircuit). Cycle [] c mono.state row outs' mono'.state) printed.same cycle)
 
   -- one more cycle
   pub printed-next : {out'' : K} → mono'.circuit ≡ mono.circuit → sink.written out'' ≡ append_known (sink.written out') (row_line ports t outs')

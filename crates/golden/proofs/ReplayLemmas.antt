@@ -9,7 +9,7 @@ use Rattle.gg_flat.specs.Line.{shape_at}
 use Rattle.gg_flat.specs.Order.{IsOrder}
 use Rattle.gg_flat.specs.Along.{rows_along}
 use Rattle.gg_flat.specs.Run.{IsColumns, column}
-use Rattle.gg_flat.proofs.AlongLemmas.{IsRun-along}
+use Rattle.gg_flat.specs.Streams.{Flow}
 use Rattle.gg_flat.specs.Tree.{path_at}
 use Rattle.gg_flat.proofs.ListLemmas.{some-item}
 use Rattle.gg_front.specs.Meaning.{MeansDesign}
@@ -21,7 +21,6 @@ use Rattle.gg_cut.specs.Channels.{capacity_of, machine_count, wires_of}
 use Rattle.gg_cut.specs.Fault.{first_fault}
 use Rattle.gg_cut.specs.Listed.{listed_of}
 use Rattle.gg_cut.specs.Plan.{IsChannel, IsPlan, machine_names, wire_at}
-use Rattle.gg_cut.specs.Solves.{columns_of}
 use Rattle.gg_cut.specs.declared.listed.Listed.{Listed}
 use Rattle.gg_cut.specs.declared.plan.Channel.{Channel}
 use Rattle.gg_cut.specs.declared.plan.Machine as planned
@@ -32,21 +31,23 @@ use Rattle.gg_check.proofs.SameCutLemmas.{lines-same}
 use Rattle.gg_node.specs.Machine.{Machine, cycle_limit}
 use Rattle.gg_net.specs.declared.event.Event.{Event}
 use Rattle.gg_net.specs.Kept.{list_at}
-use Rattle.gg_net.specs.Net.{opening_net}
+use Rattle.gg_net.specs.Net.{queue_limit, opening_net}
 use Rattle.gg_net.specs.Network.{Frame, Network, frame_of}
 use Rattle.gg_net.specs.Network as network
 use Rattle.gg_marking.specs.Fits.{HasLayout, marking_of}
 use Rattle.gg_marking.specs.Goes.{Stopped, replayed_from}
-use Rattle.gg_marking.specs.Marking.{Layout, Marking, opening_marking, puts, takes}
+use Rattle.gg_marking.specs.Marking.{Layout, Marking, opening_marking, and_one, puts, takes}
 use Rattle.gg_marking.specs.Steps.{Steps, StopsAt}
-use Rattle.gg_marking.proofs.CountLemmas.{puts-are, takes-are}
+use Rattle.gg_marking.proofs.CountLemmas.{puts-are, entered-are, takes-are}
 use Rattle.gg_marking.proofs.OpeningLemmas.{opens-so}
 use Rattle.gg_marking.proofs.StepsLemmas.{all-done, steps-frame, stops-at}
-use Rattle.gg_sound.specs.Built.{IsGiven, rows_of, wires_of_plan}
+use Rattle.gg_sound.specs.Built.{IsGiven, flow_of, wires_of_plan}
 use Rattle.gg_sound.proofs.LinkLemmas.{length-from}
 use Rattle.gg_sound.proofs.OpeningLemmas.{built-opening}
+use Rattle.gg_build.specs.Build.{flow_along}
+use Rattle.gg_build.proofs.AlongLemmas.{given-along}
 use Rattle.gg_layout.specs.CutLayout.{IsLayoutOf}
-use Rattle.gg_layout.proofs.LayoutLemmas.{plan-layout}
+use Rattle.gg_layout.proofs.LayoutLemmas.{plan-layout, plan-in-order}
 use Rattle.gg_steps.specs.Naming.{Naming}
 use Rattle.gg_steps.specs.Steps.{steps_of}
 use Rattle.gg_replay.specs.ReplayText.{channel_line}
@@ -55,7 +56,7 @@ use Rattle.golden.specs.Endings.{EndedOn}
 use Rattle.golden.specs.Order.{CanBe}
 use Rattle.golden.specs.Partition.{Cuts}
 use Rattle.golden.specs.Replay.{IsReplayText, IsSetting, Setting, channel_told, naming_of, port_names, replay_text, replayed, steps_file_for, steps_order}
-use Rattle.golden.specs.Replayed.{AreSet, IsToReplay, NetEnds, NetWent, NetStops, NetWants, Opened, ReplayEnds, Went, Stops, Wants, lists_along, name_in, net_line, net_text, plan_naming, runs_along_rows, setting_of, width_in}
+use Rattle.golden.specs.Replayed.{AreSet, NetEnds, NetWent, NetStops, NetWants, Opened, ReplayEnds, Went, Stops, Wants, name_in, net_line, net_text, plan_naming, setting_of, width_in}
 use Rattle.golden.specs.RunText.{FeedsOnly}
 use Rattle.golden.proofs.EndingLemmas.{printed-ends, refused-ends, wants-ends}
 use Rattle.golden.proofs.PartitionLemmas.{DesignsAgree}
@@ -85,11 +86,8 @@ module _ (design : Ordered) (request : Request) (default : ℕ) (plan : Plan) (c
   abbrev the_wires : List Wire
   the_wires = wires_of design.circuit design.tree the_listed
 
-  abbrev lists : List (List ℕ)
-  lists = columns_of plan rows
-
-  abbrev runs : List (List (List ℕ))
-  runs = rows_of plan rows
+  abbrev flow : Flow
+  flow = flow_of plan design rows
 
   abbrev path_of : ℕ → List ℕ
   path_of = path_at (machine_names design request the_listed)
@@ -116,11 +114,11 @@ module _ (design : Ordered) (request : Request) (default : ℕ) (plan : Plan) (c
 
   -- ---- the text
 
-  module _ (layout : Layout) (net : Network) (has : HasLayout (frame_of net) layout) (count : length net.wires ≡ length plan.channels) where
+  module _ (layout : Layout) (net : Network) (of_cut : IsLayoutOf design request default n layout) (has : HasLayout (frame_of net) layout) (count : length net.wires ≡ length plan.channels) where
     abbrev the_setting : Setting
     the_setting = setting_of design request n columns rows layout
 
-    line-is : (c : ℕ) → c < length plan.channels → net_line plan lists net c ≡ channel_told the_setting (marking_of net) the_wires c
+    line-is : (c : ℕ) → c < length plan.channels → net_line plan flow net c ≡ channel_told the_setting (marking_of net) the_wires c
     line-is c lt =
         let any = some-item plan.channels c lt in
         let own = slice_index_or plan.channels c any in
@@ -132,30 +130,33 @@ module _ (design : Ordered) (request : Request) (default : ℕ) (plan : Plan) (c
         let named : name_in plan c ≡ name = get_or-map (λ (channel : Channel). channel.name) plan.channels c any [] lt ∙ at.name in
         let width : width_in plan c ≡ wide = get_or-map (λ (channel : Channel). channel.ty.width) plan.channels c any 0 lt ∙ ap (λ (z : Shape). z.width) at.type in
         let put : network.puts net c ≡ puts layout (marking_of net) c = puts-are net layout has c known in
+        let own_link = of_cut.link c (omega (arith, lt, given.planned.channel_total)) in
+        let have : network.entered net c ≡ puts layout (marking_of net) c = entered-are net layout has c known ∙ ap (and_one (puts layout (marking_of net) c)) own_link.piped in
         let took : network.takes net c ≡ takes layout (marking_of net) c = takes-are net layout has c known in
-        let carried : list_at lists c ≡ column rows w.signal = get_or-map (λ (channel : Channel). column rows channel.signal) plan.channels c any [] lt ∙ ap (column rows) at.signal in
-        ap (λ x. channel_line x (width_in plan c) (network.puts net c) (network.takes net c) (take (network.puts net c) (list_at lists c))) named
-        ∙ ap (λ x. channel_line name x (network.puts net c) (network.takes net c) (take (network.puts net c) (list_at lists c))) width
-        ∙ ap (λ x. channel_line name wide x (network.takes net c) (take x (list_at lists c))) put
-        ∙ ap (λ x. channel_line name wide (puts layout (marking_of net) c) x (take (puts layout (marking_of net) c) (list_at lists c))) took
+        let carried : list_at flow.lists c ≡ column rows w.signal = get_or-map (λ (channel : Channel). column rows channel.signal) plan.channels c any [] lt ∙ ap (column rows) at.signal in
+        ap (λ x. channel_line x (width_in plan c) (network.puts net c) (network.takes net c) (take (network.entered net c) (list_at flow.lists c))) named
+        ∙ ap (λ x. channel_line name x (network.puts net c) (network.takes net c) (take (network.entered net c) (list_at flow.lists c))) width
+        ∙ ap (λ x. channel_line name wide x (network.takes net c) (take (network.entered net c) (list_at flow.lists c))) put
+        ∙ ap (λ x. channel_line name wide (puts layout (marking_of net) c) x (take (network.entered net c) (list_at flow.lists c))) took
+        ∙ ap (λ x. channel_line name wide (puts layout (marking_of net) c) (takes layout (marking_of net) c) (take x (list_at flow.lists c))) have
         ∙ ap (λ x. channel_line name wide (puts layout (marking_of net) c) (takes layout (marking_of net) c) (take (puts layout (marking_of net) c) x)) carried
 
-    text-is : net_text plan lists net ≡ replay_text the_setting (marking_of net)
+    text-is : net_text plan flow net ≡ replay_text the_setting (marking_of net)
     text-is =
-        lines-same (net_line plan lists net) (channel_told the_setting (marking_of net) the_wires) 0 (length plan.channels) (λ c le lt. line-is c (omega (arith, lt)))
+        lines-same (net_line plan flow net) (channel_told the_setting (marking_of net) the_wires) 0 (length plan.channels) (λ c le lt. line-is c (omega (arith, lt)))
         ∙ ap (λ k. flat_map (channel_told the_setting (marking_of net) the_wires) (range_with_len 0 k)) given.planned.channel_total
 
   -- ---- the steps
 
-  module _ (machines : List Machine) (opened : Opened plan columns n lists runs machines) where
+  module _ (machines : List Machine) (opened : Opened plan columns n flow machines) where
     abbrev opening : Network
     opening = opening_net machines (wires_of_plan plan) n
 
     laid : (layout : Layout) × (IsLayoutOf design request default n layout × HasLayout (frame_of opening) layout)
     laid = plan-layout design request default plan columns n rows machines given opened.built
 
-    opens : marking_of opening ≡ opening_marking laid.0
-    opens = opens-so machines (wires_of_plan plan) n (built-opening plan columns n machines opened.built) laid.0 laid.1.1
+    opens : marking_of opening ≡ opening_marking laid.0 0
+    opens = opens-so flow machines (wires_of_plan plan) n (built-opening design request default plan columns n rows machines given opened.built) laid.0 laid.1.1
 
     are-set : AreSet design request default n columns rows laid.0
     are-set = record { run = given.run; laid = laid.1.0 }
@@ -166,48 +167,40 @@ module _ (design : Ordered) (request : Request) (default : ℕ) (plan : Plan) (c
     wires-count : (events : List (Option Event)) (net : Network) → Steps opening events net → length net.wires ≡ length plan.channels
     wires-count events net steps = ap (λ (f : Frame). length f.wires) (steps-frame opening events net steps) ∙ length-from plan 0 plan.channels
 
-    went : (events : List (Option Event)) (net : Network) → Steps opening events net → replayed_from laid.0 1 (opening_marking laid.0) events ≡ Ok (marking_of net)
+    went : (events : List (Option Event)) (net : Network) → Steps opening events net → replayed_from laid.0 1 (opening_marking laid.0 0) events ≡ Ok (marking_of net)
     went events net steps =
-        ap (λ m. replayed_from laid.0 1 m events) (sym opens) ∙ all-done lists runs laid.0 1 opening events net opened.kept laid.1.1 steps
+        ap (λ m. replayed_from laid.0 1 m events) (sym opens) ∙ all-done flow laid.0 1 opening events net opened.kept laid.1.1 steps
 
-    stopped-so : (events : List (Option Event)) (net : Network) (stopped : Stopped) → StopsAt 1 opening events net stopped → replayed_from laid.0 1 (opening_marking laid.0) events ≡ Err stopped
+    stopped-so : (events : List (Option Event)) (net : Network) (stopped : Stopped) → StopsAt 1 opening events net stopped → replayed_from laid.0 1 (opening_marking laid.0 0) events ≡ Err stopped
     stopped-so events net stopped stops =
-        ap (λ m. replayed_from laid.0 1 m events) (sym opens) ∙ stops-at lists runs laid.0 1 opening events net stopped opened.kept laid.1.1 stops
+        ap (λ m. replayed_from laid.0 1 m events) (sym opens) ∙ stops-at flow laid.0 1 opening events net stopped opened.kept laid.1.1 (plan-in-order design request default plan columns n rows machines given opened.built) stops
 
   module _ {T K : Type 0} {sink : Sink.Ghosts K} {out out' : K} {r : Result T Ending} (steps : List ℕ) where
-    net-ends : NetEnds plan columns n lists runs (naming_of design request) (steps_of (naming_of design request) steps) sink out out' r
+    net-ends : NetEnds plan columns n flow (naming_of design request) (steps_of (naming_of design request) steps) sink out out' r
         → ReplayEnds design request default n columns steps sink out out' r
     net-ends (NetWent machines opened net done prints) =
         let events = steps_of (naming_of design request) steps in
         let layout = (laid machines opened).0 in
         Went rows layout (are-set machines opened) (marking_of net) (went machines opened events net done)
-        (rw (← text-is layout net (frame-has machines opened events net done) (wires-count machines opened events net done)) prints)
+        (rw (← text-is layout net (laid machines opened).1.0 (frame-has machines opened events net done) (wires-count machines opened events net done)) prints)
     net-ends (NetStops machines opened net stopped stops ending ends says none) =
         Stops rows (laid machines opened).0 (are-set machines opened) stopped (stopped-so machines opened (steps_of (naming_of design request) steps) net stopped stops) ending ends says none
     net-ends (NetWants ends none) = Wants ends none
 
-    pub request-ends : NetEnds plan columns n lists runs (plan_naming plan design.tree the_listed) (steps_of (plan_naming plan design.tree the_listed) steps) sink out out' r
+    pub request-ends : NetEnds plan columns n flow (plan_naming plan design.tree the_listed) (steps_of (plan_naming plan design.tree the_listed) steps) sink out out' r
         → ReplayEnds design request default n columns steps sink out out' r
-    request-ends ended = net-ends (subst (λ (names : Naming). NetEnds plan columns n lists runs names (steps_of names steps) sink out out' r) naming-is ended)
+    request-ends ended = net-ends (subst (λ (names : Naming). NetEnds plan columns n flow names (steps_of names steps) sink out out' r) naming-is ended)
 
 -- ---- the run of a design's circuit, along its order
 
-module _ (design : Ordered) (request : Request) (default : ℕ) (plan : Plan) (columns : List (List ℕ)) (n : ℕ) (is : IsDesign design) (faultless : first_fault design request ≡ None) (planned : IsPlan design request default plan) (most : n ≤ cycle_limit) (fed : IsColumns design.circuit n columns) where
-  abbrev run_rows : List (List ℕ)
-  run_rows = rows_along design.circuit design.order columns n
-
-  given-of : IsGiven design request default plan columns n run_rows
-  given-of = record { design_is = is; faultless = faultless; planned = planned; most = most; given = fed; run = IsRun-along design.circuit design.order columns n is.formed is.ordered fed }
-
-  pub to-replay : IsToReplay design plan columns n
-  to-replay = record { design = design; request = request; default = default; rows = run_rows; given = given-of; carried = refl; done = refl }
-
+module _ (design : Ordered) (request : Request) (default : ℕ) (plan : Plan) (columns : List (List ℕ)) (n : ℕ) (is : IsDesign design) (faultless : first_fault design request ≡ None) (planned : IsPlan design request default plan) (some : 0 < default) (room : default ≤ queue_limit) (most : n ≤ cycle_limit) (fed : IsColumns design.circuit n columns) where
   pub along-ends : {T K : Type 0} {sink : Sink.Ghosts K} {out out' : K} {r : Result T Ending} (listed : Listed) → listed ≡ listed_of design.tree request → (steps : List ℕ)
-      → NetEnds plan columns n (lists_along design plan columns n) (runs_along_rows design plan columns n) (plan_naming plan design.tree listed) (steps_of (plan_naming plan design.tree listed) steps) sink out out' r
+      → NetEnds plan columns n (flow_along design plan columns n) (plan_naming plan design.tree listed) (steps_of (plan_naming plan design.tree listed) steps) sink out out' r
       → ReplayEnds design request default n columns steps sink out out' r
   along-ends {sink = sink} {out = out} {out' = out'} {r = r} listed same steps ended =
-      request-ends design request default plan columns n run_rows given-of steps
-      (subst (λ (l : Listed). NetEnds plan columns n (lists_along design plan columns n) (runs_along_rows design plan columns n) (plan_naming plan design.tree l) (steps_of (plan_naming plan design.tree l) steps) sink out out' r) same ended)
+      request-ends design request default plan columns n (rows_along design.circuit design.order columns n)
+      (given-along design request default plan columns n is faultless planned some room most fed) steps
+      (subst (λ (l : Listed). NetEnds plan columns n (flow_along design plan columns n) (plan_naming plan design.tree l) (steps_of (plan_naming plan design.tree l) steps) sink out out' r) same ended)
 
 -- ---- the order of refusals
 

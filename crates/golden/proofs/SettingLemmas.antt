@@ -89,8 +89,8 @@ module _ (agree : DesignsAgree) (circuit partition trace : List ℕ) (capacity :
   -- the steps lead to the same in both settings
   pub leads-same : (steps : List ℕ) → replayed a steps ≡ replayed b steps
   leads-same steps =
-      ap (λ (l : Layout). replayed_from l 1 (opening_marking l) (steps_of (naming_of a.design a.request) steps)) layouts-same
-      ∙ ap (λ (n : Naming). replayed_from b.layout 1 (opening_marking b.layout) (steps_of n steps)) naming-same
+      ap (λ (l : Layout). replayed_from l 1 (opening_marking l 0) (steps_of (naming_of a.design a.request) steps)) layouts-same
+      ∙ ap (λ (n : Naming). replayed_from b.layout 1 (opening_marking b.layout 0) (steps_of n steps)) naming-same
 
   -- the same is reported in both settings for a step that is refused
   pub stopped-same : (steps : List ℕ) (stopped : Stopped) → stopped_said a steps stopped ≡ stopped_said b steps stopped

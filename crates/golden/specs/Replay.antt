@@ -74,7 +74,7 @@ naming_of design request = naming_by design request (listed_of design.tree reque
 
 -- the steps of a file, done one after another from the opening marking: where they lead, or the first that is refused
 abbrev pub replayed : Setting → (steps : List ℕ) → Result Marking Stopped
-replayed setting steps = replayed_from setting.layout 1 (opening_marking setting.layout) (steps_of (naming_of setting.design setting.request) steps)
+replayed setting steps = replayed_from setting.layout 1 (opening_marking setting.layout 0) (steps_of (naming_of setting.design setting.request) steps)
 
 -- each step of the file may be done
 abbrev pub AreDone : (circuit partition trace : List ℕ) (capacity : ℕ) (steps : List ℕ) → Type 0

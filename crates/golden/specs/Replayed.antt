@@ -2,13 +2,12 @@
 -- trace.
 use Rattle.std.specs.Prelude.{◌≡◌, ℕ, ◌<◌, ◌^◌, List, Option, Result, Ok, Err, flat_map, length, map, take}
 use Rattle.std.specs.List.{range_with_len}
-use Rattle.gg_flat.specs.Along.{rows_along}
 use Rattle.gg_flat.specs.Line.{value_at}
 use Rattle.gg_flat.specs.Run.{IsRun}
+use Rattle.gg_flat.specs.Streams.{Flow}
 use Rattle.gg_flat.specs.Tree.{InstanceTree, path_at}
 use Rattle.gg_order.specs.Design.{Ordered}
 use Rattle.gg_partfile.specs.declared.request.Request.{Request}
-use Rattle.gg_cut.specs.Solves.{columns_of}
 use Rattle.gg_cut.specs.declared.listed.Listed.{Listed}
 use Rattle.gg_cut.specs.declared.plan.Plan.{Plan}
 use Rattle.gg_io.specs.declared.output.Sink
@@ -16,12 +15,12 @@ use Rattle.gg_node.specs.Machine.{Machine}
 use Rattle.gg_net.specs.declared.event.Event.{Event}
 use Rattle.gg_net.specs.Kept.{Kept, list_at}
 use Rattle.gg_net.specs.Net.{opening_net}
-use Rattle.gg_net.specs.Network.{Network, puts, takes}
+use Rattle.gg_net.specs.Network.{Network, puts, entered, takes}
 use Rattle.gg_marking.specs.Goes.{Stopped}
 use Rattle.gg_marking.specs.Marking.{Layout, Marking}
 use Rattle.gg_marking.specs.Steps.{Steps, StopsAt}
-use Rattle.gg_sound.specs.Built.{AreBuilt, rows_of, wires_of_plan}
-use Rattle.gg_build.specs.Build.{IsToRun}
+use Rattle.gg_sound.specs.Built.{AreBuilt, wires_of_plan}
+use Rattle.gg_build.specs.Build.{IsToRun, flow_along}
 use Rattle.gg_layout.specs.CutLayout.{IsLayoutOf}
 use Rattle.gg_steps.specs.Naming.{Naming}
 use Rattle.gg_replay.specs.ReplayText.{channel_line}
@@ -56,37 +55,29 @@ name_in plan c = path_at (map (λ channel. channel.name) plan.channels) c
 abbrev pub width_in : Plan → ℕ → ℕ
 width_in plan c = value_at (map (λ channel. channel.ty.width) plan.channels) c
 
--- the line of channel c, if the channels carry these lists of values
-abbrev pub net_line : Plan → (lists : List (List ℕ)) → Network → ℕ → List ℕ
-net_line plan lists net c = channel_line (name_in plan c) (width_in plan c) (puts net c) (takes net c) (take (puts net c) (list_at lists c))
+-- the line of channel c, if the channels carry the values of this flow
+abbrev pub net_line : Plan → Flow → Network → ℕ → List ℕ
+net_line plan flow net c = channel_line (name_in plan c) (width_in plan c) (puts net c) (takes net c) (take (entered net c) (list_at flow.lists c))
 
 -- the lines of all channels
-abbrev pub net_text : Plan → (lists : List (List ℕ)) → Network → List ℕ
-net_text plan lists net = flat_map (net_line plan lists net) (range_with_len 0 (length plan.channels))
+abbrev pub net_text : Plan → Flow → Network → List ℕ
+net_text plan flow net = flat_map (net_line plan flow net) (range_with_len 0 (length plan.channels))
 
--- What the plan's channels carry, and the rows of its machines, in the circuit's run on these columns. The run is
--- computed along the design's order.
-abbrev pub lists_along : Ordered → Plan → List (List ℕ) → ℕ → List (List ℕ)
-lists_along design plan columns n = columns_of plan (rows_along design.circuit design.order columns n)
-
-abbrev pub runs_along_rows : Ordered → Plan → List (List ℕ) → ℕ → List (List (List ℕ))
-runs_along_rows design plan columns n = rows_of plan (rows_along design.circuit design.order columns n)
-
--- the plan's network can be built for them
+-- the plan's network can be built for what it computes in the circuit's run on these columns
 abbrev pub IsToReplay : Ordered → Plan → List (List ℕ) → ℕ → Type 0
-IsToReplay design plan columns n = IsToRun plan columns n (lists_along design plan columns n) (runs_along_rows design plan columns n)
+IsToReplay design plan columns n = IsToRun plan columns n (flow_along design plan columns n)
 
 -- The network of a plan before its first cycle, with these machines.
-pub record Opened (plan : Plan) (columns : List (List ℕ)) (n : ℕ) (lists : List (List ℕ)) (runs : List (List (List ℕ))) (machines : List Machine) : Type 0 where
+pub record Opened (plan : Plan) (columns : List (List ℕ)) (n : ℕ) (flow : Flow) (machines : List Machine) : Type 0 where
   pub built : AreBuilt plan columns n machines
-  pub kept : Kept lists runs (opening_net machines (wires_of_plan plan) n)
+  pub kept : Kept flow (opening_net machines (wires_of_plan plan) n)
 
 -- How these steps of a plan's network have ended. They are done, and the text of the network that they lead to was
 -- printed (`PrintsOn`); or they stopped at one, which is reported; or an allocation failed before anything was written.
-pub data NetEnds {T K : Type 0} (plan : Plan) (columns : List (List ℕ)) (n : ℕ) (lists : List (List ℕ)) (runs : List (List (List ℕ))) (naming : Naming) (events : List (Option Event)) (sink : Sink.Ghosts K) (out out' : K) (result : Result T Ending) : Type 0 where
-  NetWent : (machines : List Machine) (opened : Opened plan columns n lists runs machines) (net : Network) (steps : Steps (opening_net machines (wires_of_plan plan) n) events net) (prints : PrintsOn sink out out' (net_text plan lists net) result) → NetEnds plan columns n lists runs naming events sink out out' result
-  NetStops : (machines : List Machine) (opened : Opened plan columns n lists runs machines) (net : Network) (stopped : Stopped) (stops : StopsAt 1 (opening_net machines (wires_of_plan plan) n) events net stopped) (ending : Ending) (ends : result ≡ Err ending) (says : IfRefused (λ said. said ≡ stopped_by naming events stopped) ending) (none : sink.written out' ≡ sink.written out) → NetEnds plan columns n lists runs naming events sink out out' result
-  NetWants : (ends : result ≡ Err NoMemory) (none : sink.written out' ≡ sink.written out) → NetEnds plan columns n lists runs naming events sink out out' result
+pub data NetEnds {T K : Type 0} (plan : Plan) (columns : List (List ℕ)) (n : ℕ) (flow : Flow) (naming : Naming) (events : List (Option Event)) (sink : Sink.Ghosts K) (out out' : K) (result : Result T Ending) : Type 0 where
+  NetWent : (machines : List Machine) (opened : Opened plan columns n flow machines) (net : Network) (steps : Steps (opening_net machines (wires_of_plan plan) n) events net) (prints : PrintsOn sink out out' (net_text plan flow net) result) → NetEnds plan columns n flow naming events sink out out' result
+  NetStops : (machines : List Machine) (opened : Opened plan columns n flow machines) (net : Network) (stopped : Stopped) (stops : StopsAt 1 (opening_net machines (wires_of_plan plan) n) events net stopped) (ending : Ending) (ends : result ≡ Err ending) (says : IfRefused (λ said. said ≡ stopped_by naming events stopped) ending) (none : sink.written out' ≡ sink.written out) → NetEnds plan columns n flow naming events sink out out' result
+  NetWants : (ends : result ≡ Err NoMemory) (none : sink.written out' ≡ sink.written out) → NetEnds plan columns n flow naming events sink out out' result
 
 -- ---- a design, a request and the columns of a trace
 

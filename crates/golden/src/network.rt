@@ -31,8 +31,8 @@ fn print_channel<Z: Streams, K: Sink>(
 ) -> Result<(), Ending>
     requires known { channel < length plan.now.channels }
     requires wires { length net.now.wires ≡ length plan.now.channels }
-    requires logged { AreFronts Z.lists net.now log.now }
-    ensures prints { PrintsOn K.Sink out.old out.new (net_line plan.now Z.lists net.now channel) result }
+    requires logged { AreFronts Z.flow net.now log.now }
+    ensures prints { PrintsOn K.Sink out.old out.new (net_line plan.now Z.flow net.now channel) result }
     ensures out { SinkWentOn K.Sink out.old out.new }
 {
     let own = &plan.channels.as_slice()[channel as usize];
@@ -57,8 +57,8 @@ fn print_net<Z: Streams, K: Sink>(
 ) -> Result<(), Ending>
     requires few { length plan.now.channels < 2 ^ 32 }
     requires wires { length net.now.wires ≡ length plan.now.channels }
-    requires logged { AreFronts Z.lists net.now log.now }
-    ensures prints { PrintsOn K.Sink out.old out.new (net_text plan.now Z.lists net.now) result }
+    requires logged { AreFronts Z.flow net.now log.now }
+    ensures prints { PrintsOn K.Sink out.old out.new (net_text plan.now Z.flow net.now) result }
     ensures out { SinkWentOn K.Sink out.old out.new }
 {
     for channel in 0..plan.channels.as_slice().len() {
@@ -119,8 +119,8 @@ pub(crate) fn replay_net<Z: Streams, K: Sink>(
     out: &mut K,
 ) -> Result<(), Ending>
     requires few { length plan.now.channels < 2 ^ 32 }
-    requires run { IsToRun plan.now inputs.now.columns inputs.now.rows Z.lists Z.runs }
-    ensures ended { NetEnds plan.now inputs.now.columns inputs.now.rows Z.lists Z.runs names.now events.now K.Sink out.old out.new result }
+    requires run { IsToRun plan.now inputs.now.columns inputs.now.rows Z.flow }
+    ensures ended { NetEnds plan.now inputs.now.columns inputs.now.rows Z.flow names.now events.now K.Sink out.old out.new result }
     ensures out { SinkWentOn K.Sink out.old out.new }
 {
     let _ = design;

@@ -1,5 +1,5 @@
 //! Printing of the run of a circuit.
-ghost use Rattle.std.specs.Prelude.{◌≡◌, ℕ, List, length, Option};
+ghost use Rattle.std.specs.Prelude.{◌≡◌, ℕ, List, [], length, Option};
 ghost use Rattle.std.specs.Io.KnownBytes.{append_known};
 ghost use Rattle.gg_flat.specs.Order.{IsOrder};
 ghost use Rattle.gg_flat.specs.Run.{IsRun, IsColumns};
@@ -36,7 +36,7 @@ fn print_row<K: Sink>(
     requires outs { length outs.old ≡ length mono.old.circuit.outs }
     requires ports { length ports.now ≡ length mono.old.circuit.outs }
     ensures circuit { mono.new.circuit ≡ mono.old.circuit }
-    ensures cycle { Cycle mono.old.circuit mono.old.state inputs.now outs.new mono.new.state }
+    ensures cycle { Cycle [] mono.old.circuit mono.old.state inputs.now outs.new mono.new.state }
     ensures prints { PrintsOn K.Sink out.old out.new (row_line ports.now cycle outs.new) result }
     ensures out { SinkWentOn K.Sink out.old out.new }
 {

@@ -1,5 +1,6 @@
 //! The command `replay`.
 ghost use Rattle.std.specs.Prelude.{◌≡◌, ◌<◌, ◌≤◌, ℕ, List, None};
+ghost use Rattle.gg_build.specs.Build.{flow_along};
 ghost use Rattle.gg_cut.specs.Fault.{IsSmall, first_fault};
 ghost use Rattle.gg_flat.specs.Run.{IsColumns};
 ghost use Rattle.gg_front.specs.Meaning.{MeansDesign};
@@ -7,7 +8,7 @@ ghost use Rattle.gg_partfile.specs.Partition.{IsPartition};
 ghost use Rattle.gg_steps.specs.Steps.{steps_of};
 ghost use Rattle.golden.specs.Endings.{EndedOn};
 ghost use Rattle.golden.specs.Replay.{fed_order, network_order, replay_order, steps_order};
-ghost use Rattle.golden.specs.Replayed.{AreFewNames, IsToReplay, NetEnds, ReplayEnds, plan_naming, lists_along, runs_along_rows};
+ghost use Rattle.golden.specs.Replayed.{AreFewNames, IsToReplay, NetEnds, ReplayEnds, plan_naming};
 ghost use Rattle.golden.specs.RunText.{FeedsOnly};
 ghost use Rattle.golden.specs.WentOn.{ShelfWentOn, SinkWentOn};
 
@@ -44,7 +45,7 @@ fn replay_plan<K: Sink>(
 ) -> Result<(), Ending>
     requires few { AreFewNames plan.now design.now.tree listed.now }
     requires run { IsToReplay design.now plan.now inputs.now.columns inputs.now.rows }
-    ensures ended { NetEnds plan.now inputs.now.columns inputs.now.rows (lists_along design.now plan.now inputs.now.columns inputs.now.rows) (runs_along_rows design.now plan.now inputs.now.columns inputs.now.rows)
+    ensures ended { NetEnds plan.now inputs.now.columns inputs.now.rows (flow_along design.now plan.now inputs.now.columns inputs.now.rows)
         (plan_naming plan.now design.now.tree listed.now) (steps_of (plan_naming plan.now design.now.tree listed.now) steps.now)
         K.Sink out.old out.new result }
     ensures out { SinkWentOn K.Sink out.old out.new }

@@ -24,4 +24,4 @@ pub returns-clause-prints : goal.returns-clause-prints
 returns-clause-prints g c =
     c.loop-channel.invariant.written
     ∙ ap (append_known (g.K.Sink.written c.args.out.now))
-    (whole-range (net_line c.args.plan.now g.Z.Streams.lists c.args.net.now) c.loop-channel.channel (length c.args.plan.now.channels) (omega (arith, c.loop-channel-test.false, ap length c.as_slice-channel-end.ensures)))
+    (whole-range (net_line c.args.plan.now g.Z.Streams.flow c.args.net.now) c.loop-channel.channel (length c.args.plan.now.channels) (omega (arith, c.loop-channel-test.false, ap length c.as_slice-channel-end.ensures)))

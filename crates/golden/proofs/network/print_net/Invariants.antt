@@ -6,4 +6,4 @@ use Rattle.golden.proofs.network.print_net.Given as goal
 
 abbrev pub invariant-loop-channel : goal.invariant-loop-channel
 invariant-loop-channel g l =
-    LinesTo (net_line l.plan g.Z.Streams.lists l.net) (range_with_len 0 (length l.plan.channels)) g.K.Sink l.initial.out l.out l.channel
+    LinesTo (net_line l.plan g.Z.Streams.flow l.net) (range_with_len 0 (length l.plan.channels)) g.K.Sink l.initial.out l.out l.channel
