@@ -12,7 +12,7 @@ use Rattle.gg_net.specs.Step.{latch_of, flag_of}
 use Rattle.gg_net.proofs.MayLemmas.{consumer-there, producer-there}
 use Rattle.gg_marking.proofs.PutsLemmas.{puts-within}
 use Rattle.gg_measure.specs.Nets.{AllStandAt, dues_at, net_left, wire_left, machine_left, AreDrained, AreLast, HaveKept}
-use Rattle.gg_counts.proofs.SumLemmas.{sum-each, sum-none}
+use Rattle.gg_progress.proofs.SumLemmas.{sum-each, sum-none}
 use Rattle.gg_measure.proofs.NetLemmas.{got-within}
 
 got-least : (cycle : ℕ) (latch : Option ℕ) → cycle ≤ got_by cycle latch

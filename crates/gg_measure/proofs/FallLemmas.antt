@@ -13,10 +13,10 @@ use Rattle.gg_marking.specs.Fits.{HasLayout, marking_of}
 use Rattle.gg_marking.specs.Steps.{Steps}
 use Rattle.gg_marking.proofs.GoesLemmas.{free-ready}
 use Rattle.gg_marking.proofs.StepsLemmas.{steps-kept}
-use Rattle.gg_counts.specs.Counts.{counts_of, CanRun}
-use Rattle.gg_counts.specs.Measure.{left, sum_below, all_dues}
-use Rattle.gg_counts.proofs.SumLemmas.{sum-same}
-use Rattle.gg_counts.proofs.EndLemmas.{goes-or-ends, end-left, opening-left}
+use Rattle.gg_progress.specs.Counts.{counts_of, CanRun}
+use Rattle.gg_progress.specs.Measure.{left, sum_below, all_dues}
+use Rattle.gg_progress.proofs.SumLemmas.{sum-same}
+use Rattle.gg_progress.proofs.EndLemmas.{goes-or-ends, end-left, opening-left}
 use Rattle.gg_measure.specs.Nets.{AllStandAt, AreDrained, HaveKept, dues_at, net_left}
 use Rattle.gg_measure.proofs.NetLemmas.{can-run, shape-of, allowed-of, left-is, dues-are, kind-count}
 use Rattle.gg_measure.proofs.GoLemmas.{laid-out, step-falls, none-ready}

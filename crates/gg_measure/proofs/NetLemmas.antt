@@ -25,12 +25,12 @@ use Rattle.gg_marking.proofs.ChangeLemmas.{taken-count, given-count}
 use Rattle.gg_marking.proofs.NeedLemmas.{unmarked-none}
 use Rattle.gg_marking.proofs.FirstLemmas.{none-unfired}
 use Rattle.gg_marking.proofs.PutsLemmas.{puts-within}
-use Rattle.gg_counts.specs.Counts.{Counts, counts_of, dues, WasTaken, IsAllowed, HasBegun, CanRun, IsMarkingOf}
-use Rattle.gg_counts.specs.Measure.{sum_below, left}
+use Rattle.gg_progress.specs.Counts.{Counts, counts_of, dues, WasTaken, IsAllowed, HasBegun, CanRun, IsMarkingOf}
+use Rattle.gg_progress.specs.Measure.{sum_below, left}
 use Rattle.gg_measure.specs.Nets.{dues_at, net_left, wire_left, machine_left}
-use Rattle.gg_counts.proofs.SumLemmas.{sum-same, sum-le, sum-add, sum-equal, sum-times, sum-front, sum-listed}
-use Rattle.gg_counts.proofs.EarlyLemmas.{entered-is}
-use Rattle.gg_counts.proofs.FreeLemmas.{all-taken, has-given, set-one, clear-one}
+use Rattle.gg_progress.proofs.SumLemmas.{sum-same, sum-le, sum-add, sum-equal, sum-times, sum-front, sum-listed}
+use Rattle.gg_progress.proofs.EarlyLemmas.{entered-is}
+use Rattle.gg_progress.proofs.FreeLemmas.{all-taken, has-given, set-one, clear-one}
 
 any_turn : Turn
 any_turn = record { number = 0; fields = [] }

@@ -18,8 +18,8 @@ use Rattle.gg_marking.specs.Steps.{Steps}
 use Rattle.gg_marking.proofs.GoesLemmas.{ready-free, step-marks, step-frame}
 use Rattle.gg_marking.proofs.StepsLemmas.{steps-kept, steps-frame}
 use Rattle.gg_marking.proofs.LayoutLemmas.{has-layout}
-use Rattle.gg_counts.specs.Counts.{Counts, counts_of, fires, latches, finishes, accesses, Raises, AreSame}
-use Rattle.gg_counts.proofs.LeadLemmas.{went, one-marking}
+use Rattle.gg_progress.specs.Counts.{Counts, counts_of, fires, latches, finishes, accesses, Raises, AreSame}
+use Rattle.gg_progress.proofs.LeadLemmas.{went, one-marking}
 use Rattle.gg_measure.proofs.NetLemmas.{can-run, shape-of, allowed-of}
 use Rattle.gg_measure.proofs.WayLemmas.{same-counts}
 

@@ -15,9 +15,9 @@ use Rattle.gg_marking.specs.Steps.{Steps}
 use Rattle.gg_marking.proofs.CountLemmas.{cycle-at, served-at, puts-are, takes-are}
 use Rattle.gg_marking.proofs.GoesLemmas.{step-marks, step-frame}
 use Rattle.gg_marking.proofs.StepsLemmas.{steps-kept, steps-frame}
-use Rattle.gg_counts.specs.Counts.{counts_of, AreAtMost}
-use Rattle.gg_counts.specs.Leads.{Leads}
-use Rattle.gg_counts.proofs.LeadLemmas.{leads-up}
+use Rattle.gg_progress.specs.Counts.{counts_of, AreAtMost}
+use Rattle.gg_progress.specs.Leads.{Leads}
+use Rattle.gg_progress.proofs.LeadLemmas.{leads-up}
 use Rattle.gg_measure.proofs.NetLemmas.{can-run, shape-of, allowed-of}
 use Rattle.gg_marking.proofs.GoesLemmas.{free-ready}
 

@@ -3,8 +3,8 @@ ghost use Rattle.std.specs.Prelude.{◌≡◌, ◌↔◌, ◌+◌, ◌-◌, ◌*
 ghost use Rattle.gg_flat.specs.Streams.{Flow};
 ghost use Rattle.gg_net.specs.declared.event.Event.{Event};
 ghost use Rattle.gg_marking.specs.Marking.{Layout, opening_marking};
-ghost use Rattle.gg_counts.specs.Counts.{Counts, counts_of, HasBegun, IsAllowed, AreAtMost, AreSame, CanRun, IsMarkingOf};
-ghost use Rattle.gg_counts.specs.Measure.{left, sum_below};
+ghost use Rattle.gg_progress.specs.Counts.{Counts, counts_of, HasBegun, IsAllowed, AreAtMost, AreSame, CanRun, IsMarkingOf};
+ghost use Rattle.gg_progress.specs.Measure.{left, sum_below};
 ghost use Rattle.gg_net.specs.Network.{Network, Frame, frame_of};
 ghost use Rattle.gg_net.specs.Kept.{Kept, IsSound};
 ghost use Rattle.gg_net.specs.Step.{Ready, Step};
