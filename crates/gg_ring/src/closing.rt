@@ -37,12 +37,16 @@ impl Ring {
         let PutSeat {
             mut seat,
             puts,
+            place: _,
             seen: _,
+            streaming: _,
         } = put;
         let TakeSeat {
             seat: other,
             takes,
+            place: _,
             seen: _,
+            streaming: _,
         } = take;
         table.shared.join_seat::<JoinSeats>(&mut seat, other);
         let closed = table.close_with(seat);

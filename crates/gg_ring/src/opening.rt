@@ -43,12 +43,16 @@ pub(crate) fn opened<K: Chosen>(
         PutSeat {
             seat,
             puts: 0,
+            place: 0,
             seen: 0,
+            streaming: false,
         },
         TakeSeat {
             seat: other,
             takes: 0,
+            place: 0,
             seen: 0,
+            streaming: false,
         },
     ))
 }
@@ -84,12 +88,16 @@ impl Ring {
         let PutSeat {
             mut seat,
             puts,
+            place,
             seen: _,
+            streaming: _,
         } = put;
         let TakeSeat {
             seat: other,
             takes,
+            place: other_place,
             seen: _,
+            streaming: _,
         } = take;
         self.table.shared.join_seat::<JoinSeats>(&mut seat, other);
         let other = self.table.shared.split_seat::<SplitSeats>(&mut seat);
@@ -97,12 +105,16 @@ impl Ring {
             PutSeat {
                 seat,
                 puts,
+                place,
                 seen: 0,
+                streaming: false,
             },
             TakeSeat {
                 seat: other,
                 takes,
+                place: other_place,
                 seen: puts,
+                streaming: false,
             },
         )
     }

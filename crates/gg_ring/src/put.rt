@@ -16,7 +16,12 @@ impl Ring {
         ensures looks { seat.new.seat.me.0.looks ≡ seat.old.seat.me.0.looks + 1 }
         ensures moves { put_moves seat.new ≡ put_moves seat.old + 1 }
     {
+        if seat.streaming {
+            self.pause();
+        }
+        let before = seat.seen;
         seat.seen = self.table.shared.load::<LoadHead>(&mut seat.seat, 0);
+        seat.streaming = seat.seen > before + 1;
     }
 
     // Stores a value where there is room.
@@ -29,13 +34,14 @@ impl Ring {
         ensures looks { seat.new.seat.me.0.looks ≡ seat.old.seat.me.0.looks }
         ensures moves { put_moves seat.new ≡ put_moves seat.old + 3 }
     {
-        let place = 2 * (seat.puts % self.capacity) as usize;
+        let place = 2 * seat.place as usize;
         let low = (value % (1 << 64)) as u64;
         let high = (value >> 64) as u64;
         let shared = &self.table.shared;
         shared.store::<StoreLow>(&mut seat.seat, 2 + place, low);
         shared.store::<StoreHigh>(&mut seat.seat, 3 + place, high);
         shared.store::<StoreTail>(&mut seat.seat, 1, seat.puts + 1);
+        seat.place = self.behind(seat.place, seat.puts);
         seat.puts += 1;
     }
 

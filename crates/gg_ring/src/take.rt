@@ -16,7 +16,12 @@ impl Ring {
         ensures looks { seat.new.seat.me.0.looks ≡ seat.old.seat.me.0.looks + 1 }
         ensures moves { take_moves seat.new ≡ take_moves seat.old + 1 }
     {
+        if seat.streaming {
+            self.pause();
+        }
+        let before = seat.seen;
         seat.seen = self.table.shared.load::<LoadTail>(&mut seat.seat, 1);
+        seat.streaming = seat.seen > before + 1;
     }
 
     // Takes a value that is known to be there.
@@ -29,11 +34,12 @@ impl Ring {
         ensures moves { take_moves seat.new ≡ take_moves seat.old + 3 }
         ensures value { slice_get seat.old.seat.me.0.stream seat.old.takes ≡ Some result }
     {
-        let place = 2 * (seat.takes % self.capacity) as usize;
+        let place = 2 * seat.place as usize;
         let shared = &self.table.shared;
         let low = shared.load::<LoadLow>(&mut seat.seat, 2 + place);
         let high = shared.load::<LoadHigh>(&mut seat.seat, 3 + place);
         shared.store::<StoreHead>(&mut seat.seat, 0, seat.takes + 1);
+        seat.place = self.behind(seat.place, seat.takes);
         seat.takes += 1;
         joined(low, high)
     }

@@ -1,4 +1,4 @@
-use Rattle.std.proofs.Common.{arith, ◌≡◌, ap, sym, ◌∙◌, refl}
+use Rattle.std.proofs.Common.{arith, ◌≡◌, ◌%◌, ap, sym, ◌∙◌, refl}
 use Rattle.std.proofs.Math.Nat.{mod-lt}
 use Rattle.gg_ring.specs.Views.{loaded_high}
 use Rattle.std.proofs.Common.{slice_index, Some}
@@ -16,10 +16,11 @@ load-low-requires c =
     let e = seat.counted in
     let at = seat.rests in
     let place = mod-lt seat.takes {m = link.capacity} link.sized.2 in
+    let is : seat.place ≡ seat.takes % link.capacity = seat.placed ∙ ap (λ m. seat.takes % m) c.requires.seat.1 in
     let words = link.sized.0 in (
       c.requires.seat.0,
       omega arith,
-      loads_low link.table.shared.key link.table.shared.table_id.slots seat.seat.id seat.takes link.capacity seat.seat.me e.0 c.requires.seat.1 at.1 at.2 (rw (e.0, e.1) c.requires.there),
+      rw is (loads_low link.table.shared.key link.table.shared.table_id.slots seat.seat.id seat.takes link.capacity seat.seat.me e.0 c.requires.seat.1 at.1 at.2 (rw (e.0, e.1) c.requires.there)),
     )
 
 pub load-high-requires : goal.load-high-requires
@@ -29,13 +30,14 @@ load-high-requires c =
     let e = seat.counted in
     let at = seat.rests in
     let place = mod-lt seat.takes {m = link.capacity} link.sized.2 in
+    let is : seat.place ≡ seat.takes % link.capacity = seat.placed ∙ ap (λ m. seat.takes % m) c.requires.seat.1 in
     let words = link.sized.0 in
     let one = c.load-low.ensures in
     let view = ap (λ m. m.0) one.2.0 in (
       one.0 ∙ c.requires.seat.0,
       omega arith,
-      loads_high link.table.shared.key link.table.shared.table_id.slots c.load-low.new.seat.id seat.takes link.capacity c.load-low.new.seat.me
-          (ap (λ v. v.taken) view ∙ e.0) (ap (λ v. v.capacity) view ∙ c.requires.seat.1) (ap (λ v. v.takes) view ∙ at.1) (ap (λ v. v.puts) view ∙ at.2) (rw (view, e.0, e.1) c.requires.there) (ap (λ v. v.loaded) view),
+      rw is (loads_high link.table.shared.key link.table.shared.table_id.slots c.load-low.new.seat.id seat.takes link.capacity c.load-low.new.seat.me
+          (ap (λ v. v.taken) view ∙ e.0) (ap (λ v. v.capacity) view ∙ c.requires.seat.1) (ap (λ v. v.takes) view ∙ at.1) (ap (λ v. v.puts) view ∙ at.2) (rw (view, e.0, e.1) c.requires.there) (ap (λ v. v.loaded) view)),
     )
 
 pub store-requires : goal.store-requires
