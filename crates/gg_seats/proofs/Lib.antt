@@ -1,0 +1,9 @@
+pub mod QueueLemmas
+pub mod StandLemmas
+pub mod RowLemmas
+pub mod FireLemmas
+pub mod ServeLemmas
+pub mod WentLemmas
+pub mod PassLemmas
+pub mod EventLemmas
+pub mod NetLemmas

@@ -1,0 +1,47 @@
+use Rattle.std.proofs.Common.{◌≡◌, ◌<◌, length, map, slice_set, sym, subst, refl, arith}
+use Rattle.std.proofs.lemmas.List.{length-map}
+use Rattle.gg_node.specs.Machine.{machine_at}
+use Rattle.gg_net.specs.Network.{kind_of}
+use Rattle.gg_seats.specs.Rows.{LatchesTried, FiresTried}
+use Rattle.gg_seats.proofs.RowLemmas.{alone-more, alone-within}
+use Rattle.gg_seats.proofs.ServeLemmas.{alone-finish}
+use Rattle.gg_seats.proofs.PassLemmas.{are-ins, are-outs, pass-desk, pass-went, pass-done}
+use Rattle.gg_seats.proofs.passes.pass.Goals as goal
+
+pub returns : goal.returns
+returns g c =
+    let w = g.E.Era.start in
+    let flow = g.Z.Streams.flow in
+    let m = c.args.desk.now.machine in
+    let station = c.args.station.now in
+    let thread = station.thread in
+    let below : m < length (map kind_of w.machines) = subst (λ n. m < n) (sym (length-map w.machines kind_of)) c.requires.here.1 in
+    let first = g.H.Host.machines c.args.host.now in
+    let hosts1 = g.H.Host.machines c.latch_all-latched.new.host in
+    let hosts2 = g.H.Host.machines c.fire_all-fired.new.host in
+    let hosts3 = g.H.Host.machines c.serve_all-served.new.host in
+    let after = g.H.Host.machines c.try_finish-finished.new.host in
+    let x = machine_at first thread in
+    let x1 = machine_at hosts1 thread in
+    let x2 = machine_at hosts2 thread in
+    let x3 = machine_at hosts3 thread in
+    let take_seats1 = c.latch_all-latched.new.seats.items in
+    let put_seats1 = c.fire_all-fired.new.seats.items in
+    let going : x.cycle < c.args.upto = omega (arith, c.if-cycle-upto.false, c.cycle.ensures) in
+    let latches : LatchesTried g.L.Link.takes_from g.L.Link.taking flow w m c.args.upto c.args.links.now station.ins (length station.ins) x c.args.desk.now.takes.items x1 take_seats1 =
+    subst (λ ins. LatchesTried g.L.Link.takes_from g.L.Link.taking flow w m c.args.upto c.args.links.now ins (length ins) x c.args.desk.now.takes.items x1 take_seats1) c.as_slice-ins.ensures c.latch_all-latched.ensures.tried in
+    let fires : FiresTried g.L.Link.puts_into g.L.Link.putting flow w m c.args.upto c.args.links.now station.outs (length station.outs) x1 c.args.desk.now.puts.items x2 put_seats1 =
+    subst (λ outs. FiresTried g.L.Link.puts_into g.L.Link.putting flow w m c.args.upto c.args.links.now outs (length outs) x1 c.args.desk.now.puts.items x2 put_seats1) c.as_slice-outs.ensures c.fire_all-fired.ensures.tried in
+    let alone2 : hosts2 ≡ slice_set first thread x2 = alone-more first hosts1 hosts2 thread x2 c.requires.thread c.latch_all-latched.ensures.alone c.fire_all-fired.ensures.alone in
+    let alone3 : hosts3 ≡ slice_set first thread x3 = alone-more first hosts2 hosts3 thread x3 c.requires.thread alone2 c.serve_all-served.ensures.alone in
+    let within : thread < length hosts3 = alone-within first hosts3 thread c.requires.thread alone3 in
+    record {
+      machine = refl;
+      desk = pass-desk g.L.Link.takes_from g.L.Link.puts_into g.L.Link.taking g.L.Link.putting flow w c.requires.kept c.args.links.now m below c.args.upto c.requires.here.2 station.ins station.outs x c.args.desk.now.takes.items c.args.desk.now.puts.items c.requires.desk
+          (are-ins flow w m x station c.requires.desk.machine c.requires.listed) (are-outs flow w m x station c.requires.desk.machine c.requires.listed) going x1 take_seats1 latches x2 put_seats1 fires x3 c.serve_all-served.ensures.tried c.serve_all-served.ensures.none hosts3 after thread within refl c.try_finish-finished.result c.try_finish-finished.ensures;
+      alone = alone-finish first hosts3 after thread c.args.upto c.requires.thread alone3 c.try_finish-finished.result c.try_finish-finished.ensures;
+      went_on = pass-went g.L.Link.takes_from g.L.Link.puts_into g.L.Link.taking g.L.Link.putting flow w c.requires.kept c.args.links.now m below c.args.upto c.requires.here.2 station.ins station.outs x c.args.desk.now.takes.items c.args.desk.now.puts.items c.requires.desk
+          (are-ins flow w m x station c.requires.desk.machine c.requires.listed) (are-outs flow w m x station c.requires.desk.machine c.requires.listed) going x1 take_seats1 latches x2 put_seats1 fires x3 c.serve_all-served.ensures.tried c.serve_all-served.ensures.none hosts3 after thread within refl c.try_finish-finished.result c.try_finish-finished.ensures;
+      done = pass-done g.L.Link.takes_from g.L.Link.puts_into g.L.Link.taking g.L.Link.putting flow w c.requires.kept c.args.links.now m below c.args.upto c.requires.here.2 station.ins station.outs x c.args.desk.now.takes.items c.args.desk.now.puts.items c.requires.desk
+          (are-ins flow w m x station c.requires.desk.machine c.requires.listed) (are-outs flow w m x station c.requires.desk.machine c.requires.listed) going x1 take_seats1 latches x2 put_seats1 fires x3 c.serve_all-served.ensures.tried c.serve_all-served.ensures.none hosts3 after thread within refl c.try_finish-finished.result c.try_finish-finished.ensures;
+    }

@@ -1,0 +1,4 @@
+pub mod Seats
+pub mod Tries
+pub mod Rows
+pub mod Pass

@@ -1,0 +1,34 @@
+//! The links of a network, and the machines between them.
+//!
+//! Workers run the machines of a network on several threads. For that the network is taken apart: each channel gets a
+//! link in place of its queue, and each machine a [`Desk`] with the seats of its channels. The crate promises, whatever
+//! the threads at the other ends of the links do:
+//!
+//! - [`open_all`] makes a link for each channel, with what the channel's queue holds. Each link has two seats, which count
+//!   what the machines at its ends count. [`close_all`] closes the links again: each queue then holds the tokens between
+//!   the counts of the two machines.
+//! - [`try_latch`], [`try_fire`], [`try_serve`] and [`try_finish`] each try one event of one machine, and do it exactly if
+//!   the machine is below a given cycle and, as far as the seat knows, the event may be done. [`latch_all`], [`fire_all`]
+//!   and [`serve_all`] try the events of all ins, outs and ports.
+//! - [`pass`] tries all events of one machine. The machine stays one that the network can have, and its seats go on to
+//!   count what it counts. None of its counts falls, and none rises past the given cycle. What could be done before the
+//!   pass, as far as the seats knew, was done. The other machines of the host stay as they were.
+//!
+//! Only `open_all` allocates: it makes links.
+#![tactic(auto)]
+
+mod close;
+mod desk;
+mod era;
+mod open;
+mod passes;
+mod rows;
+mod tries;
+
+pub use close::close_all;
+pub use desk::Desk;
+pub use era::Era;
+pub use open::open_all;
+pub use passes::pass;
+pub use rows::{fire_all, latch_all, serve_all};
+pub use tries::{try_finish, try_fire, try_latch, try_serve};

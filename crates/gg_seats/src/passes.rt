@@ -1,0 +1,52 @@
+//! A pass over one machine: a try of each of its events.
+ghost use Rattle.std.specs.Prelude.{◌≡◌, ℕ, ◌<◌, ◌≤◌, length, slice_set};
+ghost use Rattle.gg_node.specs.Machine.{machine_at};
+ghost use Rattle.gg_net.specs.Network.{frame_of, kind_at};
+ghost use Rattle.gg_net.specs.Kept.{Kept};
+ghost use Rattle.gg_net.specs.Net.{IsListed};
+ghost use Rattle.gg_seats.specs.Pass.{IsDesk, MachineWentOn, KnownDone};
+
+use crate::desk::Desk;
+use crate::era::Era;
+use crate::rows::{fire_all, latch_all, serve_all};
+use crate::tries::try_finish;
+use gg_flat::Streams;
+use gg_link::Link;
+use gg_net::Station;
+use gg_node::Host;
+
+/// Tries each event of the machine at a station of a host: every latch, every fire, its ports as long as one can be
+/// served, and the end of its cycle. Does nothing if the machine isn't below cycle `upto`. Returns whether a step was
+/// done.
+pub fn pass<H: Host, L: Link, Z: Streams, E: Era>(
+    links: &[L],
+    station: &Station,
+    host: &mut H,
+    desk: &mut Desk<L::TakeSeat, L::PutSeat>,
+    upto: u64,
+) -> bool
+    requires kept { Kept Z.flow E.start }
+    requires here { (length links.now ≡ length E.start.wires) × (desk.old.machine < length E.start.machines) × (upto ≤ E.start.end) }
+    requires thread { station.now.thread < length (H.machines host.old) }
+    requires listed { IsListed E.start.wires desk.old.machine (kind_at (frame_of E.start).kinds desk.old.machine) station.now }
+    requires desk { IsDesk L.takes_from L.puts_into L.taking L.putting Z.flow E.start links.now desk.old.machine station.now.ins station.now.outs (machine_at (H.machines host.old) station.now.thread) desk.old.takes.items desk.old.puts.items }
+    ensures machine { desk.new.machine ≡ desk.old.machine }
+    ensures desk { IsDesk L.takes_from L.puts_into L.taking L.putting Z.flow E.start links.now desk.old.machine station.now.ins station.now.outs (machine_at (H.machines host.new) station.now.thread) desk.new.takes.items desk.new.puts.items }
+    ensures alone { H.machines host.new ≡ slice_set (H.machines host.old) station.now.thread (machine_at (H.machines host.new) station.now.thread) }
+    ensures went_on { MachineWentOn (frame_of E.start) desk.old.machine upto (machine_at (H.machines host.old) station.now.thread) (machine_at (H.machines host.new) station.now.thread) }
+    ensures done { KnownDone L.taking L.putting (frame_of E.start) upto station.now.ins station.now.outs (machine_at (H.machines host.old) station.now.thread) desk.old.takes.items desk.old.puts.items (machine_at (H.machines host.new) station.now.thread) }
+{
+    let thread = station.thread;
+    let machine = desk.machine;
+    if host.cycle(thread) >= upto {
+        return false;
+    }
+    let ins = station.ins.as_slice();
+    let outs = station.outs.as_slice();
+    let latched = latch_all::<H, L, Z, E>(links, host, thread, machine, ins, &mut desk.takes, upto);
+    let fired = fire_all::<H, L, Z, E>(links, host, thread, machine, outs, &mut desk.puts, upto);
+    let ports = station.ports.as_slice();
+    let served = serve_all::<H, Z, E>(host, thread, machine, outs.len() as u32, ports, upto);
+    let finished = try_finish(host, thread, ins.len() as u32, outs.len() as u32, upto);
+    latched | fired | served | finished
+}
