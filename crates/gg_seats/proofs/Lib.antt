@@ -3,6 +3,7 @@ pub mod StandLemmas
 pub mod RowLemmas
 pub mod FireLemmas
 pub mod ServeLemmas
+pub mod DoneLemmas
 pub mod WentLemmas
 pub mod PassLemmas
 pub mod EventLemmas
