@@ -3,5 +3,4 @@ pub mod NeedLemmas
 pub mod PlanLemmas
 pub mod PlanTextLemmas
 pub mod SameCutLemmas
-pub mod SameFaultLemmas
 mod WorkedCheck

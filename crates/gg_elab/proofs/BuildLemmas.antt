@@ -15,12 +15,10 @@ use Rattle.gg_flat.specs.declared.piece.Register.{Register}
 use Rattle.gg_flat.specs.declared.piece.Signal.{Signal}
 use Rattle.gg_flat.specs.Circuit.{FlatCircuit, driver_at}
 use Rattle.gg_flat.specs.Line.{shape_at, HasType}
-use Rattle.gg_digest.specs.Flat.{Drive, Outside, Gets, Holds, Answers, FlatSignal}
-use Rattle.gg_digest.specs.IsFlat.{IsRegisterOf, IsDrivenBy, is_outside, is_register, drive_at, count_before}
-use Rattle.gg_digest.specs.Meaning.{Signals}
-use Rattle.gg_digest.specs.Signals.{Types}
+use Rattle.gg_flattened.specs.Flat.{Drive, Outside, Gets, Holds, Answers, FlatSignal}
+use Rattle.gg_flattened.specs.IsFlat.{IsRegisterOf, IsDrivenBy, is_outside, is_register, drive_at, count_before}
+use Rattle.gg_flattened.specs.Meaning.{Bindings, in_scope}
 use Rattle.gg_elab.specs.Building.{IsMade, with_made, is_input_driver, IsSoFar}
-use Rattle.gg_elab.proofs.HeldLemmas.{one_if}
 
 abbrev drives : List FlatSignal → List Drive
 drives xs = map (λ (x : FlatSignal). x.drive) xs
@@ -29,6 +27,10 @@ abbrev shapes : List FlatSignal → List Shape
 shapes xs = map (λ (x : FlatSignal). x.shape) xs
 
 -- ---- counts
+
+-- 1 if a test passes, else 0
+abbrev one_if : Bool → ℕ
+one_if b = cond b 1 0
 
 before-push : (p : Drive → Bool) (xs : List FlatSignal) (x : FlatSignal) (s : ℕ) → s ≤ length xs → count_before p (xs ++ x ∷ []) s ≡ count_before p xs s
 before-push p xs x s le =
@@ -83,41 +85,41 @@ added_one : (b : Bool) (n : ℕ) → (if b then n + 1 else n) ≡ n + one_if b
 added_one true n = refl
 added_one false n = omega arith
 
-module _ (types : Types) (signals : Signals) (memories : List (List ℕ)) where
+module _ (bindings : Bindings) where
   -- a signal's drive says the same of its driver for equal counts, shapes, drives and drivers
-  moved : (regs : List Register) (i i' st st' : ℕ) (sh sh' : Shape) (d d' : Drive) (r r' : Driver) → i ≡ i' → st ≡ st' → sh ≡ sh' → d ≡ d' → r ≡ r' → IsDrivenBy types signals memories regs i st sh d r → IsDrivenBy types signals memories regs i' st' sh' d' r'
+  moved : (regs : List Register) (i i' st st' : ℕ) (sh sh' : Shape) (d d' : Drive) (r r' : Driver) → i ≡ i' → st ≡ st' → sh ≡ sh' → d ≡ d' → r ≡ r' → IsDrivenBy bindings regs i st sh d r → IsDrivenBy bindings regs i' st' sh' d' r'
   moved regs i i' st st' sh sh' d d' r r' ei es eh ed er h =
-      subst (λ (x : ℕ). IsDrivenBy types signals memories regs x st' sh' d' r') ei
-      (subst (λ (x : ℕ). IsDrivenBy types signals memories regs i x sh' d' r') es
-      (subst (λ (x : Shape). IsDrivenBy types signals memories regs i st x d' r') eh
-      (subst (λ (x : Drive). IsDrivenBy types signals memories regs i st sh x r') ed
-      (subst (λ (x : Driver). IsDrivenBy types signals memories regs i st sh d x) er h))))
+      subst (λ (x : ℕ). IsDrivenBy bindings regs x st' sh' d' r') ei
+      (subst (λ (x : ℕ). IsDrivenBy bindings regs i x sh' d' r') es
+      (subst (λ (x : Shape). IsDrivenBy bindings regs i st x d' r') eh
+      (subst (λ (x : Drive). IsDrivenBy bindings regs i st sh x r') ed
+      (subst (λ (x : Driver). IsDrivenBy bindings regs i st sh d x) er h))))
 
   -- a driver is still as the drive says if there are more registers
-  kept : (regs more : List Register) (i st : ℕ) (sh : Shape) (d : Drive) (r : Driver) → IsDrivenBy types signals memories regs i st sh d r → IsDrivenBy types signals memories (regs ++ more) i st sh d r
+  kept : (regs more : List Register) (i st : ℕ) (sh : Shape) (d : Drive) (r : Driver) → IsDrivenBy bindings regs i st sh d r → IsDrivenBy bindings (regs ++ more) i st sh d r
   kept regs more i st sh Outside r h = h
   kept regs more i st sh (Gets scope c) r h = h
   kept regs more i st sh (Holds scope reset next) r h = record {
     held = h.held;
     within = omega (arith, h.within, length-append regs more);
-    register = λ any. subst (λ (x : Register). IsRegisterOf types signals scope sh reset next x) (sym (get_or_append_left regs more any st h.within)) (h.register any);
+    register = λ any. subst (λ (x : Register). IsRegisterOf (in_scope bindings scope) sh reset next x) (sym (get_or_append_left regs more any st h.within)) (h.register any);
   }
   kept regs more i st sh (Answers memory place l addr en) r h = h
 
   -- a driver that is made for a drive, with the register that is made with it, is as the drive says
-  made : (regs : List Register) (i : ℕ) (sh : Shape) (d : Drive) (r : Driver) (register : Option Register) → IsMade types signals memories i (length regs) sh d r register → IsDrivenBy types signals memories (regs ++ option_to_list register) i (length regs) sh d r
+  made : (regs : List Register) (i : ℕ) (sh : Shape) (d : Drive) (r : Driver) (register : Option Register) → IsMade bindings i (length regs) sh d r register → IsDrivenBy bindings (regs ++ option_to_list register) i (length regs) sh d r
   made regs i sh Outside r register h = h.0
   made regs i sh (Gets scope c) r register h = h.0
   made regs i sh (Holds scope reset next) r None h = absurd h.1
   made regs i sh (Holds scope reset next) r (Some register) h = record {
     held = h.0;
     within = omega (arith, length-append regs (register ∷ []));
-    register = λ any. subst (λ (x : Register). IsRegisterOf types signals scope sh reset next x) (sym (get_or_push regs register any (length regs) refl)) h.1;
+    register = λ any. subst (λ (x : Register). IsRegisterOf (in_scope bindings scope) sh reset next x) (sym (get_or_push regs register any (length regs) refl)) h.1;
   }
   made regs i sh (Answers memory place l addr en) r register h = h.0
 
   -- a register is made exactly if the drive holds one
-  registers_made : (i st : ℕ) (sh : Shape) (d : Drive) (r : Driver) (register : Option Register) → IsMade types signals memories i st sh d r register → length (option_to_list register) ≡ one_if (is_register d)
+  registers_made : (i st : ℕ) (sh : Shape) (d : Drive) (r : Driver) (register : Option Register) → IsMade bindings i st sh d r register → length (option_to_list register) ≡ one_if (is_register d)
   registers_made i st sh Outside r register h = ap (λ (o : Option Register). length (option_to_list o)) h.1
   registers_made i st sh (Gets scope c) r register h = ap (λ (o : Option Register). length (option_to_list o)) h.1
   registers_made i st sh (Holds scope reset next) r None h = absurd h.1
@@ -125,7 +127,7 @@ module _ (types : Types) (signals : Signals) (memories : List (List ℕ)) where
   registers_made i st sh (Answers memory place l addr en) r register h = ap (λ (o : Option Register). length (option_to_list o)) h.1
 
   -- an input is made exactly if the outside drives the signal
-  inputs_made : (i st : ℕ) (sh : Shape) (d : Drive) (r : Driver) (register : Option Register) → IsMade types signals memories i st sh d r register → is_input_driver r ≡ is_outside d
+  inputs_made : (i st : ℕ) (sh : Shape) (d : Drive) (r : Driver) (register : Option Register) → IsMade bindings i st sh d r register → is_input_driver r ≡ is_outside d
   inputs_made i st sh Outside r register h = ap is_input_driver h.0
   inputs_made i st sh (Gets scope c) r register h = ap is_input_driver h.0.computed
   inputs_made i st sh (Holds scope reset next) r register h = ap is_input_driver h.0
@@ -134,15 +136,15 @@ module _ (types : Types) (signals : Signals) (memories : List (List ℕ)) where
 
   -- ---- the flat circuit so far
 
-  pub so_far-more : (xs : List FlatSignal) (x : FlatSignal) (flat : FlatCircuit) (inputs more : ℕ) (path : List ℕ) (ty : Ty) (r : Driver) (register : Option Register) → IsSoFar types signals memories xs flat inputs → path ≡ x.path → shape ty ≡ x.shape → IsMade types signals memories inputs (length flat.registers) x.shape x.drive r register → IsFitting signals.shapes x.shape r register → more ≡ (if is_input_driver r then inputs + 1 else inputs) → IsSoFar types signals memories (xs ++ x ∷ []) (with_made flat path ty r register) more
+  pub so_far-more : (xs : List FlatSignal) (x : FlatSignal) (flat : FlatCircuit) (inputs more : ℕ) (path : List ℕ) (ty : Ty) (r : Driver) (register : Option Register) → IsSoFar bindings xs flat inputs → path ≡ x.path → shape ty ≡ x.shape → IsMade bindings inputs (length flat.registers) x.shape x.drive r register → IsFitting bindings.signals.shapes x.shape r register → more ≡ (if is_input_driver r then inputs + 1 else inputs) → IsSoFar bindings (xs ++ x ∷ []) (with_made flat path ty r register) more
   so_far-more xs x flat inputs more path ty r register h named shaped m fit counted = record {
     paths = ap (λ (l : List (List ℕ)). l ++ path ∷ []) h.paths ∙ ap (λ (p : List ℕ). map (λ (y : FlatSignal). y.path) xs ++ p ∷ []) named ∙ sym (map-append (λ (y : FlatSignal). y.path) xs (x ∷ []));
     shapes = map-append (λ (y : Signal). shape y.ty) flat.signals (record { ty = ty; driver = r } ∷ [])
         ∙ ap (λ (l : List Shape). l ++ shape ty ∷ []) h.shapes ∙ ap (λ (p : Shape). shapes xs ++ p ∷ []) shaped ∙ sym (map-append (λ (y : FlatSignal). y.shape) xs (x ∷ []));
-    drivers = λ s lt. below_more (λ (s : ℕ). IsDrivenBy types signals memories new.registers (count_before is_outside (xs ++ x ∷ []) s) (count_before is_register (xs ++ x ∷ []) s) (shape_at (shapes (xs ++ x ∷ [])) s) (drive_at (xs ++ x ∷ []) s) (driver_at new s)) (length xs) old last s (omega (arith, lt, length-append xs (x ∷ [])));
+    drivers = λ s lt. below_more (λ (s : ℕ). IsDrivenBy bindings new.registers (count_before is_outside (xs ++ x ∷ []) s) (count_before is_register (xs ++ x ∷ []) s) (shape_at (shapes (xs ++ x ∷ [])) s) (drive_at (xs ++ x ∷ []) s) (driver_at new s)) (length xs) old last s (omega (arith, lt, length-append xs (x ∷ [])));
     register_count = omega (arith, length-append flat.registers (option_to_list register), registers_made inputs (length flat.registers) x.shape x.drive r register m, h.register_count, before-last is_register xs x);
     input_count = counted ∙ ap (λ b. if b then inputs + 1 else inputs) (inputs_made inputs (length flat.registers) x.shape x.drive r register m) ∙ added_one (is_outside x.drive) inputs ∙ ap (λ n. n + one_if (is_outside x.drive)) h.input_count ∙ sym (before-last is_outside xs x);
-    fitting = λ s lt. below_more (λ (s : ℕ). FitsDriver signals.shapes (shape_at (shapes (xs ++ x ∷ [])) s) (driver_at new s)) (length xs) fits fits_last s (omega (arith, lt, length-append xs (x ∷ [])));
+    fitting = λ s lt. below_more (λ (s : ℕ). FitsDriver bindings.signals.shapes (shape_at (shapes (xs ++ x ∷ [])) s) (driver_at new s)) (length xs) fits fits_last s (omega (arith, lt, length-append xs (x ∷ [])));
     registers_fit = with_register flat.registers register h.registers_fit fit.1;
     no_memories = h.no_memories;
     no_ins = h.no_ins;
@@ -155,27 +157,27 @@ module _ (types : Types) (signals : Signals) (memories : List (List ℕ)) where
       count : length flat.signals ≡ length xs
       count = sym (length-map flat.signals (λ (y : Signal). shape y.ty)) ∙ ap (λ (l : List Shape). length l) h.shapes ∙ length-map xs (λ (y : FlatSignal). y.shape)
 
-      old : (s : ℕ) → s < length xs → IsDrivenBy types signals memories (flat.registers ++ option_to_list register) (count_before is_outside (xs ++ x ∷ []) s) (count_before is_register (xs ++ x ∷ []) s) (shape_at (shapes (xs ++ x ∷ [])) s) (drive_at (xs ++ x ∷ []) s) (driver_at (with_made flat path ty r register) s)
+      old : (s : ℕ) → s < length xs → IsDrivenBy bindings (flat.registers ++ option_to_list register) (count_before is_outside (xs ++ x ∷ []) s) (count_before is_register (xs ++ x ∷ []) s) (shape_at (shapes (xs ++ x ∷ [])) s) (drive_at (xs ++ x ∷ []) s) (driver_at (with_made flat path ty r register) s)
       old s lt =
           moved (flat.registers ++ option_to_list register) _ _ _ _ _ _ _ _ _ _
           (sym (before-push is_outside xs x s (omega (arith, lt)))) (sym (before-push is_register xs x s (omega (arith, lt)))) (sym (shape-push xs x s lt)) (sym (drive-push xs x s lt)) (sym (driver-push flat.signals (record { ty = ty; driver = r }) s (omega (arith, lt, count))))
-          (kept flat.registers (option_to_list register) _ _ _ _ _ (h.drivers s lt))
+          (kept flat.registers (option_to_list register) (count_before is_outside xs s) (count_before is_register xs s) (shape_at (shapes xs) s) (drive_at xs s) (driver_at flat s) (h.drivers s lt))
 
-      last : IsDrivenBy types signals memories (flat.registers ++ option_to_list register) (count_before is_outside (xs ++ x ∷ []) (length xs)) (count_before is_register (xs ++ x ∷ []) (length xs)) (shape_at (shapes (xs ++ x ∷ [])) (length xs)) (drive_at (xs ++ x ∷ []) (length xs)) (driver_at (with_made flat path ty r register) (length xs))
+      last : IsDrivenBy bindings (flat.registers ++ option_to_list register) (count_before is_outside (xs ++ x ∷ []) (length xs)) (count_before is_register (xs ++ x ∷ []) (length xs)) (shape_at (shapes (xs ++ x ∷ [])) (length xs)) (drive_at (xs ++ x ∷ []) (length xs)) (driver_at (with_made flat path ty r register) (length xs))
       last =
           moved (flat.registers ++ option_to_list register) inputs _ (length flat.registers) _ x.shape _ x.drive _ r _
           (h.input_count ∙ sym (before-push is_outside xs x (length xs) (omega arith))) (h.register_count ∙ sym (before-push is_register xs x (length xs) (omega arith))) (sym (shape-last xs x)) (sym (drive-last xs x)) (sym (driver-last flat.signals (record { ty = ty; driver = r }) (length xs) count))
           (made flat.registers inputs x.shape x.drive r register m)
 
-      at : (s : ℕ) (sh : Shape) (d : Driver) → shape_at (shapes (xs ++ x ∷ [])) s ≡ sh → driver_at (with_made flat path ty r register) s ≡ d → FitsDriver signals.shapes sh d → FitsDriver signals.shapes (shape_at (shapes (xs ++ x ∷ [])) s) (driver_at (with_made flat path ty r register) s)
-      at s sh d a b k = subst (λ (y : Shape). FitsDriver signals.shapes y (driver_at (with_made flat path ty r register) s)) (sym a) (subst (λ (y : Driver). FitsDriver signals.shapes sh y) (sym b) k)
+      at : (s : ℕ) (sh : Shape) (d : Driver) → shape_at (shapes (xs ++ x ∷ [])) s ≡ sh → driver_at (with_made flat path ty r register) s ≡ d → FitsDriver bindings.signals.shapes sh d → FitsDriver bindings.signals.shapes (shape_at (shapes (xs ++ x ∷ [])) s) (driver_at (with_made flat path ty r register) s)
+      at s sh d a b k = subst (λ (y : Shape). FitsDriver bindings.signals.shapes y (driver_at (with_made flat path ty r register) s)) (sym a) (subst (λ (y : Driver). FitsDriver bindings.signals.shapes sh y) (sym b) k)
 
-      fits : (s : ℕ) → s < length xs → FitsDriver signals.shapes (shape_at (shapes (xs ++ x ∷ [])) s) (driver_at (with_made flat path ty r register) s)
+      fits : (s : ℕ) → s < length xs → FitsDriver bindings.signals.shapes (shape_at (shapes (xs ++ x ∷ [])) s) (driver_at (with_made flat path ty r register) s)
       fits s lt = at s _ _ (shape-push xs x s lt) (driver-push flat.signals (record { ty = ty; driver = r }) s (omega (arith, lt, count))) (h.fitting s lt)
 
-      fits_last : FitsDriver signals.shapes (shape_at (shapes (xs ++ x ∷ [])) (length xs)) (driver_at (with_made flat path ty r register) (length xs))
+      fits_last : FitsDriver bindings.signals.shapes (shape_at (shapes (xs ++ x ∷ [])) (length xs)) (driver_at (with_made flat path ty r register) (length xs))
       fits_last = at (length xs) x.shape r (shape-last xs x) (driver-last flat.signals (record { ty = ty; driver = r }) (length xs) count) fit.0
 
-      with_register : (regs : List Register) (o : Option Register) → All (IsRegister (HasType signals.shapes)) regs → MatchOption o ⊤ (IsRegister (HasType signals.shapes)) → All (IsRegister (HasType signals.shapes)) (regs ++ option_to_list o)
-      with_register regs None all one = subst (λ (l : List Register). All (IsRegister (HasType signals.shapes)) l) (sym (append-nil regs)) all
-      with_register regs (Some o) all one = All-push (IsRegister (HasType signals.shapes)) regs o all one
+      with_register : (regs : List Register) (o : Option Register) → All (IsRegister (HasType bindings.signals.shapes)) regs → MatchOption o ⊤ (IsRegister (HasType bindings.signals.shapes)) → All (IsRegister (HasType bindings.signals.shapes)) (regs ++ option_to_list o)
+      with_register regs None all one = subst (λ (l : List Register). All (IsRegister (HasType bindings.signals.shapes)) l) (sym (append-nil regs)) all
+      with_register regs (Some o) all one = All-push (IsRegister (HasType bindings.signals.shapes)) regs o all one

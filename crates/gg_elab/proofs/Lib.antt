@@ -1,12 +1,7 @@
-pub mod AlikeLemmas
 pub mod BuildLemmas
-pub mod HeldLemmas
 pub mod LimitLemmas
 pub mod LineLemmas
-pub mod OrderLemmas
 pub mod PlacedLemmas
-pub mod RunLemmas
-pub mod SameLemmas
 pub mod ScopeLemmas
 pub mod WholeLemmas
 pub mod WholeLineLemmas

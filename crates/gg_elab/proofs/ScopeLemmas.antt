@@ -8,10 +8,8 @@ use Rattle.gg_ast.specs.Places.{place_of}
 use Rattle.gg_ast.proofs.NamePlaces.{place_of-below}
 use Rattle.gg_flat.specs.Tree.{joined}
 use Rattle.gg_names.specs.Scope.{written}
-use Rattle.gg_digest.specs.Flat.{Scope}
-use Rattle.gg_digest.specs.Meaning.{Signals, named, named_if}
-use Rattle.gg_digest.specs.Signals.{Types}
-use Rattle.gg_digest.proofs.NameLemmas.{Differ, place_of-at, place_of-missing}
+use Rattle.gg_flattened.specs.Meaning.{Context, named, named_if}
+use Rattle.gg_flattened.proofs.NameLemmas.{Differ, place_of-at, place_of-missing}
 
 -- the answer of a search for a path is the path's place
 pub found-path : (paths : List (List ℕ)) (path : List ℕ) (r : Option ℕ) → Differ paths → IfSome r (λ s. slice_get paths s ≡ Some path) → IfNone r (¬ Contains paths path) → r ≡ place_of path paths
@@ -23,9 +21,9 @@ is-known (Some t) o e h = ap is_some (sym e)
 is-known None o e h = absurd (true≢false (sym h))
 
 -- a signal that a reference names is one of the circuit's
-pub named-below : (types : Types) (signals : Signals) (scope : Scope) (r : Reference) (s : ℕ) → named types signals scope r ≡ Some s → s < length signals.paths
-named-below types signals scope r s e = go (is_some (types scope.number r)) e
+pub named-below : (context : Context) (r : Reference) (s : ℕ) → named context r ≡ Some s → s < length context.bindings.signals.paths
+named-below context r s e = go (is_some (context.bindings.types context.scope.number r)) e
   where
-    go : (b : Bool) → named_if b signals.paths (joined scope.path (written r)) ≡ Some s → s < length signals.paths
-    go true e = place_of-below (joined scope.path (written r)) signals.paths s e
+    go : (b : Bool) → named_if b context.bindings.signals.paths (joined context.scope.path (written r)) ≡ Some s → s < length context.bindings.signals.paths
+    go true e = place_of-below (joined context.scope.path (written r)) context.bindings.signals.paths s e
     go false e = absurd (cc)

@@ -20,14 +20,18 @@ use Rattle.gg_flat.specs.Line.{shape_at, HasType}
 use Rattle.gg_flat.specs.WellFormed.{IsRegister}
 use Rattle.gg_formed.specs.Fitting.{FitsDriver, AreFitting}
 use Rattle.gg_elab.specs.Building.{IsSoFar, HasMemories}
-use Rattle.gg_digest.specs.Flat.{FlatSignal, FlatMemory, flat_signals, flat_memories}
-use Rattle.gg_digest.specs.IsFlat.{IsFlatOf, IsMemoryOf, signals_of, memory_paths, number_of, port_name, port_names, top_ports}
-use Rattle.gg_digest.specs.Meaning.{Signals}
-use Rattle.gg_digest.specs.Signals.{Types}
+use Rattle.gg_flattened.specs.Flat.{FlatSignal, FlatMemory, flat_signals, flat_memories}
+use Rattle.gg_flattened.specs.IsFlat.{IsFlatOf, IsMemoryOf, signals_of, memory_paths, number_of, port_name, port_names, top_ports}
+use Rattle.gg_flattened.specs.Meaning.{Signals, Bindings}
+use Rattle.gg_flattened.specs.Signals.{Types}
 
-pub whole : (types : Types) (all : List FlatSignal) (banks : List FlatMemory) (ports : List Port) (table : Signals) (memories : List (List ℕ)) (one two three : FlatCircuit) (inputs : ℕ) → table ≡ signals_of all → memories ≡ memory_paths banks → IsSoFar types table memories all one inputs → HasMemories table.paths banks one two → three.ins ≡ two.ins ++ map (number_of table.paths) (port_names direction.Input ports) → three.outs ≡ two.outs ++ map (number_of table.paths) (port_names direction.Output ports) → three ≡ record two { ins = three.ins; outs = three.outs } → IsFlatOf types all banks ports three
+-- what a circuit's names stand for by its types, its signals and the paths of its memories
+abbrev bound : Types → Signals → List (List ℕ) → Bindings
+bound types signals memories = record { types = types; signals = signals; memories = memories }
+
+pub whole : (types : Types) (all : List FlatSignal) (banks : List FlatMemory) (ports : List Port) (table : Signals) (memories : List (List ℕ)) (one two three : FlatCircuit) (inputs : ℕ) → table ≡ signals_of all → memories ≡ memory_paths banks → IsSoFar (bound types table memories) all one inputs → HasMemories table.paths banks one two → three.ins ≡ two.ins ++ map (number_of table.paths) (port_names direction.Input ports) → three.outs ≡ two.outs ++ map (number_of table.paths) (port_names direction.Output ports) → three ≡ record two { ins = three.ins; outs = three.outs } → IsFlatOf types all banks ports three
 whole types all banks ports table memories one two three inputs same listed far has ins outs rest =
-    let so = subst (λ (t : Signals). IsSoFar types t (memory_paths banks) all one inputs) same (subst (λ (m : List (List ℕ)). IsSoFar types table m all one inputs) listed far) in
+    let so = subst (λ (t : Signals). IsSoFar (bound types t (memory_paths banks)) all one inputs) same (subst (λ (m : List (List ℕ)). IsSoFar (bound types table m) all one inputs) listed far) in
     let numbers : table.paths ≡ (signals_of all).paths = ap (λ (t : Signals). t.paths) same in
     let no_ins : two.ins ≡ [] = ap (λ (f : FlatCircuit). f.ins) has.rest ∙ far.no_ins in
     let no_outs : two.outs ≡ [] = ap (λ (f : FlatCircuit). f.outs) has.rest ∙ far.no_outs in
@@ -110,7 +114,7 @@ ports-named items lent now of made path other is same at =
 
 -- ---- what may be connected
 
-pub fitting_whole : (types : Types) (all : List FlatSignal) (table : Signals) (memories : List (List ℕ)) (one three : FlatCircuit) (inputs : ℕ) → table ≡ signals_of all → IsSoFar types table memories all one inputs → three.signals ≡ one.signals → three.registers ≡ one.registers → AreFitting three
+pub fitting_whole : (types : Types) (all : List FlatSignal) (table : Signals) (memories : List (List ℕ)) (one three : FlatCircuit) (inputs : ℕ) → table ≡ signals_of all → IsSoFar (bound types table memories) all one inputs → three.signals ≡ one.signals → three.registers ≡ one.registers → AreFitting three
 fitting_whole types all table memories one three inputs same far signals registers =
     let shapes : signal_shapes three ≡ table.shapes = ap (λ (l : List Signal). map (λ x. shape x.ty) l) signals ∙ far.shapes ∙ sym (ap (λ (t : Signals). t.shapes) same) in
     let count : length three.signals ≡ length all =

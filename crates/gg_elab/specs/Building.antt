@@ -10,22 +10,21 @@ use Rattle.gg_flat.specs.Circuit.{FlatCircuit, signal_shapes, driver_at}
 use Rattle.gg_flat.specs.Line.{shape_at, HasType}
 use Rattle.gg_flat.specs.WellFormed.{IsRegister}
 use Rattle.gg_formed.specs.Fitting.{FitsDriver}
-use Rattle.gg_digest.specs.Flat.{Drive, Outside, Gets, Holds, Answers, FlatSignal, FlatMemory}
-use Rattle.gg_digest.specs.IsFlat.{IsComputed, IsRegisterOf, IsDrivenBy, answer, number_of, is_outside, is_register, drive_at, count_before, IsMemoryOf}
-use Rattle.gg_digest.specs.Meaning.{Signals}
-use Rattle.gg_digest.specs.Signals.{Types}
-use Rattle.gg_digest.specs.Known.{types_of}
-use Rattle.gg_digest.specs.Views.{table_signals}
+use Rattle.gg_flattened.specs.Flat.{Drive, Outside, Gets, Holds, Answers, FlatSignal, FlatMemory}
+use Rattle.gg_flattened.specs.IsFlat.{IsComputed, IsRegisterOf, IsDriven, answer, number_of, is_outside, is_register, count_before, IsMemoryOf}
+use Rattle.gg_flattened.specs.Meaning.{Bindings, in_scope}
+use Rattle.gg_flattened.specs.Known.{types_of}
+use Rattle.gg_flattened.specs.Views.{table_bindings}
 use Rattle.gg_elab.specs.declared.site.Site.{Site}
 
 -- A driver and a register, if there is one, are made for a signal with this drive.
-abbrev pub IsMade : Types → Signals → List (List ℕ) → ℕ → ℕ → Shape → Drive → Driver → Option Register → Type 0
-IsMade types signals memories inputs states sink Outside driver register = (driver ≡ Input inputs) × (register ≡ None)
-IsMade types signals memories inputs states sink (Gets scope c) driver register = IsComputed types signals scope sink c driver × (register ≡ None)
-IsMade types signals memories inputs states sink (Holds scope reset next) driver register =
-    (driver ≡ Held states) × MatchOption register ⊥ (IsRegisterOf types signals scope sink reset next)
-IsMade types signals memories inputs states sink (Answers memory place latency addr en) driver register =
-    (driver ≡ answer latency (number_of memories memory) place (number_of signals.paths addr) (number_of signals.paths en)) × (register ≡ None)
+abbrev pub IsMade : Bindings → ℕ → ℕ → Shape → Drive → Driver → Option Register → Type 0
+IsMade bindings inputs states sink Outside driver register = (driver ≡ Input inputs) × (register ≡ None)
+IsMade bindings inputs states sink (Gets scope c) driver register = IsComputed (in_scope bindings scope) sink c driver × (register ≡ None)
+IsMade bindings inputs states sink (Holds scope reset next) driver register =
+    (driver ≡ Held states) × MatchOption register ⊥ (IsRegisterOf (in_scope bindings scope) sink reset next)
+IsMade bindings inputs states sink (Answers memory place latency addr en) driver register =
+    (driver ≡ answer latency (number_of bindings.memories memory) place (number_of bindings.signals.paths addr) (number_of bindings.signals.paths en)) × (register ≡ None)
 
 abbrev pub is_input_driver : Driver → Bool
 is_input_driver (Input place) = true
@@ -44,21 +43,21 @@ with_made flat path ty driver register =
     }
 
 -- The flat circuit has these signals so far, each with its driver. `inputs` of them are driven from outside.
-pub record IsSoFar (types : Types) (signals : Signals) (memories : List (List ℕ)) (xs : List FlatSignal) (flat : FlatCircuit) (inputs : ℕ) : Type 0 where
+pub record IsSoFar (bindings : Bindings) (xs : List FlatSignal) (flat : FlatCircuit) (inputs : ℕ) : Type 0 where
   pub paths : flat.paths ≡ map (λ x. x.path) xs
   pub shapes : signal_shapes flat ≡ map (λ x. x.shape) xs
-  pub drivers : (s : ℕ) → s < length xs → IsDrivenBy types signals memories flat.registers (count_before is_outside xs s) (count_before is_register xs s) (shape_at (map (λ x. x.shape) xs) s) (drive_at xs s) (driver_at flat s)
+  pub drivers : (s : ℕ) → s < length xs → IsDriven bindings xs flat s
   pub register_count : length flat.registers ≡ count_before is_register xs (length xs)
   pub input_count : inputs ≡ count_before is_outside xs (length xs)
-  pub fitting : (s : ℕ) → s < length xs → FitsDriver signals.shapes (shape_at (map (λ x. x.shape) xs) s) (driver_at flat s)
-  pub registers_fit : All (IsRegister (HasType signals.shapes)) flat.registers
+  pub fitting : (s : ℕ) → s < length xs → FitsDriver bindings.signals.shapes (shape_at (map (λ x. x.shape) xs) s) (driver_at flat s)
+  pub registers_fit : All (IsRegister (HasType bindings.signals.shapes)) flat.registers
   pub no_memories : flat.memories ≡ []
   pub no_ins : flat.ins ≡ []
   pub no_outs : flat.outs ≡ []
 
 -- the same, in the circuit of a site
 abbrev pub IsSoFarAt : Site → List FlatSignal → FlatCircuit → ℕ → Type 0
-IsSoFarAt site = IsSoFar (types_of site.typed.now.circuit) (table_signals site.table.now) site.table.now.memories
+IsSoFarAt site = IsSoFar (table_bindings (types_of site.typed.now.circuit) site.table.now)
 
 -- These memories, and nothing else, were added to a flat circuit.
 pub record HasMemories (paths : List (List ℕ)) (said : List FlatMemory) (old new : FlatCircuit) : Type 0 where

@@ -11,34 +11,14 @@ use Rattle.gg_flat.specs.Line.{shape_at, value_at, shapes_of, op_at, HasShape, H
 use Rattle.gg_flat.specs.Reads.{Names}
 use Rattle.gg_elab.specs.declared.expression.Stand.{Stand}
 use Rattle.gg_elab.specs.declared.scope.Scope as kept
-use Rattle.gg_digest.specs.Flat.{Scope}
-use Rattle.gg_digest.specs.Known.{types_of}
-use Rattle.gg_digest.specs.Meaning.{Signals, term_shape, term_value, TermNames}
-use Rattle.gg_digest.specs.Views.{table_signals}
-use Rattle.gg_digest.specs.Signals.{Types}
+use Rattle.gg_flattened.specs.Known.{types_of}
+use Rattle.gg_flattened.specs.Lines.{laid, with_term}
+use Rattle.gg_flattened.specs.Meaning.{Context, in_scope, term_shape, term_value, TermNames}
+use Rattle.gg_flattened.specs.Views.{table_bindings}
 
--- what gives an expression its meaning: what the type checks say, the circuit's signals, and where it is written
-pub record Where : Type 0 where
-  pub types : Types
-  pub signals : Signals
-  pub scope : Scope
-
-abbrev pub where_of : kept.Scope → Where
-where_of s =
-    record {
-      types = types_of s.typed.now.circuit;
-      signals = table_signals s.table.now;
-      scope = record { path = s.path.now; number = s.number };
-    }
-
-abbrev pub shape_of : Where → Term → Shape
-shape_of w e = term_shape w.types w.signals w.scope e
-
-abbrev pub value_of : Where → List ℕ → Term → ℕ
-value_of w values e = term_value w.types w.signals w.scope values e
-
-abbrev pub NamesIn : Where → ℕ → Term → Type 0
-NamesIn w s e = TermNames w.types w.signals w.scope s e
+-- where an expression is written, with what its names stand for
+abbrev pub context_of : kept.Scope → Context
+context_of s = in_scope (table_bindings (types_of s.typed.now.circuit) s.table.now) (record { path = s.path.now; number = s.number })
 
 -- the node of the UInt<1> 0
 pub record IsZeroNode (n : Node) : Type 0 where
@@ -59,23 +39,24 @@ pub record IsPlaced (IsIt : Node → Type 0) (old new : List Node) (stand : Stan
   pub typed : stand.ty ≡ node.ty
 
 -- each node has its shape
-abbrev pub HaveShapes : Where → List Node → Type 0
-HaveShapes w nodes = (k : ℕ) → k < length nodes → HasShape (HasType w.signals.shapes) (shapes_of nodes) k (shape_at (shapes_of nodes) k) (op_at nodes k)
+abbrev pub HaveShapes : Context → List Node → Type 0
+HaveShapes w nodes = (k : ℕ) → k < length nodes → HasShape (HasType w.bindings.signals.shapes) (shapes_of nodes) k (shape_at (shapes_of nodes) k) (op_at nodes k)
 
 -- Node k stands for an expression, regardless of the nodes that follow.
-pub record StandsFor (w : Where) (nodes : List Node) (k : ℕ) (e : Term) : Type 0 where
+pub record StandsFor (w : Context) (nodes : List Node) (k : ℕ) (e : Term) : Type 0 where
   pub within : k < length nodes
-  pub node : shape_at (shapes_of nodes) k ≡ shape_of w e
-  pub value : (values : List ℕ) (more : List Shape) → value_at (node_values values (shapes_of nodes ++ more) nodes) k ≡ value_of w values e
-  pub named : (s : ℕ) → NamesIn w s e → Names nodes s
+  pub node : shape_at (shapes_of nodes) k ≡ term_shape w e
+  pub value : (values : List ℕ) (more : List Shape) → value_at (node_values values (shapes_of nodes ++ more) nodes) k ≡ term_value w values e
+  pub named : (s : ℕ) → TermNames w s e → Names nodes s
 
 -- The nodes of an expression were added to `old`. The last of them, node k, stands for it.
-pub record Added (w : Where) (old new : List Node) (e : Term) (k : ℕ) : Type 0 where
+pub record Added (w : Context) (old new : List Node) (e : Term) (k : ℕ) : Type 0 where
   pub stands : StandsFor w new k e
   pub last : length new ≡ k + 1
   pub kept : (i : ℕ) (f : Term) → StandsFor w old i f → StandsFor w new i f
   pub typed : HaveShapes w old → HaveShapes w new
-  pub names : (s : ℕ) → Names new s → Names old s ⊎ NamesIn w s e
+  pub names : (s : ℕ) → Names new s → Names old s ⊎ TermNames w s e
+  pub nodes : laid new ≡ with_term w (laid old) e
 
 -- ---- whole lines
 

@@ -5,7 +5,7 @@ use Rattle.gg_count.specs.declared.counts.Excess.{Excess}
 use Rattle.gg_count.specs.Counts.{counts_of, first_excess}
 use Rattle.gg_elab.specs.declared.fault.ElabFault.{ElabFault}
 use Rattle.gg_elab.specs.declared.fault.ElabFault.TheVariants.{TooLarge, NoMemory}
-use Rattle.gg_digest.specs.Signals.{Types, own_signals}
+use Rattle.gg_flattened.specs.Signals.{Types, own_signals}
 
 -- the number of own signals of each module, from place k on
 abbrev pub own_counts : Types → ℕ → List ModuleTree → List ℕ

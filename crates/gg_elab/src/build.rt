@@ -4,14 +4,14 @@ ghost use Rattle.gg_bits.specs.Shape.{Shape, shape};
 ghost use Rattle.gg_flat.specs.Line.{HasType, IsSource};
 ghost use Rattle.gg_flat.specs.WellFormed.{IsRegister, IsReset};
 ghost use Rattle.gg_formed.specs.Fitting.{FitsDriver, IsFitting};
-ghost use Rattle.gg_digest.specs.Flat.{drive_of, input_drive, FlatSignal, flat_signal, signals_at, flat_signals, Gets};
+ghost use Rattle.gg_flattened.specs.Flat.{drive_of, input_drive, FlatSignal, flat_signal, signals_at, flat_signals, Gets};
 ghost use Rattle.gg_flat.specs.Circuit.{no_circuit};
 ghost use Rattle.gg_flat.specs.Tree.{joined as joined_text};
-ghost use Rattle.gg_digest.specs.Signals.{field_name as field_text};
-ghost use Rattle.gg_digest.specs.Views.{table_signals, seen, cause_of, own_of, site_of, AreDigests, IsPlaceIn};
-ghost use Rattle.gg_elab.specs.Growing.{where_of};
-ghost use Rattle.gg_digest.specs.IsFlat.{IsRegisterOf, HasReset, HasNext, number_of, answer as answer_of};
-ghost use Rattle.gg_digest.specs.Known.{types_of};
+ghost use Rattle.gg_flattened.specs.Signals.{field_name as field_text};
+ghost use Rattle.gg_flattened.specs.Views.{table_bindings, table_signals, seen, cause_of, own_of, site_of, AreDigests, IsPlaceIn};
+ghost use Rattle.gg_elab.specs.Growing.{context_of};
+ghost use Rattle.gg_flattened.specs.IsFlat.{IsRegisterOf, HasReset, HasNext, number_of, answer as answer_of};
+ghost use Rattle.gg_flattened.specs.Known.{types_of};
 ghost use Rattle.gg_elab.specs.Building.{IsMade, with_made, is_input_driver, IsSoFar, IsSoFarAt};
 
 use crate::lines::{condition_line, source_line, value_line};
@@ -19,10 +19,10 @@ use crate::scope::Scope;
 use crate::site::Site;
 use gg_ast::Reset;
 use gg_bits::{Name, Ty};
-use gg_digest::{
+use gg_flat::{AddError, Driver, Latency, Line, Piece, Register, Signal};
+use gg_flattened::{
     Digest, Origin, OwnSignal, Place, Source, Table, dotted, field_name, joined, number,
 };
-use gg_flat::{AddError, Driver, Latency, Line, Piece, Register, Signal};
 use gg_types::Typed;
 use std::alloc::{AllocError, Global};
 
@@ -41,8 +41,8 @@ fn register(
     next: Option<Source>,
     ty: Ty,
 ) -> Result<Register, AllocError>
-    ensures fits { IfOk result (IsRegister (HasType (where_of scope.now).signals.shapes)) }
-    ensures register { IfOk result (IsRegisterOf (where_of scope.now).types (where_of scope.now).signals (where_of scope.now).scope (shape ty) (option_copied reset.entry) (seen next.entry)) }
+    ensures fits { IfOk result (IsRegister (HasType (context_of scope.now).bindings.signals.shapes)) }
+    ensures register { IfOk result (IsRegisterOf (context_of scope.now) (shape ty) (option_copied reset.entry) (seen next.entry)) }
 {
     Ok(Register {
         ty,
@@ -59,8 +59,8 @@ fn reset_lines(
     reset: Option<&Reset>,
     ty: Ty,
 ) -> Result<Option<gg_flat::Reset>, AllocError>
-    ensures fits { IfOk result (λ reset. MatchOption reset ⊤ (IsReset (HasType (where_of scope.now).signals.shapes) (shape ty))) }
-    ensures asked { IfOk result (HasReset (where_of scope.now).types (where_of scope.now).signals (where_of scope.now).scope (shape ty) (option_copied reset.entry)) }
+    ensures fits { IfOk result (λ reset. MatchOption reset ⊤ (IsReset (HasType (context_of scope.now).bindings.signals.shapes) (shape ty))) }
+    ensures asked { IfOk result (HasReset (context_of scope.now) (shape ty) (option_copied reset.entry)) }
 {
     match reset {
         None => Ok(None),
@@ -79,8 +79,8 @@ fn next_line(
     next: Option<Source>,
     ty: Ty,
 ) -> Result<Option<Line>, AllocError>
-    ensures fits { IfOk result (λ next. MatchOption next ⊤ (IsSource (HasType (where_of scope.now).signals.shapes) (shape ty))) }
-    ensures next { IfOk result (HasNext (where_of scope.now).types (where_of scope.now).signals (where_of scope.now).scope (shape ty) (seen next.entry)) }
+    ensures fits { IfOk result (λ next. MatchOption next ⊤ (IsSource (HasType (context_of scope.now).bindings.signals.shapes) (shape ty))) }
+    ensures next { IfOk result (HasNext (context_of scope.now) (shape ty) (seen next.entry)) }
 {
     match next {
         None => Ok(None),
@@ -97,8 +97,8 @@ fn computed(
     inputs: u32,
     states: u32,
 ) -> Result<Made, AllocError>
-    ensures fits { IfOk result (λ made. IsFitting (where_of scope.now).signals.shapes (shape ty) made.driver made.register) }
-    ensures made { IfOk result (λ made. IsMade (where_of scope.now).types (where_of scope.now).signals scope.now.table.now.memories inputs states (shape ty) (Gets (where_of scope.now).scope (seen source.entry)) made.driver made.register) }
+    ensures fits { IfOk result (λ made. IsFitting (context_of scope.now).bindings.signals.shapes (shape ty) made.driver made.register) }
+    ensures made { IfOk result (λ made. IsMade (context_of scope.now).bindings inputs states (shape ty) (Gets (context_of scope.now).scope (seen source.entry)) made.driver made.register) }
 {
     let _ = (inputs, states);
     Ok(Made {
@@ -142,7 +142,7 @@ fn input(
     states: u32,
 ) -> Result<Made, AllocError>
     ensures fits { IfOk result (λ made. IsFitting (table_signals site.now.table.now).shapes (shape ty) made.driver made.register) }
-    ensures made { IfOk result (λ made. IsMade (types_of site.now.typed.now.circuit) (table_signals site.now.table.now) site.now.table.now.memories inputs states (shape ty) (input_drive site.now.typed.now.circuit.modules (site_of site.now.place.now).outer name.now) made.driver made.register) }
+    ensures made { IfOk result (λ made. IsMade (table_bindings (types_of site.now.typed.now.circuit) site.now.table.now) inputs states (shape ty) (input_drive site.now.typed.now.circuit.modules (site_of site.now.place.now).outer name.now) made.driver made.register) }
 {
     match &site.place.outer {
         None => Ok(Made {
@@ -173,7 +173,7 @@ fn make(
     states: u32,
 ) -> Result<Made, AllocError>
     ensures fits { IfOk result (λ made. IsFitting (table_signals site.now.table.now).shapes (shape signal.now.ty) made.driver made.register) }
-    ensures made { IfOk result (λ made. IsMade (types_of site.now.typed.now.circuit) (table_signals site.now.table.now) site.now.table.now.memories inputs states (shape signal.now.ty) (drive_of site.now.typed.now.circuit.modules (site_of site.now.place.now) signal.now.name (cause_of signal.now.origin)) made.driver made.register) }
+    ensures made { IfOk result (λ made. IsMade (table_bindings (types_of site.now.typed.now.circuit) site.now.table.now) inputs states (shape signal.now.ty) (drive_of site.now.typed.now.circuit.modules (site_of site.now.place.now) signal.now.name (cause_of signal.now.origin)) made.driver made.register) }
 {
     let scope = Scope {
         typed: site.typed,
@@ -295,7 +295,7 @@ pub(crate) fn add_sites<'a>(
     requires places { All (IsPlaceIn (length typed.now.circuit.modules)) places.now }
     requires empty { piece.old ≡ no_circuit }
     requires distinct { AllPairs (λ a b. a ≢ b) (map (λ x. x.path) (flat_signals (types_of typed.now.circuit) typed.now.circuit.modules (map site_of places.now))) }
-    ensures { OnOk result ((inputs : ℕ) × IsSoFar (types_of typed.now.circuit) (table_signals table.now) table.now.memories (flat_signals (types_of typed.now.circuit) typed.now.circuit.modules (map site_of places.now)) piece.new inputs) }
+    ensures { OnOk result ((inputs : ℕ) × IsSoFar (table_bindings (types_of typed.now.circuit) table.now) (flat_signals (types_of typed.now.circuit) typed.now.circuit.modules (map site_of places.now)) piece.new inputs) }
 {
     let mut inputs = 0u32;
     for place in places {

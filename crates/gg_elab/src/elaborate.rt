@@ -2,22 +2,23 @@
 ghost use Rattle.std.specs.Prelude.{◌≡◌, ◌≢◌, ◌<◌, ◌^◌, length, map, Some, None, Err, IfOk};
 ghost use Rattle.gg_ast.specs.Places.{place_of};
 ghost use Rattle.gg_ast.specs.Tree.{module_names};
-ghost use Rattle.gg_digest.specs.Views.{AreDigests};
-ghost use Rattle.gg_digest.specs.IsFlat.{IsFlat, IsFlatWith};
+ghost use Rattle.gg_flattened.specs.Views.{AreDigests};
+ghost use Rattle.gg_flattened.specs.IsFlat.{IsFlat, IsFlatWith};
 ghost use Rattle.gg_formed.specs.Fitting.{AreFitting};
+ghost use Rattle.gg_formed.specs.Held.{AreHeldOnce};
 ghost use Rattle.gg_flat.specs.Scoped.{IsScoped};
 ghost use Rattle.gg_flat.specs.Tree.{IsTree};
 ghost use Rattle.gg_flat.specs.WellFormed.{IsWellFormed};
 ghost use Rattle.gg_tree.specs.IsTreeOf.{IsTreeOf};
-ghost use Rattle.gg_digest.specs.Known.{types_of};
+ghost use Rattle.gg_flattened.specs.Known.{types_of};
 ghost use Rattle.gg_elab.specs.Limits.{excess_over, IsAnswered};
 
 use crate::build::add_sites;
 use crate::fault::ElabFault;
 use crate::ports::{add_all_memories, add_ports};
 use gg_count::count;
-use gg_digest::{Digest, Place, digests, places, table_of};
 use gg_flat::{Piece, Tree};
+use gg_flattened::{Digest, Place, digests, places, table_of};
 use gg_formed::{distinct, formed, top_of};
 use gg_tree::{fits, tree_of};
 use gg_types::Typed;
@@ -61,8 +62,8 @@ fn build<'a>(
     Ok((piece, tree))
 }
 
-// The flat circuit with its tree. The flat circuit is well formed, the tree fits it, and it keeps to the tree's
-// scopes.
+// The flat circuit with its tree. The flat circuit is well formed, each of its registers is held by exactly one
+// signal, the tree fits it, and it keeps to the tree's scopes.
 fn joined(typed: &Typed, piece: Piece, tree: Tree) -> (Piece, Tree)
     requires top { (place_of typed.now.circuit.name (module_names typed.now.circuit)) ≢ None }
     requires flat { IsFlat typed.now.circuit piece }
@@ -71,6 +72,7 @@ fn joined(typed: &Typed, piece: Piece, tree: Tree) -> (Piece, Tree)
     ensures same { result.0 ≡ piece }
     ensures tree_same { result.1 ≡ tree }
     ensures formed { IsWellFormed result.0 }
+    ensures held { AreHeldOnce result.0 }
     ensures fitting { IsTree result.0 result.1 }
     ensures scoped { IsScoped result.0 result.1 }
 {
@@ -91,6 +93,7 @@ pub fn flatten(alloc: Global, typed: &Typed) -> Result<(Piece, Tree), ElabFault>
     ensures tree { IfOk result (λ both. IsTreeOf typed.now.circuit both.1) }
     ensures fits { IfOk result (λ both. AreFitting both.0) }
     ensures formed { IfOk result (λ both. IsWellFormed both.0) }
+    ensures held { IfOk result (λ both. AreHeldOnce both.0) }
     ensures fitting { IfOk result (λ both. IsTree both.0 both.1) }
     ensures scoped { IfOk result (λ both. IsScoped both.0 both.1) }
     ensures limits { IsAnswered (excess_over (types_of typed.now.circuit) typed.now.circuit.modules (place_of typed.now.circuit.name (module_names typed.now.circuit))) result }

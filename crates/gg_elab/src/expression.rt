@@ -2,7 +2,8 @@
 ghost use Rattle.std.specs.Prelude.{◌≡◌, ◌<◌, IfOk};
 ghost use Rattle.gg_bits.specs.Shape.{shape};
 ghost use Rattle.gg_ast.specs.Term.{NamedTerm, ConstantTerm};
-ghost use Rattle.gg_elab.specs.Growing.{where_of, shape_of, IsZeroNode, IsResultNode, IsPlaced, Added};
+ghost use Rattle.gg_flattened.specs.Meaning.{term_shape};
+ghost use Rattle.gg_elab.specs.Growing.{context_of, IsZeroNode, IsResultNode, IsPlaced, Added};
 
 use crate::lookup::find;
 use crate::scope::Scope;
@@ -57,7 +58,7 @@ fn add_reference(
     line: &mut Line,
     reference: &Reference,
 ) -> Result<Stand, AllocError>
-    ensures { IfOk result (λ stand. Added (where_of scope.now) line.old line.new (NamedTerm reference.now) stand.node × (shape stand.ty ≡ shape_of (where_of scope.now) (NamedTerm reference.now))) }
+    ensures { IfOk result (λ stand. Added (context_of scope.now) line.old line.new (NamedTerm reference.now) stand.node × (shape stand.ty ≡ term_shape (context_of scope.now) (NamedTerm reference.now))) }
 {
     match find(alloc, scope, reference)? {
         Some(signal) => {
@@ -70,7 +71,7 @@ fn add_reference(
 
 // Adds the node of a literal.
 fn add_literal(scope: &Scope, line: &mut Line, constant: &Literal) -> Result<Stand, AllocError>
-    ensures { IfOk result (λ stand. Added (where_of scope.now) line.old line.new (ConstantTerm constant.now) stand.node × (shape stand.ty ≡ shape_of (where_of scope.now) (ConstantTerm constant.now))) }
+    ensures { IfOk result (λ stand. Added (context_of scope.now) line.old line.new (ConstantTerm constant.now) stand.node × (shape stand.ty ≡ term_shape (context_of scope.now) (ConstantTerm constant.now))) }
 {
     let _ = scope;
     match literal(constant) {
@@ -86,7 +87,7 @@ pub(crate) fn add_expression(
     line: &mut Line,
     e: &Expr,
 ) -> Result<Stand, AllocError>
-    ensures { IfOk result (λ stand. Added (where_of scope.now) line.old line.new e.now stand.node × (shape stand.ty ≡ shape_of (where_of scope.now) e.now)) }
+    ensures { IfOk result (λ stand. Added (context_of scope.now) line.old line.new e.now stand.node × (shape stand.ty ≡ term_shape (context_of scope.now) e.now)) }
 {
     match &e.kind {
         ExprKind::Named(reference) => add_reference(alloc, scope, line, reference),

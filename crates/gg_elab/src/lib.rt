@@ -2,19 +2,17 @@
 //!
 //! The crate promises of `flatten`:
 //!
-//! - the flat circuit that it returns is that of the circuit (`IsFlat`), and is well formed;
+//! - the flat circuit that it returns is that of the circuit (`IsFlat`), and is well formed; each of its registers is
+//!   held by exactly one signal;
 //! - the tree that it returns is a tree of the flat circuit (`IsTree`), and the flat circuit keeps to the tree's
 //!   scopes (`IsScoped`);
 //! - it refuses a circuit exactly if a count is above its limit, with the first such count (`IsAnswered`).
-//!
-//! All flat circuits of a circuit have the same runs and the same combinational loops (`one_run`, `one_reads`).
 #![tactic(auto)]
 
 mod build;
 mod elaborate;
 mod expression;
 mod fault;
-mod laws;
 mod lines;
 mod lookup;
 mod ports;
@@ -23,4 +21,3 @@ mod site;
 
 pub use elaborate::flatten;
 pub use fault::{ElabFault, limit_of};
-pub use laws::{one_reads, one_run};

@@ -2,19 +2,19 @@
 ghost use Rattle.std.specs.Prelude.{◌≡◌, Some, None, IfOk, OnOk};
 ghost use Rattle.gg_bits.specs.Shape.{shape};
 ghost use Rattle.gg_flat.specs.Line.{HasType, IsSource, IsCondition};
-ghost use Rattle.gg_elab.specs.Growing.{where_of, IsCut, IsZeroOf};
-ghost use Rattle.gg_digest.specs.IsFlat.{IsLineFor, IsLineOf, IsConditionOf};
+ghost use Rattle.gg_elab.specs.Growing.{context_of, IsCut, IsZeroOf};
+ghost use Rattle.gg_flattened.specs.IsFlat.{IsLineFor, IsLineOf, IsConditionOf};
 ghost use Rattle.gg_bits.specs.ResultType.{is_condition};
-ghost use Rattle.gg_digest.specs.Meaning.{takes as takes_shape};
-ghost use Rattle.gg_digest.specs.Views.{seen, connection};
-ghost use Rattle.gg_digest.specs.Connection.{Zeroed};
+ghost use Rattle.gg_flattened.specs.Meaning.{takes as takes_shape};
+ghost use Rattle.gg_flattened.specs.Views.{seen, connection};
+ghost use Rattle.gg_flattened.specs.Connection.{Zeroed};
 
 use crate::expression::add_expression;
 use crate::scope::Scope;
 use gg_ast::Expr;
 use gg_bits::{Kind, Ty, Val};
-use gg_digest::Source;
 use gg_flat::{Line, Node, Op};
+use gg_flattened::Source;
 use std::alloc::{AllocError, Global};
 
 // Whether a sink of the first type can take a value of the second.
@@ -56,8 +56,8 @@ fn cut(line: Line, taken: bool, sink: Ty) -> Result<Line, AllocError>
 
 /// The line that gives a sink of this type the value of an expression.
 pub(crate) fn value_line(alloc: Global, scope: &Scope, e: &Expr, ty: Ty) -> Result<Line, AllocError>
-    ensures stands { IfOk result (IsLineOf (where_of scope.now).types (where_of scope.now).signals (where_of scope.now).scope (shape ty) e.now) }
-    ensures fits { IfOk result (IsSource (HasType (where_of scope.now).signals.shapes) (shape ty)) }
+    ensures stands { IfOk result (IsLineOf (context_of scope.now) (shape ty) e.now) }
+    ensures fits { IfOk result (IsSource (HasType (context_of scope.now).bindings.signals.shapes) (shape ty)) }
 {
     let mut line = Line::new(alloc);
     let stand = add_expression(alloc, scope, &mut line, e)?;
@@ -71,8 +71,8 @@ pub(crate) fn source_line(
     source: Option<Source>,
     ty: Ty,
 ) -> Result<Line, AllocError>
-    ensures stands { IfOk result (IsLineFor (where_of scope.now).types (where_of scope.now).signals (where_of scope.now).scope (shape ty) (seen source.entry)) }
-    ensures fits { IfOk result (IsSource (HasType (where_of scope.now).signals.shapes) (shape ty)) }
+    ensures stands { IfOk result (IsLineFor (context_of scope.now) (shape ty) (seen source.entry)) }
+    ensures fits { IfOk result (IsSource (HasType (context_of scope.now).bindings.signals.shapes) (shape ty)) }
 {
     match source {
         Some(source) => given_line(alloc, scope, source, ty),
@@ -82,9 +82,9 @@ pub(crate) fn source_line(
 
 // A line with a single node: 0.
 fn zero_line(alloc: Global, scope: &Scope, ty: Ty) -> Result<Line, AllocError>
-    ensures none { IfOk result (IsLineFor (where_of scope.now).types (where_of scope.now).signals (where_of scope.now).scope (shape ty) None) }
-    ensures zeroed { IfOk result (IsLineFor (where_of scope.now).types (where_of scope.now).signals (where_of scope.now).scope (shape ty) (Some Zeroed)) }
-    ensures fits { IfOk result (IsSource (HasType (where_of scope.now).signals.shapes) (shape ty)) }
+    ensures none { IfOk result (IsLineFor (context_of scope.now) (shape ty) None) }
+    ensures zeroed { IfOk result (IsLineFor (context_of scope.now) (shape ty) (Some Zeroed)) }
+    ensures fits { IfOk result (IsSource (HasType (context_of scope.now).bindings.signals.shapes) (shape ty)) }
 {
     let _ = scope.number;
     let mut line = Line::new(alloc);
@@ -94,8 +94,8 @@ fn zero_line(alloc: Global, scope: &Scope, ty: Ty) -> Result<Line, AllocError>
 
 // The line that gives a sink of this type the value of a connection.
 fn given_line(alloc: Global, scope: &Scope, source: Source, ty: Ty) -> Result<Line, AllocError>
-    ensures stands { IfOk result (IsLineFor (where_of scope.now).types (where_of scope.now).signals (where_of scope.now).scope (shape ty) (Some (connection source.entry))) }
-    ensures fits { IfOk result (IsSource (HasType (where_of scope.now).signals.shapes) (shape ty)) }
+    ensures stands { IfOk result (IsLineFor (context_of scope.now) (shape ty) (Some (connection source.entry))) }
+    ensures fits { IfOk result (IsSource (HasType (context_of scope.now).bindings.signals.shapes) (shape ty)) }
 {
     match source {
         Source::Of(e) => value_line(alloc, scope, e, ty),
@@ -105,8 +105,8 @@ fn given_line(alloc: Global, scope: &Scope, source: Source, ty: Ty) -> Result<Li
 
 /// The line of a condition.
 pub(crate) fn condition_line(alloc: Global, scope: &Scope, e: &Expr) -> Result<Line, AllocError>
-    ensures stands { IfOk result (IsConditionOf (where_of scope.now).types (where_of scope.now).signals (where_of scope.now).scope e.now) }
-    ensures fits { IfOk result (IsCondition (HasType (where_of scope.now).signals.shapes)) }
+    ensures stands { IfOk result (IsConditionOf (context_of scope.now) e.now) }
+    ensures fits { IfOk result (IsCondition (HasType (context_of scope.now).bindings.signals.shapes)) }
 {
     let bit = Ty::new(Kind::UInt, 1);
     let mut line = Line::new(alloc);

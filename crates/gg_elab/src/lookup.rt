@@ -1,11 +1,11 @@
 //! The signal that a reference names.
 ghost use Rattle.std.specs.Prelude.{◌≡◌, IfOk};
-ghost use Rattle.gg_digest.specs.Meaning.{named};
-ghost use Rattle.gg_elab.specs.Growing.{where_of};
+ghost use Rattle.gg_flattened.specs.Meaning.{named};
+ghost use Rattle.gg_elab.specs.Growing.{context_of};
 
 use crate::scope::Scope;
 use gg_ast::Reference;
-use gg_digest::{joined, value_type};
+use gg_flattened::{joined, value_type};
 use gg_names::written;
 use std::alloc::{AllocError, Global};
 
@@ -15,7 +15,7 @@ pub(crate) fn find(
     scope: &Scope,
     reference: &Reference,
 ) -> Result<Option<u32>, AllocError>
-    ensures { IfOk result (λ found. found ≡ named (where_of scope.now).types (where_of scope.now).signals (where_of scope.now).scope reference.now) }
+    ensures { IfOk result (λ found. found ≡ named (context_of scope.now) reference.now) }
 {
     if value_type(scope.typed, scope.number, reference).is_none() {
         return Ok(None);

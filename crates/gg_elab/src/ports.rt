@@ -1,17 +1,17 @@
 //! The memories and the ports of the flat circuit.
 ghost use Rattle.std.specs.Prelude.{◌≡◌, ◌<◌, ◌++◌, ◌∷◌, [], List, map, length, All, IfOk, OnOk};
-ghost use Rattle.gg_digest.specs.declared.sites.Place.{Place};
+ghost use Rattle.gg_flattened.specs.declared.sites.Place.{Place};
 ghost use Rattle.gg_ast.specs.declared.module.Direction.TheVariants as direction;
-ghost use Rattle.gg_digest.specs.Views.{IsPlaceIn, own_bank_of, site_of, AreDigests};
+ghost use Rattle.gg_flattened.specs.Views.{IsPlaceIn, own_bank_of, site_of, AreDigests};
 ghost use Rattle.gg_elab.specs.Building.{HasMemories};
-ghost use Rattle.gg_digest.specs.Flat.{FlatMemory, flat_memory, flat_memories};
-ghost use Rattle.gg_digest.specs.IsFlat.{IsMemoryOf, reader_of, writer_of, number_of, field_number, port_names};
-ghost use Rattle.gg_digest.specs.Known.{types_of};
+ghost use Rattle.gg_flattened.specs.Flat.{FlatMemory, flat_memory, flat_memories};
+ghost use Rattle.gg_flattened.specs.IsFlat.{IsMemoryOf, reader_of, writer_of, number_of, field_number, port_names};
+ghost use Rattle.gg_flattened.specs.Known.{types_of};
 
 use gg_ast::{Direction, Port};
 use gg_bits::Name;
-use gg_digest::{Digest, OwnMemory, Place, Table, field_name, ground_type, joined, number};
 use gg_flat::{Memory, Paths, Piece, Reader, Readers, Writer, Writers};
+use gg_flattened::{Digest, OwnMemory, Place, Table, field_name, ground_type, joined, number};
 use gg_types::Typed;
 use std::alloc::{AllocError, Global};
 

@@ -8,10 +8,10 @@ use Rattle.gg_ast.specs.Tree.{ModuleTree}
 use Rattle.gg_flat.specs.Tree.{joined}
 use Rattle.gg_flat.proofs.ListLemmas.{further, Contains-map, map-same}
 use Rattle.gg_count.specs.Sites.{Held, Site, site_below, sites, held_at}
-use Rattle.gg_digest.proofs.NameLemmas.{Differ, Differ-tail}
+use Rattle.gg_flattened.proofs.NameLemmas.{Differ, Differ-tail}
 use Rattle.gg_tree.proofs.DeclaredLemmas.{Differ-head}
 use Rattle.gg_tree.proofs.JoinLemmas.{joined-twice}
-use Rattle.gg_digest.proofs.AmongLemmas.{MadeOf, from-map, from-flat_map}
+use Rattle.gg_flattened.proofs.AmongLemmas.{MadeOf, from-map, from-flat_map}
 use Rattle.gg_formed.proofs.DifferLemmas.{Differ-none, Differ-append, Differ-map, IsDotless, behind-once, first-once}
 
 -- the name of something in an instance: the instance's name, a dot, and its name there

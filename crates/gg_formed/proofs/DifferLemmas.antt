@@ -6,12 +6,12 @@ use Rattle.std.proofs.lemmas.Bool.{cases_lt}
 use Rattle.std.proofs.lemmas.List.{length-map, get_or-map, map-append}
 use Rattle.std.proofs.lemmas.List.Elements.{Contains-append_left, Contains-append_right, Contains-append_cases}
 use Rattle.std.proofs.Math.Seq.{get_or-append_right}
-use Rattle.gg_digest.proofs.FreshLemmas.{Differ-front}
-use Rattle.gg_digest.proofs.NameLemmas.{Differ}
+use Rattle.gg_flattened.proofs.FreshLemmas.{Differ-front}
+use Rattle.gg_flattened.proofs.NameLemmas.{Differ}
 use Rattle.gg_tree.proofs.DeclaredLemmas.{Differ-behind, Differ-parts}
 use Rattle.gg_tree.proofs.JoinLemmas.{dot-within}
 use Rattle.gg_tree.proofs.OwnLemmas.{front}
-use Rattle.gg_digest.proofs.AmongLemmas.{element-at, MadeOf, in-flat_map, from-flat_map}
+use Rattle.gg_flattened.proofs.AmongLemmas.{element-at, MadeOf, in-flat_map, from-flat_map}
 use Rattle.gg_flat.proofs.ListLemmas.{further}
 
 -- ---- words that differ

@@ -24,16 +24,16 @@ use Rattle.gg_flat.specs.WellFormed.{IsDataOf, MayDrive, IsReader, IsWriter, IsM
 use Rattle.gg_flat.proofs.ListLemmas.{Contains-map}
 use Rattle.gg_count.specs.Sites.{Site, Outer, top_site, module_at, all_sites, sites_from, sites_of, sites}
 use Rattle.gg_formed.specs.Fitting.{FitsDriver, AreFitting}
-use Rattle.gg_digest.specs.Flat.{Drive, Outside, Gets, Holds, Answers, drive_of, FlatSignal, flat_signal, signals_at, flat_signals, FlatMemory, flat_memory, memories_at, flat_memories}
-use Rattle.gg_digest.specs.IsFlat.{IsDrivenBy, IsMemoryOf, IsFlatOf, IsFlat, answer, number_of, field_number, reader_of, writer_of, is_outside, is_register, drive_at, count_before, signals_of, memory_paths, port_names, top_ports}
-use Rattle.gg_digest.specs.Known.{types_of}
-use Rattle.gg_digest.specs.Signals.{Types, Cause, FromOutside, Connected, Expressed, Kept, Answered, Own, own, own_of_port, own_of_kind, own_signals, OwnBank, own_banks, field_name, reader_signals, writer_signals}
-use Rattle.gg_digest.proofs.AmongLemmas.{Element, element-at, MadeOf, from-map, in-flat_map, from-flat_map}
+use Rattle.gg_flattened.specs.Flat.{Drive, Outside, Gets, Holds, Answers, drive_of, FlatSignal, flat_signal, signals_at, flat_signals, FlatMemory, flat_memory, memories_at, flat_memories}
+use Rattle.gg_flattened.specs.IsFlat.{bindings_of, IsDrivenBy, IsMemoryOf, IsFlatOf, IsFlat, answer, number_of, field_number, reader_of, writer_of, is_outside, is_register, drive_at, count_before, signals_of, memory_paths, port_names, top_ports}
+use Rattle.gg_flattened.specs.Known.{types_of}
+use Rattle.gg_flattened.specs.Signals.{Types, Cause, FromOutside, Connected, Expressed, Kept, Answered, Own, own, own_of_port, own_of_kind, own_signals, OwnBank, own_banks, field_name, reader_signals, writer_signals}
+use Rattle.gg_flattened.proofs.AmongLemmas.{Element, element-at, MadeOf, from-map, in-flat_map, from-flat_map}
 use Rattle.gg_formed.proofs.BankFieldLemmas.{bank-signal, reader-among, writer-among, bank-depth, AnswerAmong, answer-among}
 use Rattle.gg_tree.proofs.JoinLemmas.{joined-behind}
-use Rattle.gg_digest.proofs.NameLemmas.{Differ, place_of-at}
+use Rattle.gg_flattened.proofs.NameLemmas.{Differ, place_of-at}
 use Rattle.gg_formed.proofs.OutsideLemmas.{inputs-are, port-named}
-use Rattle.gg_formed.proofs.PassingLemmas.{passing, passed-at, Passes, passing-at, passing-map}
+use Rattle.gg_flattened.proofs.PassingLemmas.{passing, passed-at, Passes, passing-at, passing-map}
 
 -- ---- elements by their paths
 
@@ -247,7 +247,7 @@ module _ (types : Types) (modules : List ModuleTree) (top : ℕ) (flat : FlatCir
   -- ---- what readers answer
 
   abbrev Driven : ℕ → Drive → Type 0
-  Driven s drive = IsDrivenBy types (signals_of all) (memory_paths banks) flat.registers (count_before is_outside all s) (count_before is_register all s) (shape_at (signals_of all).shapes s) drive (driver_at flat s)
+  Driven s drive = IsDrivenBy (bindings_of types all banks) flat.registers (count_before is_outside all s) (count_before is_register all s) (shape_at (signals_of all).shapes s) drive (driver_at flat s)
 
   memory-number : (m : ℕ) → m < length banks → (a : MemoryAt m) → number_of (memory_paths banks) (joined a.site.path a.bank.name) ≡ m
   memory-number m lt a =

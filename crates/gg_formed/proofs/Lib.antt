@@ -2,8 +2,9 @@ pub mod ApartLemmas
 pub mod BankFieldLemmas
 pub mod DifferLemmas
 pub mod FormedLemmas
+pub mod HeldLemmas
 pub mod ModuleNameLemmas
 pub mod OutsideLemmas
-pub mod PassingLemmas
 pub mod PortNameLemmas
 pub mod TopLemmas
+mod WorkedHeld

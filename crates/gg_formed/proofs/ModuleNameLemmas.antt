@@ -20,13 +20,13 @@ use Rattle.gg_names.specs.Repetitions.{repeated_in, repeated_in_field, repeated_
 use Rattle.gg_flat.specs.Tree.{joined}
 use Rattle.gg_flat.proofs.ListLemmas.{Contains-map}
 use Rattle.gg_count.specs.Sites.{Held, Site, top_site, module_at, held_at, held_by_kind, sites_from, sites_of}
-use Rattle.gg_digest.specs.Flat.{FlatSignal, flat_signal, signals_at, FlatMemory, flat_memory, memories_at}
-use Rattle.gg_digest.specs.IsFlat.{memory_paths}
-use Rattle.gg_digest.specs.Known.{types_of}
-use Rattle.gg_digest.specs.Memories.{Bank, bank_of, type_shape}
-use Rattle.gg_digest.specs.Signals.{Types, Cause, Connected, Expressed, Kept, Own, own, own_of_port, cause_of_port, own_of_kind, own_signals, OwnBank, own_bank, own_banks, bank_of_kind, memory_signals}
-use Rattle.gg_digest.proofs.FreshLemmas.{Differ-front}
-use Rattle.gg_digest.proofs.NameLemmas.{Differ}
+use Rattle.gg_flattened.specs.Flat.{FlatSignal, flat_signal, signals_at, FlatMemory, flat_memory, memories_at}
+use Rattle.gg_flattened.specs.IsFlat.{memory_paths}
+use Rattle.gg_flattened.specs.Known.{types_of}
+use Rattle.gg_flattened.specs.Memories.{Bank, bank_of, type_shape}
+use Rattle.gg_flattened.specs.Signals.{Types, Cause, Connected, Expressed, Kept, Own, own, own_of_port, cause_of_port, own_of_kind, own_signals, OwnBank, own_bank, own_banks, bank_of_kind, memory_signals}
+use Rattle.gg_flattened.proofs.FreshLemmas.{Differ-front}
+use Rattle.gg_flattened.proofs.NameLemmas.{Differ}
 use Rattle.gg_tree.specs.IsTreeOf.{site_paths, signal_paths, memories_of}
 use Rattle.gg_tree.proofs.CauseLemmas.{name-some, name-dotless, statements-named}
 use Rattle.gg_tree.proofs.DeclaredLemmas.{append-none, names-differ, module-declared, Differ-behind, held-named, bank-named}
@@ -35,7 +35,7 @@ use Rattle.gg_tree.proofs.JoinLemmas.{dot-within}
 use Rattle.gg_tree.proofs.OwnLemmas.{own_in}
 use Rattle.gg_tree.proofs.SoundLemmas.{apart-names}
 use Rattle.gg_tree.proofs.WordLemmas.{ports-named, held-word, bank-word, BankWords}
-use Rattle.gg_digest.proofs.AmongLemmas.{MadeOf, from-map, in-flat_map, from-flat_map, in-filter_map}
+use Rattle.gg_flattened.proofs.AmongLemmas.{MadeOf, from-map, in-flat_map, from-flat_map, in-filter_map}
 use Rattle.gg_formed.proofs.ApartLemmas.{behind, AreApart, own_paths, paths-differ}
 use Rattle.gg_formed.proofs.DifferLemmas.{Differ-none, Differ-one, Differ-append, IsDotless, first-once, BeginsIn, begins-apart, parts-differ, filter_map-parts, flat_map-parts}
 use Rattle.gg_formed.proofs.PortNameLemmas.{bank-differs, fields-apart}

@@ -15,13 +15,13 @@ use Rattle.gg_ast.specs.declared.statement.StmtKind.{StmtKind}
 use Rattle.gg_ast.specs.declared.statement.StmtKind.TheVariants as says
 use Rattle.gg_ast.specs.Tree.{ModuleTree}
 use Rattle.gg_count.specs.Sites.{Held, Site, Outer, top_site, site_below, sites, all_sites, module_at, held_at}
-use Rattle.gg_digest.specs.Flat.{FlatSignal, flat_signal, drive_of, signals_at, flat_signals}
-use Rattle.gg_digest.specs.IsFlat.{number_of, is_outside, port_name, port_names, same_direction}
-use Rattle.gg_digest.specs.Memories.{Bank, bank_of, type_shape}
-use Rattle.gg_digest.specs.Signals.{Types, Cause, FromOutside, Connected, Expressed, Kept, Answered, Own, own, own_of_port, cause_of_port, own_of_kind, own_signals, memory_signals, readers_signals, writer_signals}
-use Rattle.gg_digest.proofs.AmongLemmas.{MadeOf, in-filter_map, from-filter_map}
-use Rattle.gg_digest.proofs.NameLemmas.{Differ, place_of-at}
-use Rattle.gg_formed.proofs.PassingLemmas.{passing, passing-append, passing-none}
+use Rattle.gg_flattened.specs.Flat.{FlatSignal, flat_signal, drive_of, signals_at, flat_signals}
+use Rattle.gg_flattened.specs.IsFlat.{number_of, is_outside, port_name, port_names, same_direction}
+use Rattle.gg_flattened.specs.Memories.{Bank, bank_of, type_shape}
+use Rattle.gg_flattened.specs.Signals.{Types, Cause, FromOutside, Connected, Expressed, Kept, Answered, Own, own, own_of_port, cause_of_port, own_of_kind, own_signals, memory_signals, readers_signals, writer_signals}
+use Rattle.gg_flattened.proofs.AmongLemmas.{MadeOf, in-filter_map, from-filter_map}
+use Rattle.gg_flattened.proofs.NameLemmas.{Differ, place_of-at}
+use Rattle.gg_flattened.proofs.PassingLemmas.{passing, passing-append, passing-none}
 
 -- whether the outside drives a signal
 abbrev pub from_outside : FlatSignal → Bool

@@ -11,13 +11,13 @@ use Rattle.gg_ast.specs.declared.statement.MemoryField.TheVariants as field
 use Rattle.gg_flat.specs.declared.memory.UnderWrite.TheVariants.{Undefined}
 use Rattle.gg_names.specs.Along.{along, along_from}
 use Rattle.gg_names.specs.Repetitions.{repeated_in, ports_in_field, repeated_port_of, repeated_in_field}
-use Rattle.gg_digest.specs.Memories.{Bank, bank_of, readers_said, writers_said, type_shape, first_said, type_said, depth_said, latency_said, under_said, latency_of}
-use Rattle.gg_digest.specs.Signals.{Own, memory_signals, readers_signals, writer_signals}
-use Rattle.gg_digest.proofs.FreshLemmas.{Differ-front}
-use Rattle.gg_digest.proofs.NameLemmas.{Differ}
+use Rattle.gg_flattened.specs.Memories.{Bank, bank_of, readers_said, writers_said, type_shape, first_said, type_said, depth_said, latency_said, under_said, latency_of}
+use Rattle.gg_flattened.specs.Signals.{Own, memory_signals, readers_signals, writer_signals}
+use Rattle.gg_flattened.proofs.FreshLemmas.{Differ-front}
+use Rattle.gg_flattened.proofs.NameLemmas.{Differ}
 use Rattle.gg_tree.proofs.DeclaredLemmas.{append-none, fresh, Differ-snoc, Differ-behind, Differ-parts}
 use Rattle.gg_tree.proofs.WordLemmas.{bank-ports}
-use Rattle.gg_digest.proofs.AmongLemmas.{MadeOf, from-map, from-flat_map}
+use Rattle.gg_flattened.proofs.AmongLemmas.{MadeOf, from-map, from-flat_map}
 use Rattle.gg_formed.proofs.DifferLemmas.{head_of, Differ-none, Differ-append, Differ-map, Differ-turned, IsDotless, behind-once, BeginsIn, begins-apart, parts-differ}
 
 -- ---- the ports that fields name

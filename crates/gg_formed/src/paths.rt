@@ -1,6 +1,6 @@
 //! The paths of a circuit differ.
 ghost use Rattle.std.specs.Prelude.{◌≢◌, AllPairs};
-ghost use Rattle.gg_digest.specs.IsFlat.{memory_paths};
+ghost use Rattle.gg_flattened.specs.IsFlat.{memory_paths};
 ghost use Rattle.gg_tree.specs.IsTreeOf.{site_paths, signal_paths, memories_of};
 
 use gg_types::Typed;

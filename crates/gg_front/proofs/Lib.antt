@@ -2,6 +2,5 @@ pub mod AgreementLemmas
 pub mod FaultLemmas
 pub mod LoopLemmas
 pub mod MeaningLemmas
-pub mod PortLemmas
 pub mod TreeLemmas
 mod WorkedRows

@@ -2,7 +2,7 @@
 use Rattle.std.proofs.Common.{ℕ, List, Result, Ok, Err}
 use Rattle.std.specs.Prelude.{IfOk}
 use Rattle.gg_ast.specs.Tree.{CircuitTree}
-use Rattle.gg_digest.specs.IsFlat.{IsFlat}
+use Rattle.gg_flattened.specs.IsFlat.{IsFlat}
 use Rattle.gg_tree.specs.IsTreeOf.{IsTreeOf}
 use Rattle.gg_flat.specs.WellFormed.{IsWellFormed}
 use Rattle.gg_order.specs.Design.{Ordered}

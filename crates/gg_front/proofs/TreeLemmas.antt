@@ -1,26 +1,16 @@
--- A circuit has only one tree, and all its flat circuits have the same memories.
-use Rattle.std.proofs.Common.{◌≡◌, ℕ, ◌+◌, ◌<◌, List, [], ◌∷◌, Option, None, Some, Bool, length, refl, sym, ap, ◌∙◌, arith}
+-- A circuit has only one tree.
+use Rattle.std.proofs.Common.{◌≡◌, ℕ, ◌+◌, List, [], ◌∷◌, Option, None, Some, Bool, length, refl, sym, ap, ◌∙◌}
 use Rattle.std.specs.Prelude.{flat_map}
-use Rattle.std.proofs.lemmas.List.{same_lists}
 use Rattle.gg_ast.specs.declared.module.Port.{Port}
 use Rattle.gg_ast.specs.Tree.{CircuitTree}
-use Rattle.gg_flat.specs.Circuit.{FlatCircuit}
 use Rattle.gg_flat.specs.Tree.{InstanceTree}
-use Rattle.gg_bits.specs.declared.types.Ty.{Ty}
-use Rattle.gg_flat.specs.declared.memory.Memory.{Memory}
-use Rattle.gg_flat.specs.declared.memory.Latency.{Latency}
-use Rattle.gg_front.proofs.PortLemmas.{ty-equal}
-use Rattle.gg_flat.specs.declared.memory.Reader.{Reader}
-use Rattle.gg_flat.specs.declared.memory.Writer.{Writer}
 use Rattle.gg_flat.specs.declared.tree.Instance.{Instance}
 use Rattle.gg_flat.specs.declared.tree.InstancePort.{InstancePort}
 use Rattle.gg_flat.specs.declared.tree.MemoryInstance.{MemoryInstance}
-use Rattle.gg_flat.proofs.ListLemmas.{some-item}
 use Rattle.gg_count.specs.Sites.{Site, Outer, module_at, sites_of}
-use Rattle.gg_digest.specs.Flat.{FlatMemory, memories_at, signals_at}
-use Rattle.gg_digest.specs.IsFlat.{IsFlat, IsMemoryOf}
-use Rattle.gg_tree.specs.IsTreeOf.{IsAt, Pairwise, IsParent, IsPortFor, IsMemoryAt, IsInstanceFor, AreInstances, IsMemoryFor, HeldMemory, held_memories, IsTreeOf, signal_ports, site_paths, memories_of}
-use Rattle.gg_digest.specs.Known.{types_of}
+use Rattle.gg_flattened.specs.Flat.{FlatMemory, memories_at, signals_at}
+use Rattle.gg_tree.specs.IsTreeOf.{IsAt, Pairwise, IsParent, IsPortFor, IsMemoryAt, IsInstanceFor, AreInstances, IsMemoryFor, HeldMemory, held_memories, IsTreeOf, signal_ports, site_paths}
+use Rattle.gg_flattened.specs.Known.{types_of}
 
 -- ---- places
 
@@ -120,23 +110,3 @@ tree-same circuit a b p q =
     ∙ ap (λ (x : List Instance). tree_made b.paths x a.memory_paths a.memories) instances
     ∙ ap (λ (x : List (List ℕ)). tree_made b.paths b.instances x a.memories) names
     ∙ ap (λ (x : List MemoryInstance). tree_made b.paths b.instances b.memory_paths x) memories
-
--- ---- memories of flat circuits
-
-abbrev bank_made : Ty → ℕ → Latency → List Reader → List Writer → Memory
-bank_made word depth latency readers writers = record { word = word; depth = depth; latency = latency; readers = readers; writers = writers }
-
--- what a memory of a flat circuit is follows from what the text says of it
-bank-same : (paths : List (List ℕ)) (said : FlatMemory) (a b : Memory) → IsMemoryOf paths said a → IsMemoryOf paths said b → a ≡ b
-bank-same paths said a b p q =
-    ap (λ (x : Ty). bank_made x a.depth a.latency a.readers a.writers) (ty-equal a.word b.word (p.word ∙ sym q.word))
-    ∙ ap (λ (x : ℕ). bank_made b.word x a.latency a.readers a.writers) (p.depth ∙ sym q.depth)
-    ∙ ap (λ (x : Latency). bank_made b.word b.depth x a.readers a.writers) (p.latency ∙ sym q.latency)
-    ∙ ap (λ (x : List Reader). bank_made b.word b.depth b.latency x a.writers) (p.readers ∙ sym q.readers)
-    ∙ ap (λ (x : List Writer). bank_made b.word b.depth b.latency b.readers x) (p.writers ∙ sym q.writers)
-
-pub banks-same : (circuit : CircuitTree) (one other : FlatCircuit) → IsFlat circuit one → IsFlat circuit other → one.memories ≡ other.memories
-banks-same circuit one other p q =
-    same_lists one.memories other.memories (p.memory_count ∙ sym q.memory_count)
-    (λ m any lt. let below : m < length (memories_of circuit) = omega (arith, lt, p.memory_count) in let said = some-item (memories_of circuit) m below in
-    bank-same _ _ _ _ (p.memories m said any below) (q.memories m said any below))

@@ -3,7 +3,7 @@ use Rattle.std.specs.Prelude.{◌≡◌, ◌≢◌, ℕ, List, Some, None, map, 
 use Rattle.gg_ast.specs.Tree.{CircuitTree}
 use Rattle.gg_count.specs.declared.counts.Excess.{Excess}
 use Rattle.gg_elab.specs.ElabText.{limit_of}
-use Rattle.gg_digest.specs.IsFlat.{IsFlat}
+use Rattle.gg_flattened.specs.IsFlat.{IsFlat}
 use Rattle.gg_flat.specs.Circuit.{FlatCircuit}
 use Rattle.gg_flat.specs.Tree.{path_at}
 use Rattle.gg_order.specs.Loop.{IsToldLoop}

@@ -1,8 +1,7 @@
--- What the bytes of a circuit file mean: a flat circuit. There may be several, since an expression may be laid out as
--- a line of nodes in more than one way. All of them have the same ports and the same runs. The bytes also mean a
--- design: such a flat circuit with the tree of the instances, of which there is only one.
+-- What the bytes of a circuit file mean: a flat circuit, and a design: the flat circuit with the tree of the instances
+-- and an order. The bytes mean at most one flat circuit and one tree.
 use Rattle.std.specs.Prelude.{ℕ, List}
-use Rattle.gg_digest.specs.IsFlat.{IsFlat}
+use Rattle.gg_flattened.specs.IsFlat.{IsFlat}
 use Rattle.gg_tree.specs.IsTreeOf.{IsTreeOf}
 use Rattle.gg_flat.specs.Circuit.{FlatCircuit}
 use Rattle.gg_flat.specs.WellFormed.{IsWellFormed}

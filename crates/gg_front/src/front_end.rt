@@ -1,7 +1,7 @@
 //! `front`: from the bytes of a circuit file to a design.
 ghost use Rattle.std.specs.Prelude.{◌≡◌, ◌<◌, ◌^◌, ℕ, List, [], None, IfOk, IfErr, length, map};
 ghost use Rattle.std.specs.List.{All};
-ghost use Rattle.gg_digest.specs.IsFlat.{IsFlat};
+ghost use Rattle.gg_flattened.specs.IsFlat.{IsFlat};
 ghost use Rattle.gg_tree.specs.IsTreeOf.{IsTreeOf};
 ghost use Rattle.gg_flat.specs.Reads.{IsLoop};
 ghost use Rattle.gg_flat.specs.Scoped.{IsScoped};
@@ -11,6 +11,7 @@ ghost use Rattle.gg_order.specs.Fault.{IfLoop};
 ghost use Rattle.gg_order.specs.Loop.{IsToldLoop};
 ghost use Rattle.gg_read.specs.Text.{Spells, HasNoFaultLine};
 ghost use Rattle.gg_shape.specs.Judged.{IsShaped};
+ghost use Rattle.gg_formed.specs.Held.{AreHeldOnce};
 ghost use Rattle.gg_front.specs.Accepted.{IsSound, IsAccepted, excess_of};
 ghost use Rattle.gg_front.specs.Fault.{HasFrontFault, IfFirstFault, IfTellsLoop, IsUnread, fault_by, over_limit};
 ghost use Rattle.gg_front.specs.Meaning.{MeansDesign};
@@ -19,8 +20,9 @@ use crate::fault::FrontFault;
 use gg_ast::Circuit;
 use gg_bits::{Name, Names};
 use gg_count::Excess;
-use gg_elab::{ElabFault, flatten, limit_of, one_reads};
+use gg_elab::{ElabFault, flatten, limit_of};
 use gg_flat::{Piece, Tree};
+use gg_flattened::one_flat;
 use gg_names::Namespace;
 use gg_order::{Design, OrderFault, order};
 use gg_read::{ReadFault, read_circuit};
@@ -29,7 +31,7 @@ use gg_types::{Typed, typed};
 use std::alloc::{AllocError, Global};
 
 /// The design of a circuit file: a well-formed flat circuit that the bytes mean, with the tree of the circuit that
-/// they spell and an order of evaluation.
+/// they spell and an order of evaluation. Each register is held by exactly one signal.
 ///
 /// # Errors
 ///
@@ -40,6 +42,7 @@ use std::alloc::{AllocError, Global};
 pub fn front(alloc: Global, bytes: &[u8]) -> Result<Design, FrontFault>
     requires { length bytes.now < 2 ^ 32 }
     ensures ok { IfOk result (λ design. MeansDesign bytes.now design) }
+    ensures held { IfOk result (λ design. AreHeldOnce design.circuit) }
     ensures refused { IfErr result (HasFrontFault bytes.now) }
 {
     let circuit = read(alloc, bytes)?;
@@ -66,9 +69,10 @@ fn design_of(alloc: Global, circuit: &Circuit) -> Result<Design, FrontFault>
     ensures flat { IfOk result (λ design. IsFlat circuit.now design.circuit) }
     ensures grown { IfOk result (λ design. IsTreeOf circuit.now design.tree) }
     ensures formed { IfOk result (λ design. IsWellFormed design.circuit) }
+    ensures held { IfOk result (λ design. AreHeldOnce design.circuit) }
     ensures refused { IfErr result (IfFirstFault circuit.now) }
 {
-    one_reads();
+    one_flat();
     let (piece, tree) = flat_circuit(alloc, circuit)?;
     ordered(alloc, piece, tree)
 }
@@ -80,6 +84,7 @@ fn flat_circuit(alloc: Global, circuit: &Circuit) -> Result<(Piece, Tree), Front
     ensures flat { IfOk result (λ made. IsFlat circuit.now made.0) }
     ensures grown { IfOk result (λ made. IsTreeOf circuit.now made.1) }
     ensures formed { IfOk result (λ made. IsWellFormed made.0) }
+    ensures held { IfOk result (λ made. AreHeldOnce made.0) }
     ensures fitting { IfOk result (λ made. IsTree made.0 made.1) }
     ensures scoped { IfOk result (λ made. IsScoped made.0 made.1) }
     ensures refused { IfErr result (IfFirstFault circuit.now) }
@@ -132,6 +137,7 @@ fn flattened(alloc: Global, checked: &Typed) -> Result<(Piece, Tree), FrontFault
     ensures flat { IfOk result (λ made. IsFlat checked.now.circuit made.0) }
     ensures grown { IfOk result (λ made. IsTreeOf checked.now.circuit made.1) }
     ensures formed { IfOk result (λ made. IsWellFormed made.0) }
+    ensures held { IfOk result (λ made. AreHeldOnce made.0) }
     ensures fitting { IfOk result (λ made. IsTree made.0 made.1) }
     ensures scoped { IfOk result (λ made. IsScoped made.0 made.1) }
     ensures refused { IfErr result (IfFirstFault checked.now.circuit) }

@@ -1,10 +1,7 @@
 //! Laws of what the bytes of a circuit file mean.
 ghost use Rattle.std.specs.Prelude.{◌≡◌, ◌≢◌, ℕ, List};
 ghost use Rattle.gg_ast.specs.Tree.{CircuitTree};
-ghost use Rattle.gg_flat.specs.Circuit.{FlatCircuit, signal_shapes};
-ghost use Rattle.gg_flat.specs.Ports.{in_ports, out_ports};
-ghost use Rattle.gg_flat.specs.Reads.{Reads};
-ghost use Rattle.gg_flat.specs.Run.{IsRun};
+ghost use Rattle.gg_flat.specs.Circuit.{FlatCircuit};
 ghost use Rattle.gg_order.specs.Design.{Ordered};
 ghost use Rattle.gg_read.specs.Text.{Spells, HasReadFault};
 ghost use Rattle.gg_read.specs.declared.text.ReadFault.{ReadFault};
@@ -19,38 +16,14 @@ ghost use Rattle.gg_front.specs.declared.fault.FrontFault.TheVariants.{NoMemory}
 
 use gg_read::{one_circuit, one_fault_line};
 
-/// All flat circuits that some bytes mean have the same input ports and the same output ports.
-pub fn ports_agree()
-    ensures ins { (bytes : List ℕ) (one other : FlatCircuit) → Means bytes one → Means bytes other → in_ports one ≡ in_ports other }
-    ensures outs { (bytes : List ℕ) (one other : FlatCircuit) → Means bytes one → Means bytes other → out_ports one ≡ out_ports other }
+/// The bytes of a circuit file mean at most one flat circuit and one tree of instances. So two designs that they mean
+/// differ in their order alone.
+pub fn one_meaning()
+    ensures flat { (bytes : List ℕ) (one other : FlatCircuit) → Means bytes one → Means bytes other → one ≡ other }
+    ensures tree { (bytes : List ℕ) (one other : Ordered) → MeansDesign bytes one → MeansDesign bytes other → one.tree ≡ other.tree }
 {
     one_circuit();
-    gg_elab::one_run();
-}
-
-/// All flat circuits that some bytes mean behave the same. They have the same in-signals and the same out-signals,
-/// and a run of one of them is a run of each.
-pub fn one_run()
-    ensures ins { (bytes : List ℕ) (one other : FlatCircuit) → Means bytes one → Means bytes other → one.ins ≡ other.ins }
-    ensures outs { (bytes : List ℕ) (one other : FlatCircuit) → Means bytes one → Means bytes other → one.outs ≡ other.outs }
-    ensures runs { (bytes : List ℕ) (one other : FlatCircuit) (columns : List (List ℕ)) (n : ℕ) (rows : List (List ℕ)) → Means bytes one → Means bytes other → IsRun one columns n rows → IsRun other columns n rows }
-{
-    one_circuit();
-    gg_elab::one_run();
-}
-
-/// All designs that some bytes mean have the same tree of instances. All flat circuits that they mean have the same
-/// memories and the same signals, by paths and types, and these read the same signals. So a partition asks the same
-/// of each of them.
-pub fn designs_agree()
-    ensures trees { (bytes : List ℕ) (one other : Ordered) → MeansDesign bytes one → MeansDesign bytes other → one.tree ≡ other.tree }
-    ensures paths { (bytes : List ℕ) (one other : FlatCircuit) → Means bytes one → Means bytes other → one.paths ≡ other.paths }
-    ensures shapes { (bytes : List ℕ) (one other : FlatCircuit) → Means bytes one → Means bytes other → signal_shapes one ≡ signal_shapes other }
-    ensures reads { (bytes : List ℕ) (one other : FlatCircuit) (a b : ℕ) → Means bytes one → Means bytes other → Reads one a b → Reads other a b }
-    ensures memories { (bytes : List ℕ) (one other : FlatCircuit) → Means bytes one → Means bytes other → one.memories ≡ other.memories }
-{
-    one_circuit();
-    gg_elab::one_reads();
+    gg_flattened::one_flat();
 }
 
 /// If one circuit that a text spells is accepted, each is.

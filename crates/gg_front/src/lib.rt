@@ -6,10 +6,8 @@
 //!   those of this circuit. Else `front` returns the fault of reading, or the circuit's first fault
 //!   (`HasFrontFault`): of shape, of types, of the limits, or a combinational loop. Any one of several rings of
 //!   modules, or of several loops, may be reported.
-//! - `ports_agree`: all flat circuits that some bytes mean have the same input ports and output ports.
-//! - `one_run`: they all have the same runs.
-//! - `designs_agree`: all designs that some bytes mean have the same tree, the same signals, and the same memories
-//!   with the same ports.
+//! - `one_meaning`: some bytes mean at most one flat circuit and one tree of instances, so two designs that they mean
+//!   differ in their order alone.
 //! - `acceptance_agrees`: if one circuit that a text spells is accepted, each is.
 //! - `one_fault`: two faults of a text are the same, except that any ring of modules and any loop may be reported.
 //! - `faults_apart`: an accepted text has no fault, and a text with a fault of reading has no fault of a circuit.
@@ -21,4 +19,4 @@ mod laws;
 
 pub use fault::FrontFault;
 pub use front_end::front;
-pub use laws::{acceptance_agrees, designs_agree, faults_apart, one_fault, one_run, ports_agree};
+pub use laws::{acceptance_agrees, faults_apart, one_fault, one_meaning};

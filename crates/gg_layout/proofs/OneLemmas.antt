@@ -1,23 +1,16 @@
 -- A cut has only one layout, and designs that are alike have the same one.
-use Rattle.std.proofs.Common.{◌≡◌, ℕ, ◌+◌, ◌<◌, List, [], false, length, map, sym, ◌∙◌, ap, subst, arith}
-use Rattle.std.specs.Prelude.{slice_index_or, if◌then◌else◌}
-use Rattle.std.specs.List.{range_with_len}
+use Rattle.std.proofs.Common.{◌≡◌, ℕ, ◌<◌, List, [], false, length, sym, ◌∙◌, ap, subst, arith}
 use Rattle.std.proofs.lemmas.List.{same_lists, get_or_default}
-use Rattle.gg_flat.specs.declared.memory.Latency.TheVariants.{Zero}
-use Rattle.gg_flat.specs.declared.memory.Memory.{Memory}
-use Rattle.gg_flat.specs.Tree.{InstanceTree, path_at}
 use Rattle.gg_order.specs.Design.{Ordered}
 use Rattle.gg_partfile.specs.declared.request.Request.{Request}
 use Rattle.gg_cut.specs.declared.listed.Listed.{Listed}
 use Rattle.gg_cut.specs.declared.wires.Wire.{Wire}
 use Rattle.gg_cut.specs.Listed.{listed_of}
-use Rattle.gg_cut.specs.Channels.{capacity_of, machine_count, wires_of}
-use Rattle.gg_cut.specs.Plan.{wire_at}
+use Rattle.gg_cut.specs.Channels.{wires_of}
 use Rattle.gg_check.specs.Alike.{AreAlike}
-use Rattle.gg_check.proofs.SameCutLemmas.{needs-same, need-carried, readers-same, writers-same, wires-same, count-same}
-use Rattle.gg_memunit.specs.MemoryUnit.{ports_by}
+use Rattle.gg_check.proofs.SameCutLemmas.{alike-is, needs-same}
 use Rattle.gg_marking.specs.Marking.{Link, Layout, link_at}
-use Rattle.gg_layout.specs.CutLayout.{IsChannelLink, IsLayoutBy, IsLayoutOf, is_memory, machine_ports, machine_turns, memory_of, turn_of}
+use Rattle.gg_layout.specs.CutLayout.{IsLayoutBy, IsLayoutOf}
 
 -- ---- a cut has only one layout
 
@@ -57,55 +50,17 @@ layout-once design request default n listed wires layout other a b =
 
 -- ---- designs that are alike have the same layout
 
-module _ (one other : Ordered) (s : AreAlike one other) (request : Request) (default n : ℕ) (listed : Listed) (wires : List Wire) where
-  link-carried : (c : ℕ) (link : Link) → IsChannelLink one request default listed wires c link → IsChannelLink other request default listed wires c link
-  link-carried c link is =
-      record {
-        producer = is.producer;
-        consumer = is.consumer;
-        capacity = is.capacity ∙ ap (λ (paths : List (List ℕ)). capacity_of request.capacity default (path_at paths (wire_at wires c).signal)) s.paths;
-        needs =
-            record {
-              ascending = is.needs.ascending;
-              each = λ d. (
-                (λ h. need-carried one.circuit other.circuit (λ a b. (s.reads a b).0) listed wires c d ((is.needs.each d).0 h)),
-                (λ h. (is.needs.each d).1 (need-carried other.circuit one.circuit (λ a b. (s.reads a b).1) listed wires c d h)),
-              );
-            };
-        piped = is.piped;
-      }
-
-  ports-carried : map (machine_ports one.circuit one.tree listed) (range_with_len 0 (machine_count one.circuit listed)) ≡ map (machine_ports other.circuit other.tree listed) (range_with_len 0 (machine_count other.circuit listed))
-  ports-carried =
-      ap
-      (λ (memories : List Memory).
-      map (λ m. if is_memory listed m then slice_index_or (map (λ (x : Memory). length x.readers + length x.writers) memories) (memory_of one.tree listed m) 0 else 0)
-      (range_with_len 0 (machine_count one.circuit listed))) s.memories
-      ∙ ap (λ (tree : InstanceTree). map (machine_ports other.circuit tree listed) (range_with_len 0 (machine_count one.circuit listed))) s.tree
-      ∙ ap (λ count. map (machine_ports other.circuit other.tree listed) (range_with_len 0 count)) (count-same one other s request default listed wires)
-
-  turns-carried : map (machine_turns one.circuit one.tree listed wires) (range_with_len 0 (machine_count one.circuit listed)) ≡ map (machine_turns other.circuit other.tree listed wires) (range_with_len 0 (machine_count other.circuit listed))
-  turns-carried =
-      ap
-      (λ (memories : List Memory).
-      map (λ m.
-      if is_memory listed m then map (turn_of wires) (ports_by (slice_index_or (map (λ (x : Memory). x.latency) memories) (memory_of one.tree listed m) Zero)
-      (slice_index_or (map (λ (x : Memory). x.readers) memories) (memory_of one.tree listed m) []) (slice_index_or (map (λ (x : Memory). x.writers) memories) (memory_of one.tree listed m) []))
-      else [])
-      (range_with_len 0 (machine_count one.circuit listed))) s.memories
-      ∙ ap (λ (tree : InstanceTree). map (machine_turns other.circuit tree listed wires) (range_with_len 0 (machine_count one.circuit listed))) s.tree
-      ∙ ap (λ count. map (machine_turns other.circuit other.tree listed wires) (range_with_len 0 count)) (count-same one other s request default listed wires)
-
-  layout-carried : (layout : Layout) → IsLayoutBy one request default n listed wires layout → IsLayoutBy other request default n listed wires layout
-  layout-carried layout a = record { channels = a.channels; link = λ c lt. link-carried c (link_at layout c) (a.link c lt); ports = a.ports ∙ ports-carried; turns = a.turns ∙ turns-carried; end = a.end }
-
 -- the layout of a request's cut of one design is the layout of its cut of a design that is alike
 layout-of-cut-carried : (one other : Ordered) → AreAlike one other → (request : Request) (default n : ℕ) (layout : Layout) → IsLayoutOf one request default n layout → IsLayoutOf other request default n layout
 layout-of-cut-carried one other s request default n layout a =
-    let listed = listed_of other.tree request in
-    subst (λ (wires : List Wire). IsLayoutBy other request default n listed wires layout) (wires-same one.circuit other.circuit (readers-same one.circuit other.circuit s.memories) (writers-same one.circuit other.circuit s.memories) other.tree listed s.ins s.outs)
-    (layout-carried one other s request default n listed (wires_of one.circuit other.tree listed) layout
-    (subst (λ (t : InstanceTree). IsLayoutBy one request default n (listed_of t request) (wires_of one.circuit t (listed_of t request)) layout) s.tree a))
+    let b = subst (λ (design : Ordered). IsLayoutOf design request default n layout) (alike-is one other s) a in
+    record {
+      channels = b.channels;
+      link = λ c lt. let l = b.link c lt in record { producer = l.producer; consumer = l.consumer; capacity = l.capacity; needs = l.needs; piped = l.piped };
+      ports = b.ports;
+      turns = b.turns;
+      end = b.end;
+    }
 
 pub one-layout : (one other : Ordered) (request : Request) (default n : ℕ) (layout others : Layout) → AreAlike one other → IsLayoutOf one request default n layout → IsLayoutOf other request default n others → layout ≡ others
 one-layout one other request default n layout others s a b =

@@ -16,9 +16,9 @@ use Rattle.gg_ast.specs.declared.statement.StmtKind.TheVariants as says
 use Rattle.gg_ast.specs.Tree.{ModuleTree, empty_module}
 use Rattle.gg_names.specs.Scope.{written}
 use Rattle.gg_tree.proofs.OwnLemmas.{front}
-use Rattle.gg_digest.specs.Connection.{Connection, ConnectedTo, Zeroed, connection_by, connection_in}
-use Rattle.gg_digest.specs.Memories.{Bank, bank_of, type_shape, or_later}
-use Rattle.gg_digest.specs.Signals.{Types, Cause, FromOutside, Connected, Expressed, Kept, Answered, Own, own, own_of_port, own_of_kind, cause_of_port, field_name, memory_signals, readers_signals, writer_signals}
+use Rattle.gg_flattened.specs.Connection.{Connection, ConnectedTo, Zeroed, connection_by, connection_in}
+use Rattle.gg_flattened.specs.Memories.{Bank, bank_of, type_shape, or_later}
+use Rattle.gg_flattened.specs.Signals.{Types, Cause, FromOutside, Connected, Expressed, Kept, Answered, Own, own, own_of_port, own_of_kind, cause_of_port, field_name, memory_signals, readers_signals, writer_signals}
 
 -- ---- names
 

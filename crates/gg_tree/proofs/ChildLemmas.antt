@@ -28,8 +28,8 @@ use Rattle.gg_types.specs.Owned.{typed, known_sort, sort_of_reference}
 use Rattle.gg_types.specs.Types.{known_in}
 use Rattle.gg_types.proofs.PlaceLemmas.{same_bytes}
 use Rattle.gg_count.specs.Sites.{Held, held, held_by, held_by_kind, module_at}
-use Rattle.gg_digest.specs.Known.{types_of, value_shape}
-use Rattle.gg_digest.proofs.NameLemmas.{Differ}
+use Rattle.gg_flattened.specs.Known.{types_of, value_shape}
+use Rattle.gg_flattened.proofs.NameLemmas.{Differ}
 use Rattle.gg_tree.proofs.DeclaredLemmas.{made-by, one-statement, held-named}
 
 -- ---- a name that is known has an entry

@@ -34,13 +34,13 @@ use Rattle.gg_flat.specs.Scoped.{IsScoped, IsVisible, IsWritten, IsOwnSink, IsCh
 use Rattle.gg_flat.proofs.ListLemmas.{some-item}
 use Rattle.gg_names.specs.Scope.{written}
 use Rattle.gg_count.specs.Sites.{Site, site_below, module_at, sites_of}
-use Rattle.gg_digest.specs.Connection.{Connection, ConnectedTo, Zeroed, connection_in}
-use Rattle.gg_digest.specs.Flat.{scope_at, Drive, Outside, FlatSignal, flat_signal, flat_signals, drive_of}
-use Rattle.gg_digest.specs.IsFlat.{IsFlat, IsDrivenBy, IsRegisterOf, HasReset, HasNext, answer, number_of, drive_at, signals_of, memory_paths, count_before, is_outside, is_register}
+use Rattle.gg_flattened.specs.Connection.{Connection, ConnectedTo, Zeroed, connection_in}
+use Rattle.gg_flattened.specs.Flat.{scope_at, Drive, Outside, FlatSignal, flat_signal, flat_signals, drive_of}
+use Rattle.gg_flattened.specs.IsFlat.{IsFlat, bindings_of, IsDrivenBy, IsRegisterOf, HasReset, HasNext, answer, number_of, drive_at, signals_of, memory_paths, count_before, is_outside, is_register}
 use Rattle.gg_tree.specs.IsTreeOf.{IsTreeOf, Pairwise, IsPortFor, signal_paths, signal_ports, is_input, memories_of}
-use Rattle.gg_digest.specs.Known.{types_of}
-use Rattle.gg_digest.specs.Meaning.{Signals, named_if, TermNames, ConnectionNames}
-use Rattle.gg_digest.specs.Signals.{Cause, FromOutside, Connected, Expressed, Kept, Answered, Own, own_of_port, own_of_kind, cause_of_port, field_name, dotted}
+use Rattle.gg_flattened.specs.Known.{types_of}
+use Rattle.gg_flattened.specs.Meaning.{Signals, Bindings, Context, in_scope, named_if, TermNames, ConnectionNames}
+use Rattle.gg_flattened.specs.Signals.{Cause, FromOutside, Connected, Expressed, Kept, Answered, Own, own_of_port, own_of_kind, cause_of_port, field_name, dotted}
 use Rattle.gg_tree.proofs.PairwiseLemmas.{Pairwise-length}
 use Rattle.gg_tree.proofs.PlaceLemmas.{Placed, Under}
 use Rattle.gg_tree.proofs.RangeLemmas.{Ranges, count_to}
@@ -73,11 +73,18 @@ module _ (circuit : CircuitTree) (flat : FlatCircuit) (tree : InstanceTree) (top
   abbrev all_signals : Signals
   all_signals = signals_of (flat_signals (types_of circuit) circuit.modules (sites_of circuit))
 
+  abbrev bindings : Bindings
+  bindings = bindings_of (types_of circuit) (flat_signals (types_of circuit) circuit.modules (sites_of circuit)) (memories_of circuit)
+
+  -- where the names of a site are written
+  abbrev context_at : Site → Context
+  context_at x = in_scope bindings (scope_at x)
+
   abbrev from_site : ℕ → ℕ
   from_site k = count_to (signals_in circuit) (sites_of circuit) k
 
   -- what an expression names at a site is visible there
-  term-visible : (k : ℕ) (x : Site) → Stands k x → (e : Term) → AreNamesOfTerm e → (t : ℕ) → TermNames (types_of circuit) all_signals (scope_at x) t e → IsVisible tree k t
+  term-visible : (k : ℕ) (x : Site) → Stands k x → (e : Term) → AreNamesOfTerm e → (t : ℕ) → TermNames (context_at x) t e → IsVisible tree k t
   term-visible k x p (NamedTerm r) h t n =
       let here = named-known (is_some (types_of circuit x.number r)) (signal_paths circuit) (joined x.path (written r)) t n in
       visible circuit flat tree top known_top is_flat is_tree distinct plain names known k x p r (plain-reference r h) here.0 t here.1
@@ -90,7 +97,7 @@ module _ (circuit : CircuitTree) (flat : FlatCircuit) (tree : InstanceTree) (top
   term-visible k x p (MuxTerm c a b) h t (inr (inl n)) = term-visible k x p a h.1 t n
   term-visible k x p (MuxTerm c a b) h t (inr (inr n)) = term-visible k x p b h.2 t n
 
-  connection-visible : (k : ℕ) (x : Site) → Stands k x → (c : Option Connection) → AreNamesOfConnection c → (t : ℕ) → ConnectionNames (types_of circuit) all_signals (scope_at x) t c → IsVisible tree k t
+  connection-visible : (k : ℕ) (x : Site) → Stands k x → (c : Option Connection) → AreNamesOfConnection c → (t : ℕ) → ConnectionNames (context_at x) t c → IsVisible tree k t
   connection-visible k x p None h t n = absurd n
   connection-visible k x p (Some Zeroed) h t n = absurd n
   connection-visible k x p (Some (ConnectedTo e)) h t n = term-visible k x p e h t n
@@ -98,7 +105,7 @@ module _ (circuit : CircuitTree) (flat : FlatCircuit) (tree : InstanceTree) (top
   statements_of : (x : Site) → All AreNamesOfStatement (module_at circuit.modules x.number).statements
   statements_of x = statements-named circuit.modules x.number are_names.of_modules
 
-  connected-visible : (k : ℕ) (x : Site) → Stands k x → (name : List ℕ) (t : ℕ) → ConnectionNames (types_of circuit) all_signals (scope_at x) t (connection_in (module_at circuit.modules x.number).statements name) → IsVisible tree k t
+  connected-visible : (k : ℕ) (x : Site) → Stands k x → (name : List ℕ) (t : ℕ) → ConnectionNames (context_at x) t (connection_in (module_at circuit.modules x.number).statements name) → IsVisible tree k t
   connected-visible k x p name t n = connection-visible k x p (connection_in (module_at circuit.modules x.number).statements name) (connected-names (module_at circuit.modules x.number).statements name (statements_of x)) t n
 
   -- ---- drives
@@ -121,7 +128,7 @@ module _ (circuit : CircuitTree) (flat : FlatCircuit) (tree : InstanceTree) (top
 
   -- the driver of signal s does what `drive` asks for
   abbrev Driven : ℕ → Drive → Driver → Type 0
-  Driven s drive driver = IsDrivenBy (types_of circuit) all_signals (memory_paths (memories_of circuit)) flat.registers (count_before is_outside (flat_signals (types_of circuit) circuit.modules (sites_of circuit)) s) (count_before is_register (flat_signals (types_of circuit) circuit.modules (sites_of circuit)) s) (shape_at all_signals.shapes s) drive driver
+  Driven s drive driver = IsDrivenBy bindings flat.registers (count_before is_outside (flat_signals (types_of circuit) circuit.modules (sites_of circuit)) s) (count_before is_register (flat_signals (types_of circuit) circuit.modules (sites_of circuit)) s) (shape_at all_signals.shapes s) drive driver
 
   cause-visible : (k : ℕ) (x : Site) → Stands k x → (s : ℕ) (name : List ℕ) (cause : Cause) → IsNamed (HasOwn x) cause → (driver : Driver) → Driven s (drive_of circuit.modules x name cause) driver → (t : ℕ) → NamesSignal driver t → IsVisible tree k t
   cause-visible k x p s name FromOutside h driver is t n = absurd h
@@ -133,18 +140,18 @@ module _ (circuit : CircuitTree) (flat : FlatCircuit) (tree : InstanceTree) (top
 
   -- ---- registers
 
-  reset-visible : (k : ℕ) (x : Site) → Stands k x → (sink : Shape) (asked : Option given.Reset) (reset : Option kept.Reset) → IfSome asked AreNamesOfReset → HasReset (types_of circuit) all_signals (scope_at x) sink asked reset → (t : ℕ) → ResetNames reset t → IsVisible tree k t
+  reset-visible : (k : ℕ) (x : Site) → Stands k x → (sink : Shape) (asked : Option given.Reset) (reset : Option kept.Reset) → IfSome asked AreNamesOfReset → HasReset (context_at x) sink asked reset → (t : ℕ) → ResetNames reset t → IsVisible tree k t
   reset-visible k x p sink None reset h is t n = absurd (subst (λ r. ResetNames r t) is n)
   reset-visible k x p sink (Some asked) None h is t n = absurd is
   reset-visible k x p sink (Some asked) (Some reset) h is t (inl n) = term-visible k x p asked.condition h.0 t ((is.0.names t).0 n)
   reset-visible k x p sink (Some asked) (Some reset) h is t (inr n) = term-visible k x p asked.init h.1 t ((is.1.names t).0 n)
 
-  next-visible : (k : ℕ) (x : Site) → Stands k x → (sink : Shape) (c : Option Connection) (next : Option (List Node)) → AreNamesOfConnection c → HasNext (types_of circuit) all_signals (scope_at x) sink c next → (t : ℕ) → NextNames next t → IsVisible tree k t
+  next-visible : (k : ℕ) (x : Site) → Stands k x → (sink : Shape) (c : Option Connection) (next : Option (List Node)) → AreNamesOfConnection c → HasNext (context_at x) sink c next → (t : ℕ) → NextNames next t → IsVisible tree k t
   next-visible k x p sink None next h is t n = absurd (subst (λ r. NextNames r t) is n)
   next-visible k x p sink (Some c) None h is t n = absurd is
   next-visible k x p sink (Some c) (Some line) h is t n = connection-visible k x p (Some c) h t ((is.names t).0 n)
 
-  register-visible : (k : ℕ) (x : Site) → Stands k x → (sink : Shape) (name : List ℕ) (asked : Option given.Reset) (register : Register) → IfSome asked AreNamesOfReset → IsRegisterOf (types_of circuit) all_signals (scope_at x) sink asked (connection_in (module_at circuit.modules x.number).statements name) register → (t : ℕ) → RegisterNames register t → IsVisible tree k t
+  register-visible : (k : ℕ) (x : Site) → Stands k x → (sink : Shape) (name : List ℕ) (asked : Option given.Reset) (register : Register) → IfSome asked AreNamesOfReset → IsRegisterOf (context_at x) sink asked (connection_in (module_at circuit.modules x.number).statements name) register → (t : ℕ) → RegisterNames register t → IsVisible tree k t
   register-visible k x p sink name asked register h is t (inl n) = reset-visible k x p sink asked register.reset h is.reset_is t n
   register-visible k x p sink name asked register h is t (inr n) =
       next-visible k x p sink (connection_in (module_at circuit.modules x.number).statements name) register.next (connected-names (module_at circuit.modules x.number).statements name (statements_of x)) is.next_is t n
@@ -174,7 +181,7 @@ module _ (circuit : CircuitTree) (flat : FlatCircuit) (tree : InstanceTree) (top
       let number = same-held r (count_before is_register (flat_signals (types_of circuit) circuit.modules (sites_of circuit)) s) (sym held ∙ is.held) in
       let same : slice_index_or flat.registers (count_before is_register (flat_signals (types_of circuit) circuit.modules (sites_of circuit)) s) register ≡ register = ap (λ i. get_or flat.registers i register) (sym number) ∙ get_or_from_slice_get flat.registers r register register at in
       register-visible k x p (shape_at all_signals.shapes s) name reset register h
-      (subst (λ y. IsRegisterOf (types_of circuit) all_signals (scope_at x) (shape_at all_signals.shapes s) reset (connection_in (module_at circuit.modules x.number).statements name) y) same (is.register register)) t n
+      (subst (λ y. IsRegisterOf (context_at x) (shape_at all_signals.shapes s) reset (connection_in (module_at circuit.modules x.number).statements name) y) same (is.register register)) t n
   cause-register k x p s name (Answered memory port place latency) h driver is r register held at t n =
       absurd (not-held driver (answer latency (number_of (memory_paths (memories_of circuit)) (joined x.path memory)) place (number_of (signal_paths circuit) (joined x.path (field_name memory port (codes "addr")))) (number_of (signal_paths circuit) (joined x.path (field_name memory port (codes "en"))))) r is
       (answer-not-held latency (number_of (memory_paths (memories_of circuit)) (joined x.path memory)) place (number_of (signal_paths circuit) (joined x.path (field_name memory port (codes "addr")))) (number_of (signal_paths circuit) (joined x.path (field_name memory port (codes "en"))))) held)
@@ -188,7 +195,7 @@ module _ (circuit : CircuitTree) (flat : FlatCircuit) (tree : InstanceTree) (top
     pub name : List ℕ
     pub cause : Cause
     pub named : IsNamed (λ name. (o : ℕ) × (o < length (own_in circuit site)) × ((get_or (own_in circuit site) o no_own).name ≡ name)) cause
-    pub driven : IsDrivenBy (types_of circuit) (signals_of (flat_signals (types_of circuit) circuit.modules (sites_of circuit))) (memory_paths (memories_of circuit)) flat.registers (count_before is_outside (flat_signals (types_of circuit) circuit.modules (sites_of circuit)) s) (count_before is_register (flat_signals (types_of circuit) circuit.modules (sites_of circuit)) s) (shape_at (signals_of (flat_signals (types_of circuit) circuit.modules (sites_of circuit))).shapes s) (drive_of circuit.modules site name cause) (driver_at flat s)
+    pub driven : IsDrivenBy (bindings_of (types_of circuit) (flat_signals (types_of circuit) circuit.modules (sites_of circuit)) (memories_of circuit)) flat.registers (count_before is_outside (flat_signals (types_of circuit) circuit.modules (sites_of circuit)) s) (count_before is_register (flat_signals (types_of circuit) circuit.modules (sites_of circuit)) s) (shape_at (signals_of (flat_signals (types_of circuit) circuit.modules (sites_of circuit))).shapes s) (drive_of circuit.modules site name cause) (driver_at flat s)
 
   -- the driver of an own signal does what the signal's cause asks for
   own-driven : (k : ℕ) (x : Site) → Stands k x → (o : ℕ) → o < length (own_in circuit x) → Driven (from_site k + o) (drive_of circuit.modules x (get_or (own_in circuit x) o no_own).name (get_or (own_in circuit x) o no_own).cause) (driver_at flat (from_site k + o))
@@ -200,13 +207,13 @@ module _ (circuit : CircuitTree) (flat : FlatCircuit) (tree : InstanceTree) (top
       subst (λ d. Driven (from_site k + o) d (driver_at flat (from_site k + o))) drive (is_flat.drivers (from_site k + o) inside)
 
   -- the cause of a port's own signal follows from the port's direction
-  port-own-cause : (x : Site) (i : ℕ) (d : Own) (q : Port) → i < length (signal_ports (module_at circuit.modules x.number)) → (get_or (own_in circuit x) i d).cause ≡ cause_of_port (get_or (signal_ports (module_at circuit.modules x.number)) i q).direction
+  pub port-own-cause : (x : Site) (i : ℕ) (d : Own) (q : Port) → i < length (signal_ports (module_at circuit.modules x.number)) → (get_or (own_in circuit x) i d).cause ≡ cause_of_port (get_or (signal_ports (module_at circuit.modules x.number)) i q).direction
   port-own-cause x i d q lt =
       let r = port-cause (module_at circuit.modules x.number).ports i d q lt in
       ap (λ (o : Own). o.cause) (front (filter_map own_of_port (module_at circuit.modules x.number).ports) (flat_map (λ (s : Stmt). own_of_kind (types_of circuit) x.number s.kind) (module_at circuit.modules x.number).statements) i d r.0) ∙ r.1
 
   -- an own signal is a port's, or its cause names what IsNamed allows
-  own-cases : (x : Site) (o : ℕ) → o < length (own_in circuit x) → (o < length (signal_ports (module_at circuit.modules x.number))) ⊎ IsNamed (HasOwn x) (get_or (own_in circuit x) o no_own).cause
+  pub own-cases : (x : Site) (o : ℕ) → o < length (own_in circuit x) → (o < length (signal_ports (module_at circuit.modules x.number))) ⊎ IsNamed (HasOwn x) (get_or (own_in circuit x) o no_own).cause
   own-cases x o lt = go (cases_lt o (length (filter_map own_of_port (module_at circuit.modules x.number).ports)))
     where
       sum : length (own_in circuit x) ≡ length (filter_map own_of_port (module_at circuit.modules x.number).ports) + length (flat_map (λ (s : Stmt). own_of_kind (types_of circuit) x.number s.kind) (module_at circuit.modules x.number).statements)
@@ -232,7 +239,7 @@ module _ (circuit : CircuitTree) (flat : FlatCircuit) (tree : InstanceTree) (top
   tells = ranges circuit tree top known_top is_tree distinct.of_sites
 
   -- the own signal of an input port of a site is an input of the site's instance
-  port-is-input : (k : ℕ) (x : Site) → Stands k x → (o : ℕ) (q : Port) (s : ℕ) → s ≡ from_site k + o → o < length (signal_ports (module_at circuit.modules x.number)) → (get_or (signal_ports (module_at circuit.modules x.number)) o q).direction ≡ direction.Input → IsInputOf tree k s
+  pub port-is-input : (k : ℕ) (x : Site) → Stands k x → (o : ℕ) (q : Port) (s : ℕ) → s ≡ from_site k + o → o < length (signal_ports (module_at circuit.modules x.number)) → (get_or (signal_ports (module_at circuit.modules x.number)) o q).direction ≡ direction.Input → IsInputOf tree k s
   port-is-input k x p o q s counted lt way =
       let h = (instance-for circuit tree top known_top is_tree distinct.of_sites k x p).ports in
       let size = Pairwise-length (IsPortFor circuit x) (signal_ports (module_at circuit.modules x.number)) (instance_at tree k).ports h in
@@ -278,7 +285,7 @@ module _ (circuit : CircuitTree) (flat : FlatCircuit) (tree : InstanceTree) (top
         driven = driven;
       }
 
-  goes-in : (way : Direction) → is_input way ≡ true → way ≡ direction.Input
+  pub goes-in : (way : Direction) → is_input way ≡ true → way ≡ direction.Input
   goes-in direction.Input e = refl
   goes-in direction.Output e = absurd (true≢false (sym e))
 

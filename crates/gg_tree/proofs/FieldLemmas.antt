@@ -10,9 +10,9 @@ use Rattle.gg_ast.specs.declared.statement.StmtKind.{StmtKind}
 use Rattle.gg_ast.specs.declared.statement.StmtKind.TheVariants as says
 use Rattle.gg_flat.specs.Tree.{joined}
 use Rattle.gg_flat.specs.Scoped.{reader_fields, writer_fields}
-use Rattle.gg_digest.specs.IsFlat.{number_of, reader_of, writer_of}
-use Rattle.gg_digest.specs.Memories.{Bank, bank_of}
-use Rattle.gg_digest.specs.Signals.{Types, Own, OwnBank, own_bank, own_banks, own_of_kind, bank_of_kind, memory_signals, readers_signals, writer_signals, field_name}
+use Rattle.gg_flattened.specs.IsFlat.{number_of, reader_of, writer_of}
+use Rattle.gg_flattened.specs.Memories.{Bank, bank_of}
+use Rattle.gg_flattened.specs.Signals.{Types, Own, OwnBank, own_bank, own_banks, own_of_kind, bank_of_kind, memory_signals, readers_signals, writer_signals, field_name}
 use Rattle.gg_tree.proofs.ElementLemmas.{value_or}
 use Rattle.gg_tree.proofs.JoinLemmas.{joined-behind}
 use Rattle.gg_tree.proofs.OwnLemmas.{front}

@@ -9,11 +9,11 @@ use Rattle.gg_ast.specs.Tree.{ModuleTree, CircuitTree, module_names}
 use Rattle.gg_flat.specs.declared.tree.MemoryInstance.{MemoryInstance}
 use Rattle.gg_flat.specs.Tree.{InstanceTree, memory_at}
 use Rattle.gg_count.specs.Sites.{Site, module_at, sites_of}
-use Rattle.gg_digest.specs.Flat.{FlatMemory, flat_memory, memories_at, flat_memories}
-use Rattle.gg_digest.specs.IsFlat.{memory_paths}
+use Rattle.gg_flattened.specs.Flat.{FlatMemory, flat_memory, memories_at, flat_memories}
+use Rattle.gg_flattened.specs.IsFlat.{memory_paths}
 use Rattle.gg_tree.specs.IsTreeOf.{site_paths, memories_of, IsMemoryFor, HeldMemory, held_memory, held_memories, IsTreeOf}
-use Rattle.gg_digest.specs.Signals.{OwnBank, own_banks}
-use Rattle.gg_digest.proofs.NameLemmas.{Differ, place_of-at}
+use Rattle.gg_flattened.specs.Signals.{OwnBank, own_banks}
+use Rattle.gg_flattened.proofs.NameLemmas.{Differ, place_of-at}
 use Rattle.gg_tree.proofs.ElementLemmas.{element}
 use Rattle.gg_tree.proofs.PairwiseLemmas.{Pairwise-length}
 use Rattle.gg_tree.proofs.PlaceLemmas.{Placed}

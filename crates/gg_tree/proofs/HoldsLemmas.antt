@@ -7,10 +7,10 @@ use Rattle.gg_flat.specs.Circuit.{FlatCircuit}
 use Rattle.gg_flat.specs.Scoped.{IsScoped}
 use Rattle.gg_flat.specs.Tree.{InstanceTree, IsTree}
 use Rattle.gg_names.specs.Repetitions.{repetitions}
-use Rattle.gg_digest.specs.IsFlat.{IsFlat}
+use Rattle.gg_flattened.specs.IsFlat.{IsFlat}
 use Rattle.gg_tree.specs.IsTreeOf.{IsTreeOf}
 use Rattle.gg_tree.proofs.DriverLemmas.{scoped-of}
-use Rattle.gg_digest.proofs.NameLemmas.{Differ}
+use Rattle.gg_flattened.proofs.NameLemmas.{Differ}
 use Rattle.gg_tree.proofs.SoundLemmas.{plain-names, apart-names, known-names}
 use Rattle.gg_tree.proofs.TreeLemmas.{HasDistinctPaths, tree-of}
 

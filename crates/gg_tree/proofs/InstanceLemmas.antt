@@ -8,10 +8,10 @@ use Rattle.gg_ast.specs.Tree.{CircuitTree, module_names}
 use Rattle.gg_flat.specs.declared.tree.Instance.{Instance}
 use Rattle.gg_flat.specs.Tree.{InstanceTree, instance_at}
 use Rattle.gg_count.specs.Sites.{Site, Outer, site_below, sites, sites_of, sites_from, top_site}
-use Rattle.gg_digest.specs.Flat.{FlatSignal, signals_at}
+use Rattle.gg_flattened.specs.Flat.{FlatSignal, signals_at}
 use Rattle.gg_tree.specs.IsTreeOf.{site_paths, IsParent, IsInstanceFor, AreInstances, IsTreeOf}
-use Rattle.gg_digest.specs.Known.{types_of}
-use Rattle.gg_digest.proofs.NameLemmas.{Differ, place_of-at}
+use Rattle.gg_flattened.specs.Known.{types_of}
+use Rattle.gg_flattened.proofs.NameLemmas.{Differ, place_of-at}
 use Rattle.gg_tree.proofs.PlaceLemmas.{within, within-some, Placed, Under, HeldFrom, held_from}
 use Rattle.gg_tree.proofs.RangeLemmas.{count_to, Ranges, placed-at, placed-inside, placed-count}
 

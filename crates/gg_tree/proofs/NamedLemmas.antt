@@ -11,10 +11,10 @@ use Rattle.gg_flat.specs.Circuit.{FlatCircuit}
 use Rattle.gg_flat.specs.Tree.{InstanceTree, IsInnermost, IsJustBelow, memory_at, path_at, joined}
 use Rattle.gg_flat.specs.Scoped.{IsMemoryField, memory_fields}
 use Rattle.gg_count.specs.Sites.{Site, site_below, module_at, held_at, sites_of, top_site}
-use Rattle.gg_digest.specs.Flat.{flat_memory, memories_at}
-use Rattle.gg_digest.specs.IsFlat.{IsFlat}
+use Rattle.gg_flattened.specs.Flat.{flat_memory, memories_at}
+use Rattle.gg_flattened.specs.IsFlat.{IsFlat}
 use Rattle.gg_tree.specs.IsTreeOf.{IsTreeOf, held_memory, held_memories, signal_paths, site_paths}
-use Rattle.gg_digest.specs.Signals.{Own, OwnBank, memory_signals}
+use Rattle.gg_flattened.specs.Signals.{Own, OwnBank, memory_signals}
 use Rattle.gg_tree.proofs.JoinLemmas.{joined-once, joined-some}
 use Rattle.gg_tree.proofs.PlaceLemmas.{Placed}
 use Rattle.gg_tree.proofs.RangeLemmas.{count_to, count-le, placed-at, placed-same}

@@ -13,12 +13,12 @@ use Rattle.gg_ast.specs.Tree.{CircuitTree}
 use Rattle.gg_flat.specs.declared.tree.InstancePort.{InstancePort}
 use Rattle.gg_flat.specs.Tree.{joined}
 use Rattle.gg_count.specs.Sites.{Site, module_at, sites_of}
-use Rattle.gg_digest.specs.Flat.{FlatSignal, flat_signal, flat_signals}
+use Rattle.gg_flattened.specs.Flat.{FlatSignal, flat_signal, flat_signals}
 use Rattle.gg_tree.specs.IsTreeOf.{Pairwise, signal_paths, signal_ports, IsPortFor}
-use Rattle.gg_digest.specs.Known.{types_of}
-use Rattle.gg_digest.specs.Memories.{type_shape}
-use Rattle.gg_digest.specs.Signals.{Own, own_of_port, own_of_kind, own_signals}
-use Rattle.gg_digest.proofs.NameLemmas.{Differ, place_of-at}
+use Rattle.gg_flattened.specs.Known.{types_of}
+use Rattle.gg_flattened.specs.Memories.{type_shape}
+use Rattle.gg_flattened.specs.Signals.{Own, own_of_port, own_of_kind, own_signals}
+use Rattle.gg_flattened.proofs.NameLemmas.{Differ, place_of-at}
 use Rattle.gg_tree.proofs.PlaceLemmas.{within-some, Placed}
 use Rattle.gg_tree.proofs.RangeLemmas.{count_to, placed-at, placed-inside}
 use Rattle.gg_tree.proofs.InstanceLemmas.{signals_in}

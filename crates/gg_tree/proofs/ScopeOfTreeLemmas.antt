@@ -17,11 +17,11 @@ use Rattle.gg_flat.specs.Tree.{InstanceTree, IsInnermost, IsWithin, IsJustBelow,
 use Rattle.gg_flat.specs.Scoped.{IsPort, IsOwnPort, IsOwnField, IsFieldOf, input_signals, output_signals, reader_fields, writer_fields, writers_at, memory_fields}
 use Rattle.gg_flat.proofs.ListLemmas.{filter-cases, some-item}
 use Rattle.gg_count.specs.Sites.{Held, Site, module_at, held_at, sites_of, top_site}
-use Rattle.gg_digest.specs.IsFlat.{IsFlat, number_of, reader_of, writer_of, port_names, top_ports}
+use Rattle.gg_flattened.specs.IsFlat.{IsFlat, number_of, reader_of, writer_of, port_names, top_ports}
 use Rattle.gg_tree.specs.IsTreeOf.{IsTreeOf, IsPortFor, signal_paths, signal_ports, is_input, Pairwise}
-use Rattle.gg_digest.specs.Known.{types_of}
-use Rattle.gg_digest.specs.Memories.{type_shape}
-use Rattle.gg_digest.specs.Signals.{Own, own_of_port, OwnBank, memory_signals}
+use Rattle.gg_flattened.specs.Known.{types_of}
+use Rattle.gg_flattened.specs.Memories.{type_shape}
+use Rattle.gg_flattened.specs.Signals.{Own, own_of_port, OwnBank, memory_signals}
 use Rattle.gg_tree.proofs.PairwiseLemmas.{Pairwise-length}
 use Rattle.gg_tree.proofs.PlaceLemmas.{Placed}
 use Rattle.gg_tree.proofs.RangeLemmas.{count_to, own-innermost}

@@ -14,10 +14,10 @@ use Rattle.gg_names.specs.Repetitions.{repetitions}
 use Rattle.gg_count.specs.Sites.{Site, module_at}
 use Rattle.gg_flat.proofs.ListLemmas.{filter-cases}
 use Rattle.gg_tree.specs.IsTreeOf.{signal_ports}
-use Rattle.gg_digest.specs.Known.{types_of}
-use Rattle.gg_digest.specs.Memories.{type_shape}
-use Rattle.gg_digest.specs.Signals.{Own, OwnBank, own_of_port, own_of_kind}
-use Rattle.gg_digest.proofs.NameLemmas.{Differ}
+use Rattle.gg_flattened.specs.Known.{types_of}
+use Rattle.gg_flattened.specs.Memories.{type_shape}
+use Rattle.gg_flattened.specs.Signals.{Own, OwnBank, own_of_port, own_of_kind}
+use Rattle.gg_flattened.proofs.NameLemmas.{Differ}
 use Rattle.gg_tree.proofs.ElementLemmas.{element}
 use Rattle.gg_tree.proofs.CauseLemmas.{name-some, name-dotless, statements-named, port-count}
 use Rattle.gg_tree.proofs.ChildLemmas.{child-known, field-known}

@@ -7,16 +7,16 @@ use Rattle.gg_ast.specs.Tree.{ModuleTree, CircuitTree, module_names}
 use Rattle.gg_flat.specs.Tree.{joined}
 use Rattle.gg_flat.proofs.ListLemmas.{further, Contains-map}
 use Rattle.gg_count.specs.Sites.{Held, Site, Outer, top_site, site_below, sites, sites_of, sites_from, held_at, module_at}
-use Rattle.gg_digest.specs.declared.digest.Digest.{Digest}
-use Rattle.gg_digest.specs.declared.digest.OwnMemory.{OwnMemory}
-use Rattle.gg_digest.specs.declared.sites.Around.{Around}
-use Rattle.gg_digest.specs.declared.sites.Place.{Place}
-use Rattle.gg_digest.specs.Flat.{FlatSignal, flat_signal, signals_at, flat_signals, FlatMemory, flat_memory, memories_at}
-use Rattle.gg_digest.specs.IsFlat.{memory_paths}
-use Rattle.gg_digest.specs.Known.{types_of}
-use Rattle.gg_digest.specs.Signals.{Own, OwnBank}
-use Rattle.gg_digest.specs.Views.{IsDigest, outer_of, own_bank_of, site_of}
-use Rattle.gg_digest.proofs.AmongLemmas.{from-map, in-flat_map, from-flat_map}
+use Rattle.gg_flattened.specs.declared.digest.Digest.{Digest}
+use Rattle.gg_flattened.specs.declared.digest.OwnMemory.{OwnMemory}
+use Rattle.gg_flattened.specs.declared.sites.Around.{Around}
+use Rattle.gg_flattened.specs.declared.sites.Place.{Place}
+use Rattle.gg_flattened.specs.Flat.{FlatSignal, flat_signal, signals_at, flat_signals, FlatMemory, flat_memory, memories_at}
+use Rattle.gg_flattened.specs.IsFlat.{memory_paths}
+use Rattle.gg_flattened.specs.Known.{types_of}
+use Rattle.gg_flattened.specs.Signals.{Own, OwnBank}
+use Rattle.gg_flattened.specs.Views.{IsDigest, outer_of, own_bank_of, site_of}
+use Rattle.gg_flattened.proofs.AmongLemmas.{from-map, in-flat_map, from-flat_map}
 use Rattle.gg_tree.specs.IsTreeOf.{site_paths, signal_paths, memories_of, signal_ports}
 use Rattle.gg_tree.proofs.ElementLemmas.{element}
 use Rattle.gg_tree.proofs.HeldMemoryLemmas.{banks_in}

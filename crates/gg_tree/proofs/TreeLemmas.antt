@@ -18,12 +18,12 @@ use Rattle.gg_flat.specs.declared.tree.MemoryInstance.{MemoryInstance}
 use Rattle.gg_flat.specs.Tree.{InstanceTree, IsTree, IsTop, IsBelow, IsInstance, IsHeld, IsInnermost, IsWithin, Holds, instance_at, memory_at, parent_place, path_at, joined, port_count}
 use Rattle.gg_flat.proofs.ListLemmas.{some-item}
 use Rattle.gg_count.specs.Sites.{Held, Site, site_below, module_at, held_at, sites_of, top_site}
-use Rattle.gg_digest.specs.Flat.{FlatSignal, FlatMemory, flat_memory, memories_at, flat_signals}
-use Rattle.gg_digest.specs.IsFlat.{IsFlat, IsMemoryOf, signals_of, reader_of, writer_of, memory_paths}
+use Rattle.gg_flattened.specs.Flat.{FlatSignal, FlatMemory, flat_memory, memories_at, flat_signals}
+use Rattle.gg_flattened.specs.IsFlat.{IsFlat, IsMemoryOf, signals_of, reader_of, writer_of, memory_paths}
 use Rattle.gg_tree.specs.IsTreeOf.{IsTreeOf, IsInstanceFor, IsPortFor, IsMemoryAt, held_memories, site_paths, signal_paths, memories_of, signal_ports, Pairwise}
-use Rattle.gg_digest.specs.Known.{types_of}
-use Rattle.gg_digest.specs.Signals.{Own, own, FromOutside, OwnBank}
-use Rattle.gg_digest.proofs.NameLemmas.{Differ, place_of-path}
+use Rattle.gg_flattened.specs.Known.{types_of}
+use Rattle.gg_flattened.specs.Signals.{Own, own, FromOutside, OwnBank}
+use Rattle.gg_flattened.proofs.NameLemmas.{Differ, place_of-path}
 use Rattle.gg_tree.proofs.PairwiseLemmas.{Pairwise-length}
 use Rattle.gg_tree.proofs.PlaceLemmas.{within, within-some, Placed, Under, held_from}
 use Rattle.gg_tree.proofs.RangeLemmas.{count_to, count-le, Ranges, placed-at, placed-inside, innermost-own}

@@ -9,18 +9,18 @@ use Rattle.gg_ast.specs.Tree.{CircuitTree, module_names}
 use Rattle.gg_flat.specs.declared.tree.Instance.{Instance}
 use Rattle.gg_flat.specs.Tree.{no_tree, joined}
 use Rattle.gg_count.specs.Sites.{Site, module_at, sites_of}
-use Rattle.gg_digest.specs.declared.sites.Around.{Around}
+use Rattle.gg_flattened.specs.declared.sites.Around.{Around}
 use Rattle.gg_flat.specs.declared.tree.MemoryInstance.{MemoryInstance}
-use Rattle.gg_digest.specs.declared.digest.Digest.{Digest}
-use Rattle.gg_digest.specs.declared.digest.OwnMemory.{OwnMemory}
-use Rattle.gg_digest.specs.declared.sites.Place.{Place}
+use Rattle.gg_flattened.specs.declared.digest.Digest.{Digest}
+use Rattle.gg_flattened.specs.declared.digest.OwnMemory.{OwnMemory}
+use Rattle.gg_flattened.specs.declared.sites.Place.{Place}
 use Rattle.gg_tree.specs.IsTreeOf.{Pairwise, IsAt, IsParent, IsPortFor, IsMemoryAt, IsInstanceFor, AreInstances, held_memory, held_memories, site_paths, signal_paths, memories_of}
-use Rattle.gg_digest.specs.Known.{types_of}
+use Rattle.gg_flattened.specs.Known.{types_of}
 use Rattle.gg_tree.specs.TreeParts.{signals_to, IsHolder, IsPortAt, IsNumberAt, signals_among, IsInstanceAt, IsMemoryPart, IsHeldFor, held_at_place}
-use Rattle.gg_digest.specs.Views.{own_bank_of, outer_of, site_of, IsDigest}
-use Rattle.gg_digest.specs.Flat.{FlatMemory, flat_memory, signals_at, flat_memories}
-use Rattle.gg_digest.proofs.FlatLemmas.{memories-more, memories-kept, one_more}
-use Rattle.gg_digest.specs.IsFlat.{memory_paths}
+use Rattle.gg_flattened.specs.Views.{own_bank_of, outer_of, site_of, IsDigest}
+use Rattle.gg_flattened.specs.Flat.{FlatMemory, flat_memory, signals_at, flat_memories}
+use Rattle.gg_flattened.proofs.FlatLemmas.{memories-more, memories-kept, one_more}
+use Rattle.gg_flattened.specs.IsFlat.{memory_paths}
 use Rattle.gg_tree.proofs.PlaceLemmas.{within, Placed}
 use Rattle.gg_tree.proofs.RangeLemmas.{count_to, placed-at, placed-count}
 use Rattle.gg_tree.proofs.InstanceLemmas.{signals_in, stands}

@@ -15,12 +15,12 @@ use Rattle.gg_flat.specs.Tree.{InstanceTree, IsInnermost, instance_at, joined}
 use Rattle.gg_flat.specs.Scoped.{IsVisible}
 use Rattle.gg_names.specs.Scope.{written}
 use Rattle.gg_count.specs.Sites.{Held, Site, site_below, module_at, held_at, sites_of, top_site}
-use Rattle.gg_digest.specs.Flat.{FlatSignal, flat_signals}
-use Rattle.gg_digest.specs.IsFlat.{IsFlat}
+use Rattle.gg_flattened.specs.Flat.{FlatSignal, flat_signals}
+use Rattle.gg_flattened.specs.IsFlat.{IsFlat}
 use Rattle.gg_tree.specs.IsTreeOf.{IsTreeOf, IsPortFor, signal_paths, signal_ports, site_paths}
-use Rattle.gg_digest.specs.Known.{types_of}
-use Rattle.gg_digest.specs.Signals.{Own, OwnBank}
-use Rattle.gg_digest.proofs.NameLemmas.{place_of-path}
+use Rattle.gg_flattened.specs.Known.{types_of}
+use Rattle.gg_flattened.specs.Signals.{Own, OwnBank}
+use Rattle.gg_flattened.proofs.NameLemmas.{place_of-path}
 use Rattle.gg_tree.proofs.PairwiseLemmas.{Pairwise-length}
 use Rattle.gg_tree.proofs.JoinLemmas.{joined-once, joined-some, joined-twice}
 use Rattle.gg_tree.proofs.PlaceLemmas.{Placed, Under}

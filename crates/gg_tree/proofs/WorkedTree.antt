@@ -2,9 +2,9 @@
 use Rattle.std.proofs.Common.{◌≡◌, ℕ, List, [], ◌∷◌, Some, None, false, true, codes, refl, arith}
 use Rattle.gg_flat.specs.declared.tree.Instance.{Instance}
 use Rattle.gg_flat.specs.Tree.{InstanceTree}
-use Rattle.gg_digest.specs.Known.{types_of}
+use Rattle.gg_flattened.specs.Known.{types_of}
 use Rattle.gg_tree.specs.IsTreeOf.{IsTreeOf}
-use Rattle.gg_digest.proofs.WorkedText.{circuit}
+use Rattle.gg_flattened.proofs.WorkedText.{circuit}
 
 abbrev top : Instance
 top =

@@ -11,10 +11,10 @@ use Rattle.gg_flat.specs.declared.tree.InstancePort.{InstancePort}
 use Rattle.gg_flat.specs.declared.tree.MemoryInstance.{MemoryInstance}
 use Rattle.gg_flat.specs.Tree.{InstanceTree, joined}
 use Rattle.gg_count.specs.Sites.{Site, Outer, module_at, sites, sites_of}
-use Rattle.gg_digest.specs.Flat.{FlatMemory, signals_at, flat_signals, memories_at, flat_memories}
-use Rattle.gg_digest.specs.IsFlat.{memory_paths}
-use Rattle.gg_digest.specs.Known.{types_of}
-use Rattle.gg_digest.specs.Memories.{type_shape}
+use Rattle.gg_flattened.specs.Flat.{FlatMemory, signals_at, flat_signals, memories_at, flat_memories}
+use Rattle.gg_flattened.specs.IsFlat.{memory_paths}
+use Rattle.gg_flattened.specs.Known.{types_of}
+use Rattle.gg_flattened.specs.Memories.{type_shape}
 
 -- ---- places by paths
 

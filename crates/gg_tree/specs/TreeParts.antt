@@ -7,15 +7,15 @@ use Rattle.gg_flat.specs.declared.tree.Instance.{Instance}
 use Rattle.gg_flat.specs.declared.tree.MemoryInstance.{MemoryInstance}
 use Rattle.gg_flat.specs.declared.tree.InstancePort.{InstancePort}
 use Rattle.gg_flat.specs.Tree.{joined}
-use Rattle.gg_digest.specs.declared.digest.Digest.{Digest}
-use Rattle.gg_digest.specs.declared.digest.OwnMemory.{OwnMemory}
-use Rattle.gg_digest.specs.declared.sites.Around.{Around}
-use Rattle.gg_digest.specs.declared.sites.Place.{Place}
-use Rattle.gg_digest.specs.Flat.{signals_at, flat_memory}
+use Rattle.gg_flattened.specs.declared.digest.Digest.{Digest}
+use Rattle.gg_flattened.specs.declared.digest.OwnMemory.{OwnMemory}
+use Rattle.gg_flattened.specs.declared.sites.Around.{Around}
+use Rattle.gg_flattened.specs.declared.sites.Place.{Place}
+use Rattle.gg_flattened.specs.Flat.{signals_at, flat_memory}
 use Rattle.gg_tree.specs.IsTreeOf.{IsAt, Pairwise, is_input, IsMemoryFor, HeldMemory, held_memory}
-use Rattle.gg_digest.specs.Known.{types_of}
-use Rattle.gg_digest.specs.Memories.{type_shape}
-use Rattle.gg_digest.specs.Views.{site_of, own_bank_of}
+use Rattle.gg_flattened.specs.Known.{types_of}
+use Rattle.gg_flattened.specs.Memories.{type_shape}
+use Rattle.gg_flattened.specs.Views.{site_of, own_bank_of}
 
 -- the ports that are signals
 abbrev pub is_signal : Port → Bool

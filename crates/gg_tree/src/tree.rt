@@ -3,19 +3,19 @@ ghost use Rattle.std.specs.Prelude.{List, None, ℕ, ◌≡◌, ◌≢◌, ◌<�
 ghost use Rattle.gg_ast.specs.Places.{place_of};
 ghost use Rattle.gg_ast.specs.Tree.{CircuitTree, module_names};
 ghost use Rattle.gg_count.specs.Sites.{sites_of};
-ghost use Rattle.gg_digest.specs.declared.sites.Place.{Place};
-ghost use Rattle.gg_digest.specs.Flat.{flat_memories};
-ghost use Rattle.gg_digest.specs.IsFlat.{memory_paths};
+ghost use Rattle.gg_flattened.specs.declared.sites.Place.{Place};
+ghost use Rattle.gg_flattened.specs.Flat.{flat_memories};
+ghost use Rattle.gg_flattened.specs.IsFlat.{memory_paths};
 ghost use Rattle.gg_flat.specs.Tree.{joined as joined_text, no_tree};
-ghost use Rattle.gg_digest.specs.Views.{IsPlaceIn, AreDigests, site_of};
+ghost use Rattle.gg_flattened.specs.Views.{IsPlaceIn, AreDigests, site_of};
 ghost use Rattle.gg_tree.specs.IsTreeOf.{IsAt, Pairwise, HeldMemory, held_memories, AreInstances, IsTreeOf, site_paths as paths_of_sites, signal_paths, memories_of};
-ghost use Rattle.gg_digest.specs.Known.{types_of};
+ghost use Rattle.gg_flattened.specs.Known.{types_of};
 ghost use Rattle.gg_tree.specs.TreeParts.{is_signal, signals_among, IsPortAt, IsNumberAt, IsHolder, place_paths, signals_to, IsInstanceAt, IsMemoryPart, IsHeldFor, held_at_place};
 
 use gg_ast::{Direction, Port};
 use gg_bits::{Ids, Items, Name, Names};
-use gg_digest::{Around, Digest, OwnMemory, Place, Table, add_path, ground_type, joined};
 use gg_flat::{AddError, Instance, InstancePort, MemoryInstance, Paths, Tree};
+use gg_flattened::{Around, Digest, OwnMemory, Place, Table, add_path, ground_type, joined};
 use gg_types::Typed;
 use std::alloc::{AllocError, Global};
 

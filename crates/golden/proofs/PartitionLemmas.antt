@@ -6,9 +6,8 @@ use Rattle.gg_cut.specs.Fault.{first_fault}
 use Rattle.gg_cut.specs.Fault as cut
 use Rattle.gg_cut.specs.declared.fault.CutFault.{CutFault}
 use Rattle.gg_check.specs.Alike.{AreAlike}
-use Rattle.gg_check.proofs.SameFaultLemmas.{fault-same}
-use Rattle.gg_flat.specs.Circuit.{FlatCircuit, signal_shapes}
-use Rattle.gg_flat.specs.Reads.{Reads}
+use Rattle.gg_check.proofs.SameCutLemmas.{fault-same}
+use Rattle.gg_flat.specs.Circuit.{FlatCircuit}
 use Rattle.gg_front.specs.Meaning.{Means, MeansDesign}
 use Rattle.gg_io.specs.Told.{Told}
 use Rattle.gg_order.specs.Design.{Ordered}
@@ -40,23 +39,10 @@ OneKey = (bytes first second : List ℕ) → file.IsRefused bytes first → file
 abbrev pub DesignsAgree : Type 0
 DesignsAgree = (bytes : List ℕ) (one other : Ordered) → MeansDesign bytes one → MeansDesign bytes other → AreAlike one other
 
-pub designs-agree : ((bytes : List ℕ) (one other : Ordered) → MeansDesign bytes one → MeansDesign bytes other → one.tree ≡ other.tree)
-    → ((bytes : List ℕ) (one other : FlatCircuit) → Means bytes one → Means bytes other → one.paths ≡ other.paths)
-    → ((bytes : List ℕ) (one other : FlatCircuit) → Means bytes one → Means bytes other → signal_shapes one ≡ signal_shapes other)
-    → ((bytes : List ℕ) (one other : FlatCircuit) → Means bytes one → Means bytes other → one.ins ≡ other.ins)
-    → ((bytes : List ℕ) (one other : FlatCircuit) → Means bytes one → Means bytes other → one.outs ≡ other.outs)
-    → ((bytes : List ℕ) (one other : FlatCircuit) (a b : ℕ) → Means bytes one → Means bytes other → Reads one a b → Reads other a b)
-    → ((bytes : List ℕ) (one other : FlatCircuit) → Means bytes one → Means bytes other → one.memories ≡ other.memories)
+pub designs-agree : ((bytes : List ℕ) (one other : FlatCircuit) → Means bytes one → Means bytes other → one ≡ other)
+    → ((bytes : List ℕ) (one other : Ordered) → MeansDesign bytes one → MeansDesign bytes other → one.tree ≡ other.tree)
     → DesignsAgree
-designs-agree trees paths shapes ins outs reads memories = λ bytes one other a b. record {
-  tree = trees bytes one other a b;
-  paths = paths bytes one.circuit other.circuit a.means b.means;
-  shapes = shapes bytes one.circuit other.circuit a.means b.means;
-  ins = ins bytes one.circuit other.circuit a.means b.means;
-  outs = outs bytes one.circuit other.circuit a.means b.means;
-  reads = λ x y. (reads bytes one.circuit other.circuit x y a.means b.means, reads bytes other.circuit one.circuit x y b.means a.means);
-  memories = memories bytes one.circuit other.circuit a.means b.means;
-}
+designs-agree flat tree = λ bytes one other a b. record { circuit = flat bytes one.circuit other.circuit a.means b.means; tree = tree bytes one other a b }
 
 cut-once : (design : Ordered) (a b : Request) (one other : CutFault) → a ≡ b → first_fault design a ≡ Some one → first_fault design b ≡ Some other → one ≡ other
 cut-once design a b one other e p q = same_Some one other (sym p ∙ ap (first_fault design) e ∙ q)

@@ -62,7 +62,7 @@ use Rattle.golden.proofs.EndingLemmas.{printed-ends, refused-ends, wants-ends}
 use Rattle.golden.proofs.PartitionLemmas.{DesignsAgree}
 use Rattle.golden.proofs.ReadingLemmas.{IfRefused-map}
 use Rattle.golden.proofs.SettingLemmas.{designs-alike, layouts-same, leads-same, ok-same, requests-same, rows-same, texts-same}
-use Rattle.golden.proofs.TextLemmas.{InsAgree, RunsAgree, OneRun}
+use Rattle.golden.proofs.TextLemmas.{OneFlat, OneRun}
 
 -- ---- lists by number
 
@@ -205,7 +205,7 @@ module _ (design : Ordered) (request : Request) (default : ℕ) (plan : Plan) (c
 -- ---- the order of refusals
 
 module _ (agree : DesignsAgree)
-    (ins : InsAgree) (runs : RunsAgree) (once : OneRun) (circuit partition trace : List ℕ) (capacity : ℕ) (design : Ordered) (request : Request) (n : ℕ) (columns : List (List ℕ))
+    (flats : OneFlat) (once : OneRun) (circuit partition trace : List ℕ) (capacity : ℕ) (design : Ordered) (request : Request) (n : ℕ) (columns : List (List ℕ))
     (ordered : IsOrder design.circuit design.order) (means : MeansDesign circuit design) (cuts : Cuts design partition request) (feeds : FeedsOnly design.circuit trace n columns) where
   own-setting : (rows : List (List ℕ)) (layout : Layout) → AreSet design request capacity n columns rows layout → IsSetting circuit partition trace capacity (setting_of design request n columns rows layout)
   own-setting rows layout are = record { means = means; cuts = cuts; feeds = feeds.feeds; run = are.run; laid = are.laid }
@@ -220,7 +220,7 @@ module _ (agree : DesignsAgree)
       let same = ok-same (replayed b steps) (replayed a steps) another marking (leads-same agree circuit partition trace capacity b a y x steps) led leads in
       is ∙ texts-same b a another marking (designs-alike agree circuit partition trace capacity b a y x) (requests-same agree circuit partition trace capacity b a y x)
       (layouts-same agree circuit partition trace capacity b a y x)
-      (rows-same ins runs once circuit partition trace capacity design.circuit design.order ordered means.means n columns rows are.run feeds b y) same
+      (rows-same flats once circuit partition trace capacity design.circuit design.order ordered means.means n columns rows are.run feeds b y) same
 
   -- the text was printed, a step was refused, or memory ran out before anything was printed
   pub steps-ends : {S K T : Type 0} {shelf : Shelf.Ghosts S} {sink : Sink.Ghosts K} {s s' : S} {out out' : K} {name bytes : List ℕ} {r : Result T Ending}

@@ -1,6 +1,7 @@
 -- The orders of the commands.
 use Rattle.std.proofs.Common.{◌≡◌, ℕ, List, refl, sym, ap, ◌∙◌, subst, inl, inr}
 use Rattle.gg_flat.specs.declared.ports.Port.{Port}
+use Rattle.gg_flat.specs.Circuit.{FlatCircuit}
 use Rattle.gg_flat.specs.Ports.{in_ports}
 use Rattle.gg_trace.specs.FaultText.{fault_words}
 use Rattle.gg_trace.specs.Trace.{Columns, IsFirstFault}
@@ -12,7 +13,7 @@ use Rattle.golden.specs.Words.{Command, Run, Replay, Check, order_behind, order_
 use Rattle.golden.proofs.FrontLemmas.{NoFaultAccepted, circuit_file-exact}
 use Rattle.golden.proofs.PartitionLemmas.{DesignsAgree, FileApart, OneKey, partition_file-exact, partition_file-unique}
 use Rattle.golden.proofs.SettingLemmas.{steps_file-exact, steps_file-unique}
-use Rattle.golden.proofs.TextLemmas.{InsAgree}
+use Rattle.golden.proofs.TextLemmas.{OneFlat}
 
 -- a trace has at most one first fault
 abbrev pub OneFirstFault : Type 0
@@ -22,15 +23,15 @@ OneFirstFault = (ports : List Port) (bytes : List ℕ) (one other : TraceFault) 
 abbrev pub NoFault : Type 0
 NoFault = (ports : List Port) (bytes : List ℕ) (n : ℕ) (columns : List (List ℕ)) (fault : TraceFault) → Columns ports bytes n columns → IsFirstFault ports bytes fault → ⊥
 
-module _ (agree : InsAgree) (once : OneFirstFault) (never : NoFault) (circuit : List ℕ) where
+module _ (agree : OneFlat) (once : OneFirstFault) (never : NoFault) (circuit : List ℕ) where
   trace-apart : (bytes : List ℕ) (said : Said) → IsTraceFor circuit bytes → TellsTraceFor circuit bytes said → ⊥
   trace-apart bytes said (one, means, (n, columns, feeds)) (other, means', (fault, first, is)) =
-      never (in_ports one) bytes n columns fault feeds (subst (λ (ports : List Port). IsFirstFault ports bytes fault) (agree circuit other one means' means) first)
+      never (in_ports one) bytes n columns fault feeds (subst (λ (flat : FlatCircuit). IsFirstFault (in_ports flat) bytes fault) (agree circuit other one means' means) first)
 
   trace-once : (bytes : List ℕ) (said said' : Said) → TellsTraceFor circuit bytes said → TellsTraceFor circuit bytes said' → said ≡ said'
   trace-once bytes said said' (one, means, (fault, first, is)) (other, means', (fault', first', is')) =
       is
-      ∙ ap (λ (f : TraceFault). trace_fault (fault_words f)) (once (in_ports other) bytes fault fault' (subst (λ (ports : List Port). IsFirstFault ports bytes fault) (agree circuit one other means means') first) first')
+      ∙ ap (λ (f : TraceFault). trace_fault (fault_words f)) (once (in_ports other) bytes fault fault' (subst (λ (flat : FlatCircuit). IsFirstFault (in_ports flat) bytes fault) (agree circuit one other means means') first) first')
       ∙ sym is'
 
   trace-status : (bytes : List ℕ) (said : Said) → TellsTraceFor circuit bytes said → said.status ≡ 7
@@ -44,7 +45,7 @@ module _ (agree : InsAgree) (once : OneFirstFault) (never : NoFault) (circuit : 
   trace_file-unique : (name : List ℕ) → IsUniqueFile (trace_file_for circuit name)
   trace_file-unique name = trace-once
 
-module _ (designs : DesignsAgree) (apart : FileApart) (key : OneKey) (agree : InsAgree) (once : OneFirstFault) (none : NoFault) where
+module _ (designs : DesignsAgree) (apart : FileApart) (key : OneKey) (agree : OneFlat) (once : OneFirstFault) (none : NoFault) where
   pub order-exact : NoFaultAccepted → (command : Command) → IsExact (order_of command)
   order-exact never (Run circuit partition trace capacity workers mono) =
       (circuit_file-exact never circuit, λ c. (partition_file-exact designs apart key c partition, λ p. (trace_file-exact agree once none c trace, λ t. tt)))

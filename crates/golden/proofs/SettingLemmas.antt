@@ -1,70 +1,32 @@
 -- Two settings of the same bytes: the same steps may be done, and the same is reported for a step that isn't.
-use Rattle.std.proofs.Common.{◌≡◌, ℕ, ◌+◌, List, ◌∷◌, ◌++◌, length, map, refl, sym, ap, ◌∙◌, subst, inr}
-use Rattle.std.specs.Prelude.{Result, Ok, Err, codes, flat_map, take}
-use Rattle.std.specs.List.{range_with_len}
-use Rattle.gg_bits.specs.Shape.{Shape}
-use Rattle.gg_flat.specs.Circuit.{FlatCircuit, signal_shapes}
-use Rattle.gg_flat.specs.Line.{shape_at}
+use Rattle.std.proofs.Common.{◌≡◌, ℕ, List, refl, sym, ap, ◌∙◌, subst, inr}
+use Rattle.std.specs.Prelude.{Result, Ok, Err}
+use Rattle.gg_flat.specs.Circuit.{FlatCircuit}
 use Rattle.gg_flat.specs.Order.{IsOrder}
-use Rattle.gg_flat.specs.Run.{IsRun, column}
-use Rattle.gg_flat.specs.Tree.{InstanceTree, path_at}
+use Rattle.gg_flat.specs.Run.{IsRun}
 use Rattle.gg_front.specs.Meaning.{Means}
 use Rattle.gg_order.specs.Design.{Ordered}
 use Rattle.gg_partfile.proofs.OnceLemmas.{request-once}
 use Rattle.gg_partfile.specs.declared.request.Request.{Request}
-use Rattle.gg_cut.specs.Channels.{first_source, wires_of}
-use Rattle.gg_cut.specs.Listed.{listed_of}
-use Rattle.gg_cut.specs.Plan.{wire_at}
-use Rattle.gg_cut.specs.declared.wires.Wire.{Wire}
 use Rattle.gg_check.specs.Alike.{AreAlike}
-use Rattle.gg_check.proofs.SameCutLemmas.{readers-same, writers-same, wires-same}
-use Rattle.gg_marking.specs.Marking.{Layout, Marking, opening_marking, puts, takes}
+use Rattle.gg_check.proofs.SameCutLemmas.{alike-is}
+use Rattle.gg_marking.specs.Marking.{Layout, Marking, opening_marking}
 use Rattle.gg_marking.specs.Goes.{Stopped, replayed_from}
 use Rattle.gg_layout.specs.CutLayout.{IsLayoutOf}
 use Rattle.gg_layout.proofs.OneLemmas.{one-layout}
 use Rattle.gg_steps.specs.Naming.{Naming}
 use Rattle.gg_steps.specs.Steps.{steps_of}
-use Rattle.gg_replay.specs.ReplayText.{channel_line}
 use Rattle.golden.specs.Lines.{Said}
 use Rattle.golden.specs.Order.{IsExactFile, IsUniqueFile}
-use Rattle.golden.specs.Replay.{AreDone, IsSetting, Setting, TellsSteps, naming_of, port_names, replay_text, replayed, steps_file_for, stopped_by, stopped_said}
+use Rattle.golden.specs.Replay.{AreDone, IsSetting, Setting, TellsSteps, naming_of, replay_text, replayed, steps_file_for, stopped_by, stopped_said}
 use Rattle.golden.specs.RunText.{FeedsOnly}
 use Rattle.golden.proofs.PartitionLemmas.{DesignsAgree}
-use Rattle.golden.proofs.TextLemmas.{InsAgree, RunsAgree, OneRun, same-run}
+use Rattle.golden.proofs.TextLemmas.{OneFlat, OneRun, same-run}
 
 -- ---- names
 
--- the names of a cut, from the parts of a design that they are made of
-abbrev naming_from : (paths : List (List ℕ)) (ins outs : List ℕ) → InstanceTree → Request → List Wire → Naming
-naming_from paths ins outs tree request wires =
-    let listed = listed_of tree request in
-    record {
-      channels = map (λ c. path_at paths (wire_at wires c).signal) (range_with_len 0 (length wires));
-      machines =
-          map
-          (path_at (codes "hub:" ∷ (request.units
-          ++ map (path_at tree.memory_paths) listed.memories
-          ++ map (λ s. codes "in:" ++ path_at paths s) ins
-          ++ map (λ s. codes "out:" ++ path_at paths s) outs)))
-          (range_with_len 0 (first_source listed + length ins + length outs));
-      ports = map (port_names tree listed) (range_with_len 0 (first_source listed + length ins + length outs));
-    }
-
--- the channels of a cut are the same for two designs that are alike
-wires-alike : (one other : Ordered) → AreAlike one other → (request : Request)
-    → wires_of one.circuit one.tree (listed_of one.tree request) ≡ wires_of other.circuit other.tree (listed_of other.tree request)
-wires-alike one other s request =
-    ap (λ (t : InstanceTree). wires_of one.circuit t (listed_of t request)) s.tree
-    ∙ wires-same one.circuit other.circuit (readers-same one.circuit other.circuit s.memories) (writers-same one.circuit other.circuit s.memories) other.tree (listed_of other.tree request) s.ins s.outs
-
 naming-alike : (one other : Ordered) → AreAlike one other → (request : Request) → naming_of one request ≡ naming_of other request
-naming-alike one other s request =
-    let wires = wires_of one.circuit one.tree (listed_of one.tree request) in
-    ap (λ (p : List (List ℕ)). naming_from p one.circuit.ins one.circuit.outs one.tree request wires) s.paths
-    ∙ ap (λ (i : List ℕ). naming_from other.circuit.paths i one.circuit.outs one.tree request wires) s.ins
-    ∙ ap (λ (o : List ℕ). naming_from other.circuit.paths other.circuit.ins o one.tree request wires) s.outs
-    ∙ ap (λ (t : InstanceTree). naming_from other.circuit.paths other.circuit.ins other.circuit.outs t request wires) s.tree
-    ∙ ap (λ (w : List Wire). naming_from other.circuit.paths other.circuit.ins other.circuit.outs other.tree request w) (wires-alike one other s request)
+naming-alike one other s request = ap (λ (design : Ordered). naming_of design request) (alike-is one other s)
 
 -- ---- two settings
 
@@ -130,33 +92,19 @@ module _ (agree : DesignsAgree) (circuit partition trace : List ℕ) (capacity :
 
 -- ---- the text
 
--- the line of a channel, from the parts that it is made of
-abbrev line_from : (paths : List (List ℕ)) (shapes : List Shape) → Layout → Marking → (rows : List (List ℕ)) → List Wire → ℕ → List ℕ
-line_from paths shapes layout marking rows wires c =
-    channel_line (path_at paths (wire_at wires c).signal) (shape_at shapes (wire_at wires c).signal).width (puts layout marking c) (takes layout marking c)
-    (take (puts layout marking c) (column rows (wire_at wires c).signal))
-
-abbrev text_from : (paths : List (List ℕ)) (shapes : List Shape) → Layout → Marking → (rows : List (List ℕ)) → List Wire → List ℕ
-text_from paths shapes layout marking rows wires = flat_map (line_from paths shapes layout marking rows wires) (range_with_len 0 (length wires))
-
-abbrev wires_in : Setting → List Wire
-wires_in setting = wires_of setting.design.circuit setting.design.tree (listed_of setting.design.tree setting.request)
-
 -- settings with alike designs, the same rows and the same marking have the same text
 pub texts-same : (a b : Setting) (one other : Marking) → AreAlike a.design b.design → a.request ≡ b.request → a.layout ≡ b.layout → a.rows ≡ b.rows → one ≡ other
     → replay_text a one ≡ replay_text b other
 texts-same a b one other s requests layouts rows same =
-    ap (λ (p : List (List ℕ)). text_from p (signal_shapes a.design.circuit) a.layout one a.rows (wires_in a)) s.paths
-    ∙ ap (λ (z : List Shape). text_from b.design.circuit.paths z a.layout one a.rows (wires_in a)) s.shapes
-    ∙ ap (λ (l : Layout). text_from b.design.circuit.paths (signal_shapes b.design.circuit) l one a.rows (wires_in a)) layouts
-    ∙ ap (λ (m : Marking). text_from b.design.circuit.paths (signal_shapes b.design.circuit) b.layout m a.rows (wires_in a)) same
-    ∙ ap (λ (r : List (List ℕ)). text_from b.design.circuit.paths (signal_shapes b.design.circuit) b.layout other r (wires_in a)) rows
-    ∙ ap (λ (r : Request). text_from b.design.circuit.paths (signal_shapes b.design.circuit) b.layout other b.rows (wires_of a.design.circuit a.design.tree (listed_of a.design.tree r))) requests
-    ∙ ap (λ (w : List Wire). text_from b.design.circuit.paths (signal_shapes b.design.circuit) b.layout other b.rows w) (wires-alike a.design b.design s b.request)
+    ap (λ (d : Ordered). replay_text (record a { design = d }) one) (alike-is a.design b.design s)
+    ∙ ap (λ (q : Request). replay_text (record a { design = b.design; request = q }) one) requests
+    ∙ ap (λ (l : Layout). replay_text (record a { design = b.design; request = b.request; layout = l }) one) layouts
+    ∙ ap (λ (r : List (List ℕ)). replay_text (record a { design = b.design; request = b.request; layout = b.layout; rows = r }) one) rows
+    ∙ ap (λ (m : Marking). replay_text b m) same
 
 -- each setting of the same circuit and trace has the rows of this run
-pub rows-same : InsAgree → RunsAgree → OneRun → (circuit partition trace : List ℕ) (capacity : ℕ) (flat : FlatCircuit) (order : List ℕ) → IsOrder flat order → Means circuit flat
+pub rows-same : OneFlat → OneRun → (circuit partition trace : List ℕ) (capacity : ℕ) (flat : FlatCircuit) (order : List ℕ) → IsOrder flat order → Means circuit flat
     → (n : ℕ) (columns rows : List (List ℕ)) → IsRun flat columns n rows → FeedsOnly flat trace n columns
     → (other : Setting) → IsSetting circuit partition trace capacity other → other.rows ≡ rows
-rows-same ins runs once circuit partition trace capacity flat order ordered means n columns rows run feeds other y =
-    (same-run ins runs once circuit trace flat order ordered means n columns rows run feeds other.design.circuit y.means.means other.cycles other.columns other.rows y.feeds y.run).1
+rows-same flats once circuit partition trace capacity flat order ordered means n columns rows run feeds other y =
+    (same-run flats once circuit trace flat order ordered means n columns rows run feeds other.design.circuit y.means.means other.cycles other.columns other.rows y.feeds y.run).1

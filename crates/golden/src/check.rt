@@ -13,7 +13,7 @@ use crate::endings::Ending;
 use crate::partition::read_partition;
 use crate::reading::read_circuit;
 use gg_check::{one_text, plan_is_told};
-use gg_front::{designs_agree, one_run};
+use gg_front::one_meaning;
 use gg_io::{Shelf, Sink};
 use gg_order::Design;
 use gg_partfile::Request;
@@ -60,8 +60,7 @@ fn check_design<S: Shelf, K: Sink>(
     ensures shelf { ShelfWentOn S.Shelf shelf.old shelf.new }
     ensures out { SinkWentOn K.Sink out.old out.new }
 {
-    designs_agree();
-    one_run();
+    one_meaning();
     one_text();
     let request = read_partition(alloc, shelf, partition, design)?;
     print_cut(alloc, design, &request, capacity, out)

@@ -7,7 +7,7 @@ ghost use Rattle.golden.specs.Order.{IsExact, IsUnique};
 ghost use Rattle.golden.specs.Run.{TellsCircuit};
 ghost use Rattle.golden.specs.Words.{Command, order_behind, order_of};
 
-use gg_front::{designs_agree, faults_apart, one_run, ports_agree};
+use gg_front::{faults_apart, one_meaning};
 use gg_partfile::one_answer;
 use gg_read::one_fault_line;
 use gg_trace::one_first_fault;
@@ -22,9 +22,7 @@ pub fn refusals_are_exact()
 {
     one_fault_line();
     faults_apart();
-    designs_agree();
-    one_run();
+    one_meaning();
     one_answer();
-    ports_agree();
     one_first_fault();
 }

@@ -20,7 +20,7 @@ use crate::partition::read_partition;
 use crate::reading::{read_circuit, read_inputs};
 use gg_cut::{Listed, Plan, judge};
 use gg_flat::run_once;
-use gg_front::{designs_agree, one_run, ports_agree};
+use gg_front::one_meaning;
 use gg_io::{Shelf, Sink};
 use gg_order::Design;
 use gg_partfile::Request;
@@ -108,9 +108,7 @@ fn replay_steps<S: Shelf, K: Sink>(
     ensures shelf { ShelfWentOn S.Shelf shelf.old shelf.new }
     ensures out { SinkWentOn K.Sink out.old out.new }
 {
-    designs_agree();
-    one_run();
-    ports_agree();
+    one_meaning();
     run_once();
     // for the design's invariant on its order
     let _ = design.order();

@@ -10,7 +10,7 @@ use crate::partition::read_partition;
 use crate::printing::print_run;
 use crate::reading::{read_circuit, read_inputs};
 use gg_flat::run_once;
-use gg_front::{one_run, ports_agree};
+use gg_front::one_meaning;
 use gg_io::{Shelf, Sink};
 use gg_order::Design;
 use std::alloc::Global;
@@ -27,8 +27,7 @@ fn run_trace<S: Shelf, K: Sink>(
     ensures shelf { ShelfWentOn S.Shelf shelf.old shelf.new }
     ensures out { SinkWentOn K.Sink out.old out.new }
 {
-    ports_agree();
-    one_run();
+    one_meaning();
     run_once();
     // for the design's invariant on its order
     let _ = design.order();

@@ -1,4 +1,4 @@
-use Rattle.gg_check.proofs.SameFaultLemmas.{fault-same}
+use Rattle.gg_check.proofs.SameCutLemmas.{fault-same}
 use Rattle.gg_check.proofs.laws.one_fault.Goals as goal
 
 pub returns : goal.returns

@@ -5,17 +5,17 @@ use Rattle.gg_ast.specs.Places.{place_of}
 use Rattle.gg_ast.proofs.NamePlaces.{place_of-below}
 use Rattle.gg_count.specs.Sites.{Site, module_at, sites_of}
 use Rattle.gg_flat.specs.Circuit.{FlatCircuit}
-use Rattle.gg_digest.specs.Known.{types_of}
-use Rattle.gg_digest.specs.Views.{site_of, table_signals}
-use Rattle.gg_digest.specs.declared.sites.Place.{Place}
+use Rattle.gg_flattened.specs.Known.{types_of}
+use Rattle.gg_flattened.specs.Views.{site_of, table_bindings, table_signals}
+use Rattle.gg_flattened.specs.declared.sites.Place.{Place}
 use Rattle.gg_elab.specs.Building.{IsSoFar, HasMemories}
-use Rattle.gg_digest.specs.Flat.{FlatSignal, flat_signals, flat_memories}
-use Rattle.gg_digest.specs.IsFlat.{signals_of, memory_paths}
+use Rattle.gg_flattened.specs.Flat.{FlatSignal, flat_signals, flat_memories}
+use Rattle.gg_flattened.specs.IsFlat.{signals_of, memory_paths}
 use Rattle.gg_elab.proofs.WholeLemmas.{whole, with_top, fitting_whole}
 use Rattle.gg_tree.proofs.TreeJoinLemmas.{sites-of, is-some}
-use Rattle.gg_digest.specs.Signals.{Types}
-use Rattle.gg_digest.specs.Meaning.{Signals}
-use Rattle.gg_digest.proofs.NameLemmas.{Differ}
+use Rattle.gg_flattened.specs.Signals.{Types}
+use Rattle.gg_flattened.specs.Meaning.{Signals}
+use Rattle.gg_flattened.proofs.NameLemmas.{Differ}
 use Rattle.gg_elab.proofs.elaborate.build.Goals as goal
 
 abbrev signal_paths_of : Types → List ModuleTree → List Site → List (List ℕ)
@@ -46,8 +46,8 @@ returns-clause-flat c =
     let three = c.add_ports.new.piece in
     let same : table_signals table ≡ signals_of all = c.in_ok-table.ensures.signals ∙ ap (λ (l : List Place). signals_of (flat_signals types modules (map site_of l))) c.as_slice.ensures.value in
     let listed : table.memories ≡ memory_paths banks = c.in_ok-table.ensures.memories ∙ ap (λ (l : List Place). memory_paths (flat_memories modules (map site_of l))) c.as_slice.ensures.value in
-    let far : IsSoFar types (table_signals table) table.memories all one c.in_ok-add_sites.ensures.0 =
-    subst (λ (l : List Place). IsSoFar types (table_signals table) table.memories (flat_signals types modules (map site_of l)) one c.in_ok-add_sites.ensures.0) c.as_slice-2.ensures.value c.in_ok-add_sites.ensures.1 in
+    let far : IsSoFar (table_bindings types table) all one c.in_ok-add_sites.ensures.0 =
+    subst (λ (l : List Place). IsSoFar (table_bindings types table) (flat_signals types modules (map site_of l)) one c.in_ok-add_sites.ensures.0) c.as_slice-2.ensures.value c.in_ok-add_sites.ensures.1 in
     let has : HasMemories table.paths banks one two =
     subst (λ (l : List Place). HasMemories table.paths (flat_memories modules (map site_of l)) one two) c.as_slice-3.ensures.value c.in_ok-add_all_memories.ensures in
     let below : c.args.top < length modules = omega (arith, place_of-below circuit.name (module_names circuit) c.args.top c.requires.top, length-map modules (λ (m : ModuleTree). m.name)) in
@@ -69,8 +69,8 @@ returns-clause-fits c =
     let two = c.add_all_memories.new.piece in
     let three = c.add_ports.new.piece in
     let same : table_signals table ≡ signals_of all = c.in_ok-table.ensures.signals ∙ ap (λ (l : List Place). signals_of (flat_signals types modules (map site_of l))) c.as_slice.ensures.value in
-    let far : IsSoFar types (table_signals table) table.memories all one c.in_ok-add_sites.ensures.0 =
-    subst (λ (l : List Place). IsSoFar types (table_signals table) table.memories (flat_signals types modules (map site_of l)) one c.in_ok-add_sites.ensures.0) c.as_slice-2.ensures.value c.in_ok-add_sites.ensures.1 in
+    let far : IsSoFar (table_bindings types table) all one c.in_ok-add_sites.ensures.0 =
+    subst (λ (l : List Place). IsSoFar (table_bindings types table) (flat_signals types modules (map site_of l)) one c.in_ok-add_sites.ensures.0) c.as_slice-2.ensures.value c.in_ok-add_sites.ensures.1 in
     fitting_whole types all (table_signals table) table.memories one three c.in_ok-add_sites.ensures.0 same far
     (ap (λ (f : FlatCircuit). f.signals) c.in_ok-add_ports.ensures.rest ∙ ap (λ (f : FlatCircuit). f.signals) c.in_ok-add_all_memories.ensures.rest)
     (ap (λ (f : FlatCircuit). f.registers) c.in_ok-add_ports.ensures.rest ∙ ap (λ (f : FlatCircuit). f.registers) c.in_ok-add_all_memories.ensures.rest)

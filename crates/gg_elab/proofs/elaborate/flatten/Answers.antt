@@ -7,10 +7,10 @@ use Rattle.gg_count.specs.Counts.{counts_of}
 use Rattle.gg_count.specs.Sites.{HoldsModule}
 use Rattle.gg_names.specs.Modules.{Holds}
 use Rattle.gg_walk.specs.Graph.{IsOrderOf}
-use Rattle.gg_elab.proofs.OrderLemmas.{order_of}
-use Rattle.gg_digest.specs.Known.{types_of}
+use Rattle.gg_flattened.proofs.OrderLemmas.{order_of}
+use Rattle.gg_flattened.specs.Known.{types_of}
 use Rattle.gg_elab.specs.Limits.{own_counts}
-use Rattle.gg_digest.specs.declared.digest.Digest.{Digest}
+use Rattle.gg_flattened.specs.declared.digest.Digest.{Digest}
 use Rattle.gg_elab.proofs.LimitLemmas.{counted, excess-found}
 use Rattle.gg_elab.proofs.elaborate.flatten.Goals as goal
 

@@ -3,7 +3,7 @@ use Rattle.std.specs.Prelude.{is_some}
 use Rattle.gg_ast.specs.Places.{place_of}
 use Rattle.gg_flat.specs.Tree.{joined}
 use Rattle.gg_names.specs.Scope.{written}
-use Rattle.gg_digest.specs.Meaning.{named_if}
+use Rattle.gg_flattened.specs.Meaning.{named_if}
 use Rattle.gg_elab.proofs.ScopeLemmas.{found-path, is-known}
 use Rattle.gg_elab.proofs.lookup.find.Goals as goal
 

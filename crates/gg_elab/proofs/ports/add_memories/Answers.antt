@@ -1,10 +1,10 @@
 use Rattle.std.proofs.Common.{List, ◌++◌, map, take, subst, arith}
 use Rattle.std.proofs.lemmas.List.{take_all}
 use Rattle.gg_elab.specs.Building.{HasMemories}
-use Rattle.gg_digest.specs.Flat.{FlatMemory, flat_memory}
-use Rattle.gg_digest.specs.Views.{own_bank_of, site_of}
-use Rattle.gg_digest.specs.declared.digest.OwnMemory.{OwnMemory}
-use Rattle.gg_digest.proofs.FlatLemmas.{seam}
+use Rattle.gg_flattened.specs.Flat.{FlatMemory, flat_memory}
+use Rattle.gg_flattened.specs.Views.{own_bank_of, site_of}
+use Rattle.gg_flattened.specs.declared.digest.OwnMemory.{OwnMemory}
+use Rattle.gg_flattened.proofs.FlatLemmas.{seam}
 use Rattle.gg_elab.proofs.WholeLemmas.{memories-push}
 use Rattle.gg_elab.proofs.ports.add_memories.Goals as goal
 

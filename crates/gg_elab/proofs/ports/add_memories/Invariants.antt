@@ -1,8 +1,8 @@
 use Rattle.std.proofs.Common.{◌≡◌, ◌++◌, List, map, take}
-use Rattle.gg_digest.specs.Flat.{FlatMemory, flat_memory}
-use Rattle.gg_digest.specs.Views.{site_of, own_bank_of}
+use Rattle.gg_flattened.specs.Flat.{FlatMemory, flat_memory}
+use Rattle.gg_flattened.specs.Views.{site_of, own_bank_of}
 use Rattle.gg_elab.specs.Building.{HasMemories}
-use Rattle.gg_digest.specs.declared.sites.Place.{Place}
+use Rattle.gg_flattened.specs.declared.sites.Place.{Place}
 use Rattle.gg_elab.proofs.ports.add_memories.Given as goal
 
 abbrev pub invariant-loop-own : goal.invariant-loop-own

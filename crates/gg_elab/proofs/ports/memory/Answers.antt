@@ -1,6 +1,6 @@
 use Rattle.std.proofs.Common.{◌≡◌, ap, ◌∙◌, sym, refl}
 use Rattle.gg_flat.specs.Tree.{joined}
-use Rattle.gg_digest.specs.IsFlat.{reader_of, writer_of}
+use Rattle.gg_flattened.specs.IsFlat.{reader_of, writer_of}
 use Rattle.gg_elab.proofs.WholeLemmas.{ports-named}
 use Rattle.gg_elab.proofs.ports.memory.Goals as goal
 

@@ -2,14 +2,19 @@ use Rattle.std.proofs.Common.{◌≡◌, [], ◌∙◌, subst}
 use Rattle.gg_ast.specs.Names.{AreNamesOfCircuit}
 use Rattle.gg_ast.specs.Places.{place_of}
 use Rattle.gg_ast.specs.Tree.{CircuitTree, module_names}
+use Rattle.gg_count.specs.Sites.{sites_of}
+use Rattle.gg_flattened.specs.Flat.{flat_signals, flat_memories}
+use Rattle.gg_flattened.specs.IsFlat.{top_ports}
+use Rattle.gg_flattened.specs.Known.{types_of}
 use Rattle.gg_names.specs.Repetitions.{repetitions}
 use Rattle.gg_formed.proofs.FormedLemmas.{circuit-formed}
+use Rattle.gg_formed.proofs.HeldLemmas.{held-once}
 use Rattle.gg_formed.proofs.ModuleNameLemmas.{memory-paths-differ}
 use Rattle.gg_tree.proofs.ElementLemmas.{some-of}
 use Rattle.gg_formed.proofs.forms.formed.Goals as goal
 
-pub returns : goal.returns
-returns c =
+pub returns-clause-formed : goal.returns-clause-formed
+returns-clause-formed c =
     let circuit = c.args.typed.now.circuit in
     let t = some-of (place_of circuit.name (module_names circuit)) c.requires.top in
     let same : c.circuit-circuit.result.now ≡ circuit = c.circuit-circuit.ensures.circuit ∙ c.names.ensures.names in
@@ -17,3 +22,9 @@ returns c =
     (memory-paths-differ circuit
     (subst (λ (k : CircuitTree). AreNamesOfCircuit k) same c.names_are_words.ensures)
     (subst (λ (k : CircuitTree). repetitions k ≡ []) c.names.ensures.names c.circuit-circuit.ensures.once))
+
+pub returns-clause-held : goal.returns-clause-held
+returns-clause-held c =
+    let circuit = c.args.typed.now.circuit in
+    held-once (types_of circuit) (flat_signals (types_of circuit) circuit.modules (sites_of circuit)) (flat_memories circuit.modules (sites_of circuit))
+    (top_ports circuit.modules (place_of circuit.name (module_names circuit))) c.args.piece.now c.requires.flat

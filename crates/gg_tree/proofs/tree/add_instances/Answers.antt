@@ -9,15 +9,15 @@ use Rattle.gg_ast.specs.Places.{place_of}
 use Rattle.gg_ast.specs.Tree.{ModuleTree, module_names}
 use Rattle.gg_count.specs.Sites.{Site, module_at, sites_of}
 use Rattle.gg_names.proofs.FindLemmas.{module-at}
-use Rattle.gg_digest.specs.declared.sites.Place.{Place}
-use Rattle.gg_digest.specs.declared.digest.OwnMemory.{OwnMemory}
-use Rattle.gg_digest.specs.declared.sites.Around.{Around}
-use Rattle.gg_digest.specs.Views.{IsPlaceIn, site_of}
-use Rattle.gg_digest.specs.Known.{types_of}
+use Rattle.gg_flattened.specs.declared.sites.Place.{Place}
+use Rattle.gg_flattened.specs.declared.digest.OwnMemory.{OwnMemory}
+use Rattle.gg_flattened.specs.declared.sites.Around.{Around}
+use Rattle.gg_flattened.specs.Views.{IsPlaceIn, site_of}
+use Rattle.gg_flattened.specs.Known.{types_of}
 use Rattle.gg_tree.specs.TreeParts.{IsInstanceAt, signals_to, signals_among}
 use Rattle.gg_tree.specs.IsTreeOf.{site_paths, signal_paths}
-use Rattle.gg_digest.proofs.FlatLemmas.{digest-at}
-use Rattle.gg_digest.proofs.FreshLemmas.{next-new}
+use Rattle.gg_flattened.proofs.FlatLemmas.{digest-at}
+use Rattle.gg_flattened.proofs.FreshLemmas.{next-new}
 use Rattle.gg_tree.proofs.ElementLemmas.{element, some-of}
 use Rattle.gg_tree.proofs.ThereLemmas.{signal-there, memories-there, holder-there}
 use Rattle.gg_tree.proofs.TreePartLemmas.{instance-is, instances-next, paths-next, paths-same}

@@ -1,7 +1,7 @@
 use Rattle.std.proofs.Common.{◌≡◌, [], map, take}
 use Rattle.gg_tree.specs.IsTreeOf.{AreInstances}
 use Rattle.gg_tree.specs.TreeParts.{place_paths}
-use Rattle.gg_digest.specs.Views.{site_of}
+use Rattle.gg_flattened.specs.Views.{site_of}
 use Rattle.gg_tree.proofs.tree.add_instances.Given as goal
 
 abbrev pub invariant-loop-i : goal.invariant-loop-i

@@ -3,18 +3,18 @@ use Rattle.std.specs.Prelude.{All, Contains}
 use Rattle.gg_count.specs.Sites.{Site, sites_of}
 use Rattle.gg_flat.specs.Tree.{joined}
 use Rattle.gg_flat.proofs.ListLemmas.{Contains-map}
-use Rattle.gg_digest.specs.declared.digest.OwnMemory.{OwnMemory}
-use Rattle.gg_digest.specs.declared.sites.Place.{Place}
-use Rattle.gg_digest.specs.Views.{IsPlaceIn, site_of}
+use Rattle.gg_flattened.specs.declared.digest.OwnMemory.{OwnMemory}
+use Rattle.gg_flattened.specs.declared.sites.Place.{Place}
+use Rattle.gg_flattened.specs.Views.{IsPlaceIn, site_of}
 use Rattle.gg_tree.specs.IsTreeOf.{Pairwise, HeldMemory, held_memories}
-use Rattle.gg_digest.specs.Known.{types_of}
+use Rattle.gg_flattened.specs.Known.{types_of}
 use Rattle.gg_tree.specs.TreeParts.{IsHeldFor, held_at_place}
-use Rattle.gg_digest.specs.Flat.{FlatMemory, memories_at, flat_memories}
-use Rattle.gg_digest.specs.IsFlat.{memory_paths}
+use Rattle.gg_flattened.specs.Flat.{FlatMemory, memories_at, flat_memories}
+use Rattle.gg_flattened.specs.IsFlat.{memory_paths}
 use Rattle.gg_tree.proofs.ThereLemmas.{memories-there}
-use Rattle.gg_digest.proofs.FlatLemmas.{digest-at}
-use Rattle.gg_digest.proofs.FreshLemmas.{parts-front}
-use Rattle.gg_digest.proofs.NameLemmas.{Differ}
+use Rattle.gg_flattened.proofs.FlatLemmas.{digest-at}
+use Rattle.gg_flattened.proofs.FreshLemmas.{parts-front}
+use Rattle.gg_flattened.proofs.NameLemmas.{Differ}
 use Rattle.gg_tree.proofs.TreePartLemmas.{held-more, held-paths}
 use Rattle.gg_tree.proofs.tree.add_memories.Goals as goal
 

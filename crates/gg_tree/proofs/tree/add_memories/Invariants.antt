@@ -1,9 +1,9 @@
 use Rattle.std.proofs.Common.{◌≡◌, map, flat_map, take}
-use Rattle.gg_digest.specs.Flat.{flat_memories}
-use Rattle.gg_digest.specs.IsFlat.{memory_paths}
+use Rattle.gg_flattened.specs.Flat.{flat_memories}
+use Rattle.gg_flattened.specs.IsFlat.{memory_paths}
 use Rattle.gg_tree.specs.IsTreeOf.{Pairwise, held_memories}
 use Rattle.gg_tree.specs.TreeParts.{IsHeldFor}
-use Rattle.gg_digest.specs.Views.{site_of}
+use Rattle.gg_flattened.specs.Views.{site_of}
 use Rattle.gg_tree.proofs.tree.add_memories.Given as goal
 
 abbrev pub invariant-loop-place : goal.invariant-loop-place

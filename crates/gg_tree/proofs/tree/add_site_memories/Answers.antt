@@ -1,11 +1,11 @@
 use Rattle.std.proofs.Common.{ℕ, ◌+◌, List, ◌++◌, ◌∷◌, [], map, take, subst, subst₂, sym, ap, ◌∙◌, arith}
 use Rattle.gg_flat.specs.declared.tree.MemoryInstance.{MemoryInstance}
 use Rattle.gg_flat.specs.Tree.{InstanceTree, joined}
-use Rattle.gg_digest.specs.declared.digest.OwnMemory.{OwnMemory}
+use Rattle.gg_flattened.specs.declared.digest.OwnMemory.{OwnMemory}
 use Rattle.gg_tree.specs.IsTreeOf.{Pairwise, HeldMemory}
 use Rattle.gg_tree.specs.TreeParts.{IsHeldFor, IsMemoryPart, held_at_place}
-use Rattle.gg_digest.proofs.FlatLemmas.{seam}
-use Rattle.gg_digest.proofs.FreshLemmas.{next-new}
+use Rattle.gg_flattened.proofs.FlatLemmas.{seam}
+use Rattle.gg_flattened.proofs.FreshLemmas.{next-new}
 use Rattle.std.specs.Prelude.{Contains}
 use Rattle.std.proofs.lemmas.List.Elements.{All-contains}
 use Rattle.gg_tree.proofs.PairwiseLemmas.{Pairwise-push}

@@ -1,8 +1,8 @@
 use Rattle.std.proofs.Common.{◌≡◌, ◌++◌, List, map, take}
 use Rattle.gg_ast.specs.Tree.{CircuitTree}
 use Rattle.gg_flat.specs.Tree.{joined}
-use Rattle.gg_digest.specs.declared.sites.Place.{Place}
-use Rattle.gg_digest.specs.IsFlat.{memory_paths}
+use Rattle.gg_flattened.specs.declared.sites.Place.{Place}
+use Rattle.gg_flattened.specs.IsFlat.{memory_paths}
 use Rattle.gg_tree.specs.IsTreeOf.{Pairwise, HeldMemory, site_paths, memories_of}
 use Rattle.gg_tree.specs.TreeParts.{IsHeldFor, held_at_place}
 use Rattle.gg_tree.proofs.tree.add_site_memories.Given as goal

@@ -2,7 +2,7 @@ use Rattle.std.proofs.Common.{◌≡◌, ℕ, ◌+◌, List, ◌++◌, ◌∷◌
 use Rattle.std.specs.Prelude.{Contains}
 use Rattle.std.proofs.lemmas.List.Elements.{All-contains}
 use Rattle.gg_flat.specs.Tree.{joined}
-use Rattle.gg_digest.specs.declared.digest.OwnMemory.{OwnMemory}
+use Rattle.gg_flattened.specs.declared.digest.OwnMemory.{OwnMemory}
 use Rattle.gg_tree.specs.IsTreeOf.{IsAt, Pairwise}
 use Rattle.gg_tree.specs.TreeParts.{IsNumberAt}
 use Rattle.gg_tree.proofs.TreePartLemmas.{Pairwise-next}

@@ -1,4 +1,4 @@
-use Rattle.gg_digest.proofs.NameLemmas.{place_of-at}
+use Rattle.gg_flattened.proofs.NameLemmas.{place_of-at}
 use Rattle.gg_tree.proofs.tree.place_at.Goals as goal
 
 pub returns : goal.returns

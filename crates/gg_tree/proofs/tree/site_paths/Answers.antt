@@ -1,7 +1,7 @@
 use Rattle.std.proofs.Common.{[], subst₂, arith}
 use Rattle.std.specs.Prelude.{Contains}
-use Rattle.gg_digest.specs.declared.sites.Place.{Place}
-use Rattle.gg_digest.proofs.FreshLemmas.{next-new}
+use Rattle.gg_flattened.specs.declared.sites.Place.{Place}
+use Rattle.gg_flattened.proofs.FreshLemmas.{next-new}
 use Rattle.gg_tree.proofs.tree.site_paths.Goals as goal
 
 pub add_path-requires : goal.add_path-requires

@@ -3,11 +3,11 @@ use Rattle.gg_ast.specs.Places.{place_of}
 use Rattle.gg_ast.specs.Tree.{module_names}
 use Rattle.gg_flat.specs.declared.tree.Instance.{Instance}
 use Rattle.gg_count.specs.Sites.{Site, sites_of}
-use Rattle.gg_digest.specs.Flat.{flat_memories}
-use Rattle.gg_digest.specs.IsFlat.{memory_paths}
+use Rattle.gg_flattened.specs.Flat.{flat_memories}
+use Rattle.gg_flattened.specs.IsFlat.{memory_paths}
 use Rattle.gg_tree.specs.IsTreeOf.{Pairwise, AreInstances, held_memories}
 use Rattle.gg_tree.specs.TreeParts.{IsHeldFor}
-use Rattle.gg_digest.proofs.NameLemmas.{Differ}
+use Rattle.gg_flattened.proofs.NameLemmas.{Differ}
 use Rattle.gg_tree.proofs.ElementLemmas.{some-of}
 use Rattle.gg_tree.proofs.TreePartLemmas.{paths-same}
 use Rattle.gg_tree.proofs.tree.tree_of.Goals as goal

@@ -12,8 +12,8 @@ returns-in_err-request-clause-ended g c = λ circuit means.
 pub returns-clause-ended : goal.returns-clause-ended
 returns-clause-ended g c =
     let accepted = c.in_ok-request.ensures.accepted in
-    let d = c.designs_agree.ensures in
-    let agree = designs-agree d.trees d.paths d.shapes c.one_run.ensures.ins c.one_run.ensures.outs d.reads d.memories in
+    let d = c.one_meaning.ensures in
+    let agree = designs-agree d.flat d.tree in
     λ circuit means. accepted-ends c.read_partition.ensures.shelf accepted.0 (record { held = accepted.1.held; within = accepted.1.within })
     (c.args.design.now, means, (c.in_ok-request.request, accepted.2))
     (cut-ends agree c.one_text.ensures means accepted.2.asks c.print_cut.result c.print_cut.ensures.prints)

@@ -5,15 +5,15 @@ use Rattle.golden.proofs.laws.refusals_are_exact.Goals as goal
 
 pub returns-clause-exact : goal.returns-clause-exact
 returns-clause-exact c =
-    let d = c.designs_agree.ensures in
-    order-exact (designs-agree d.trees d.paths d.shapes c.one_run.ensures.ins c.one_run.ensures.outs d.reads d.memories) c.one_answer.ensures.apart c.one_answer.ensures.key
-    c.ports_agree.ensures.ins c.one_first_fault.ensures.once c.one_first_fault.ensures.apart c.faults_apart.ensures.accepted
+    let d = c.one_meaning.ensures in
+    order-exact (designs-agree d.flat d.tree) c.one_answer.ensures.apart c.one_answer.ensures.key
+    d.flat c.one_first_fault.ensures.once c.one_first_fault.ensures.apart c.faults_apart.ensures.accepted
 
 pub returns-clause-unique : goal.returns-clause-unique
 returns-clause-unique c =
-    let d = c.designs_agree.ensures in
-    order-unique (designs-agree d.trees d.paths d.shapes c.one_run.ensures.ins c.one_run.ensures.outs d.reads d.memories) c.one_answer.ensures.apart c.one_answer.ensures.key
-    c.ports_agree.ensures.ins c.one_first_fault.ensures.once c.one_first_fault.ensures.apart
+    let d = c.one_meaning.ensures in
+    order-unique (designs-agree d.flat d.tree) c.one_answer.ensures.apart c.one_answer.ensures.key
+    d.flat c.one_first_fault.ensures.once c.one_first_fault.ensures.apart
 
 pub returns-clause-unread : goal.returns-clause-unread
 returns-clause-unread c = unread-once c.one_fault_line.ensures c.faults_apart.ensures.read

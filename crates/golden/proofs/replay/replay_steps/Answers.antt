@@ -12,9 +12,9 @@ returns-in_err-bytes-clause-ended g c = λ circuit partition trace means asks fe
 
 pub returns-clause-ended : goal.returns-clause-ended
 returns-clause-ended g c =
-    let d = c.designs_agree.ensures in
+    let d = c.one_meaning.ensures in
     λ circuit partition trace means asks feeds.
-    steps-ends (designs-agree d.trees d.paths d.shapes c.one_run.ensures.ins c.one_run.ensures.outs d.reads d.memories) c.ports_agree.ensures.ins c.one_run.ensures.runs c.run_once.ensures.opening
+    steps-ends (designs-agree d.flat d.tree) d.flat c.run_once.ensures.opening
     circuit partition trace c.args.capacity c.args.design.now c.args.request.now c.args.inputs.now.rows c.args.inputs.now.columns
     c.order.ensures.ordered means (record { asks = asks; faultless = c.requires.faultless }) feeds
     (record { held = c.in_ok-bytes.ensures.held; within = c.in_ok-bytes.ensures.within })

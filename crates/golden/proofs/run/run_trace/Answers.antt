@@ -31,7 +31,7 @@ returns-clause-ended g c =
           },
         );
         only =
-            only-text c.ports_agree.ensures.ins c.ports_agree.ensures.outs c.one_run.ensures.outs c.one_run.ensures.runs c.run_once.ensures.opening circuit accepted.0 c.args.design.now.circuit c.args.design.now.order
+            only-text c.one_meaning.ensures.flat c.run_once.ensures.opening circuit accepted.0 c.args.design.now.circuit c.args.design.now.order
             c.order.ensures.ordered means c.in_ok-inputs.inputs.rows c.in_ok-inputs.inputs.columns prints.0 prints.1 accepted.2;
       },
     )

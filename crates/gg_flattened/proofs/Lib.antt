@@ -1,0 +1,17 @@
+pub mod AmongLemmas
+pub mod ConnectionLemmas
+pub mod DigestLemmas
+pub mod FlatLemmas
+pub mod FreshLemmas
+pub mod ListLemmas
+pub mod NameLemmas
+pub mod OneLemmas
+pub mod OrderLemmas
+pub mod PassingLemmas
+pub mod SiteLemmas
+pub mod TyLemmas
+mod WorkedCircuits
+mod WorkedCounter
+mod WorkedHierarchy
+mod WorkedParts
+pub mod WorkedText
