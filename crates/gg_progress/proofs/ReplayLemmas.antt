@@ -15,7 +15,7 @@ ok-same : (one other : Marking) → ◌≡◌ {A = Result Marking Stopped} (Ok o
 ok-same one other same = cc
 
 -- a step before others that are done isn't refused
-goes-past : (k : ℕ) (o : Option Refusal) (rest : Result Marking Stopped) (new : Marking) → go_on k o rest ≡ Ok new → (o ≡ None) × (rest ≡ Ok new)
+pub goes-past : (k : ℕ) (o : Option Refusal) (rest : Result Marking Stopped) (new : Marking) → go_on k o rest ≡ Ok new → (o ≡ None) × (rest ≡ Ok new)
 goes-past k None rest new is = (refl, is)
 goes-past k (Some cause) rest new is = let no : ◌≡◌ {A = Result Marking Stopped} (Err (record { step = k; cause = cause })) (Ok new) = is in cc
 

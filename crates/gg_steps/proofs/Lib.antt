@@ -3,3 +3,5 @@ pub mod PlaceLaws
 pub mod WorkedSteps
 pub mod NamedLaws
 pub mod SpellingLaws
+pub mod UsableLaws
+pub mod LengthenLaws

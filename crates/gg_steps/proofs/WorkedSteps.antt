@@ -1,6 +1,6 @@
 -- The definitions of a steps file and of causes at small texts, and at their near misses. Bytes that aren't printable characters
 -- are given by their numbers: 9 is a tab, 10 a line feed, 11 a vertical tab, 13 a carriage return, 32 a space.
-use Rattle.std.proofs.Common.{◌≡◌, [], ◌∷◌, ◌++◌, None, Some, codes, refl, ap, lit≤}
+use Rattle.std.proofs.Common.{◌≡◌, ℕ, List, [], ◌∷◌, ◌++◌, None, Some, true, false, codes, length, refl, ap, lit≤, arith}
 use Rattle.std.proofs.lemmas.Fmt.{decimal_digit}
 use Rattle.gg_net.specs.declared.event.Event.TheVariants.{Latch, Fire, Serve, Finish}
 use Rattle.gg_net.specs.declared.event.Refusal.TheVariants.{Stranger, NoToken, NeedsInput, Full, Order, Unfired, Unserved}
@@ -9,6 +9,7 @@ use Rattle.gg_steps.specs.Naming.{Naming, first_place}
 use Rattle.gg_steps.specs.Words.{words}
 use Rattle.gg_steps.specs.Steps.{step_of, steps_of}
 use Rattle.gg_steps.specs.Cause.{cause_text}
+use Rattle.gg_steps.specs.Spelling.{AreUsable, IsLengthened}
 
 -- Two memories have a port `r`, at different places. Channel 2 and machine 3 have the name of an earlier one.
 abbrev net : Naming
@@ -249,3 +250,45 @@ unserved = refl
 
 not_there : cause_text net (Some (Latch 7)) (NoToken 7) ≡ codes "NoToken "
 not_there = refl
+
+-- one more line: behind a line end, behind a line that lacks its end, as the first line
+behind_an_end : IsLengthened (codes "latch x" ++ 10 ∷ []) (codes "fire x") (codes "latch x" ++ 10 ∷ codes "fire x")
+unfolding text_lines
+behind_an_end = record { added = codes "fire x"; whole = refl; few = omega arith; lines = refl }
+
+behind_no_end : IsLengthened (codes "latch x") (codes "fire x") (codes "latch x" ++ 13 ∷ 10 ∷ codes "fire x")
+unfolding text_lines
+behind_no_end = record { added = 13 ∷ 10 ∷ codes "fire x"; whole = refl; few = omega arith; lines = refl }
+
+first_line : IsLengthened [] (codes "fire x") (codes "fire x" ++ 10 ∷ [])
+unfolding text_lines
+first_line = record { added = codes "fire x" ++ 10 ∷ []; whole = refl; few = omega arith; lines = refl }
+
+-- not without a line end between them, not two lines, and not with another line in front
+no_end_between : IsLengthened (codes "latch x") (codes "fire x") (codes "latch xfire x") → ⊥
+unfolding text_lines
+no_end_between h = let e : 1 ≡ 2 = ap length h.lines in omega (arith, e)
+
+two_lines : IsLengthened (codes "latch x") (codes "fire x") (codes "latch x" ++ 10 ∷ (codes "fire x" ++ 10 ∷ codes "fire x")) → ⊥
+unfolding text_lines
+two_lines h = let e : 3 ≡ 2 = ap length h.lines in omega (arith, e)
+
+abbrev first_byte : List ℕ → ℕ
+first_byte [] = 0
+first_byte (b ∷ bytes) = b
+
+line_in_front : IsLengthened (codes "latch x" ++ 10 ∷ []) (codes "fire x") (codes "fire x" ++ 10 ∷ codes "latch x") → ⊥
+line_in_front h = let e : 102 ≡ 108 = ap first_byte h.whole in omega (arith, e)
+
+-- names that can't be used: one that comes twice, one without bytes, one with a blank, one with a line feed
+twice : AreUsable (codes "x" ∷ codes "x" ∷ []) → ⊥
+twice h = h.differ 0 1 [] (omega arith) (omega arith) refl
+
+no_bytes : AreUsable (codes "x" ∷ [] ∷ []) → ⊥
+no_bytes h = omega (arith, h.some 1 [] (omega arith))
+
+with_a_blank : AreUsable (codes "a b" ∷ []) → ⊥
+with_a_blank h = let e : true ≡ false = h.plain 0 [] (omega arith) 1 (omega arith) in absurd (cc)
+
+with_a_line_feed : AreUsable (codes "a\nb" ∷ []) → ⊥
+with_a_line_feed h = h.inline 0 [] (omega arith) 1 (omega arith) refl

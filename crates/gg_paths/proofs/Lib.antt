@@ -1,0 +1,5 @@
+pub mod SpeltLemmas
+pub mod BytesLemmas
+pub mod PathLemmas
+pub mod PortLemmas
+mod WorkedPaths

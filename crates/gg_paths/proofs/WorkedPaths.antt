@@ -1,0 +1,27 @@
+-- Paths at small texts, and at near misses.
+use Rattle.std.proofs.Common.{◌≡◌, codes, refl, arith, false}
+use Rattle.std.specs.List.{list_all}
+use Rattle.gg_paths.specs.Paths.{IsPath, is_path_byte}
+
+-- names, with dots between them
+signal : IsPath (codes "store.m.r.addr")
+signal = record { some = omega arith; bytes = refl }
+
+top_signal : IsPath (codes "_a$7")
+top_signal = record { some = omega arith; bytes = refl }
+
+-- a blank, a colon, a dash, a line feed, and no byte at all
+blank : list_all is_path_byte (codes "a b") ≡ false
+blank = refl
+
+colon : list_all is_path_byte (codes "in:a") ≡ false
+colon = refl
+
+dash : list_all is_path_byte (codes "a-b") ≡ false
+dash = refl
+
+line_feed : list_all is_path_byte (codes "a\n") ≡ false
+line_feed = refl
+
+nothing : IsPath (codes "") → ⊥
+nothing path = omega (arith, path.some)

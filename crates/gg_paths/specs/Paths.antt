@@ -1,0 +1,30 @@
+-- Paths: names with dots between them.
+-- Source: FIRRTL Specification, "Notes on Syntax" (the bytes of a name); "Instances" and "Memories" (what is in an
+-- instance or a memory is called by its name, a dot and a name in it).
+use Rattle.std.specs.Prelude.{◌≡◌, ◌≢◌, ℕ, ◌<◌, Bool, true, ◌||◌, ◌==◌, List, length, All, AllPairs}
+use Rattle.std.specs.List.{list_all}
+use Rattle.gg_ast.specs.Names.{IsName, is_name_byte}
+use Rattle.gg_flat.specs.Circuit.{FlatCircuit}
+use Rattle.gg_flat.specs.Tree.{InstanceTree}
+
+-- a byte of a name, or a dot
+abbrev pub is_path_byte : ℕ → Bool
+is_path_byte b = is_name_byte b || b == 46
+
+-- all bytes are those of names, or dots
+abbrev pub HasPathBytes : List ℕ → Type 0
+HasPathBytes path = list_all is_path_byte path ≡ true
+
+-- a path isn't empty, and all its bytes are those of names, or dots
+pub record IsPath (path : List ℕ) : Type 0 where
+  pub some : 0 < length path
+  pub bytes : HasPathBytes path
+
+-- Signals and memories have paths. So have instances, but for the top, whose path is empty. The ports of a memory have
+-- names, and no two have the same.
+pub record HavePaths (circuit : FlatCircuit) (tree : InstanceTree) : Type 0 where
+  pub signals : All IsPath circuit.paths
+  pub instances : All HasPathBytes tree.paths
+  pub memories : All IsPath tree.memory_paths
+  pub ports : All (λ memory. All IsName memory.ports) tree.memories
+  pub apart : All (λ memory. AllPairs (λ a b. a ≢ b) memory.ports) tree.memories

@@ -1,0 +1,22 @@
+//! Laws: facts about the definitions. Each is the contract of a function with an empty body.
+ghost use Rattle.std.specs.Prelude.{ℕ, List};
+ghost use Rattle.gg_ast.specs.Names.{AreNamesOfCircuit};
+ghost use Rattle.gg_ast.specs.Tree.{CircuitTree};
+ghost use Rattle.gg_flattened.specs.IsFlat.{IsFlat};
+ghost use Rattle.gg_flat.specs.Circuit.{FlatCircuit};
+ghost use Rattle.gg_flat.specs.Scoped.{IsScoped};
+ghost use Rattle.gg_flat.specs.Tree.{InstanceTree, IsTree};
+ghost use Rattle.gg_read.specs.Text.{Spells};
+ghost use Rattle.gg_tree.specs.IsTreeOf.{IsTreeOf};
+ghost use Rattle.gg_paths.specs.Paths.{HavePaths};
+
+/// Each name in the circuit that a text spells is a name.
+pub fn spelt_names()
+    ensures { (text : List ℕ) (circuit : CircuitTree) → Spells text circuit → AreNamesOfCircuit circuit }
+{}
+
+/// Let a text spell a circuit that has this flat circuit and this tree. Signals and memories have paths, instances
+/// too, and the ports of a memory have different names.
+pub fn paths_are_words()
+    ensures { (text : List ℕ) (circuit : CircuitTree) (flat : FlatCircuit) (tree : InstanceTree) → Spells text circuit → IsFlat circuit flat → IsTreeOf circuit tree → IsTree flat tree → IsScoped flat tree → HavePaths flat tree }
+{}

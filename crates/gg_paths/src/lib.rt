@@ -1,0 +1,12 @@
+//! Paths: what the signals, the instances and the memories of a text's circuit are called.
+//!
+//! The functions of this crate compute nothing. Each states a fact:
+//!
+//! - `spelt_names`: each name in the circuit that a text spells is a name;
+//! - `paths_are_words`: the paths of such a circuit have only bytes of names, and dots; the ports of a memory have
+//!   names, and no two of them have the same.
+#![tactic(auto)]
+
+mod laws;
+
+pub use laws::{paths_are_words, spelt_names};
