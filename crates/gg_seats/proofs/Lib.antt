@@ -8,3 +8,4 @@ pub mod WentLemmas
 pub mod PassLemmas
 pub mod EventLemmas
 pub mod NetLemmas
+pub mod DealLemmas
