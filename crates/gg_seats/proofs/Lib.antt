@@ -6,5 +6,8 @@ pub mod ServeLemmas
 pub mod DoneLemmas
 pub mod WentLemmas
 pub mod PassLemmas
+pub mod DealLemmas
+pub mod AllLemmas
 pub mod EventLemmas
 pub mod NetLemmas
+pub mod AgainLemmas
