@@ -11,3 +11,4 @@ pub mod AllLemmas
 pub mod EventLemmas
 pub mod NetLemmas
 pub mod AgainLemmas
+pub mod WorkedPasses
