@@ -11,4 +11,5 @@ pub mod AllLemmas
 pub mod EventLemmas
 pub mod NetLemmas
 pub mod AgainLemmas
+pub mod LaterLemmas
 pub mod WorkedPasses
