@@ -1,7 +1,9 @@
 pub mod CutLemmas
+pub mod CutNameLemmas
 pub mod EndingLemmas
 pub mod FewLemmas
 pub mod FrontLemmas
+pub mod GoOnLemmas
 pub mod LineLemmas
 pub mod NamingLemmas
 pub mod NetLemmas
@@ -15,4 +17,5 @@ pub mod ReplayLemmas
 pub mod RunLemmas
 pub mod SettingLemmas
 pub mod TextLemmas
+pub mod UsableLemmas
 pub mod WritingLemmas

@@ -26,7 +26,7 @@ use Rattle.golden.specs.Order.{Order, Write, StopsAt, IsWritten, DueAt, IsDueAcc
 use Rattle.golden.specs.Outcome.{Ends, Refused, Done, Unwritten, WantsMemory, Outcome, Asked, Unasked, WantsMemoryFirst, Answered, Reports}
 use Rattle.golden.specs.Check.{IsOnlyCutText, cut_order}
 use Rattle.golden.specs.Words.{Command, Run, Replay, Check, Asks, AskForCommand, TellsUnasked, TellsWords, circuit_of, order_behind, order_of, partition_of, trace_of}
-use Rattle.golden.specs.Replay.{IsOnlyReplayText, IsSetting, Setting, TellsSteps, fed_order, network_order, replayed, steps_file_for, steps_order, stopped_said}
+use Rattle.golden.specs.Replay.{IsReplayOf, IsSetting, Setting, TellsSteps, fed_order, network_order, replayed, steps_file_for, steps_order, stopped_said}
 use Rattle.golden.specs.Promised.{Promised, Tells}
 use Rattle.golden.specs.Partition.{HasFault, IsPartitionFor, TellsPartitionFor, partition_file_for}
 use Rattle.golden.specs.Run.{IsOnlyText, IsTraceFor, TellsCircuit, TellsTraceFor, circuit_file, partition_order, trace_file_for, trace_order}
@@ -412,7 +412,7 @@ module _ {words : List (List ℕ)} {files : List ℕ → Told} {lost cut unwritt
           let at_partition = due-behind files (circuit_file circuit) (λ b. network_order b partition trace steps capacity) c other (exact command).0 hc lc accepted d in
           let at_trace = due-behind files (partition_file_for c partition) (λ b. fed_order c b trace steps capacity) p other ((exact command).1 c).0 hp lp fits at_partition in
           let at_steps = due-behind files (trace_file_for c trace) (λ b. steps_order c p b capacity steps) t other (((exact command).1 c).1 p).0 ht lt fed at_trace in
-          let same = due-refused files (steps_file_for c p t capacity steps) (λ b. Write (IsOnlyReplayText c p t capacity b)) s said other ((((exact command).1 c).1 p).1 t).0 hs ls refuses at_steps in
+          let same = due-refused files (steps_file_for c p t capacity steps) (λ b. Write (IsReplayOf c p t capacity b)) s said other ((((exact command).1 c).1 p).1 t).0 hs ls refuses at_steps in
           (((unique command c).1 p).1 t).0 s other said same refuses)
           (tells-due command said asks (c, hc, inr (lc, accepted, (p, hp, inr (lp, fits, (t, ht, inr (lt, fed, (s, hs, inl (inr (ls, refuses))))))))))
 

@@ -1,5 +1,5 @@
 -- How `replay` ends: from the network of a plan to the setting of its design, and from there to the order of refusals.
-use Rattle.std.proofs.Common.{◌≡◌, ℕ, suc, ◌+◌, ◌<◌, ◌≤◌, List, [], ◌∷◌, length, map, refl, sym, ap, ◌∙◌, subst, inr, arith}
+use Rattle.std.proofs.Common.{◌≡◌, ◌↔◌, ℕ, suc, ◌+◌, ◌*◌, ◌<◌, ◌≤◌, List, [], ◌∷◌, length, map, refl, sym, ap, ◌∙◌, subst, inr, arith}
 use Rattle.std.specs.Prelude.{Option, None, Result, Ok, Err, flat_map, slice_index_or, take}
 use Rattle.std.specs.List.{range_with_len}
 use Rattle.std.proofs.lemmas.List.{get_or-map}
@@ -38,9 +38,14 @@ use Rattle.gg_marking.specs.Fits.{HasLayout, marking_of}
 use Rattle.gg_marking.specs.Goes.{Stopped, replayed_from}
 use Rattle.gg_marking.specs.Marking.{Layout, Marking, opening_marking, and_one, puts, takes}
 use Rattle.gg_marking.specs.Steps.{Steps, StopsAt}
+use Rattle.gg_progress.specs.Measure.{all_dues}
+use Rattle.gg_trace.specs.Fields.{text_lines}
 use Rattle.gg_marking.proofs.CountLemmas.{puts-are, entered-are, takes-are}
 use Rattle.gg_marking.proofs.OpeningLemmas.{opens-so}
 use Rattle.gg_marking.proofs.StepsLemmas.{all-done, steps-frame, stops-at}
+use Rattle.gg_measure.proofs.NetLemmas.{can-run}
+use Rattle.gg_paths.specs.Paths.{HavePaths}
+use Rattle.gg_paths.proofs.PortLemmas.{have-paths}
 use Rattle.gg_sound.specs.Built.{IsGiven, flow_of, wires_of_plan}
 use Rattle.gg_sound.proofs.LinkLemmas.{length-from}
 use Rattle.gg_sound.proofs.OpeningLemmas.{built-opening}
@@ -55,9 +60,10 @@ use Rattle.golden.specs.declared.endings.Ending.{Ending}
 use Rattle.golden.specs.Endings.{EndedOn}
 use Rattle.golden.specs.Order.{CanBe}
 use Rattle.golden.specs.Partition.{Cuts}
-use Rattle.golden.specs.Replay.{IsReplayText, IsSetting, Setting, channel_told, naming_of, port_names, replay_text, replayed, steps_file_for, steps_order}
+use Rattle.golden.specs.Replay.{AreDone, CanGoOn, GoesOnUntilAll, IsReplayText, IsSetting, Setting, all_steps, channel_told, naming_of, port_names, replay_text, replayed, steps_file_for, steps_order}
 use Rattle.golden.specs.Replayed.{AreSet, NetEnds, NetWent, NetStops, NetWants, Opened, ReplayEnds, Went, Stops, Wants, name_in, net_line, net_text, plan_naming, setting_of, width_in}
 use Rattle.golden.specs.RunText.{FeedsOnly}
+use Rattle.golden.proofs.GoOnLemmas.{follows-few, line-follows}
 use Rattle.golden.proofs.EndingLemmas.{printed-ends, refused-ends, wants-ends}
 use Rattle.golden.proofs.PartitionLemmas.{DesignsAgree}
 use Rattle.golden.proofs.ReadingLemmas.{IfRefused-map}
@@ -159,7 +165,7 @@ module _ (design : Ordered) (request : Request) (default : ℕ) (plan : Plan) (c
     opens = opens-so flow machines (wires_of_plan plan) n (built-opening design request default plan columns n rows machines given opened.built) laid.0 laid.1.1
 
     are-set : AreSet design request default n columns rows laid.0
-    are-set = record { run = given.run; laid = laid.1.0 }
+    are-set = record { design_is = given.design_is; run = given.run; laid = laid.1.0; able = can-run flow opening opened.kept laid.0 laid.1.1 }
 
     frame-has : (events : List (Option Event)) (net : Network) → Steps opening events net → HasLayout (frame_of net) laid.0
     frame-has events net steps = subst (λ (f : Frame). HasLayout f laid.0) (sym (steps-frame opening events net steps)) laid.1.1
@@ -222,6 +228,37 @@ module _ (agree : DesignsAgree)
       (layouts-same agree circuit partition trace capacity b a y x)
       (rows-same flats once circuit partition trace capacity design.circuit design.order ordered means.means n columns rows are.run feeds b y) same
 
+  -- a line can be added to the steps exactly if they are fewer than all
+  on-until-all : (rows : List (List ℕ)) (layout : Layout) (are : AreSet design request capacity n columns rows layout) (steps : List ℕ) (marking : Marking)
+      → replayed (setting_of design request n columns rows layout) steps ≡ Ok marking → GoesOnUntilAll circuit partition trace capacity steps
+  on-until-all rows layout are steps marking leads b y =
+      subst (λ k. (length (text_lines steps) < k) ↔ CanGoOn circuit partition trace capacity steps) same (goes, ends)
+    where
+      x : IsSetting circuit partition trace capacity (setting_of design request n columns rows layout)
+      x = own-setting rows layout are
+
+      have : HavePaths design.circuit design.tree
+      have =
+          have-paths circuit means.means.text.circuit design.circuit design.tree means.means.text.spelt means.means.flattened means.grown
+          are.design_is.fitting are.design_is.scoped
+
+      same : all_steps (setting_of design request n columns rows layout) ≡ all_steps b
+      same =
+          let layouts = layouts-same agree circuit partition trace capacity (setting_of design request n columns rows layout) b x y in
+          let cycles : n ≡ b.cycles = sym are.laid.end ∙ ap (λ (l : Layout). l.end) layouts ∙ y.laid.end in
+          ap (λ k. k * (2 * length layout.links + length layout.turns + all_dues layout)) cycles
+          ∙ ap (λ (l : Layout). b.cycles * (2 * length l.links + length l.turns + all_dues l)) layouts
+
+      goes : length (text_lines steps) < all_steps (setting_of design request n columns rows layout) → CanGoOn circuit partition trace capacity steps
+      goes lt =
+          let more = line-follows design request capacity n are.design_is cuts.faultless layout are.laid are.able have steps marking leads lt in
+          (more.0, more.1, more.2.0, (setting_of design request n columns rows layout, x, more.2.1))
+
+      ends : CanGoOn circuit partition trace capacity steps → length (text_lines steps) < all_steps (setting_of design request n columns rows layout)
+      ends (line, longer, is, (other, z, (next, led))) =
+          follows-few design request capacity n are.design_is cuts.faultless layout are.laid are.able have steps marking leads line longer
+          (is, (next, sym (leads-same agree circuit partition trace capacity other (setting_of design request n columns rows layout) z x longer) ∙ led))
+
   -- the text was printed, a step was refused, or memory ran out before anything was printed
   pub steps-ends : {S K T : Type 0} {shelf : Shelf.Ghosts S} {sink : Sink.Ghosts K} {s s' : S} {out out' : K} {name bytes : List ℕ} {r : Result T Ending}
       → CanBe (shelf.files s) (steps_file_for circuit partition trace capacity name) bytes
@@ -234,7 +271,10 @@ module _ (agree : DesignsAgree)
         bytes,
         can,
         (a, x, (marking, leads)),
-        record { is = (a, x, (marking, leads, refl)); only = only-replay-text rows layout are bytes marking leads },
+        record {
+          text_is = record { is = (a, x, (marking, leads, refl)); only = only-replay-text rows layout are bytes marking leads };
+          goes_on = on-until-all rows layout are bytes marking leads;
+        },
       )
       prints
   steps-ends {bytes = bytes} can (Stops rows layout are stopped leads ending ends says none) =

@@ -1,7 +1,7 @@
 -- The command `replay`: its four files, and the text that it writes.
 -- Sources: MEMOCODE 2009 (the k-th token of each channel is the value of its signal in cycle k, in any order of steps).
 -- The lines and the forms of a steps file are this program's own.
-use Rattle.std.specs.Prelude.{◌≡◌, ℕ, ◌-◌, List, [], None, Option, Result, Ok, Err, flat_map, if◌then◌else◌, length, map, slice_index_or, take}
+use Rattle.std.specs.Prelude.{◌≡◌, ◌↔◌, ℕ, ◌+◌, ◌-◌, ◌*◌, ◌<◌, List, [], None, Option, Result, Ok, Err, flat_map, if◌then◌else◌, length, map, slice_index_or, take}
 use Rattle.std.specs.List.{range_with_len}
 use Rattle.gg_flat.specs.Circuit.{signal_shapes}
 use Rattle.gg_flat.specs.Line.{shape_at, value_at}
@@ -19,8 +19,11 @@ use Rattle.gg_check.specs.CheckText.{channel_name}
 use Rattle.gg_net.specs.declared.event.Event.{Event}
 use Rattle.gg_marking.specs.Marking.{Layout, Marking, opening_marking, puts, takes}
 use Rattle.gg_marking.specs.Goes.{Stopped, replayed_from}
+use Rattle.gg_progress.specs.Measure.{all_dues}
 use Rattle.gg_layout.specs.CutLayout.{IsLayoutOf, is_memory}
+use Rattle.gg_trace.specs.Fields.{text_lines}
 use Rattle.gg_steps.specs.Naming.{Naming}
+use Rattle.gg_steps.specs.Spelling.{IsLengthened}
 use Rattle.gg_steps.specs.Steps.{steps_of}
 use Rattle.gg_steps.specs.Cause.{cause_text}
 use Rattle.gg_replay.specs.ReplayText.{channel_line}
@@ -99,6 +102,24 @@ abbrev pub steps_file_for : (circuit partition trace : List ℕ) (capacity : ℕ
 steps_file_for circuit partition trace capacity name =
     record { name = name; limit = 67108864; status = 9; accepts = AreDone circuit partition trace capacity; refuses = TellsSteps circuit partition trace capacity }
 
+-- ---- how many steps there are
+
+-- The number of all steps. In each cycle there are two for each channel, one for each machine, and one for each port
+-- that is served.
+abbrev pub all_steps : Setting → ℕ
+all_steps setting = setting.cycles * (2 * length setting.layout.links + length setting.layout.turns + all_dues setting.layout)
+
+-- Some line can be added to a steps file: each step of the longer file may be done.
+abbrev pub CanGoOn : (circuit partition trace : List ℕ) (capacity : ℕ) (steps : List ℕ) → Type 0
+CanGoOn circuit partition trace capacity steps =
+    (line : List ℕ) × (longer : List ℕ) × IsLengthened steps line longer × AreDone circuit partition trace capacity longer
+
+-- A line can be added to a steps file exactly if the file has fewer lines than there are steps.
+abbrev pub GoesOnUntilAll : (circuit partition trace : List ℕ) (capacity : ℕ) (steps : List ℕ) → Type 0
+GoesOnUntilAll circuit partition trace capacity steps =
+    (setting : Setting) → IsSetting circuit partition trace capacity setting
+    → (length (text_lines steps) < all_steps setting) ↔ CanGoOn circuit partition trace capacity steps
+
 -- ---- the text
 
 -- The line of channel c: its counts, and the tokens that were put so far, which are the first values of its signal in
@@ -128,12 +149,17 @@ pub record IsOnlyReplayText (circuit partition trace : List ℕ) (capacity : ℕ
   pub is : IsReplayText circuit partition trace capacity steps text
   pub only : (other : List ℕ) → IsReplayText circuit partition trace capacity steps other → other ≡ text
 
+-- This is the only text of the steps, and a line can be added to them exactly if they are fewer than all.
+pub record IsReplayOf (circuit partition trace : List ℕ) (capacity : ℕ) (steps text : List ℕ) : Type 0 where
+  pub text_is : IsOnlyReplayText circuit partition trace capacity steps text
+  pub goes_on : GoesOnUntilAll circuit partition trace capacity steps
+
 -- ---- the order of refusals
 
 -- the rest of the order, after a circuit, a partition and a trace with these bytes
 abbrev pub steps_order : (circuit partition trace : List ℕ) (capacity : ℕ) (steps : List ℕ) → Order
 steps_order circuit partition trace capacity steps =
-    Load (steps_file_for circuit partition trace capacity steps) (λ s. Write (IsOnlyReplayText circuit partition trace capacity s))
+    Load (steps_file_for circuit partition trace capacity steps) (λ s. Write (IsReplayOf circuit partition trace capacity s))
 
 -- the rest of the order, after a circuit and a partition with these bytes
 abbrev pub fed_order : (circuit partition : List ℕ) (trace steps : List ℕ) (capacity : ℕ) → Order

@@ -6,7 +6,7 @@ use Rattle.gg_flat.specs.Line.{value_at}
 use Rattle.gg_flat.specs.Run.{IsRun}
 use Rattle.gg_flat.specs.Streams.{Flow}
 use Rattle.gg_flat.specs.Tree.{InstanceTree, path_at}
-use Rattle.gg_order.specs.Design.{Ordered}
+use Rattle.gg_order.specs.Design.{IsDesign, Ordered}
 use Rattle.gg_partfile.specs.declared.request.Request.{Request}
 use Rattle.gg_cut.specs.declared.listed.Listed.{Listed}
 use Rattle.gg_cut.specs.declared.plan.Plan.{Plan}
@@ -21,6 +21,7 @@ use Rattle.gg_marking.specs.Marking.{Layout, Marking}
 use Rattle.gg_marking.specs.Steps.{Steps, StopsAt}
 use Rattle.gg_sound.specs.Built.{AreBuilt, wires_of_plan}
 use Rattle.gg_build.specs.Build.{IsToRun, flow_along}
+use Rattle.gg_progress.specs.Counts.{CanRun}
 use Rattle.gg_layout.specs.CutLayout.{IsLayoutOf}
 use Rattle.gg_steps.specs.Naming.{Naming}
 use Rattle.gg_replay.specs.ReplayText.{channel_line}
@@ -85,10 +86,12 @@ pub data NetEnds {T K : Type 0} (plan : Plan) (columns : List (List ℕ)) (n : �
 abbrev pub setting_of : Ordered → Request → ℕ → (columns rows : List (List ℕ)) → Layout → Setting
 setting_of design request n columns rows layout = record { design = design; request = request; cycles = n; columns = columns; rows = rows; layout = layout }
 
--- The circuit's run, and the layout of the request's cut.
+-- A design with its circuit's run, and the layout of the request's cut, whose network can go on.
 pub record AreSet (design : Ordered) (request : Request) (default n : ℕ) (columns rows : List (List ℕ)) (layout : Layout) : Type 0 where
+  pub design_is : IsDesign design
   pub run : IsRun design.circuit columns n rows
   pub laid : IsLayoutOf design request default n layout
+  pub able : CanRun layout
 
 -- How `replay` of a steps file has ended for these.
 pub data ReplayEnds {T K : Type 0} (design : Ordered) (request : Request) (default n : ℕ) (columns : List (List ℕ)) (steps : List ℕ) (sink : Sink.Ghosts K) (out out' : K) (result : Result T Ending) : Type 0 where

@@ -1,0 +1,82 @@
+-- Names that can be used in a line of a steps file: their bytes are those of paths, or colons.
+use Rattle.std.proofs.Common.{◌≡◌, ◌≢◌, ℕ, zero, suc, ◌<◌, Bool, true, false, ◌||◌, ◌==◌, List, [], ◌∷◌, ◌++◌, length, get_or, refl, sym, ap, ◌∙◌, arith, length-append}
+use Rattle.std.specs.Prelude.{All, AllPairs}
+use Rattle.std.specs.List.{list_all}
+use Rattle.std.proofs.lemmas.Bool.{and_from, and_parts, eqb-true}
+use Rattle.std.proofs.lemmas.List.Folds.{list_all-append}
+use Rattle.std.proofs.lemmas.List.Sums.{AllPass-from_list_all}
+use Rattle.gg_ast.specs.Names.{IsName}
+use Rattle.gg_paths.specs.Paths.{HasPathBytes, IsPath, is_path_byte}
+use Rattle.gg_paths.proofs.BytesLemmas.{name-path}
+use Rattle.gg_trace.specs.Fields.{is_blank}
+use Rattle.gg_trace.specs.Lined.{HasNoFeed}
+use Rattle.gg_trace.specs.Parted.{HasNoBlank}
+use Rattle.gg_steps.specs.Spelling.{AreUsable}
+
+-- a byte of a path, or a colon
+abbrev pub is_plain_byte : ℕ → Bool
+is_plain_byte b = is_path_byte b || b == 58
+
+-- A name that isn't empty, and has only such bytes.
+pub record IsPlain (name : List ℕ) : Type 0 where
+  pub some : 0 < length name
+  pub bytes : list_all is_plain_byte name ≡ true
+
+-- ---- a plain name is usable
+
+-- a plain byte is no other byte
+plain-apart : (b n : ℕ) → is_plain_byte b ≡ true → is_plain_byte n ≡ false → b ≡ n → ⊥
+plain-apart b n is fails same = let clash : true ≡ false = sym is ∙ ap is_plain_byte same ∙ fails in absurd (cc)
+
+no-blank : (b : ℕ) → is_plain_byte b ≡ true → is_blank b ≡ false
+no-blank b is = go (b == 32) (b == 9) refl refl
+  where
+    go : (x y : Bool) → b == 32 ≡ x → b == 9 ≡ y → (x || y) ≡ false
+    go true y e f = absurd (plain-apart b 32 is refl (eqb-true b 32 e))
+    go false true e f = absurd (plain-apart b 9 is refl (eqb-true b 9 f))
+    go false false e f = refl
+
+blankless : (name : List ℕ) → IsPlain name → HasNoBlank name
+blankless name is k lt = no-blank (get_or name k 0) (AllPass-from_list_all is_plain_byte name is.bytes k 0 lt)
+
+feedless : (name : List ℕ) → IsPlain name → HasNoFeed name
+feedless name is k lt = plain-apart (get_or name k 0) 10 (AllPass-from_list_all is_plain_byte name is.bytes k 0 lt) refl
+
+-- plain names that differ can be used
+pub usable : (names : List (List ℕ)) → AllPairs (λ a b. a ≢ b) names → All IsPlain names → AreUsable names
+usable names differ plain =
+    record {
+      differ = differ;
+      some = λ k d lt. (plain k d lt).some;
+      plain = λ k d lt. blankless (get_or names k d) (plain k d lt);
+      inline = λ k d lt. feedless (get_or names k d) (plain k d lt);
+    }
+
+-- ---- names that are plain
+
+path-byte : (b : ℕ) → is_path_byte b ≡ true → is_plain_byte b ≡ true
+path-byte b e = go (is_path_byte b) e
+  where
+    go : (x : Bool) → x ≡ true → (x || b == 58) ≡ true
+    go true e = refl
+    go false e = absurd (cc)
+
+plain-bytes : (bytes : List ℕ) → HasPathBytes bytes → list_all is_plain_byte bytes ≡ true
+plain-bytes [] e = refl
+plain-bytes (b ∷ bytes) e =
+    let parts = and_parts (is_path_byte b) (list_all is_path_byte bytes) e in
+    and_from (is_plain_byte b) (list_all is_plain_byte bytes) (path-byte b parts.0) (plain-bytes bytes parts.1)
+
+pub path-plain : (path : List ℕ) → IsPath path → IsPlain path
+path-plain path is = record { some = is.some; bytes = plain-bytes path is.bytes }
+
+pub name-plain : (name : List ℕ) → IsName name → IsPlain name
+name-plain name is = path-plain name (name-path name is)
+
+-- a path behind a word of plain bytes
+pub behind-plain : (word path : List ℕ) → list_all is_plain_byte word ≡ true → IsPath path → IsPlain (word ++ path)
+behind-plain word path plain is =
+    record {
+      some = omega (arith, is.some, length-append word path);
+      bytes = list_all-append is_plain_byte word path ∙ and_from (list_all is_plain_byte word) (list_all is_plain_byte path) plain (plain-bytes path is.bytes);
+    }
