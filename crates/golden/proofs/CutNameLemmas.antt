@@ -1,5 +1,5 @@
 -- The names of a cut can be used in the lines of a steps file.
-use Rattle.std.proofs.Common.{◌≡◌, ◌≢◌, ◌⊎◌, inl, inr, ℕ, zero, suc, ◌+◌, ◌-◌, ◌<◌, ◌≤◌, Bool, true, false, List, [], ◌∷◌, ◌++◌, None, codes, length, get_or, map, refl, sym, ap, ◌∙◌, subst, arith, nat_le, nat_lt, length-append, ◌&&◌}
+use Rattle.std.proofs.Common.{◌≡◌, ◌≢◌, ◌⊎◌, inl, inr, ℕ, suc, ◌+◌, ◌-◌, ◌<◌, ◌≤◌, Bool, true, false, List, [], ◌∷◌, ◌++◌, None, codes, length, get_or, map, refl, sym, ap, ◌∙◌, subst, arith, nat_le, nat_lt, length-append, ◌&&◌}
 use Rattle.std.specs.Prelude.{All, AllPairs, Contains, if◌then◌else◌, slice_index_or}
 use Rattle.std.specs.List.{list_all, range_with_len}
 use Rattle.std.proofs.lemmas.Bool.{and_parts, cases_lt, leb-true, ltb-true}
@@ -9,7 +9,6 @@ use Rattle.std.proofs.lemmas.List.Folds.{list_all-append}
 use Rattle.std.proofs.lemmas.List.Elements.{All-append, All-cons, All-contains, All-map, All-nil, Contains-append_cases, Contains-get_or}
 use Rattle.std.proofs.lemmas.List.FromFn.{get_or-map-range_with_len, length-map-range_with_len}
 use Rattle.std.proofs.lemmas.List.Kept.{AllPairs-cons}
-use Rattle.gg_ast.specs.Names.{IsName}
 use Rattle.gg_flat.specs.Line.{value_at}
 use Rattle.gg_flat.specs.Scoped.{memory_fields}
 use Rattle.gg_flat.specs.Tree.{memory_at, path_at}
@@ -19,7 +18,7 @@ use Rattle.gg_order.specs.Design.{IsDesign, Ordered}
 use Rattle.gg_partfile.specs.declared.request.Request.{Request}
 use Rattle.gg_cut.specs.Channels.{channel_signals, first_memory, first_source, flattened, machine_count, port_signals, wire, wires_of}
 use Rattle.gg_cut.specs.Fault.{first_fault}
-use Rattle.gg_cut.specs.Listed.{is_among, lies, listed_of}
+use Rattle.gg_cut.specs.Listed.{lies, listed_of}
 use Rattle.gg_cut.specs.Plan.{machine_names, wire_at}
 use Rattle.gg_cut.specs.declared.listed.Listed.{Listed}
 use Rattle.gg_cut.specs.declared.wires.Wire.{Wire}
@@ -29,16 +28,16 @@ use Rattle.gg_closed.specs.Apart.{AreApart}
 use Rattle.gg_closed.specs.Longest.{listed_paths}
 use Rattle.gg_closed.proofs.ChoiceLemmas.{pairs-once, wire-known}
 use Rattle.gg_closed.proofs.FaultlessLemmas.{faultless-apart, faultless-known}
-use Rattle.gg_closed.proofs.ListLemmas.{AllPairs-append, AllPairs-map, Somewhere, map-cases}
+use Rattle.gg_closed.proofs.ListLemmas.{AllPairs-append, AllPairs-map, map-cases}
 use Rattle.gg_closed.proofs.ListedLemmas.{listed-are, memory-paths}
 use Rattle.gg_closed.proofs.LongestLemmas.{Among, First, Behind, ArePaths, among}
 use Rattle.gg_closed.proofs.OnceLemmas.{signals-once}
 use Rattle.gg_check.specs.CheckText.{channel_name}
 use Rattle.gg_layout.specs.CutLayout.{is_memory}
-use Rattle.gg_paths.specs.Paths.{HasPathBytes, HavePaths, IsPath, is_path_byte}
+use Rattle.gg_paths.specs.Paths.{HavePaths, IsPath, is_path_byte}
 use Rattle.gg_steps.specs.Spelling.{AreUsable, IsUsable}
 use Rattle.golden.specs.Replay.{naming_of, port_names}
-use Rattle.golden.proofs.UsableLemmas.{IsPlain, behind-plain, is_plain_byte, name-plain, path-plain, usable}
+use Rattle.golden.proofs.UsableLemmas.{IsPlain, behind-plain, name-plain, path-plain, usable}
 
 -- all that a function makes of numbers in order, if each number has the item of a list at its place
 numbered-list : (f : ℕ → List ℕ) (names : List (List ℕ)) (n : ℕ) → length names ≡ n → ((k : ℕ) → k < n → f k ≡ get_or names k []) → map f (range_with_len 0 n) ≡ names

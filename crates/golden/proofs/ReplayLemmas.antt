@@ -60,7 +60,7 @@ use Rattle.golden.specs.declared.endings.Ending.{Ending}
 use Rattle.golden.specs.Endings.{EndedOn}
 use Rattle.golden.specs.Order.{CanBe}
 use Rattle.golden.specs.Partition.{Cuts}
-use Rattle.golden.specs.Replay.{AreDone, CanGoOn, GoesOnUntilAll, IsReplayText, IsSetting, Setting, all_steps, channel_told, naming_of, port_names, replay_text, replayed, steps_file_for, steps_order}
+use Rattle.golden.specs.Replay.{CanGoOn, GoesOnUntilAll, IsReplayText, IsSetting, Setting, all_steps, channel_told, naming_of, port_names, replay_text, replayed, steps_file_for, steps_order}
 use Rattle.golden.specs.Replayed.{AreSet, NetEnds, NetWent, NetStops, NetWants, Opened, ReplayEnds, Went, Stops, Wants, name_in, net_line, net_text, plan_naming, setting_of, width_in}
 use Rattle.golden.specs.RunText.{FeedsOnly}
 use Rattle.golden.proofs.GoOnLemmas.{follows-few, line-follows}
