@@ -5,13 +5,14 @@ use Rattle.gg_flat.specs.Streams.{Flow}
 use Rattle.gg_link.specs.Seats.{SeatState}
 use Rattle.gg_node.specs.Machine.{Machine, machine_at, latch_at, flag_at, missing}
 use Rattle.gg_net.specs.declared.shape.Station.{Station}
-use Rattle.gg_net.specs.Network.{Network, wire_at, queue_at, puts, takes, IsAtIn, IsAtOut, kind_at, Frame, frame_of}
+use Rattle.gg_net.specs.Network.{Network, wire_at, queue_at, puts, takes, kind_at, Frame, frame_of}
 use Rattle.gg_net.specs.Step.{CanLatch, CanFire}
 use Rattle.gg_net.specs.Kept.{Kept}
 use Rattle.gg_net.specs.Net.{IsListed}
 use Rattle.gg_net.specs.Parted.{takes_by}
 use Rattle.gg_seats.specs.Tries.{StandsBelow, MayServeBelow, MayFinishBelow}
 use Rattle.gg_seats.specs.Pass.{puts_by, serves_by, MachineWentOn, IsDesk, IsNewDesk, KnownDone, EventsDone}
+use Rattle.gg_seats.proofs.AllLemmas.{in-listed, out-listed}
 
 -- some element of a list that has one
 pub some-of : {A : Type 0} (xs : List A) (k : ℕ) → k < length xs → A
@@ -34,28 +35,13 @@ module _ {X S T : Type 0} (takes_from : X → S → Type 0) (puts_into : X → T
   abbrev frame : Frame
   frame = frame_of net
 
-  -- the place of a channel in the list of its consumer's ins, and of its producer's outs
-  in-listed : (c : ℕ) → c < length net.wires → (wire_at net.wires c).consumer ≡ m → ((wire_at net.wires c).place < length station.ins) × (value_at station.ins (wire_at net.wires c).place ≡ c)
-  in-listed c there to =
-      let i : ℕ = (wire_at net.wires c).place in
-      let within : i < (kind_at frame.kinds m).ins = subst (λ k. i < (kind_at frame.kinds k).ins) to (kept.sound.wired.place c there) in
-      let at : IsAtIn net.wires m i (value_at station.ins i) = listed.into i within in
-      (omega (arith, within, listed.ins), kept.sound.wired.one_in (value_at station.ins i) c at.known there (at.machine ∙ sym to) at.place)
-
-  out-listed : (c : ℕ) → c < length net.wires → (wire_at net.wires c).producer ≡ m → ((wire_at net.wires c).out < length station.outs) × (value_at station.outs (wire_at net.wires c).out ≡ c)
-  out-listed c there from =
-      let o : ℕ = (wire_at net.wires c).out in
-      let within : o < (kind_at frame.kinds m).outs = subst (λ k. o < (kind_at frame.kinds k).outs) from (kept.sound.wired.out c there) in
-      let at : IsAtOut net.wires m o (value_at station.outs o) = listed.from o within in
-      (omega (arith, within, listed.outs), kept.sound.wired.one_out (value_at station.outs o) c at.known there (at.machine ∙ sym from) at.out)
-
   going : StandsBelow upto (machine_at net.machines m) → StandsBelow upto x
   going below = subst (StandsBelow upto) (sym new.machine) below
 
   latch-done : (c : ℕ) → CanLatch net c → (wire_at net.wires c).consumer ≡ m → StandsBelow upto (machine_at net.machines m) → takes net c < takes_by frame y c
   latch-done c can to below =
       let k : ℕ = (wire_at net.wires c).place in
-      let place = in-listed c can.can.0 to in
+      let place = in-listed frame kept.sound.wired m station listed c can.can.0 to in
       let s : S = some-of take_seats k (omega (arith, place.0, desk.takes.long)) in
       let empty : latch_at x.latches k ≡ None = ap (λ (z : Machine). latch_at z.latches k) new.machine ∙ ap (λ j. latch_at (machine_at net.machines j).latches k) (sym to) ∙ can.empty in
       let seat = new.takes k s place.0 in
@@ -67,7 +53,7 @@ module _ {X S T : Type 0} (takes_from : X → S → Type 0) (puts_into : X → T
   fire-done : (c : ℕ) → CanFire net c → (wire_at net.wires c).producer ≡ m → StandsBelow upto (machine_at net.machines m) → puts net c < puts_by frame y c
   fire-done c can from below =
       let k : ℕ = (wire_at net.wires c).out in
-      let place = out-listed c can.can.0 from in
+      let place = out-listed frame kept.sound.wired m station listed c can.can.0 from in
       let s : T = some-of put_seats k (omega (arith, place.0, desk.puts.long)) in
       let clear : flag_at x.flags k ≡ false = ap (λ (z : Machine). flag_at z.flags k) new.machine ∙ ap (λ j. flag_at (machine_at net.machines j).flags k) (sym from) ∙ can.clear in
       let none : missing x k ≡ None = ap (λ (z : Machine). missing z k) new.machine ∙ ap (λ j. missing (machine_at net.machines j) k) (sym from) ∙ can.needed in

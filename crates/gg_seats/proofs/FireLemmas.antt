@@ -21,7 +21,7 @@ use Rattle.gg_seats.specs.Rows.{SeatsByPlace, with_flags, FiresTried, AreOuts}
 use Rattle.gg_seats.proofs.RowLemmas.{set-cases, placed-set, alone-more}
 
 -- a flag that stands, stays
-flag-grows : (flags : List Bool) (n o : ℕ) → n < length flags → flag_at flags o ≡ true → flag_at (slice_set flags n true) o ≡ true
+pub flag-grows : (flags : List Bool) (n o : ℕ) → n < length flags → flag_at flags o ≡ true → flag_at (slice_set flags n true) o ≡ true
 flag-grows flags n o below up =
     ⊎_elim
     (λ (is : o ≡ n). ap (flag_at (slice_set flags n true)) is ∙ get_or-set_same flags n true false below)

@@ -3,7 +3,11 @@ pub mod StandLemmas
 pub mod RowLemmas
 pub mod FireLemmas
 pub mod ServeLemmas
+pub mod DoneLemmas
 pub mod WentLemmas
 pub mod PassLemmas
+pub mod DealLemmas
+pub mod AllLemmas
 pub mod EventLemmas
 pub mod NetLemmas
+pub mod AgainLemmas

@@ -1,5 +1,5 @@
 -- A pass over one machine: its row of latches, its row of fires, its serves, and the end of its cycle.
-use Rattle.std.proofs.Common.{◌≡◌, ◌≢◌, ◌+◌, ◌*◌, ℕ, ◌<◌, ◌≤◌, List, Option, None, Bool, true, false, length, map, refl, sym, ap, subst, ◌∙◌, arith, get_or-set_same}
+use Rattle.std.proofs.Common.{◌≡◌, ◌≢◌, ◌+◌, ◌*◌, ℕ, ◌<◌, ◌≤◌, List, Option, None, Bool, true, false, length, map, refl, sym, ap, subst, ◌∙◌, arith, get_or-set_same, ◌||◌, true≢false}
 use Rattle.std.specs.Prelude.{All, IsSome, slice_index_or, slice_get}
 use Rattle.std.proofs.lemmas.List.{get_or_default}
 use Rattle.gg_flat.specs.Line.{value_at}
@@ -22,8 +22,9 @@ use Rattle.gg_net.proofs.MachineLemmas.{own_finish}
 use Rattle.gg_net.proofs.PartLemmas.{takes-finish, enters-finish}
 use Rattle.gg_seats.specs.Seats.{SeatCounts}
 use Rattle.gg_seats.specs.Tries.{StandsBelow, MayServeBelow, MayFinishBelow, FinishTried}
-use Rattle.gg_seats.specs.Rows.{SeatsByPlace, AreIns, AreOuts, LatchesTried, FiresTried, ServesTried, NoneServes}
-use Rattle.gg_seats.specs.Pass.{puts_by, serves_by, MachineWentOn, IsDesk, KnownDone}
+use Rattle.gg_seats.specs.Rows.{SeatsByPlace, AreIns, AreOuts, LatchesTried, FiresTried, ServesTried, NoneServes, HasLatchedOne, HasFiredOne, LatchesDone, FiresDone, ServesDone}
+use Rattle.gg_seats.specs.Pass.{puts_by, serves_by, MachineWentOn, IsDesk, KnownDone, PassDone}
+use Rattle.gg_seats.proofs.DoneLemmas.{took-one, put-one}
 use Rattle.gg_seats.proofs.WentLemmas.{enters-puts, went-further, went-latches, went-fires, went-serves, went-finish, went-nowhere}
 
 -- ---- what stays possible while tokens are latched and given
@@ -236,6 +237,52 @@ module _ {X S T : Type 0} (takes_from : X → S → Type 0) (puts_into : X → T
                   ∙ ap (λ n. first_empty x2.latches (fields_at (slice_get x2.ports n))) same
                   ∙ port.fields;
             }
+
+    finished-up : (b : Bool) → FinishTried hosts thread upto after b → b ≡ true → x3.cycle < y.cycle
+    finished-up false t set = absurd (true≢false (sym set))
+    finished-up true t set =
+        omega (
+          arith,
+          ap (λ (all : List Machine). (machine_at all thread).cycle) t.step ∙ ap (λ (z : Machine). z.cycle) (get_or-set_same hosts thread (finished (machine_at hosts thread) t.state) no_machine here),
+          ap (λ (z : Machine). z.cycle) is,
+        )
+
+    module _ (first hosts1 hosts2 : List Machine) (is0 : machine_at first thread ≡ x) (is1 : machine_at hosts1 thread ≡ x1) (is2 : machine_at hosts2 thread ≡ x2) where
+      after-latch : HasLatchedOne x x1 → y ≡ x → ⊥
+      after-latch one same =
+          let lt : one.place < length ins = omega (arith, one.within, into.count) in
+          let c : ℕ = value_at ins one.place in
+          let up : takes_by frame x c < takes_by frame x1 c = took-one frame x x1 c one.place (into.at one.place lt).place (ap (λ (z : Machine). z.cycle) latches.same) one.empty one.full in
+          omega (arith, up, (went13.takes c (into.at one.place lt).known (into.at one.place lt).machine).up, (ended.went_on.takes c (into.at one.place lt).known (into.at one.place lt).machine).up, ap (λ z. takes_by frame z c) same)
+
+      after-fire : HasFiredOne x1 x2 → y ≡ x → ⊥
+      after-fire one same =
+          let lt : one.out < length outs = omega (arith, one.within, from.count, ap (λ (k : Kind). k.outs) (kind-of x1 latches.machine)) in
+          let c : ℕ = value_at outs one.out in
+          let up : puts_by frame x1 c < puts_by frame x2 c = put-one frame x1 x2 c one.out (from.at one.out lt).out (ap (λ (z : Machine). z.cycle) fires.same) one.clear one.set in
+          omega (
+            arith,
+            up,
+            (went1.puts c (from.at one.out lt).known (from.at one.out lt).machine).up,
+            (went3.puts c (from.at one.out lt).known (from.at one.out lt).machine).up,
+            (ended.went_on.puts c (from.at one.out lt).known (from.at one.out lt).machine).up,
+            ap (λ z. puts_by frame z c) same,
+          )
+
+      after-serve : x2.served < x3.served → y ≡ x → ⊥
+      after-serve lt same =
+          let is3 : serves_by x3 ≡ length x2.ports * x2.cycle + x3.served = ap serves_by serves.same in
+          omega (arith, lt, is3, went1.serves.up, went2.serves.up, ended.went_on.serves.up, ap serves_by same)
+
+      after-finish : x3.cycle < y.cycle → y ≡ x → ⊥
+      after-finish lt same = omega (arith, lt, went1.cycle.up, went13.cycle.up, ap (λ (z : Machine). z.cycle) same)
+
+      pub pass-moved : (b1 b2 b3 b4 : Bool) → LatchesDone first thread hosts1 b1 → FiresDone hosts1 thread hosts2 b2 → ServesDone hosts2 thread hosts b3 → FinishTried hosts thread upto after b4 → PassDone first thread after ((b1 || b2) || (b3 || b4))
+      pass-moved true b2 b3 b4 h1 h2 h3 h4 = λ same. after-latch (subst (λ z. HasLatchedOne z x1) is0 (subst (HasLatchedOne (machine_at first thread)) is1 h1)) (same ∙ is0)
+      pass-moved false true b3 b4 h1 h2 h3 h4 = λ same. after-fire (subst (λ z. HasFiredOne z x2) is1 (subst (HasFiredOne (machine_at hosts1 thread)) is2 h2)) (same ∙ is0)
+      pass-moved false false true b4 h1 h2 h3 h4 = λ same. after-serve (omega (arith, h3, ap (λ (z : Machine). z.served) is2, ap (λ (z : Machine). z.served) is)) (same ∙ is0)
+      pass-moved false false false true h1 h2 h3 h4 = λ same. after-finish (finished-up true h4 refl) (same ∙ is0)
+      pass-moved false false false false h1 h2 h3 h4 = h4.same ∙ h3 ∙ h2 ∙ h1
 
 -- ---- a pass of a machine that isn't below the cycle
 

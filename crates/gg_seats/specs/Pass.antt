@@ -1,7 +1,7 @@
 -- What a pass over one machine does: a try of each of its events.
 -- Source: MEMOCODE 2009 (a node takes its tokens, gives its tokens and then finishes its cycle, as its latches and flags
 -- allow). Which events a pass tries, and in which order, is this program's own.
-use Rattle.std.specs.Prelude.{◌≡◌, ℕ, ◌+◌, ◌*◌, ◌<◌, ◌≤◌, max, List, None, false, length, slice_index_or}
+use Rattle.std.specs.Prelude.{◌≡◌, ℕ, ◌+◌, ◌*◌, ◌<◌, ◌≤◌, max, List, None, Bool, true, false, length, slice_index_or}
 use Rattle.gg_flat.specs.Line.{value_at}
 use Rattle.gg_flat.specs.Streams.{Flow}
 use Rattle.gg_link.specs.Seats.{SeatState}
@@ -68,3 +68,8 @@ pub record EventsDone (net : Network) (m upto : ℕ) (y : Machine) : Type 0 wher
   pub fire : (c : ℕ) → CanFire net c → (wire_at net.wires c).producer ≡ m → StandsBelow upto (machine_at net.machines m) → puts net c < puts_by (frame_of net) y c
   pub serve : (p : ℕ) → CanServe net m p → StandsBelow upto (machine_at net.machines m) → serves net m < serves_by y
   pub finish : CanFinish net m → StandsBelow upto (machine_at net.machines m) → (machine_at net.machines m).cycle < y.cycle
+
+-- The machine of a thread is another than before, or nothing was done.
+abbrev pub PassDone : List Machine → ℕ → List Machine → Bool → Type 0
+PassDone old thread new true = machine_at new thread ≡ machine_at old thread → ⊥
+PassDone old thread new false = new ≡ old

@@ -5,7 +5,7 @@ use Rattle.gg_flat.specs.Line.{value_at}
 use Rattle.gg_flat.specs.Streams.{Flow}
 use Rattle.gg_flat.specs.State.{State}
 use Rattle.gg_link.specs.Seats.{SeatState}
-use Rattle.gg_node.specs.Machine.{Machine, latch_at, flag_at, missing}
+use Rattle.gg_node.specs.Machine.{Machine, machine_at, latch_at, flag_at, missing}
 use Rattle.gg_net.specs.Network.{Network, IsAtIn, IsAtOut, frame_of}
 use Rattle.gg_net.specs.Kept.{MachineAt}
 use Rattle.gg_net.specs.Parted.{takes_by, enters_by}
@@ -69,3 +69,34 @@ pub record ServesTried (flow : Flow) (net : Network) (m : ℕ) (x y : Machine) :
 -- no port can be served
 abbrev pub NoneServes : ℕ → Machine → Type 0
 NoneServes upto x = (port : ℕ) → MayServeBelow upto x port → ⊥
+
+-- ---- whether a row has done anything
+
+-- An in has got its token.
+pub record HasLatchedOne (x y : Machine) : Type 0 where
+  pub place : ℕ
+  pub within : place < length x.latches
+  pub empty : latch_at x.latches place ≡ None
+  pub full : IsSome (latch_at y.latches place)
+
+-- An out has given its token.
+pub record HasFiredOne (x y : Machine) : Type 0 where
+  pub out : ℕ
+  pub within : out < length x.flags
+  pub clear : flag_at x.flags out ≡ false
+  pub set : flag_at y.flags out ≡ true
+
+-- A token was latched at the machine of a thread, or nothing was done.
+abbrev pub LatchesDone : List Machine → ℕ → List Machine → Bool → Type 0
+LatchesDone old thread new true = HasLatchedOne (machine_at old thread) (machine_at new thread)
+LatchesDone old thread new false = new ≡ old
+
+-- A token of the machine of a thread was given, or nothing was done.
+abbrev pub FiresDone : List Machine → ℕ → List Machine → Bool → Type 0
+FiresDone old thread new true = HasFiredOne (machine_at old thread) (machine_at new thread)
+FiresDone old thread new false = new ≡ old
+
+-- A port of the machine of a thread was served, or nothing was done.
+abbrev pub ServesDone : List Machine → ℕ → List Machine → Bool → Type 0
+ServesDone old thread new true = (machine_at old thread).served < (machine_at new thread).served
+ServesDone old thread new false = new ≡ old

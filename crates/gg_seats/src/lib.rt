@@ -7,6 +7,7 @@
 //! - [`open_all`] makes a link for each channel, with what the channel's queue holds. Each link has two seats, which count
 //!   what the machines at its ends count. [`close_all`] closes the links again: each queue then holds the tokens between
 //!   the counts of the two machines.
+//! - [`deal_row`] takes the seats of some channels out of the list of all seats, and [`gather_row`] puts them back.
 //! - [`try_latch`], [`try_fire`], [`try_serve`] and [`try_finish`] each try one event of one machine, and do it exactly if
 //!   the machine is below a given cycle and, as far as the seat knows, the event may be done. [`latch_all`], [`fire_all`]
 //!   and [`serve_all`] try the events of all ins, outs and ports.
@@ -18,6 +19,7 @@
 #![tactic(auto)]
 
 mod close;
+mod deal;
 mod desk;
 mod era;
 mod open;
@@ -26,6 +28,7 @@ mod rows;
 mod tries;
 
 pub use close::close_all;
+pub use deal::{deal_row, gather_row, unwrap_all, wrap_all};
 pub use desk::Desk;
 pub use era::Era;
 pub use open::open_all;

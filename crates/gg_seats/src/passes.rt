@@ -4,11 +4,11 @@ ghost use Rattle.gg_node.specs.Machine.{machine_at};
 ghost use Rattle.gg_net.specs.Network.{frame_of, kind_at};
 ghost use Rattle.gg_net.specs.Kept.{Kept};
 ghost use Rattle.gg_net.specs.Net.{IsListed};
-ghost use Rattle.gg_seats.specs.Pass.{IsDesk, MachineWentOn, KnownDone};
+ghost use Rattle.gg_seats.specs.Pass.{IsDesk, MachineWentOn, KnownDone, IsNewDesk, EventsDone, PassDone};
 
 use crate::desk::Desk;
 use crate::era::Era;
-use crate::rows::{fire_all, latch_all, serve_all};
+use crate::rows::{either, fire_all, latch_all, serve_all};
 use crate::tries::try_finish;
 use gg_flat::Streams;
 use gg_link::Link;
@@ -35,6 +35,8 @@ pub fn pass<H: Host, L: Link, Z: Streams, E: Era>(
     ensures alone { H.machines host.new ≡ slice_set (H.machines host.old) station.now.thread (machine_at (H.machines host.new) station.now.thread) }
     ensures went_on { MachineWentOn (frame_of E.start) desk.old.machine upto (machine_at (H.machines host.old) station.now.thread) (machine_at (H.machines host.new) station.now.thread) }
     ensures done { KnownDone L.taking L.putting (frame_of E.start) upto station.now.ins station.now.outs (machine_at (H.machines host.old) station.now.thread) desk.old.takes.items desk.old.puts.items (machine_at (H.machines host.new) station.now.thread) }
+    ensures first { IsNewDesk L.taking L.putting E.start desk.old.machine station.now.ins station.now.outs (machine_at (H.machines host.old) station.now.thread) desk.old.takes.items desk.old.puts.items → EventsDone E.start desk.old.machine upto (machine_at (H.machines host.new) station.now.thread) }
+    ensures stepped { PassDone (H.machines host.old) station.now.thread (H.machines host.new) result }
 {
     let thread = station.thread;
     let machine = desk.machine;
@@ -48,5 +50,7 @@ pub fn pass<H: Host, L: Link, Z: Streams, E: Era>(
     let ports = station.ports.as_slice();
     let served = serve_all::<H, Z, E>(host, thread, machine, outs.len() as u32, ports, upto);
     let finished = try_finish(host, thread, ins.len() as u32, outs.len() as u32, upto);
-    latched | fired | served | finished
+    let passed = either(latched, fired);
+    let ended = either(served, finished);
+    either(passed, ended)
 }

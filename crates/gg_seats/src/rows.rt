@@ -1,11 +1,11 @@
 //! A row of tries: all ins of one machine, all outs, or its ports as long as one can be served.
-ghost use Rattle.std.specs.Prelude.{◌≡◌, ℕ, ◌^◌, ◌<◌, ◌≤◌, length, map, slice_set};
+ghost use Rattle.std.specs.Prelude.{◌≡◌, ℕ, ◌^◌, ◌<◌, ◌≤◌, ◌||◌, length, map, slice_set};
 ghost use Rattle.gg_node.specs.Machine.{machine_at};
 ghost use Rattle.gg_net.specs.Network.{frame_of};
 ghost use Rattle.gg_net.specs.Net.{entry_of};
 ghost use Rattle.gg_net.specs.Kept.{MachineAt, Kept};
 ghost use Rattle.gg_net.specs.Parted.{takes_by, enters_by};
-ghost use Rattle.gg_seats.specs.Rows.{SeatsByPlace, LatchesTried, AreIns, FiresTried, AreOuts, ServesTried, NoneServes};
+ghost use Rattle.gg_seats.specs.Rows.{SeatsByPlace, LatchesTried, LatchesDone, AreIns, FiresTried, FiresDone, AreOuts, ServesTried, ServesDone, NoneServes};
 
 use crate::era::Era;
 use crate::tries::{try_fire, try_latch, try_serve};
@@ -14,7 +14,14 @@ use gg_link::Link;
 use gg_net::ServedPort;
 use gg_node::Host;
 
-/// Tries each in of a machine once. True if one was latched.
+// Whether one of two is true.
+pub(crate) fn either(one: bool, other: bool) -> bool
+    ensures { result ≡ (one || other) }
+{
+    one || other
+}
+
+/// Tries each in of a machine once. Returns whether any token was latched.
 pub fn latch_all<H: Host, L: Link, Z: Streams, E: Era>(
     links: &[L],
     host: &mut H,
@@ -32,19 +39,19 @@ pub fn latch_all<H: Host, L: Link, Z: Streams, E: Era>(
     requires placed { SeatsByPlace L.takes_from L.taking Z.flow E.start (takes_by (frame_of E.start) (machine_at (H.machines host.old) thread)) links.now ins.now seats.old.items }
     ensures tried { LatchesTried L.takes_from L.taking Z.flow E.start machine upto links.now ins.now (length ins.now) (machine_at (H.machines host.old) thread) seats.old.items (machine_at (H.machines host.new) thread) seats.new.items }
     ensures alone { H.machines host.new ≡ slice_set (H.machines host.old) thread (machine_at (H.machines host.new) thread) }
+    ensures done { LatchesDone (H.machines host.old) thread (H.machines host.new) result }
 {
     let mut stepped = false;
     for place in 0..ins.len() as u32 {
         let channel = ins[place as usize] as usize;
         let seat = &mut seats[place as usize];
-        if try_latch::<H, L>(&links[channel], host, thread, place, seat, upto) {
-            stepped = true;
-        }
+        let latched = try_latch::<H, L>(&links[channel], host, thread, place, seat, upto);
+        stepped = either(stepped, latched);
     }
     stepped
 }
 
-/// Tries each out of a machine once. True if one was given.
+/// Tries each out of a machine once. Returns whether any token was given.
 pub fn fire_all<H: Host, L: Link, Z: Streams, E: Era>(
     links: &[L],
     host: &mut H,
@@ -62,14 +69,14 @@ pub fn fire_all<H: Host, L: Link, Z: Streams, E: Era>(
     requires placed { SeatsByPlace L.puts_into L.putting Z.flow E.start (enters_by (frame_of E.start) (machine_at (H.machines host.old) thread)) links.now outs.now seats.old.items }
     ensures tried { FiresTried L.puts_into L.putting Z.flow E.start machine upto links.now outs.now (length outs.now) (machine_at (H.machines host.old) thread) seats.old.items (machine_at (H.machines host.new) thread) seats.new.items }
     ensures alone { H.machines host.new ≡ slice_set (H.machines host.old) thread (machine_at (H.machines host.new) thread) }
+    ensures done { FiresDone (H.machines host.old) thread (H.machines host.new) result }
 {
     let mut stepped = false;
     for place in 0..outs.len() as u32 {
         let channel = outs[place as usize] as usize;
         let seat = &mut seats[place as usize];
-        if try_fire::<H, L>(&links[channel], host, thread, place, seat, upto) {
-            stepped = true;
-        }
+        let fired = try_fire::<H, L>(&links[channel], host, thread, place, seat, upto);
+        stepped = either(stepped, fired);
     }
     stepped
 }
@@ -92,6 +99,7 @@ pub fn serve_all<H: Host, Z: Streams, E: Era>(
     ensures tried { ServesTried Z.flow E.start machine (machine_at (H.machines host.old) thread) (machine_at (H.machines host.new) thread) }
     ensures none { NoneServes upto (machine_at (H.machines host.new) thread) }
     ensures alone { H.machines host.new ≡ slice_set (H.machines host.old) thread (machine_at (H.machines host.new) thread) }
+    ensures done { ServesDone (H.machines host.old) thread (H.machines host.new) result }
 {
     let mut stepped = false;
     while try_serve(host, thread, outs, ports, upto) {

@@ -1,11 +1,13 @@
-use Rattle.std.proofs.Common.{◌≡◌, ◌<◌, length, map, slice_set, sym, subst, refl, arith}
+use Rattle.std.proofs.Common.{◌∙◌, ◌||◌, ap, ◌≡◌, ◌<◌, length, map, slice_set, sym, subst, refl, arith}
 use Rattle.std.proofs.lemmas.List.{length-map}
 use Rattle.gg_node.specs.Machine.{machine_at}
 use Rattle.gg_net.specs.Network.{kind_of}
 use Rattle.gg_seats.specs.Rows.{LatchesTried, FiresTried}
+use Rattle.gg_seats.specs.Pass.{PassDone}
 use Rattle.gg_seats.proofs.RowLemmas.{alone-more, alone-within}
 use Rattle.gg_seats.proofs.ServeLemmas.{alone-finish}
-use Rattle.gg_seats.proofs.PassLemmas.{are-ins, are-outs, pass-desk, pass-went, pass-done}
+use Rattle.gg_seats.proofs.PassLemmas.{are-ins, are-outs, pass-desk, pass-went, pass-done, pass-moved}
+use Rattle.gg_seats.proofs.EventLemmas.{events-done}
 use Rattle.gg_seats.proofs.passes.pass.Goals as goal
 
 pub returns : goal.returns
@@ -44,4 +46,11 @@ returns g c =
           (are-ins flow w m x station c.requires.desk.machine c.requires.listed) (are-outs flow w m x station c.requires.desk.machine c.requires.listed) going x1 take_seats1 latches x2 put_seats1 fires x3 c.serve_all-served.ensures.tried c.serve_all-served.ensures.none hosts3 after thread within refl c.try_finish-finished.result c.try_finish-finished.ensures;
       done = pass-done g.L.Link.takes_from g.L.Link.puts_into g.L.Link.taking g.L.Link.putting flow w c.requires.kept c.args.links.now m below c.args.upto c.requires.here.2 station.ins station.outs x c.args.desk.now.takes.items c.args.desk.now.puts.items c.requires.desk
           (are-ins flow w m x station c.requires.desk.machine c.requires.listed) (are-outs flow w m x station c.requires.desk.machine c.requires.listed) going x1 take_seats1 latches x2 put_seats1 fires x3 c.serve_all-served.ensures.tried c.serve_all-served.ensures.none hosts3 after thread within refl c.try_finish-finished.result c.try_finish-finished.ensures;
+      first = λ new. events-done g.L.Link.takes_from g.L.Link.puts_into g.L.Link.taking g.L.Link.putting flow w c.requires.kept c.args.links.now m station c.requires.listed c.args.upto x c.args.desk.now.takes.items c.args.desk.now.puts.items c.requires.desk new (machine_at after thread)
+          (pass-done g.L.Link.takes_from g.L.Link.puts_into g.L.Link.taking g.L.Link.putting flow w c.requires.kept c.args.links.now m below c.args.upto c.requires.here.2 station.ins station.outs x c.args.desk.now.takes.items c.args.desk.now.puts.items c.requires.desk
+          (are-ins flow w m x station c.requires.desk.machine c.requires.listed) (are-outs flow w m x station c.requires.desk.machine c.requires.listed) going x1 take_seats1 latches x2 put_seats1 fires x3 c.serve_all-served.ensures.tried c.serve_all-served.ensures.none hosts3 after thread within refl c.try_finish-finished.result c.try_finish-finished.ensures);
+      stepped = subst (PassDone first thread after) (sym (c.either.ensures ∙ ap (λ b. b || c.either-ended.result) c.either-passed.ensures ∙ ap (λ b. (c.latch_all-latched.result || c.fire_all-fired.result) || b) c.either-ended.ensures))
+          (pass-moved g.L.Link.takes_from g.L.Link.puts_into g.L.Link.taking g.L.Link.putting flow w c.requires.kept c.args.links.now m below c.args.upto c.requires.here.2 station.ins station.outs x c.args.desk.now.takes.items c.args.desk.now.puts.items c.requires.desk
+          (are-ins flow w m x station c.requires.desk.machine c.requires.listed) (are-outs flow w m x station c.requires.desk.machine c.requires.listed) going x1 take_seats1 latches x2 put_seats1 fires x3 c.serve_all-served.ensures.tried c.serve_all-served.ensures.none hosts3 after thread within refl c.try_finish-finished.result c.try_finish-finished.ensures
+          first hosts1 hosts2 refl refl refl c.latch_all-latched.result c.fire_all-fired.result c.serve_all-served.result c.try_finish-finished.result c.latch_all-latched.ensures.done c.fire_all-fired.ensures.done c.serve_all-served.ensures.done c.try_finish-finished.ensures);
     }

@@ -49,4 +49,7 @@ loop-stepped-preserved g c =
     record {
       tried = serve-step g.Z.Streams.flow w c.requires.kept c.args.machine below c.args.upto c.requires.here.1 (machine_at first c.args.thread) hosts after c.args.thread within inv.tried c.try_serve.result c.try_serve.ensures;
       alone = alone-serve first hosts after c.args.thread c.args.upto c.requires.thread inv.alone c.try_serve.result c.try_serve.ensures;
+      done =
+          let served : ServeTried hosts c.args.thread c.args.upto after true = subst (ServeTried hosts c.args.thread c.args.upto after) c.loop-stepped-test.true c.try_serve.ensures in
+          omega (arith, inv.tried.grows, serves-left hosts after c.args.thread c.args.upto within served);
     }
