@@ -1,0 +1,4 @@
+mod ListLemmas
+mod DealLemmas
+mod TurnLemmas
+mod TogetherLemmas

@@ -1,0 +1,8 @@
+use Rattle.std.proofs.Common.{◌≡◌, map}
+use Rattle.gg_workers.specs.Booths.{DoneAt, AreBooths}
+use Rattle.gg_workers.proofs.turns.more_turns.Given as goal
+
+abbrev pub invariant-loop-turn : goal.invariant-loop-turn
+invariant-loop-turn g l =
+    AreBooths g.H.Host.machines l.threads (DoneAt g.L.Link.takes_from g.L.Link.puts_into g.L.Link.taking g.L.Link.putting g.Z.Streams.flow g.E.Era.start l.stations l.links l.upto) l.booths.items
+    × (map (λ b. b.number) l.booths.items ≡ map (λ b. b.number) l.initial.booths.items)

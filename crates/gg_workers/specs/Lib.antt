@@ -1,0 +1,2 @@
+pub mod Booths
+pub mod Deal
