@@ -1,4 +1,5 @@
 mod ListLemmas
 mod DealLemmas
+mod DeskLemmas
 mod TurnLemmas
 mod TogetherLemmas

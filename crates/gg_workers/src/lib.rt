@@ -16,6 +16,7 @@
 mod booth;
 mod deal;
 mod dealt;
+mod desks;
 mod threads;
 mod turns;
 
