@@ -1,5 +1,6 @@
 mod ListLemmas
 mod DealLemmas
 mod DeskLemmas
+mod FillLemmas
 mod TurnLemmas
 mod TogetherLemmas

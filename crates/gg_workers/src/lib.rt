@@ -17,6 +17,7 @@ mod booth;
 mod deal;
 mod dealt;
 mod desks;
+mod fill;
 mod threads;
 mod turns;
 
