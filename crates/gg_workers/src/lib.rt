@@ -18,6 +18,7 @@ mod deal;
 mod dealt;
 mod desks;
 mod fill;
+mod furnish;
 mod threads;
 mod turns;
 
