@@ -2,5 +2,6 @@ mod ListLemmas
 mod DealLemmas
 mod DeskLemmas
 mod FillLemmas
+mod MakingLemmas
 mod TurnLemmas
 mod TogetherLemmas

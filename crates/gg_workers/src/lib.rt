@@ -19,6 +19,7 @@ mod dealt;
 mod desks;
 mod fill;
 mod furnish;
+mod room;
 mod threads;
 mod turns;
 
