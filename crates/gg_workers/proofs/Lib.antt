@@ -4,4 +4,5 @@ mod DeskLemmas
 mod FillLemmas
 mod MakingLemmas
 mod TurnLemmas
+mod WorkedDesks
 mod TogetherLemmas

@@ -1,7 +1,6 @@
 -- Booths that were made are ready to run.
-use Rattle.std.proofs.Common.{◌≡◌, ℕ, ◌+◌, ◌<◌, ◌≤◌, inl, List, [], length, map, slice_index_or, sym, refl, ap, subst, ◌∙◌, arith}
+use Rattle.std.proofs.Common.{◌≡◌, ℕ, ◌<◌, inl, List, [], length, map, slice_index_or, sym, ap, subst, ◌∙◌, arith}
 use Rattle.std.proofs.lemmas.List.{get_or-map, length-map}
-use Rattle.std.specs.Vec.{vec_capacity}
 use Rattle.gg_flat.specs.Line.{value_at}
 use Rattle.gg_flat.specs.Streams.{Flow}
 use Rattle.gg_link.specs.Seats.{SeatState}
@@ -19,12 +18,10 @@ use Rattle.gg_seats.proofs.EventLemmas.{some-of}
 use Rattle.gg_seats.proofs.NetLemmas.{takes-placed, puts-placed}
 use Rattle.gg_seats.proofs.WentLemmas.{went-nowhere}
 use Rattle.gg_workers.specs.declared.booth.Booth.{Booth}
-use Rattle.gg_workers.specs.declared.booth.Worker.{Worker}
 use Rattle.gg_workers.specs.declared.desks.HostDesks.{HostDesks}
-use Rattle.gg_workers.specs.Booths.{ReadyAt, IsBooth, AreBooths}
-use Rattle.gg_workers.specs.Deal.{Dealing}
+use Rattle.gg_workers.specs.Booths.{ReadyAt, AreBooths}
 use Rattle.gg_workers.specs.Desks.{IsFullDesk, desk_at, HasPlaces, AreLaid}
-use Rattle.gg_workers.specs.Making.{AreFurnished, AreIdle}
+use Rattle.gg_workers.specs.Making.{AreFurnished}
 use Rattle.gg_workers.proofs.ListLemmas.{get_default}
 
 module _ {X S T : Type 0} (takes_from : X → S → Type 0) (puts_into : X → T → Type 0) (taking : S → SeatState) (putting : T → SeatState) (flow : Flow) (net : Network) (kept : Kept flow net) (stations : List Station) (long : length stations ≡ length net.machines) (listed : AreListed (frame_of net) stations)
