@@ -1,2 +1,4 @@
 pub mod Booths
 pub mod Deal
+pub mod Desks
+pub mod Making

@@ -5,7 +5,7 @@ use gg_seats::Desk;
 #[derive(Drop)]
 pub struct Booth<H, S, T> {
     /// The number of the host.
-    pub number: u32,
+    pub number: usize,
     /// The host.
     pub host: H,
     /// The desk of each thread.

@@ -10,12 +10,16 @@
 //!
 //! A turn of a worker is one pass over its machines; the gate is passed at its start. A worker ends before a turn where none
 //! of its machines is below `upto`, or after 1,024 turns in a row without a step. Where a thread can't be started, the
-//! caller's does the work. Nothing is allocated here.
+//! caller's does the work. A run allocates nothing.
 #![tactic(auto)]
 
 mod booth;
 mod deal;
 mod dealt;
+mod desks;
+mod fill;
+mod furnish;
+mod room;
 mod threads;
 mod turns;
 

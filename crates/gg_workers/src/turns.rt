@@ -21,7 +21,7 @@ const IDLE_TURNS: u32 = 1024;
 fn pass_threads<H: Host, L: Link, Z: Streams, E: Era>(
     links: &[L],
     stations: &[Station],
-    _number: u32,
+    _number: usize,
     host: &mut H,
     desks: &mut Vec<Desk<L::TakeSeat, L::PutSeat>>,
     upto: u64,
