@@ -6,3 +6,7 @@ mod MakingLemmas
 mod TurnLemmas
 mod WorkedDesks
 mod TogetherLemmas
+mod ApartLemmas
+mod WorkLemmas
+mod BackLemmas
+mod CapLemmas

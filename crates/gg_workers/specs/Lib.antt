@@ -1,4 +1,7 @@
 pub mod Booths
 pub mod Deal
+pub mod Work
+pub mod Apart
+pub mod Opened
 pub mod Desks
 pub mod Making

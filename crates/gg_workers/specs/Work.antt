@@ -1,0 +1,32 @@
+-- A network after workers have run it: its counts, and the events that were done.
+-- Source: MEMOCODE 2009 (a network goes on node by node; its counts alone say what it has done, whatever the order); ICCAD
+-- 2019 for memories that are served port by port.
+use Rattle.std.specs.Prelude.{◌≡◌, ℕ, ◌*◌, ◌<◌, length}
+use Rattle.gg_flat.specs.Streams.{Flow}
+use Rattle.gg_node.specs.Machine.{machine_at}
+use Rattle.gg_net.specs.Network.{Network, producer_of, consumer_of, puts, takes, serves, frame_of}
+use Rattle.gg_net.specs.Kept.{Kept}
+use Rattle.gg_net.specs.Step.{CanLatch, CanFire, CanServe, CanFinish}
+use Rattle.gg_seats.specs.Tries.{StandsBelow}
+use Rattle.gg_seats.specs.Pass.{RisesTo}
+
+-- No count has fallen, and none is above both what `upto` cycles make of it and what it was.
+pub record CountsRose (upto : ℕ) (old new : Network) : Type 0 where
+  pub cycles : (m : ℕ) → m < length old.machines → RisesTo upto (machine_at old.machines m).cycle (machine_at new.machines m).cycle
+  pub serves : (m : ℕ) → m < length old.machines → RisesTo (length (machine_at old.machines m).ports * upto) (serves old m) (serves new m)
+  pub puts : (c : ℕ) → c < length old.wires → RisesTo upto (puts old c) (puts new c)
+  pub takes : (c : ℕ) → c < length old.wires → RisesTo upto (takes old c) (takes new c)
+
+-- Each event that could be done, of a machine below `upto`, was done: its count has risen.
+pub record ReadyDone (upto : ℕ) (old new : Network) : Type 0 where
+  pub latch : (c : ℕ) → CanLatch old c → StandsBelow upto (consumer_of old c) → takes old c < takes new c
+  pub fire : (c : ℕ) → CanFire old c → StandsBelow upto (producer_of old c) → puts old c < puts new c
+  pub serve : (m p : ℕ) → CanServe old m p → StandsBelow upto (machine_at old.machines m) → serves old m < serves new m
+  pub finish : (m : ℕ) → CanFinish old m → StandsBelow upto (machine_at old.machines m) → (machine_at old.machines m).cycle < (machine_at new.machines m).cycle
+
+-- A network that comes back from workers: one of the same flow and frame, so that its counts say all of it.
+pub record IsLater (flow : Flow) (upto : ℕ) (old new : Network) : Type 0 where
+  pub frame : frame_of new ≡ frame_of old
+  pub kept : Kept flow new
+  pub counts : CountsRose upto old new
+  pub done : ReadyDone upto old new

@@ -1,0 +1,144 @@
+//! `work`: the machines of a network are run by workers.
+ghost use Rattle.std.specs.Prelude.{◌≡◌, ℕ, ◌<◌, ◌≤◌, length, map, IfOk, IfErr, Ok};
+ghost use Rattle.gg_flat.specs.Line.{value_at};
+ghost use Rattle.gg_net.specs.Network.{takes};
+ghost use Rattle.gg_net.specs.Net.{AreParts, joined};
+ghost use Rattle.gg_workers.specs.Opened.{IsOpened};
+ghost use Rattle.gg_workers.specs.Work.{IsLater};
+
+use crate::back::close_booths;
+use crate::dealt::run_dealt;
+use crate::links::take_counts;
+use crate::opened::{Opened, open_net};
+use gg_flat::Streams;
+use gg_io::Gate;
+use gg_link::Link;
+use gg_net::{Net, Parts};
+use gg_node::Host;
+use gg_seats::Era;
+use std::alloc::{AllocError, Global};
+use std::marker::Brand;
+use std::thread::Threads;
+
+// Runs a network that is open, and closes it. Allocates nothing.
+fn run_opened<R: Threads + Sync, H: Host, L: Link, Z: Streams, E: Era, G: Gate + Sync>(
+    rt: &R,
+    alloc: Global,
+    opened: Opened<H, L, L::TakeSeat, L::PutSeat>,
+    upto: u64,
+    gate: &G,
+) -> Parts<H>
+    requires opened { IsOpened H.machines L.takes_from L.puts_into L.taking L.putting Z.flow E.start opened }
+    requires below { upto ≤ E.start.end }
+    ensures parts { AreParts Z.flow (map H.machines result.hosts.items) result.shape result.queues.items }
+    ensures later { IsLater Z.flow upto E.start (joined (map H.machines result.hosts.items) result.shape result.queues.items) }
+{
+    let Opened {
+        shape,
+        queues,
+        links,
+        threads,
+        mut booths,
+        mut workers,
+        takes,
+        puts,
+        spare,
+    } = opened;
+    run_dealt::<R, H, L, Z, E, G>(
+        rt,
+        &links,
+        &shape.stations,
+        &threads,
+        &mut booths,
+        &mut workers,
+        upto,
+        gate,
+    );
+    close_booths::<H, L, Z, E>(
+        alloc, shape, &threads, upto, booths, takes, puts, spare, links, queues,
+    )
+}
+
+// Runs the parts of a network up to a cycle that is within its end.
+fn run_parts<R: Threads + Sync, H: Host, L: Link, Z: Streams, E: Era, G: Gate + Sync>(
+    rt: &R,
+    home: L::Home,
+    alloc: Global,
+    parts: Parts<H>,
+    starts: &[u64],
+    workers: u32,
+    upto: u64,
+    gate: &G,
+) -> Result<Parts<H>, (Parts<H>, AllocError)>
+    requires parts { AreParts Z.flow (map H.machines parts.hosts.items) parts.shape parts.queues.items }
+    requires start { E.start ≡ joined (map H.machines parts.hosts.items) parts.shape parts.queues.items }
+    requires starts { (length starts.now ≡ length E.start.wires) × ((c : ℕ) → c < length E.start.wires → value_at starts.now c ≡ takes E.start c) }
+    requires few { (0 < workers) × (workers ≤ 64) }
+    requires below { upto ≤ E.start.end }
+    ensures done { IfOk result (λ p. AreParts Z.flow (map H.machines p.hosts.items) p.shape p.queues.items) }
+    ensures later { IfOk result (λ p. IsLater Z.flow upto E.start (joined (map H.machines p.hosts.items) p.shape p.queues.items)) }
+    ensures parts { IfErr result (λ r. AreParts Z.flow (map H.machines r.0.hosts.items) r.0.shape r.0.queues.items) }
+    ensures refused { IfErr result (λ r. joined (map H.machines r.0.hosts.items) r.0.shape r.0.queues.items ≡ E.start) }
+{
+    match open_net::<H, L, Z, E>(home, alloc, parts, starts, workers) {
+        Ok(opened) => Ok(run_opened::<R, H, L, Z, E, G>(rt, alloc, opened, upto, gate)),
+        Err(refused) => Err(refused),
+    }
+}
+
+// Runs a network up to a cycle that is within its end.
+fn run_net<R: Threads + Sync, H: Host, L: Link, Z: Streams, E: Era, G: Gate + Sync>(
+    rt: &R,
+    home: L::Home,
+    alloc: Global,
+    net: Net<H, Z>,
+    workers: u32,
+    upto: u64,
+    gate: &G,
+) -> Result<Net<H, Z>, (Net<H, Z>, AllocError)>
+    requires start { E.start ≡ net }
+    requires few { (0 < workers) × (workers ≤ 64) }
+    requires below { upto ≤ net.end }
+    ensures later { IfOk result (λ new. IsLater Z.flow upto net new) }
+    ensures refused { IfErr result (λ r. r.0 ≡ net) }
+{
+    let Ok(starts) = take_counts(alloc, &net) else {
+        return Err((net, AllocError));
+    };
+    let parts = net.parts();
+    match run_parts::<R, H, L, Z, E, G>(rt, home, alloc, parts, &starts, workers, upto, gate) {
+        Ok(parts) => Ok(Net::of(parts)),
+        Err((parts, error)) => Err((Net::of(parts), error)),
+    }
+}
+
+/// Runs the machines of a network by this many workers, each in a thread of its own. Host h belongs to worker h mod
+/// `workers`. A worker ends before a turn where no machine of its hosts is below cycle `upto`, or after 1,024 turns in a
+/// row without a step. The network that comes back may be short of `upto`. With no workers it is the one handed in.
+///
+/// All memory is taken before the first step.
+///
+/// # Errors
+///
+/// Returns the network as it was, with `AllocError`, if an allocation fails.
+pub fn work<R: Threads + Sync, H: Host, L: Link, Z: Streams, G: Gate + Sync>(
+    rt: &R,
+    home: L::Home,
+    alloc: Global,
+    net: Net<H, Z>,
+    workers: u32,
+    upto: u64,
+    gate: &G,
+) -> Result<Net<H, Z>, (Net<H, Z>, AllocError)>
+    requires { workers ≤ 64 }
+    ensures later { 0 < workers → IfOk result (λ new. IsLater Z.flow upto net new) }
+    ensures none { workers ≡ 0 → result ≡ Ok net }
+    ensures refused { IfErr result (λ r. r.0 ≡ net) }
+{
+    if workers == 0 {
+        return Ok(net);
+    }
+    let end = net.end();
+    let bound = if upto < end { upto } else { end };
+    run_net::<R, H, L, Z, Brand, G>(rt, home, alloc, net, workers, bound, gate)
+}
