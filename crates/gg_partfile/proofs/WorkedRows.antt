@@ -4,8 +4,9 @@ use Rattle.std.specs.Prelude.{option_and_then}
 use Rattle.serde_json.specs.Data.{Data}
 use Rattle.serde_json.specs.Read.{read}
 use Rattle.serde_json.proofs.OnLiterals.{serde_json_on_literals}
-use Rattle.gg_partfile.specs.Partition.{texts, groups, numbers, under}
 use Rattle.gg_partfile.specs.Fault.{wrong_key}
+use Rattle.gg_partfile.specs.Keys.{under}
+use Rattle.gg_partfile.specs.Shapes.{texts, groups, numbers}
 
 -- the key with which a text is refused, if it is
 abbrev told_of : Option Data → Option (List ℕ)
@@ -23,19 +24,19 @@ whole : told (codes "{\"units\": [\"a\", \"b.c\"], \"share\": [[\"a\", \"b.c\"],
 unfolding serde_json_on_literals
 whole = refl
 
-units : option_and_then (under texts (codes "units")) (read (codes "{\"units\": [\"a\", \"b.c\"]}")) ≡ Some (codes "a" ∷ codes "b.c" ∷ [])
+units : option_and_then (under [] texts (codes "units")) (read (codes "{\"units\": [\"a\", \"b.c\"]}")) ≡ Some (codes "a" ∷ codes "b.c" ∷ [])
 unfolding serde_json_on_literals
 units = refl
 
-share : option_and_then (under groups (codes "share")) (read (codes "{\"share\": [[\"a\", \"b\"], []]}")) ≡ Some ((codes "a" ∷ codes "b" ∷ []) ∷ [] ∷ [])
+share : option_and_then (under [] groups (codes "share")) (read (codes "{\"share\": [[\"a\", \"b\"], []]}")) ≡ Some ((codes "a" ∷ codes "b" ∷ []) ∷ [] ∷ [])
 unfolding serde_json_on_literals
 share = refl
 
-absent : option_and_then (under texts (codes "memories")) (read (codes "{\"units\": []}")) ≡ Some []
+absent : option_and_then (under [] texts (codes "memories")) (read (codes "{\"units\": []}")) ≡ Some []
 unfolding serde_json_on_literals
 absent = refl
 
-capacity : option_and_then (under numbers (codes "capacity")) (read (codes "{\"capacity\": {\"y\": 4, \"x\": 0}}")) ≡ Some ((codes "x", 0) ∷ (codes "y", 4) ∷ [])
+capacity : option_and_then (under [] numbers (codes "capacity")) (read (codes "{\"capacity\": {\"y\": 4, \"x\": 0}}")) ≡ Some ((codes "x", 0) ∷ (codes "y", 4) ∷ [])
 unfolding serde_json_on_literals
 capacity = refl
 
