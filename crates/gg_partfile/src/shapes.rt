@@ -1,6 +1,5 @@
 //! Values of a certain shape.
 ghost use Rattle.std.specs.Prelude.{◌≡◌, IfOk};
-ghost use Rattle.serde_json.specs.Find.{as_str};
 ghost use Rattle.serde_json.specs.View.{view};
 ghost use Rattle.gg_partfile.specs.Shapes.{ratio, required};
 
